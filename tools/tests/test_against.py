@@ -28,19 +28,24 @@ def random_packet(chance: random.Random) -> str:
     return f"1CEC{destination}{source}#{control}{length:02X}00{packets:02X}FF{group}"
 
 
-def acknowledged(lines: Sequence[str], reports: str, length: int) -> Counter[tuple[str, str]]:
-    """How many messages of VI of this length the receiver says it has, though `follow` reports them not: by the lines of a log of random packets."""
+def told_otherwise(lines: Sequence[str], reports: str, length: int) -> tuple[Counter[tuple[str, str]], Counter[tuple[str, str]]]:
+    """How many messages of VI of this length the receiver says it has, though `follow` reports them not, and how many were given up: by the lines of a log
+    of random packets."""
     reported = {int(line) for line in re.findall(r"^(\d+) - group VI ", reports, re.MULTILINE)}
     transfers: dict[tuple[str, str], bytes] = {}
     begun: set[tuple[str, str]] = set()
     early: set[tuple[str, str]] = set()
     found: Counter[tuple[str, str]] = Counter()
+    ended: set[tuple[str, str]] = set()
+    given_up: Counter[tuple[str, str]] = Counter()
     for number, line in enumerate(lines, 1):
         if len(line) != 25:  # it was cut
             continue
         to, source, data = line[4:6][1], line[7], bytes.fromhex(line[9:])
         if line[2:4] == "EC" and data[0] in (16, 32) and data[5:] in (b"\xEC\xFE\0", b"\xEB\xFE\0") and data[3] == -(-data[1] // 7) and (data[0] == 32) == (to == "F"):
             transfers[source, to] = data[5:]
+            given_up[source, to] += (source, to) in ended
+            ended.discard((source, to))
             begun.discard((source, to))
             early.discard((source, to))
             if data[5:] == b"\xEC\xFE\0" and data[1] == length:
@@ -49,6 +54,7 @@ def acknowledged(lines: Sequence[str], reports: str, length: int) -> Counter[tup
             pair = next((pair for pair in ((source, to), (to, source)) if pair in transfers), None)
             if pair:
                 del transfers[pair]
+                ended.update({pair} & begun)
         elif line[2:4] == "EC" and data[0] == 19 and (to, source) in begun and transfers.get((to, source)) == data[5:]:
             begun.discard((to, source))
             found[to, source] += 1
@@ -57,7 +63,9 @@ def acknowledged(lines: Sequence[str], reports: str, length: int) -> Counter[tup
             found[source, to] -= (source, to) in early  # it is reported after all
             begun.discard((source, to))
             early.discard((source, to))
-    return found
+            ended.discard((source, to))
+    given_up.update(ended)
+    return found, given_up
 
 
 class Against(Compared):
@@ -102,13 +110,13 @@ class Against(Compared):
             "nothing behind it": VI[:1],
             "a packet is missing": [VI[0], VI[1], VI[3]],
             "a newer announcement": [*VI[:3], "1CECFF00#20120003FFECFE00"],
-            "refused by an Abort": ["1CEC8000#10110003FFECFE00", "1CEC0080#FF02FFFFFFECFE00", *VI[1:]],
             "a wrong count of packets": ["1CECFF00#20110004FFECFE00", *VI[1:]],
         }.items():
             found = self.compared(PLAN, [*FLOWS[:2], *frames])
-            to = "DISPLAY" if "Abort" in kind else "all"
-            self.assertTrue(found[0].startswith(f"L:3: VI from ENGINE to {to}: announced, and not carried whole"), (kind, found))
+            self.assertTrue(found[0].startswith("L:3: VI from ENGINE to all: announced, and not carried whole"), (kind, found))
             self.assertEqual(found[-1], "P: flow 3, VI from ENGINE to all: never sent", kind)
+        found = self.compared(PLAN, [*FLOWS[:2], "1CEC8000#10110003FFECFE00", "1CEC0080#FF02FFFFFFECFE00", *VI[1:]])
+        self.assertEqual(found, ["L:4: VI from ENGINE to DISPLAY: given up by DISPLAY, reason 2 (no resources)", "P: flow 3, VI from ENGINE to all: never sent"])
 
     def test_a_message_of_no_group(self) -> None:
         frames = [frame.replace("ECFE00", "EBFE00") for frame in VI]
@@ -143,9 +151,10 @@ class Against(Compared):
             told: Counter[tuple[str, str]] = Counter()
             for source, to, times in re.findall(r": VI from (\d) to (\S+): announced, and not carried whole: [^(\n]*(?:  \((\d+) times\))?\n", found):
                 told[source, to] += int(times or 1)
-            again = acknowledged(text_of(log).splitlines(), program.call(["follow", plan, log])[1], length)
-            self.assertGreater(sum(again.values()), 0)
-            self.assertEqual(told, begun - whole - again)
+            again, given_up = told_otherwise(text_of(log).splitlines(), program.call(["follow", plan, log])[1], length)
+            self.assertGreater(min(sum(again.values()), sum(given_up.values())), 0)
+            self.assertEqual(told, begun - whole - again - given_up)
+            self.assertLessEqual(sum(given_up.values()), sum(int(times or 1) for times in re.findall(r": given up by [^(\n]*\([^)\n]*\)(?:  \((\d+) times\))?\n", found)))
             self.assertEqual(len(told), 4)
 
     def test_another_priority(self) -> None:
@@ -169,7 +178,7 @@ class Against(Compared):
         plan += flow % ("THEIRS", "DISPLAY") + third
         silent = "P: unit TOOL: neither claimed an address nor sent anything"
         sent = ["18FF1400#00112233", "18FF1480#0011223344556677"]
-        self.assertEqual(self.compared(plan, [*CLAIMS, *FLOWS, *sent, "18FF14F9#00"]), [])
+        self.assertEqual(self.compared(plan, [*CLAIMS, "18EEFFF9#0300000000000000", *FLOWS, *sent, "18FF14F9#00"]), [])
         self.assertEqual(self.compared(plan, [*FLOWS, *sent, "18FF1400#0011223344556677"]), [
             "L:9: OWN from ENGINE has 8 bytes, planned are 4", silent])
         self.assertEqual(self.compared(plan, [*FLOWS, sent[0], "18FF1480#00112233"]), [
@@ -212,7 +221,7 @@ class Against(Compared):
         self.assertEqual(run("against.py", plan, log), (1, "\n".join([*found, "deviations 2\n"]), ""))
 
     def test_what_is_no_deviation(self) -> None:
-        services = ["18EAFF00#00EE00", "1CEBFF00#01FFFFFFFFFFFFFF", "18FF1000#00", "18EF8000#00", "1FFFFFFF#", "123#00",
+        services = ["18EAFF00#00EE00", "1CEBFF00#01FFFFFFFFFFFFFF", "18FF1000#00", "18EF8000#00", "123#00",
                     "1CC88000#14FA060000ECFE00", "1CC78000#01FFFFFFFFFFFFFF", "18C9FF00#ECFE00", "18CAFF00#ECFE00", "18930000#00",
                     "1C4DFF00#00", "1C4EFF00#00"]
         self.assertEqual(self.deviations(*services), [])
@@ -223,7 +232,7 @@ class Against(Compared):
         bad = ["FFFFFFFF#00", "1234#00", "18EAFFFE#00E", "12#", "x", ""]
         good = ["18FEEE00#7DFFFFFFFFFFFFFF", "123#00", "123##100", "123#XX"]
         log = self.write("drive.log", "".join(f"(1.0) can0 {frame}\n" for frame in bad + good) + "\n  \n")
-        self.assertEqual(run("against.py", plan, log)[2], "against: 6 lines spell no frame\n")
+        self.assertEqual(run("against.py", plan, log)[2], f"against: 6 lines spell no frame, as {log}:1\n")
         self.assertIn(" bad 6\n", program.call(["read", plan, log])[1])
 
     def test_lines_as_read_has_them(self) -> None:
@@ -234,7 +243,7 @@ class Against(Compared):
         log = self.write("drive.log", "\n".join(lines))
         counts = program.call(["read", plan, log])[1].splitlines()[-1]
         self.assertEqual(counts, "frames 3 skipped 0 bad 6")
-        self.assertEqual(run("against.py", plan, log)[2], "against: 6 lines spell no frame\n")
+        self.assertEqual(run("against.py", plan, log)[2], f"against: 6 lines spell no frame, as {log}:4\n")
 
     def test_two_interfaces(self) -> None:
         """The first one is compared; what comes on another one isn't counted twice for its mark. A time is no interface."""

@@ -162,6 +162,16 @@ class Buses(Deviations):
         self.assertEqual(self.told_of(log), [])
         self.assertEqual(self.said, f"against: {self.path('drive.log')}:21: time goes back by 490 ms\n")
 
+    def test_how_long_a_log_is_of_which_the_clock_was_set(self) -> None:
+        """On from 1970 on, or back by 4.9 s: the steps aren't in the duration, nor in the mean of 160 bits a frame."""
+        for log, duration in ((lines_of(*brakes(1, 3), *brakes(1764230400, 1764230402)), 3.8), (lines_of(*brakes(10, 13)) + lines_of(*brakes(8, 10)), 4.8)):
+            words = self.write("plan.toml", PLAN), self.write("drive.log", log)
+            whole = json.loads(run("against.py", "--json", *words)[1].splitlines()[-1])
+            self.assertEqual((whole["duration"], round(whole["mean"], 6), whole["worst"]), (duration, round(160 * log.count("\n") / duration, 6), 1600))
+            row = json.loads(run("fleet.py", "--json", *words)[1])["logs"][0]
+            self.assertEqual((row["duration"], row["mean"]), (duration, whole["mean"]))
+            self.assertIn(f" {duration} s ", run("fleet.py", *words)[1].splitlines()[1])
+
     def test_error_frames_of_the_interface(self) -> None:
         """In plans without timing too; what follows is no unit's silence, until the log's end neither."""
         frames = {"20000040#0000000000000000": "the interface of the log is bus-off: it hears nothing until it is restarted",
@@ -225,7 +235,7 @@ class Transfers(Deviations):
         self.assertEqual(self.whole(RTS, CLEAR, PACKETS[0], PACKETS[2]), [text + "packet 2 of 3 didn't come"])
         self.assertEqual(self.whole(RTS.replace("110003", "110004")), [text + "its announcement breaks the rules"])
         given_up = self.whole(RTS, "1CEC0B80#FF03FFFFFFECFE00")
-        self.assertEqual(given_up, [text + "it was given up", "L:4: VI from BRAKES to HITCH: given up by HITCH, reason 3 (timeout)"])
+        self.assertEqual(given_up, ["L:4: VI from BRAKES to HITCH: given up by HITCH, reason 3 (timeout)"])
 
     def test_a_packet_that_was_asked_for_again_alone(self) -> None:
         """The receiver has the message, as it says: it is whole, and counts as sent."""
@@ -249,13 +259,13 @@ class LinesBeside(Deviations):
         return [noted.line for noted in feed.unheard(math.inf)], [line for line in range(1, len(frames) + 1) if feed.beside(line)]
 
     def test_which_are_noted(self) -> None:
-        """Error frames of the interface that is read, and acknowledgements; where the plan has timing also 11-bit frames, and claims and requests
-        that are more urgent than unplanned frames may be."""
+        """Error, remote and FD frames of the interface that is read, and acknowledgements; where the plan has timing also 11-bit frames, and claims and
+        requests that are more urgent than unplanned frames may be."""
         frames = ("can0 20000004#0001000000000000", "can0 18FEF100#00", "can1 20000004#0001000000000000", "can0 123#00", "can0 0CEAFF0B#00EE00",
-                  "can0 18EAFF0B#00EE00", "can0 18E8FF00#00FFFFFF0BECFE00 R")
-        self.assertEqual(self.noted(*frames), ([1], [7]))
+                  "can0 18EAFF0B#00EE00", "can0 18E8FF00#00FFFFFF0BECFE00 R", "can0 18FEF100#R", "can0 18FEF100##100 R", "can1 18FEF100#R8")
+        self.assertEqual(self.noted(*frames), ([1, 8, 9], [7]))
         timing = PLAN.replace("version = 4", "version = 4\ntiming = { bitrate = 250000, unplanned = 9, unplanned_priority = 6 }")
-        self.assertEqual(self.noted(*frames, plan=timing), ([1, 4], [5, 7]))
+        self.assertEqual(self.noted(*frames, plan=timing), ([1, 4, 8, 9], [5, 7]))
 
 
 class Forms(Deviations):
@@ -283,10 +293,10 @@ class Forms(Deviations):
             "all": [{"log": self.log, "line": 3, "time": 1.15, "value": 50}, {"log": self.log, "line": 5, "time": 1.34, "value": 90}]})
         self.assertEqual((rows[1]["kind"], rows[1]["flow"], "line" in rows[1]), ("never-sent", 1, False))
         self.assertEqual((whole.pop("requests"), len(whole.pop("units"))), ([], 3))
-        self.assertEqual(whole, {"deviations": len(rows), "begin": 1.0, "end": 1.34, "worst": 800, "worst_second": 1, "explained": 0})
+        self.assertEqual(whole, {"deviations": len(rows), "begin": 1.0, "end": 1.34, "duration": 0.34, "worst": 800, "worst_second": 1, "explained": 0})
 
     def test_live(self) -> None:
-        """Each deviation as soon as its line is there, and at the end all of them."""
+        """Each deviation as soon as its line is there, and at the end those of the whole log."""
         words = [sys.executable, os.path.join(TOOLS, "against.py"), "--live", self.plan, "/dev/stdin"]
         with subprocess.Popen(words, stdin=subprocess.PIPE, stdout=subprocess.PIPE, text=True, env={**os.environ, "J39PLAN": os.path.abspath(program.path())},
                               bufsize=1) as process:
@@ -297,18 +307,18 @@ class Forms(Deviations):
             self.assertEqual(there(process.stdout).readline(), f"/dev/stdin:3: (1.150000) {near}\n")
             there(process.stdin).write(lines[4])
             there(process.stdin).close()
-            self.assertEqual(there(process.stdout).readline(), f"/dev/stdin:3: (1.150000) {near}  (2 times)\n")
-            there(process.stdout).read()
+            last = there(process.stdout).read().splitlines()
+            self.assertEqual((last[0].partition(": ")[2], last[-1], len(last)), ("flow 1, HSTAT from HITCH to all: never sent", "deviations 5", 5))
 
     def test_live_as_json(self) -> None:
-        """An object as a deviation is met, without how often; with --all each time, with what was measured there. Then what --json has."""
+        """An object as a deviation is met, without how often; with --all each time, with what was measured there. Then what --json has besides."""
         text = "flow 2, EBC1 from BRAKES to all: {} ms after the one before, its period is 100 ms"
         first = {"kind": "near", "flow": 2, "unit": "BRAKES", "log": self.log, "line": 3, "time": 1.15, "value": 50, "text": text.format(50), "what": text.format("..")}
         again = {**first, "line": 5, "time": 1.34, "value": 90, "text": text.format(90)}
         for words, met in (((), [first]), (("--all",), [first, again])):
             rows = [json.loads(line) for line in run("against.py", "--live", "--json", *words, self.plan, self.log)[1].splitlines()]
             whole = [json.loads(line) for line in run("against.py", "--json", *words, self.plan, self.log)[1].splitlines()]
-            self.assertEqual(rows, met + whole)
+            self.assertEqual(rows, met + whole[1:])
             self.assertEqual(whole[0]["times"], 2)
 
     def test_events(self) -> None:

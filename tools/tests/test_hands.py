@@ -47,10 +47,12 @@ class Hands(Compared):
                          ["L:1: DISPLAY could not claim an address"])
 
     def test_a_unit_without_an_address_may_ask_for_claims(self) -> None:
-        self.assertEqual(self.deviations("18EAFFFE#00EE00", "18EA00FE#00EE00FFFFFFFFFF", *CLAIMS), [])
-        said = ["L:1: address 254 sends: no unit has it"]
-        for other in ("18EAFFFE#EEFE00", "18EAFFFE#", "18FF10FE#00EE00"):
-            self.assertEqual(self.deviations(other), said)
+        bytes_of = "L:{}: a request from 254 has {} bytes, by the standard 3"
+        self.assertEqual(self.deviations("18EAFFFE#00EE00", "18EA00FE#00EE00FFFFFFFFFF", *CLAIMS), [bytes_of.format(2, 8)])
+        said = "L:1: address 254 sends: no unit has it"
+        for other in ("18EAFFFE#EEFE00", "18FF10FE#00EE00"):
+            self.assertEqual(self.deviations(other), [said])
+        self.assertEqual(self.deviations("18EAFFFE#"), [said, bytes_of.format(1, 0)])
 
     def test_an_address_that_changes_hands(self) -> None:
         """From three times on it is told, with how near two of these came; a contest that is settled isn't."""

@@ -15,7 +15,7 @@ from typing import Any
 
 from j39plan import program
 from j39plan.log.reports import CONVERTER
-from tests.support import TOOLS, InFolder, example, run, text_of
+from tests.support import TOOLS, InFolder, example, needs, run, text_of
 
 PLAN, LOG = example("tractor_and_implement.toml"), example("tractor_and_implement.start.log")
 
@@ -184,7 +184,8 @@ def lines_without_frames(log: str) -> str | None:
 
 
 def unnamed(said: str) -> str:
-    """What a tool says, without the names of interfaces, which random bytes may be."""
+    """What a tool says, without the names of interfaces, which random bytes may be, and without a line that spells no frame."""
+    said = re.sub(r"(?m)(lines spell no frame), as .*:\d+$", r"\1", said)
     return re.sub(r"(?m)^(\w+: ).* is read, the first of the log; (\d+) lines of .* are passed over.*$", r"\1the first interface is read; \2 lines of others are passed over", said)
 
 
@@ -195,6 +196,24 @@ def passed_over(tool: str, log: str) -> str:
     texts += [f"{bad} lines spell no frame"] * (bad != "0")
     texts += [f"the first interface is read; {elsewhere} lines of others are passed over"] * (elsewhere != "0")
     return "".join(f"{tool}: {text}\n" for text in texts)
+
+
+class StandardInput(InFolder):
+    def test_a_log_by_its_dash(self) -> None:
+        """What comes by standard input is told as what stands in a file."""
+        for words in (["against.py", PLAN], ["signals.py", PLAN], ["fleet.py", PLAN]):
+            status, answer, said = run(*words, LOG)
+            wanted = re.sub(" +", " ", answer).replace(LOG, "/dev/stdin"), said.replace(LOG, "/dev/stdin")
+            with open(LOG, encoding="ascii") as file:
+                ended, given, told = run(*words, "-", text=file.read())
+            self.assertEqual((ended, re.sub(" +", " ", given), told), (status, *wanted))
+            self.assertGreater(given.count("\n"), 5)
+
+    @needs("matplotlib", "python3-matplotlib")
+    def test_a_picture_of_it(self) -> None:
+        self.assertEqual(run("plot.py", PLAN, "-", "SPN110", "-o", self.path("a.svg"), text=text_of(LOG))[0], 0)
+        with open(self.path("a.svg"), encoding="utf-8") as file:
+            self.assertIn("SPN110", file.read())
 
 
 class Interrupted(InFolder):

@@ -14,15 +14,18 @@ from typing import Any
 
 from j39plan import program
 from j39plan.log.checks.comparison import Comparison, Settings
-from j39plan.log.checks.deviations import Deviation, Found, Place, lines_of, place_text, row_of, spelled_event
+from j39plan.log.checks.deviations import Deviation, Found, Place, place_text, row_of, spelled_event
+from j39plan.log.checks.deviations import lines_of as lines_of_deviation
 from j39plan.log.checks.distances import SILENCE, Distances, Rule, Tolerance
 from j39plan.log.checks.feed import Feed
 from j39plan.log.checks.meter import Meter
+from j39plan.log.checks.reader import Reader
 from j39plan.log.checks.summary import requests_of, summary_tables, units_of
 from j39plan.log.checks.unplanned import bounds_of
+from j39plan.log.checks.watch import watched
 from j39plan.log.clock import SECOND, ends_of, nanoseconds
-from j39plan.log.files import Log, interface_option
-from j39plan.log.reports import Counts, follow, tables_of
+from j39plan.log.files import Log, interface_option, named
+from j39plan.log.reports import Counts, lines_of, tables_of
 from j39plan.log.serial_numbers import by_kind
 from j39plan.plan.cut import bare
 from j39plan.plan.files import opened
@@ -52,12 +55,14 @@ def words_of(words: list[str] | None) -> argparse.Namespace:
     parser.add_argument("--table", action="store_true", help="tables first: how often each flow was sent, and how far apart; when each unit was heard; "
                         "requests that the plan doesn't have")
     parser.add_argument("--all", action="store_true", help="all lines of each deviation below it")
-    parser.add_argument("--live", action="store_true", help="each deviation as soon as it is met, with --all each time; at the end all of them")
+    parser.add_argument("--live", action="store_true", help="each deviation as soon as it is met, with --all each time; at the end those that "
+                        "only the whole log shows")
     parser.add_argument("--json", action="store_true", help="as JSON objects, each on a line; the last one is of the whole log")
     interface_option(parser)
     bus_option(parser)
-    parser.add_argument("plan", metavar="PLAN", help="the name of a plan file, or of a vehicle file")
-    parser.add_argument("logs", metavar="LOG", nargs="+", help="names of files as candump -L writes them, in the order of the drive; BUS=LOG of a bus of a vehicle")
+    parser.add_argument("plan", metavar="PLAN", type=named, help="the name of a plan file, or of a vehicle file")
+    parser.add_argument("logs", metavar="LOG", nargs="+", type=named, help="names of files as candump -L writes them, in the order of the drive, - for standard "
+                        "input; BUS=LOG of a bus of a vehicle")
     return parser.parse_args(words)
 
 
@@ -77,11 +82,13 @@ class Output:
 
     def __init__(self, given: argparse.Namespace, log: Log) -> None:
         self._plan, self._log, self._is_json = given.plan, log, given.json
+        self._written: set[str] = set()
 
     def live(self, found: Deviation, place: Place) -> None:
         """Writes a deviation as it is met."""
         if place.line is None:
             return
+        self._written.add(found.text)
         if self._is_json:
             one = Deviation(found.kind, found.text, found.flow, found.unit, place, found.detail)
             row = {key: value for key, value in row_of(one, self._log.place).items() if key != "times"}
@@ -90,11 +97,12 @@ class Output:
             print(f"{self._place(place)} {spelled_event(found, place)}", flush=True)
 
     def whole(self, found: Found, summary: dict[str, Any]) -> int:
-        """Writes all of them; how many there are."""
+        """Writes all of them that aren't written yet; how many there are."""
         all_found = list(found.all())
         for one in all_found:
-            for line in self._lines(one):
-                print(line)
+            if one.text not in self._written:
+                for line in self._lines(one):
+                    print(line)
         summary = {"deviations": len(all_found), **summary}
         print(json.dumps(summary) if self._is_json else f"deviations {len(all_found)}")
         return len(all_found)
@@ -104,7 +112,7 @@ class Output:
         if self._is_json:
             yield json.dumps(row_of(found, self._log.place), ensure_ascii=False)
         else:
-            yield from lines_of(found, self._place)
+            yield from lines_of_deviation(found, self._place)
 
     def _place(self, place: Place) -> str:
         """A place, as it stands before a text."""
@@ -125,15 +133,32 @@ def say_what_is_left(given: argparse.Namespace, distances: Distances) -> None:
 
 
 def summary_of(log: Log, meter: Meter, comparison: Comparison) -> dict[str, Any]:
-    """What the whole log has, for JSON: when it begins and ends, in seconds, the bits of its frames, how many distances were passed over, when each
-    unit was heard, and the requests that the plan doesn't have."""
+    """What the whole log has, for JSON: when it begins and ends, and how long it is, in seconds, the bits of its frames, how many distances were passed
+    over, when each unit was heard, and the requests that the plan doesn't have."""
     begin, end = ends_of(log)
+    duration = None if begin is None or end is None else max(end - begin + comparison.clock.shift, 0)
     meter.end()
-    first, last = (None if time is None else time / SECOND for time in (begin, end))
-    row = {"begin": first, "end": last, "mean": meter.mean(begin, end), "worst": meter.worst or None, "worst_second": meter.worst_second,
+    first, last, seconds = (None if time is None else time / SECOND for time in (begin, end, duration))
+    row = {"begin": first, "end": last, "duration": seconds, "mean": meter.mean(duration), "worst": meter.worst or None, "worst_second": meter.worst_second,
            "explained": sum(comparison.distances.explained.values()), "units": units_of(comparison, log.place),
            "requests": requests_of(comparison, log.place)}
     return {key: value for key, value in row.items() if value is not None}
+
+
+def compare_all(reader: Reader, _: Comparison, lines: Iterator[str]) -> None:
+    """Compares what `follow` writes of a log."""
+    take = reader.take
+    for line in lines:
+        take(line, lines)
+
+
+def compare_live(reader: Reader, comparison: Comparison, lines: Iterator[str]) -> None:
+    """Compares what `follow` writes of a log that is still to come, as the clock goes by."""
+    with watched(comparison) as watch:
+        for line in lines:
+            watch.came()
+            with watch.lock:
+                reader.take(line, lines)
 
 
 def compared(given: argparse.Namespace) -> int:
@@ -144,17 +169,17 @@ def compared(given: argparse.Namespace) -> int:
         found = Found(given.all, output.live if given.live else None)
         settings = Settings(given.jitter, Rule(given.silence, events_of(given.events, tables), given.table), others)
         feed, comparison = Feed(tables.timing, meter), Comparison(tables, bounds_of(known, tables), settings, found)
+        compare = compare_live if given.live and log.is_live else compare_all
+        if given.live:
+            comparison.watches()
         with bare(known, tables) as (shorter, parts):
-            for report in follow(shorter, log, parts, counts, feed.pieces, given.live):
-                for noted in feed.unheard(report.line):
-                    comparison.unheard(noted)
-                comparison.report(report, feed.beside(report.line))
+            compare(Reader(comparison, feed, parts, counts), comparison, lines_of(shorter, log, counts, feed.pieces, given.live))
         for noted in feed.unheard(math.inf):
             comparison.unheard(noted)
-    counts.bad -= comparison.damage.frames
+    counts.bad -= comparison.damage.frames + comparison.odd
     counts.refuse_without_frames(log)
     counts.refuse_a_guess(log)
-    counts.say(log)
+    counts.say(log, feed.unread)
     comparison.clock.say(log)
     say_what_is_left(given, comparison.distances)
     comparison.ends(nanoseconds(feed.last_time), counts.frames > 0)

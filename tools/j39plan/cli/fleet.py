@@ -5,18 +5,21 @@ are done. Of a vehicle each bus has its tables.
 """
 
 import argparse
+import contextlib
 import json
 import os
 import re
+import shutil
 import sys
-from collections.abc import Iterable
+import tempfile
+from collections.abc import Iterable, Iterator
 from typing import Any, NamedTuple
 
 from j39plan import program
 from j39plan.fleet.drives import Drive, answered
 from j39plan.fleet.table import Fleet
 from j39plan.fleet.team import Task, team
-from j39plan.log.files import interface_option
+from j39plan.log.files import INPUT, interface_option, named
 from j39plan.plan.files import opened
 from j39plan.plan.tables import Tables
 from j39plan.vehicle.drives import bus_option, drives_of, events_on, refuse_buses, vehicle_in
@@ -110,8 +113,9 @@ def words_of(words: list[str] | None) -> argparse.Namespace:
     """The words of the command line."""
     parser = program.parser(__doc__)
     parser.epilog = "example: %(prog)s plan.toml drives/*.log"
-    parser.add_argument("plan", metavar="PLAN", help="the name of a plan file, or of a vehicle file")
-    parser.add_argument("logs", metavar="LOG", nargs="+", help="the name of a file as candump -L writes it; BUS=LOG of a bus of a vehicle")
+    parser.add_argument("plan", metavar="PLAN", type=named, help="the name of a plan file, or of a vehicle file")
+    parser.add_argument("logs", metavar="LOG", nargs="+", type=named, help="the name of a file as candump -L writes it, - for standard input; BUS=LOG of a bus "
+                        "of a vehicle")
     parser.add_argument("--jitter", metavar="TIME", help="by how much messages may come nearer than their flow's period, as of against")
     parser.add_argument("--silence", metavar="N", help="after how many periods a flow is silent, as of against")
     parser.add_argument("--events", metavar="FLOW", action="append", default=[], help="a flow that is sent when something happens, as of against")
@@ -123,6 +127,18 @@ def words_of(words: list[str] | None) -> argparse.Namespace:
     who.add_argument("--scheduler", metavar="ADDRESS", type=scheduler_of, help="the scheduler of a Dask cluster, whose workers read the logs "
                      "by the same names")
     return parser.parse_args(words)
+
+
+@contextlib.contextmanager
+def input_copied(logs: list[str]) -> Iterator[str]:
+    """The name of a copy of standard input, which processes can't read themselves, as long as it is needed; empty where no log is that."""
+    if INPUT not in logs:
+        yield ""
+        return
+    with tempfile.NamedTemporaryFile(suffix=".log") as copy:
+        shutil.copyfileobj(sys.stdin.buffer, copy)
+        copy.flush()
+        yield copy.name
 
 
 class Gathered(NamedTuple):
@@ -140,8 +156,9 @@ def compared(given: argparse.Namespace) -> Gathered:
     options = [word for key in ("jitter", "silence", "interface") for value in [getattr(given, key)] if value is not None for word in (f"--{key}", value)]
     options += [word for name in given.events for word in ("--events", name)]
     plan, logs = plan_of(given.plan, options), different(given.logs)
-    tasks: list[Task] = [(*plan, log, os.path.abspath(log), options) for log in largest_first(logs)]
-    found, is_whole = gathered(team(given.processes, given.scheduler)(tasks), len(tasks))
+    with input_copied(logs) as copy:
+        tasks: list[Task] = [(*plan, log, copy if log == INPUT else os.path.abspath(log), options) for log in largest_first(logs)]
+        found, is_whole = gathered(team(given.processes, given.scheduler)(tasks), len(tasks))
     status = max((drive["status"] for drive in found.values() if drive["failed"]), default=int(any(drive["deviations"] for drive in found.values())))
     return Gathered(Fleet(Tables.shown(plan[1]), [found[log] for log in logs if log in found]), len(found), len(logs), is_whole, status)
 

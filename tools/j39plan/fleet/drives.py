@@ -55,8 +55,8 @@ class Claimed(NamedTuple):
 
 
 class Drive(TypedDict):
-    """What a log has. `failed` says why it couldn't be read, `status` as the tool would end then; else both are empty. `whole` has its begin and
-    end in seconds, and the bits of a second on the bus, in the mean and at most. `others` are signals of those whom no flow has."""
+    """What a log has. `failed` says why it couldn't be read, `status` as the tool would end then; else both are empty. `whole` has its begin,
+    end and duration in seconds, and the bits of a second on the bus, in the mean and at most. `others` are signals of those whom no flow has."""
 
     log: str
     status: int

@@ -77,10 +77,10 @@ class Fleet:
         return sorted(found.values(), key=lambda kind: (-len(kind.times), -kind.total))
 
     def logs(self) -> Iterator[dict[str, Any]]:
-        """A row a log: when it begins and ends, in seconds, what was on the bus, the number of its vehicle, and by units the serial numbers of the
+        """A row a log: when it begins and ends, and how long it is, in seconds, what was on the bus, the number of its vehicle, and by units the serial numbers of the
         boxes that claimed."""
         for drive in self.drives:
-            whole = {key: drive["whole"].get(key) for key in ("begin", "end", "mean", "worst", "worst_second")}
+            whole = {key: drive["whole"].get(key) for key in ("begin", "end", "duration", "mean", "worst", "worst_second")}
             yield {"log": drive["log"], "vehicle": self.vehicles[drive["log"]], **whole, **drive["counts"], "deviations": len(drive["deviations"]),
                    "identities": self._numbers(drive), "notes": drive["notes"]}
 
@@ -246,7 +246,7 @@ def moment_of(seconds: float | None) -> str:
 
 def duration_of(row: dict[str, Any]) -> str:
     """How long a log is."""
-    return "-" if row["begin"] is None or row["end"] is None else f"{row['end'] - row['begin']:.1f} s"
+    return "-" if row["duration"] is None else f"{row['duration']:.1f} s"
 
 
 def load_text(bits: float | None, bitrate: int | None) -> str:

@@ -78,12 +78,19 @@ class Clock:
         self.has_times = False
         self.first_line = self.back = self.on = 0
         self._said = self._glanced = self._end = ""
+        self._head, self._base = "?", 0  # what a time begins with up to its microseconds, and what that is in nanoseconds
 
     def see(self, line: int, time: str) -> int | None:
         """The time of a line in nanoseconds, None where it has none."""
-        at = nanoseconds(time)
-        if at is None:
-            return None
+        if time[:-7] == self._head:
+            at = self._base + int(time[-7:-1]) * 1000
+        else:
+            told = nanoseconds(time)
+            if told is None:
+                return None
+            at = told
+            if time[-8:-7] == ".":
+                self._head, self._base = time[:-7], at - int(time[-7:-1]) * 1000
         step, self.last = at - self.last, at
         self.is_set = self.is_back = False
         if not self.has_times:

@@ -5,7 +5,7 @@ import os
 import signal
 import subprocess
 from collections.abc import Callable, Iterable, Iterator
-from functools import cache, lru_cache
+from functools import lru_cache
 from itertools import islice, starmap
 from threading import Thread
 from typing import IO, Any, NamedTuple
@@ -168,15 +168,15 @@ class Counts:
             has = f"has {self.frames} of its {self.frames + self.elsewhere} lines"
             raise program.Refused(program.UNREADABLE, f"{log.names[0]} begins with {first}, which {has}: choose one, as --interface {others[0]}")
 
-    def say(self, log: Log) -> None:
-        """Says on standard error what wasn't read, and why this interface is."""
-        for text in self.told(log):
+    def say(self, log: Log, unread: int | None = None) -> None:
+        """Says on standard error what wasn't read, a line of it if one is known, and why this interface is."""
+        for text in self.told(log, unread):
             program.say(text)
 
-    def told(self, log: Log | None = None) -> Iterator[str]:
+    def told(self, log: Log | None = None, unread: int | None = None) -> Iterator[str]:
         """What wasn't read."""
         if self.bad:
-            yield f"{self.bad} lines spell no frame"
+            yield f"{self.bad} lines spell no frame" + (", as {}:{}".format(*log.place(unread)) if log and unread else "")
         if self.elsewhere:
             first, others = log.interfaces() if log else ("", [])
             why = ", as asked for" if log and log.interface else ", the first of the log" if first else ""
@@ -229,20 +229,29 @@ def report_of(words: list[str], signals: list[str]) -> Report:
     return Claim(int(words[LINE]), words[TIME], who_of(words[3]), identity_of(words))
 
 
+class Lines:
+    """The lines that `follow` writes below those of messages, of which the tables say how many there are."""
+
+    def __init__(self, tables: Tables) -> None:
+        self._groups, self._known = {group.label: group for group in tables.groups}, dict[tuple[str, int], int]()
+
+    def below(self, label: str, digits: int) -> int:
+        """How many are below a message of a group, of data of so many digits."""
+        known = self._known.get((label, digits))
+        if known is None:
+            known = self._known[label, digits] = self._groups[label].lines(digits // 2)
+        return known
+
+
 def said_in(lines: Iterator[str], tables: Tables, counts: Counts) -> Iterator[Said]:
     """What `follow` writes, report by report, each as soon as its last line is there."""
-    groups = {group.label: group for group in tables.groups}
-
-    @cache
-    def lines_of(label: str, length: int) -> int:
-        return groups[label].lines(length)
-
+    below = Lines(tables).below
     for line in lines:
         words = line.split()
         if not line[0].isdigit():
             counts.take(line)
         elif words[KIND] == "group":
-            yield words, list(islice(lines, lines_of(words[GROUP], len(words[-1]) // 2)))
+            yield words, list(islice(lines, below(words[GROUP], len(words[-1]))))
         else:
             yield words, []
 
@@ -306,9 +315,8 @@ def started_for(plan: str, log: Log, options: Iterable[str], is_piped: bool) -> 
         signal.signal(signal.SIGINT, log.interrupt)
 
 
-def said_of(plan: str, log: Log, tables: Tables, counts: Counts,
-            fed: Callable[[Any], Iterable[bytes]] | None = None, at_once: bool = False) -> Iterator[Said]:
-    """What `follow` says of a log, as it is read; of all frames where `fed` hands on the log, each piece at once where that is asked for."""
+def lines_of(plan: str, log: Log, counts: Counts, fed: Callable[[Any], Iterable[bytes]] | None = None, at_once: bool = False) -> Iterator[str]:
+    """The lines that `follow` writes of a log, as it is read; of all frames where `fed` hands on the log, each piece at once where that is asked for."""
     is_piped = fed is not None or log.is_live or len(log.files) > 1 or log.interface is not None
     reader = started_for(plan, log, ["--all"] if fed else [], is_piped)
     assert reader.stdout is not None
@@ -320,7 +328,7 @@ def said_of(plan: str, log: Log, tables: Tables, counts: Counts,
     try:
         if writer:
             writer.start()
-        yield from said_in(io.TextIOWrapper(reader.stdout, "ascii"), tables, counts)
+        yield from io.TextIOWrapper(reader.stdout, "ascii")
         status = reader.wait()
     except BaseException:
         reader.kill()
@@ -334,10 +342,14 @@ def said_of(plan: str, log: Log, tables: Tables, counts: Counts,
         raise program.Refused(status)
 
 
-def follow(plan: str, log: Log, tables: Tables, counts: Counts,
-           fed: Callable[[Any], Iterable[bytes]] | None = None, at_once: bool = False) -> Iterator[Report]:
+def said_of(plan: str, log: Log, tables: Tables, counts: Counts) -> Iterator[Said]:
+    """What `follow` says of a log, as it is read."""
+    return said_in(lines_of(plan, log, counts), tables, counts)
+
+
+def follow(plan: str, log: Log, tables: Tables, counts: Counts) -> Iterator[Report]:
     """The reports of a log, as `said_of` has them."""
-    return starmap(report_of, said_of(plan, log, tables, counts, fed, at_once))
+    return starmap(report_of, said_of(plan, log, tables, counts))
 
 
 def tables_of(plan: str) -> Tables:

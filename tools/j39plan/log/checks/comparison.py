@@ -1,20 +1,21 @@
 """A log compared with a plan, report by report: senders, NAMEs and addresses, groups, lengths, priorities, flows, needs and requests."""
 
 import math
-from dataclasses import dataclass
 from typing import NamedTuple
 
 from j39plan.j1939 import (
     ACKNOWLEDGEMENT, ADDRESS_CLAIMED, DATA_TRANSFER, CONNECTION_MANAGEMENT, FRAME_BYTES, GLOBAL_ADDRESS, NAME_FIELDS, NULL_ADDRESS, OTHER_SERVICES,
     PROPRIETARY, REQUEST, SERVICES, destination_in, identifier_of,
 )
+from j39plan.log.checks.claims import Claims
 from j39plan.log.checks.damage import Damage
 from j39plan.log.checks.deviations import Found
-from j39plan.log.checks.distances import Distances, Rule, Tolerance
+from j39plan.log.checks.distances import Distances, Heard, Rule, Tolerance, Way
 from j39plan.log.checks.feed import Noted
 from j39plan.log.checks.hands import Hands
 from j39plan.log.checks.numbers import Numbers
 from j39plan.log.checks.other_requests import OtherRequests
+from j39plan.log.checks.queued import Begun, Queued
 from j39plan.log.checks.requests import Asked
 from j39plan.log.checks.transfers import WHOLE, Announcement, Cause, Pair, Route, Transfers, announcement_in, is_managing, pair_of, pgn_of
 from j39plan.log.checks.unplanned import Bounds, Unplanned
@@ -35,8 +36,11 @@ CLAIMS = ADDRESS_CLAIMED.to_bytes(3, "little")
 # So many of the shortest period without any report, a second at least, are a silence of all.
 PERIODS = 5
 
-# Group, sender and destination.
-Way = tuple[str, str, str]
+# So long the longest message to all takes at most: 255 packets, 200 ms apart.
+LONGEST = 51 * SECOND
+
+# So many bytes has a NAME, and a request.
+NAME_BYTES, REQUEST_BYTES = 8, 3
 
 
 class Settings(NamedTuple):
@@ -45,19 +49,6 @@ class Settings(NamedTuple):
     tolerance: Tolerance
     rule: Rule
     others: list[Renumbered] = []
-
-
-@dataclass
-class Begun:
-    """An announced message: the line and the time of its announcement, what it is, its ends and its way, and what has come in between."""
-
-    line: int
-    at: int | None
-    text: str
-    pair: Pair
-    way: Way
-    unit: str | None
-    between: str = ""
 
 
 def lengths_of(group: Group) -> str:
@@ -86,13 +77,20 @@ class Comparison:
         self.sent = dict.fromkeys(self._ways, 0)
         self.found, self.clock, self.hands = found, Clock(), Hands(tables, found)
         self.numbers = Numbers(settings.others, found)
-        self.distances = Distances(tables.flows, settings.tolerance, settings.rule, bounds.waits, self.hands.first, found)
+        heard = Heard(self.hands.first, self.hands.free)
+        self.distances = Distances(tables.flows, settings.tolerance, settings.rule, bounds.waits, heard, found)
+        self.claims, self.queued = Claims(tables.units, self.hands, found), Queued()
         self.asked, self.damage = Asked(tables, settings.tolerance, bounds.requests, found), Damage(tables.timing, found)
         self.transfers, self.unplanned = Transfers(tables.timing, found), Unplanned(tables, bounds.flows, found)
         labels = {pgn: groups[0].label for pgn, groups in self.groups.items() if len(groups) == 1}
         self.others = OtherRequests(labels, found, self.hands.is_on)
         self._begun: dict[Pair, Begun] = {}
         self._strange: set[str] = set()  # who was told as nobody's
+        self._nameless: dict[int, set[str]] = {}  # what was told of addresses at which no NAME was known
+        self._pgns = {label: group.pgn for label, group in self.planned.items()}
+        self._is_watched = False  # whether what is due is told as soon as it is
+        self._line, self._still = 0, ""  # the line of the last report; and what is told of nothing coming since
+        self.odd = 0  # lines with frames that are none of J1939, which `follow` can't read
         self._at: int | None = None  # the time of the last report
         periods = [flow.period for flow in tables.flows if flow.period and not flow.on_request]
         self._gap = max(SECOND, PERIODS * min(periods) * MILLISECOND) if len(periods) > 1 else math.inf
@@ -101,6 +99,9 @@ class Comparison:
         """A claim of an address, or that none was found, by a box of this serial number where its unit is of any."""
         if who.label and identity is not None:
             self.numbers.claim(line, at, who.label, identity)
+        self.names_itself(at, who)
+        if who.label:
+            self.claims.claimed(at, who.label)
         for address in self.hands.claim(line, at, who, identity):
             for begun in self._begun.values():
                 if address in (begun.pair[0][2], begun.pair[1][2]) and not begun.between:
@@ -115,22 +116,38 @@ class Comparison:
         elif who.address != unit.address and not unit.may_choose:
             self.found.tell("address", f"{unit.label} {claims}, planned is {unit.address}", line, at, unit=unit.label)
 
-    def sender(self, line: int, at: int | None, sender: Who, group: str = "") -> None:
+    def names_itself(self, at: int | None, who: Who) -> None:
+        """A unit claims an address. Where it was asked, nothing is known of it yet, and nobody claimed the address before, what came from there was its own."""
+        told = self._nameless.pop(who.address, set()) if who.address is not None else set()
+        if who.label and who.label not in self.hands.last and self.hands.was_asked(at) and not self.hands.was_held(who.address):
+            self.withdraw(told)
+
+    def withdraw(self, told: set[str]) -> None:
+        """What was told of an address doesn't hold: it is known now who sent from there."""
+        for text in told:
+            self.found.withdraw(text)
+
+    def sender(self, line: int, at: int | None, sender: Who, pgn: int, group: str = "") -> None:
         """Who sent something, as a message of a planned group."""
         self.hands.sends(line, at, sender)
         if sender.label is None:
-            self.unknown(line, at, sender, group)
+            self.unknown(line, at, sender, pgn, group)
 
-    def unknown(self, line: int, at: int | None, sender: Who, group: str) -> None:
+    def unknown(self, line: int, at: int | None, sender: Who, pgn: int, group: str) -> None:
         """Somebody whom the plan doesn't have sends something, as a message of a planned group."""
         former, what = self.hands.former(at, sender), f"sends {group}, a planned group" if group else "sends"
         if former is None:
             spelled = sender.spelled
             self._strange.add(spelled)
-            self.found.tell("stranger", f"{spelled} {what}: no unit has it", line, at)
+            text = f"{spelled} {what}: no unit has it"
+            self.found.tell("stranger", text, line, at)
+            if sender.address is not None and sender.name is None:
+                self._nameless.setdefault(sender.address, set()).add(text)
         else:
             text = f"{former.spelled} claims address {former.address}, and its former address {sender.address} {what}: two boxes of one NAME?"
             self.found.tell("two-boxes", text, line, at, unit=former.label)
+            self.withdraw(self._nameless.pop(sender.address or 0, set()))
+            self.distances.touched(former.label or "", self._pgns, pgn, line, at)
 
     def message(self, line: int, at: int | None, message: Message) -> None:
         """A message of a planned group."""
@@ -140,16 +157,17 @@ class Comparison:
         first, began = (begun.line, begun.at) if begun else (line, at)
         if begun:
             self.transfers.reported(line, at, begun.pair)
+            self.queued.whole(begun.way)
         else:
             self.hands.sends(line, at, sender)
             if sender.label is None:
-                self.unknown(line, at, sender, group)
+                self.unknown(line, at, sender, planned.pgn, group)
             self.answers(line, at, sender, to, planned.pgn)
         if odd_priority is not None:
             text = f"{group} from {sender.shown} has priority {odd_priority}, planned is {planned.priority}"
             self.found.tell("priority", text, first, began, unit=sender.label)
         if flow:
-            self.sends(flow, first, began)
+            self.sends(flow, first, began, begun.waited if begun else 0)
             return
         if sender.label:
             self.found.tell("no-flow", f"{group} from {sender.label} to {to.shown}: no flow", first, began, unit=sender.label)
@@ -164,10 +182,10 @@ class Comparison:
         if pgn in self.others.open:
             self.others.answers(at, sender, to, pgn)
 
-    def sends(self, number: int, line: int, at: int | None) -> None:
-        """A message of a flow has come, by where it began."""
+    def sends(self, number: int, line: int, at: int | None, waited: int = 0) -> None:
+        """A message of a flow has come, by where it began, and how long it may have waited for others of its unit."""
         self.sent[self._ways[number - 1]] += 1
-        self.distances.sent(number, line, at)
+        self.distances.sent(number, line, at, waited)
 
     def passes(self, line: int, at: int | None, identifier: int, what: str, sender: Who) -> None:
         """A frame of no flow goes by. Where nobody has it by the plan, and it is told as that, it has no name here."""
@@ -177,11 +195,13 @@ class Comparison:
                 limit = f"by 'load' what no flow has is of {self.timing.unplanned_priority} or more"
                 self.found.tell("urgent", f"{what} from {sender.shown} has priority {identifier >> 26}: {limit}", line, at, unit=sender.label)
 
-    def group_of(self, pgn: int, length: int, sender: Who, to: Who) -> Group | None:
-        """The group of a message: of those of its number one of its length, else the first; a private one only where a flow sends it
-        so."""
+    def group_of(self, pgn: int, length: int, sender: Who, to: Who, data: bytes | None = None) -> Group | None:
+        """The group of a message: of those of its number one whose bits of `when` its data has, else one of its length, else the first; a private one
+        only where a flow sends it so."""
         groups = [group for group in self.groups.get(pgn, [])
                   if not group.private or (group.label, sender.label, to.shown) in self.sent]
+        if data is not None and (told := next((group for group in groups if group.when and group.when.takes(data)), None)):
+            return told
         return next((group for group in groups if group.length <= length <= group.most), groups[0] if groups else None)
 
     def unheard(self, noted: Noted) -> None:
@@ -192,12 +212,17 @@ class Comparison:
             return
         if at is not None:
             self.looks_at_time(line, at)
-        self.found.tell("short-identifier", "a frame with an 11-bit identifier, which may go before each planned one", line, at)
+        if noted.kind:
+            self.odd += 1
+            self.found.tell(noted.kind, f"{noted.kind_text} of the identifier {noted.identifier:08X}: no frame of J1939", line, at)
+        else:
+            self.found.tell("short-identifier", "a frame with an 11-bit identifier, which may go before each planned one", line, at)
         self.unplanned.came(line, at, noted.identifier)
 
     def frame(self, line: int, at: int | None, frame: Frame) -> None:
         """A frame of no planned group."""
         if frame.pgn > LAST_GROUP or frame.pgn == ADDRESS_CLAIMED:
+            self.no_frame(line, at, frame)
             self.passes(line, at, frame.identifier, f"PGN {frame.pgn}", frame.sender)
         elif frame.pgn not in (CONNECTION_MANAGEMENT, DATA_TRANSFER):
             self.single(line, at, frame)
@@ -205,6 +230,18 @@ class Comparison:
             self.announced(line, at, frame, announcement)
         elif frame.pgn == DATA_TRANSFER or is_managing(frame):
             self.carried(line, at, frame)
+
+    def no_frame(self, line: int, at: int | None, frame: Frame) -> None:
+        """A frame that J1939 has not so: with the extended data page, a claim that has no NAME, a request that is no request."""
+        sender = frame.sender
+        if frame.pgn > LAST_GROUP:
+            text = f"a frame with the extended data page from {sender.shown}, PGN {frame.pgn}: no frame of J1939"
+            self.found.tell("extended-page", text, line, at, unit=sender.label)
+            return
+        what, length = ("request", REQUEST_BYTES) if frame.pgn == REQUEST else ("claim", NAME_BYTES)
+        if len(frame.data) != length:
+            text = f"a {what} from {sender.shown} has {len(frame.data)} bytes, by the standard {length}"
+            self.found.tell("length", text, line, at, unit=sender.label)
 
     def damaged(self, line: int, at: int | None, frame: Noted) -> None:
         """An error frame. Where frames may be missing, distances begin anew, and requests of before are asked no more."""
@@ -215,9 +252,11 @@ class Comparison:
         """A packet, or a frame that manages a connection. Who isn't planned is told once by these."""
         sender = frame.sender
         if sender.label is None and sender.spelled not in self._strange:
-            self.sender(line, at, sender)
+            self.sender(line, at, sender, frame.pgn)
         else:
             self.hands.sends(line, at, sender)
+        if frame.pgn == DATA_TRANSFER and frame.to.address is None and sender.label and at is not None:
+            self.queued.packet(sender.label, at)
         is_planned = self.transfers.came(line, at, frame)
         if frame.pgn == CONNECTION_MANAGEMENT and frame.data[0] == WHOLE:
             self.acknowledged(pair_of(frame.to, sender))
@@ -228,8 +267,9 @@ class Comparison:
         """The receiver may have said that it has a message which isn't reported, as where a packet was asked for once more: it was carried whole."""
         if pair in self._begun and self.transfers.is_acknowledged(pair):
             begun = self._begun.pop(pair)
+            self.queued.whole(begun.way)
             if number := self.flow_of(begun.way):
-                self.sends(number, begun.line, begun.at)
+                self.sends(number, begun.line, begun.at, begun.waited)
             elif begun.unit:
                 self.found.tell("no-flow", f"{begun.text}: no flow", begun.line, begun.at, unit=begun.unit)
 
@@ -241,9 +281,11 @@ class Comparison:
         """A frame that is none of a planned group, and carries no part of a long message. A unit without an address may ask for claims."""
         sender, to = frame.sender, frame.to
         if (sender.address, frame.pgn, frame.data[:3]) != (NULL_ADDRESS, REQUEST, CLAIMS):
-            self.sender(line, at, sender)
-        group = self.group_of(frame.pgn, len(frame.data), sender, to)
+            self.sender(line, at, sender, frame.pgn)
+        group = self.group_of(frame.pgn, len(frame.data), sender, to, frame.data)
         self.passes(line, at, frame.identifier, f"PGN {frame.pgn}", sender)
+        if frame.pgn == REQUEST:
+            self.no_frame(line, at, frame)
         if frame.pgn == ACKNOWLEDGEMENT:
             self.others.acknowledged(at, sender, to, frame.data)
         if group is None:
@@ -284,13 +326,15 @@ class Comparison:
         group = self.group_of(announced.pgn, announced.length, sender, to)
         way = (group.label if group else "", sender.label or "", to.shown)
         is_planned = way in self.sent
-        self.sender(line, at, sender, group.label if group else "")
+        self.sender(line, at, sender, announced.pgn, group.label if group else "")
         if announced.is_sound:
             self.answers(line, at, sender, to, announced.pgn)
             self.hands.announces(line, at, sender)
         route = Route(f"{group.label if group else f'PGN {announced.pgn}'} from {sender.shown} to {to.shown}", is_planned, sender.label, to.label)
+        waited = 0
         if announced.is_sound:
             self.transfers.announced(line, at, route, frame)
+            waited = self.queued.announced(sender.label, at, way, to.address is None) if sender.label and at is not None else 0
         if not is_planned:
             self.passes(line, at, frame.identifier, f"PGN {announced.pgn}", sender)
         if group is None:
@@ -298,7 +342,7 @@ class Comparison:
         elif not group.length <= announced.length <= group.most:
             self.another_length(line, at, group, announced.length, sender)
         elif announced.is_sound:
-            self._begun[pair] = Begun(line, at, route.text, pair, way, sender.label)
+            self._begun[pair] = Begun(line, at, route.text, pair, way, sender.label, waited)
         else:
             self.broken(Begun(line, at, route.text, pair, way, sender.label), Cause("its announcement breaks the rules"))
 
@@ -306,8 +350,9 @@ class Comparison:
         """A request."""
         if request.pgn == ADDRESS_CLAIMED:
             self.hands.asked(at)
+            self.claims.asked(line, at, request)
         if (request.sender.address, request.pgn) != (NULL_ADDRESS, ADDRESS_CLAIMED):  # a unit without an address may ask for claims
-            self.sender(line, at, request.sender)
+            self.sender(line, at, request.sender, REQUEST)
         if request.request:
             self.asked.asks(line, at, request)
         else:
@@ -323,8 +368,8 @@ class Comparison:
             address, _, where = begun.between.partition(" at ")
             text = f"{begun.text}: announced, and not put together, since {address}"
             self.found.tell("not-whole", text, begun.line, begun.at, unit=begun.unit, detail=f" at {where}")
-        else:
-            self.broken(begun, self.transfers.cause(begun.pair))
+        elif cause := self.transfers.cause(begun.pair):
+            self.broken(begun, cause)
 
     def broken(self, begun: Begun, cause: Cause) -> None:
         """A message that was announced and not carried whole."""
@@ -336,22 +381,64 @@ class Comparison:
         self.distances.anew(line, at)
         self.asked.anew()
         self.others.anew()
+        self.claims.anew()
+        self.queued.anew()
 
     def looks_at_time(self, line: int, at: int) -> None:
         """Time goes by. Where the clock was set, nothing at all came, or the interface was off, what is measured begins anew."""
-        if self.clock.is_set or self.clock.is_back:
+        last, clock = self._at, self.clock
+        if clock.is_set or clock.is_back:
             self.hands.anew(line)
             self.anew(line, at)
         elif self.damage.is_off:
             self.damage.is_off = False
             self.anew(line, at)
-        elif self._at is not None and at - self._at > self._gap and self.distances.alive(self._at) > 1:
-            text = "nothing at all came for {} ms before: the bus, the log or its clock stood still; distances begin anew"
-            self.found.tell("gap", text, line, at, at - self._at)
+        elif last is not None and at - last > self._gap and self.distances.alive(last) > 1:
+            self.hands.stood_still(line, at, at - last)
             self.anew(line, at)
-        self._at = at
-        if self.transfers.waits:
+        self._at, self._line = at, line
+        if self._is_watched or self.transfers.waits or self.transfers.refused or self.claims.open or self.hands.ignition.gap:
+            self.goes_by(at)
+
+    def watches(self) -> None:
+        """From here on what is due is told as soon as it is, by the times of the log, and by `waits`."""
+        self._is_watched = True
+        self.distances.watch()
+
+    def waits(self, duration: int) -> None:
+        """Nothing has come for so long, by the clock. After a while it is told of all, or of what is due if that was alone on the bus."""
+        if self._at is None or self._still or self.damage.is_off or duration <= max(SECOND, self._gap if self._gap < math.inf else 0):
+            return
+        if self._gap == math.inf or self.distances.alive(self._at) <= 1:
+            self.distances.goes_by(self._at + duration, self.is_under_way)
+            return
+        self._still = "nothing at all comes any more: the bus, the log or its clock stands still"
+        self.found.tell("gap", self._still, self._line, self._at)
+
+    def is_under_way(self, way: Way) -> bool:
+        """Whether a message was announced that may still be carried whole."""
+        return any(begun.way == way and begun.at is not None and self._at is not None and self._at - begun.at < LONGEST for begun in self._begun.values())
+
+    def goes_by(self, at: int) -> None:
+        """Time goes by for what is waited for."""
+        if self._is_watched:
+            self.is_due(at)
+        if self.transfers.waits or self.transfers.refused:
             self.transfers.goes_by(at)
+        if self.claims.open:
+            self.claims.goes_by(at)
+        if self.hands.ignition.gap:
+            self.hands.ignition.goes_by(at)
+
+    def is_due(self, at: int) -> None:
+        """Tells what is due now, if that is told as soon as it is."""
+        if self._still:
+            self.found.withdraw(self._still)
+            self._still = ""
+        if not self.damage.is_off:
+            self.distances.goes_by(at, self.is_under_way)
+        self.asked.goes_by(at)
+        self.others.goes_by(at)
 
     def report(self, report: Report, noted: Noted | None) -> None:
         """A report, and what was noted of its frame beside it."""
@@ -387,13 +474,14 @@ class Comparison:
         """Tells what is known at the end, where the last time of the log is this one."""
         for begun in self._begun.values():
             self.end(begun)
+        self.claims.end(last)
         self.hands.end(last)
         self.distances.end(None if self.damage.is_off else last)
         self.transfers.end(last)
         self.unplanned.end()
         self.damage.end()
         self.asked.end(last)
-        self.others.end(last)
+        self.others.goes_by(last)
         for number, flow in enumerate(self.flows, 1):
             if self.sent[self._ways[number - 1]] == 0 and not flow.on_request:
                 self.found.tell("never-sent", f"{self.distances.name(number)}: never sent", None, flow=number, unit=flow.sender)

@@ -27,10 +27,11 @@ LEAST, MOST = Measure(str, operator.lt), Measure(str, operator.gt)
 # The kinds of deviations (docs/TOOLS.md says what each is), and what is measured of them; times are in nanoseconds.
 KINDS: dict[str, Measure | None] = {
     "stranger": None, "absent": None, "identity": FIRST, "exchanged": None, "address": None, "displaced": None, "restart": None, "early-message": SHORTEST,
-    "two-boxes": None, "not-defended": None, "too-early": None, "hands": MOST, "no-group": None, "layout": None, "length": None, "priority": None, "no-flow": None,
+    "two-boxes": None, "unclaimed": None, "claims-unanswered": None, "not-defended": None, "too-early": None, "hands": MOST, "no-group": None, "layout": None, "length": None, "priority": None, "no-flow": None,
     "not-whole": LEAST, "given-up": None, "not-acknowledged": None, "near": SHORTEST, "silent": LONGEST, "stopped": LONGEST, "never-sent": None,
-    "unmet": None, "unanswered": None, "refused": None, "late": LONGEST, "asked-early": SHORTEST, "gap": LONGEST, "bus-off": None,
+    "unmet": None, "unanswered": None, "refused": None, "late": LONGEST, "asked-early": SHORTEST, "gap": LONGEST, "ignition": LONGEST, "bus-off": None,
     "error-passive": None, "lost-frames": None, "restarted": None, "urgent": None, "short-identifier": None, "unplanned": MOST,
+    "remote": None, "fd": None, "extended-page": None, "wrong-answer": None,
     "transport-priority": None, "packets-near": SHORTEST, "packets-far": LONGEST, "late-answer": LONGEST, "damaged": MOST, "overload": None,
 }
 
@@ -109,6 +110,10 @@ class Found:
             known.places.append(place)
         if is_heard and self._hear:
             self._hear(known, place)
+
+    def withdraw(self, text: str) -> None:
+        """What was told doesn't hold, by what came after it."""
+        self._met.pop(text, None)
 
     @staticmethod
     def _is_worse(known: Deviation, place: Place) -> bool:

@@ -1,17 +1,23 @@
-"""How far apart messages of flows come: the nearest, the longest silence, and what is usual."""
+"""How far apart messages of flows come: the nearest, the longest silence, those in a row, and what is usual."""
 
 import argparse
+import heapq
 import math
 import re
-from collections.abc import Iterator
+from collections.abc import Callable, Iterator, Mapping
+from dataclasses import dataclass
 from typing import NamedTuple
 
 from j39plan.log.checks.deviations import Found
+from j39plan.log.checks.rows import CLOCKS, Row
 from j39plan.log.clock import MILLISECOND, SECOND
 from j39plan.plan.tables import Flow
 
 # After how many periods without a message a flow is silent, where it isn't said.
 SILENCE = 5
+
+# Group, sender and destination.
+Way = tuple[str, str, str]
 
 # Distances are told apart by so many nanoseconds where the usual one is looked for.
 STEP = 10_000
@@ -62,6 +68,17 @@ def limits_of(flow: Flow, tolerance: Tolerance, silence: int, wait: int) -> Limi
     return Limits(least, math.inf if flow.on_request or not silence else most, f"its period is {flow.period} ms", wait)
 
 
+def rows_of(flow: Flow, tolerance: Tolerance, wait: int) -> tuple[Row | None, Row | None]:
+    """What takes the messages of a flow as a row, that they don't come too often, nor, where it has a pause, too seldom."""
+    slack = flow.jitter * MILLISECOND + wait
+    often = seldom = None
+    if flow.period is not None:
+        often = Row(max(flow.period * MILLISECOND - tolerance.at(flow.period), 0) * (1000 - CLOCKS) // 1000, slack)
+    if flow.period is not None and flow.pause is not None:
+        seldom = Row(-((flow.pause * MILLISECOND + tolerance.at(flow.pause)) * (1000 + CLOCKS) // 1000), slack)
+    return often, seldom
+
+
 class Rule(NamedTuple):
     """After how many periods a flow is silent, which flows are sent when something happens, by their numbers, and whether flows without a
     period are looked at too."""
@@ -75,114 +92,247 @@ class Rule(NamedTuple):
         return 0 if number in self.events and flow.pause is None else self.silence
 
 
+@dataclass(slots=True)
+class Track:
+    """A flow as it was sent so far: its limits and rows, how often, the line and time of its last message, None where there is none to count from, and how
+    long that one may have waited for others of its unit."""
+
+    number: int
+    flow: Flow
+    limits: Limits | None
+    often: Row | None
+    seldom: Row | None
+    count: int = 0
+    line: int = 0
+    at: int | None = None
+    waited: int = 0
+    is_known: bool = False  # whether it was sent before the clock was set, or nothing was heard
+
+    @property
+    def name(self) -> str:
+        """The flow in words."""
+        return f"flow {self.number}, {self.flow.what}"
+
+    def row_ends(self) -> None:
+        """The next message begins a row."""
+        if self.often:
+            self.often.ends()
+        if self.seldom:
+            self.seldom.ends()
+
+
+class Heard(NamedTuple):
+    """When each unit was heard first, and from when on one may send that claimed another address than before."""
+
+    first: Mapping[str, int]
+    free: Mapping[str, int]
+
+
 class Distances:
     """The distances of messages of flows. What a flow has begun in the order of the log counts; where a clock was set, from there on."""
 
-    def __init__(self, flows: list[Flow], tolerance: Tolerance, rule: Rule, waits: dict[int, int], first: dict[str, int], found: Found) -> None:
-        self._flows, self._first, self._found = flows, first, found  # `first` has when each unit was heard first
-        self._limits = {number: limits_of(flow, tolerance, rule.silence_of(number, flow), waits.get(number, 0)) for number, flow in enumerate(flows, 1)}
+    def __init__(self, flows: list[Flow], tolerance: Tolerance, rule: Rule, waits: dict[int, int], heard: Heard, found: Found) -> None:
+        self._heard, self._found = heard, found
+        self._tracks = [Track(number, flow, limits_of(flow, tolerance, rule.silence_of(number, flow), waits.get(number, 0)),
+                              *rows_of(flow, tolerance, waits.get(number, 0))) for number, flow in enumerate(flows, 1)]
         self._usual: dict[int, dict[int, int]] | None = {} if rule.is_whole else None
-        self._last: dict[int, tuple[int, int]] = {}
         self._since: tuple[int, int] | None = None  # where the clock was set last
-        self._silent: set[int] = set()
-        self.counts = {number: 0 for number, limits in self._limits.items() if limits or rule.is_whole}
+        self._due: list[tuple[float, int]] | None = None  # when flows are silent, by their numbers, where that is told as time goes by
+        self._watched: set[int] = set()
+        self._overdue: dict[int, str] = {}  # of those that are told as silent the text
         self.explained: dict[int, int] = {}  # of each flow how many distances a wait on the bus explains
         self.without_time = False
 
     def anew(self, line: int, at: int) -> None:
         """The clock was set, or nothing was heard: distances begin here."""
         self._since = line, at
-        self._silent.update(self._last)
-        self._last.clear()
+        for track in self._tracks:
+            track.is_known = track.is_known or track.at is not None
+            track.at = None
+            track.row_ends()
 
     def alive(self, at: int) -> int:
         """How many flows aren't silent at a time."""
-        return sum(limits is not None and limits.most < math.inf and number in self._last and at - self._last[number][1] <= limits.most
-                   for number, limits in self._limits.items())
+        return sum(track.limits is not None and track.limits.most < math.inf and track.at is not None and at - track.at <= track.limits.most
+                   for track in self._tracks)
 
-    def sent(self, number: int, line: int, at: int | None) -> None:
-        """A message of a flow, by when it began. The first one counts from when its unit was heard first."""
-        if number not in self.counts:
-            return
-        self.counts[number] += 1
-        limits = self._limits[number]
+    def sent(self, number: int, line: int, at: int | None, waited: int = 0) -> None:
+        """A message of a flow, by when it began, and how long it may have waited for others of its unit. The first one counts from when its unit was heard
+        first."""
+        track = self._tracks[number - 1]
+        track.count += 1
+        limits, last = track.limits, track.at
         if at is None:
             self.without_time = self.without_time or limits is not None
             return
-        last = self._last.get(number)
-        self._last[number] = line, at
-        if last is None:
-            self._begins(number, line, at)
-        elif self._usual is not None or limits is None or not limits.least <= at - last[1] <= limits.most:
-            self._compare(number, line, at, at - last[1])
-
-    def _begins(self, number: int, line: int, at: int) -> None:
-        """The first message of a flow: how late it comes."""
-        limits = self._limits[number]
-        if self._since is not None or self.counts[number] > 1 or limits is None:
+        if limits is None and self._usual is None:
             return
-        late = at - self._first.get(self._flows[number - 1].sender, at)
-        if late > max(limits.most, SECOND):
-            self._silence(number, line, at, late, limits)
+        before, track.line, track.at, track.waited = track.waited, line, at, waited
+        if self._overdue and number in self._overdue:
+            self._comes_again(track, last)
+        if last is None:
+            self._begins(track, line, at)
+            self._is_due(track)
+        elif self._usual is not None or limits is None or not limits.least <= at - last <= limits.most:
+            self._compare(track, line, at, last, before)
+        often = track.often
+        if often is None or last is not None and at < last:
+            return
+        mean = often.came(at, at - waited, 0)
+        if mean is not None:
+            self._tell_row("near", track, self._planned(track.flow), line, at, mean)
+        if track.seldom is not None:
+            mean = track.seldom.came(-at, -at, waited)
+            if mean is not None:
+                self._tell_row("silent", track, self._why(track), line, at, mean)
 
-    def _compare(self, number: int, line: int, at: int, distance: int) -> None:
+    def touched(self, unit: str, pgns: Mapping[str, int], pgn: int, line: int, at: int | None) -> None:
+        """A second box of a unit sends a group: distances of its flows begin anew with that, as far as the group tells which ones."""
+        for track in self._tracks:
+            if at is not None and track.flow.sender == unit and pgns[track.flow.group] == pgn and track.at is not None:
+                track.line, track.at = line, at
+                track.row_ends()
+
+    def _begins(self, track: Track, line: int, at: int) -> None:
+        """The first message of a flow: how late it comes, by when its unit was heard first, and the one that it is for."""
+        limits, first = track.limits, self._heard.first
+        if self._since is not None or track.count > 1 or limits is None:
+            return
+        late = at - max(first.get(track.flow.sender, at), first.get(track.flow.to, 0))
+        if late > max(limits.most, SECOND):
+            self._silence(track, line, at, late, limits)
+
+    def _compare(self, track: Track, line: int, at: int, last: int, waited: int) -> None:
         """A distance of a flow; where time goes back it is none."""
+        distance, limits = at - last, track.limits
         if distance < 0:
             return
         if self._usual is not None:
-            usual = self._usual.setdefault(number, {})
+            usual = self._usual.setdefault(track.number, {})
             usual[distance // STEP] = usual.get(distance // STEP, 0) + 1
-        limits = self._limits[number]
         if limits is None:
             return
         if distance < limits.least:
-            self._near(number, line, at, distance, limits)
+            self._near(track, line, at, distance, waited if waited < limits.least else 0)
         elif distance > limits.most:
-            self._silence(number, line, at, distance, limits)
+            since = self._counted_from(track, last)
+            if since > last:
+                track.row_ends()
+            self._silence(track, line, at, at - since, limits)
 
-    def _near(self, number: int, line: int, at: int, distance: int, limits: Limits) -> None:
-        """Two messages are nearer than the period."""
-        if distance >= limits.least - limits.wait:
-            self.explained[number] = self.explained.get(number, 0) + 1
+    def _counted_from(self, track: Track, last: int) -> int:
+        """From when on a flow is silent whose last message came then: not before the unit that it is for was heard, nor before its own unit may send
+        behind a claim."""
+        flow = track.flow
+        return max(last, self._heard.first.get(flow.to, last), self._heard.free.get(flow.sender, last))
+
+    def _near(self, track: Track, line: int, at: int, distance: int, waited: int) -> None:
+        """Two messages are nearer than the period, of which the first one may have waited so long for others of its unit."""
+        assert track.limits is not None
+        least = track.limits.least - waited
+        if distance >= least:
             return
-        flow = self._flows[number - 1]
-        text = f"{{}} ms after the one before, its period is {flow.period} ms" + (f" and its jitter {flow.jitter} ms" if flow.jitter else "")
-        self._tell("near", number, text, line, at, distance)
+        if distance >= least - track.limits.wait:
+            self.explained[track.number] = self.explained.get(track.number, 0) + 1
+            return
+        self._tell("near", track, f"{{}} ms after the one before, {self._planned(track.flow)}", line, at, distance)
+        track.row_ends()
 
-    def _silence(self, number: int, line: int, at: int, distance: int, limits: Limits) -> None:
+    def _silence(self, track: Track, line: int, at: int, distance: int, limits: Limits) -> None:
         """A message comes after a silence."""
-        if distance <= limits.most + limits.wait:
-            self.explained[number] = self.explained.get(number, 0) + 1
+        if distance <= limits.most + track.waited:
             return
-        self._tell("silent", number, f"not sent for {{}} ms before, {limits.why}", line, at, distance)
+        if distance <= limits.most + limits.wait + track.waited:
+            self.explained[track.number] = self.explained.get(track.number, 0) + 1
+            return
+        self._tell("silent", track, f"not sent for {{}} ms before, {limits.why}", line, at, distance)
+        track.row_ends()
 
-    def _tell(self, kind: str, number: int, text: str, line: int, at: int, value: int) -> None:
+    @staticmethod
+    def _planned(flow: Flow) -> str:
+        """What the plan has of how often a flow is sent."""
+        return f"its period is {flow.period} ms" + (f" and its jitter {flow.jitter} ms" if flow.jitter else "")
+
+    @staticmethod
+    def _why(track: Track) -> str:
+        """What the plan has of how long a flow may be silent."""
+        return track.limits.why if track.limits else ""
+
+    def _tell_row(self, kind: str, track: Track, planned: str, line: int, at: int, mean: int) -> None:
+        """Messages in a row come too often, or too seldom, though a wait explains each one by itself."""
+        self._tell(kind, track, f"{{}} ms apart in the mean of several in a row, {planned}: no wait explains all", line, at, mean)
+
+    def _tell(self, kind: str, track: Track, text: str, line: int, at: int, value: int) -> None:
         """A deviation of a flow."""
-        self._found.tell(kind, f"{self.name(number)}: {text}", line, at, value, flow=number, unit=self._flows[number - 1].sender)
+        self._found.tell(kind, f"{track.name}: {text}", line, at, value, flow=track.number, unit=track.flow.sender)
+
+    def watch(self) -> None:
+        """From here on a flow is told as silent as soon as it is, by `goes_by`."""
+        self._due = []
+
+    def _is_due(self, track: Track) -> None:
+        """A flow begins, whose silence is to be told."""
+        if self._due is not None and track.limits and track.limits.most < math.inf and track.number not in self._watched:
+            self._watched.add(track.number)
+            heapq.heappush(self._due, (self._limit(track, track.limits), track.number))
+
+    def _limit(self, track: Track, limits: Limits) -> float:
+        """From when on a flow is silent."""
+        assert track.at is not None
+        return self._counted_from(track, track.at) + limits.most + limits.wait
+
+    def goes_by(self, at: int, is_under_way: Callable[[Way], bool]) -> None:
+        """Time goes by, where silences are told as soon as they are, but of what is under way: a heap has when each flow is due, at the latest as of when
+        it was looked at."""
+        due = self._due
+        while due and due[0][0] < at:
+            number = heapq.heappop(due)[1]
+            track = self._tracks[number - 1]
+            self._watched.discard(number)
+            if track.limits is None or track.at is None:
+                continue
+            if self._limit(track, track.limits) >= at:
+                self._is_due(track)
+            elif is_under_way((track.flow.group, track.flow.sender, track.flow.to)):
+                self._watched.add(number)
+                heapq.heappush(due, (at + SECOND, number))
+            else:
+                self._overdue[number] = text = f"{track.name}: not sent any more, {track.limits.why}"
+                self._found.tell("stopped", text, track.line, track.at, flow=number, unit=track.flow.sender)
+
+    def _comes_again(self, track: Track, last: int | None) -> None:
+        """A flow is sent again that was told as silent: what is told of it now is for how long, if that is known."""
+        text = self._overdue.pop(track.number)
+        if last is not None:
+            self._found.withdraw(text)
+            self._is_due(track)
 
     def end(self, last: int | None) -> None:
         """Tells what has stopped, where the last time of the log is this one."""
-        for number, limits in self._limits.items():
-            begin = self._last.get(number, self._since if number in self._silent else None)
-            if limits and begin and last is not None and last - begin[1] > limits.most + limits.wait:
-                self._tell("stopped", number, f"not sent any more, for {{}} ms to the log's end, {limits.why}", begin[0], begin[1], last - begin[1])
+        for track in self._tracks:
+            limits = track.limits
+            begin = (track.line, track.at) if track.at is not None else self._since if track.is_known else None
+            if not limits or not begin or last is None or track.number in self._overdue:
+                continue
+            silence = last - self._counted_from(track, begin[1])
+            if silence > limits.most + limits.wait:
+                self._tell("stopped", track, f"not sent any more, for {{}} ms to the log's end, {limits.why}", begin[0], begin[1], silence)
 
     def name(self, number: int) -> str:
         """A flow by its number."""
-        flow = self._flows[number - 1]
-        return f"flow {number}, {flow.group} from {flow.sender} to {flow.to}"
+        return self._tracks[number - 1].name
 
     @property
     def passed_over(self) -> list[int]:
         """The flows of which no distance is too small, by what is passed over."""
-        return [number for number, limits in self._limits.items() if limits and limits.least <= 0]
+        return [track.number for track in self._tracks if track.limits and track.limits.least <= 0]
 
     def table(self) -> Iterator[tuple[str, ...]]:
         """A row for each flow: its period, how often it was sent, the least, usual and greatest distance, all in ms."""
-        for number, flow in enumerate(self._flows, 1):
-            usual = sorted((self._usual or {}).get(number, {}).items())
+        for track in self._tracks:
+            usual, flow = sorted((self._usual or {}).get(track.number, {}).items()), track.flow
             told = [f"{step * STEP / MILLISECOND:.2f}" for step in (usual[0][0], median(usual), usual[-1][0])] if usual else ["-"] * 3
-            yield str(number), flow.group, flow.sender, flow.to, str(flow.period or "-"), str(self.counts.get(number, 0)), *told
+            yield str(track.number), flow.group, flow.sender, flow.to, str(flow.period or "-"), str(track.count), *told
 
 
 def median(usual: list[tuple[int, int]]) -> int:

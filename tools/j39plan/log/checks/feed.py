@@ -17,6 +17,12 @@ from j39plan.plan.tables import Timing
 FRAME = re.compile(rb"(?:^|[ \t\r])([01][0-9A-Fa-f]{7})#((?:[0-9A-Fa-f]{2}){0,8})(?:[ \t\r]+[RT])?[ \t\r]*\n?$")
 SHORT = re.compile(rb"(?:^|[ \t\r])([0-9A-Fa-f]{3})#([^ \t\r]*)(?:[ \t\r]+[RT])?[ \t\r]*\n?$")
 
+# A line with a remote frame, or one of CAN FD, of a 29-bit identifier.
+ODD = re.compile(rb"(?:^|[ \t\r])([01][0-9A-Fa-f]{7})#(#[0-9A-Fa-f]+|[Rr][0-8]?)(?:[ \t\r]+[RT])?[ \t\r]*\n?$")
+REMOTE, FD = "remote", "fd"
+REMOTE_MARK = b"#R"
+ODD_KINDS = {REMOTE: "a remote frame", FD: "a CAN FD frame"}
+
 # An error frame as Linux has it: its classes in place of an identifier, behind the flag of 2^29.
 ERROR = re.compile(rb"(?:^|[ \t\r])(2[0-9A-Fa-f]{7})#((?:[0-9A-Fa-f]{2}){8})(?:[ \t\r]+[RT])?[ \t\r]*\n?$")
 ERROR_FLAG = 1 << 29
@@ -27,7 +33,7 @@ BLANKS, DIRECTIONS = b" \t\r\n", (b"R", b"T")
 
 class Noted(NamedTuple):
     """A frame of a line: its identifier and its bytes; of an 11-bit identifier the one of 29 bits that goes before as many frames, and no bytes; of an
-    error frame its classes. And the first word of the line, and its interface."""
+    error frame its classes. And the first word of the line, its interface, and the kind of a frame that is none of J1939."""
 
     line: int
     identifier: int
@@ -35,6 +41,12 @@ class Noted(NamedTuple):
     time: str
     interface: bytes | None
     is_error: bool = False
+    kind: str = ""
+
+    @property
+    def kind_text(self) -> str:
+        """The kind in words."""
+        return ODD_KINDS[self.kind]
 
     @property
     def priority(self) -> int:
@@ -55,8 +67,10 @@ class Feed:
         self._plain: set[bytes] = set()  # identifiers of frames of which nothing is noted
         self._unheard: deque[Noted] = deque()  # of which `follow` says nothing
         self._beside: deque[Noted] = deque()  # of which it says something else
+        self.noted = self._unheard, self._beside
         self._interface: bytes | None = None
         self._last = b""
+        self.unread: int | None = None  # a line that spells no frame, the first that was seen
 
     @property
     def last_time(self) -> str:
@@ -95,7 +109,7 @@ class Feed:
         if self._meter:
             is_last = end[-1:] not in DIRECTIONS
             self._meter.take(line, at - 8, len(end) - at if is_last else len(end[at:].split(maxsplit=1)[0]))
-        if spelled in self._plain and self._interface:
+        if spelled in self._plain and self._interface and end[at:at + 2] != REMOTE_MARK and ((len(end) - at) & 1 or end[-2:-1] == b" "):
             self._last = line
         elif found := FRAME.search(line):
             self._last = line
@@ -104,8 +118,11 @@ class Feed:
                 self._beside.append(noted_of(number, line, found))
             else:
                 self._plain.add(spelled)
-        elif found := ERROR.search(line) or (SHORT.search(line) if self._timing else None):
-            self._unheard.append(noted_of(number, line, found))
+        elif found := ERROR.search(line) or ODD.search(line) or SHORT.search(line):
+            if found.re is not SHORT or self._timing:
+                self._unheard.append(noted_of(number, line, found))
+        elif end and self.unread is None and (self._interface is None or interface_of(line) in (None, self._interface)):
+            self.unread = number
 
     def _is_noted(self, identifier: int) -> bool:
         """Whether a frame of which `follow` says who sent it, and no more, is to be looked at."""
@@ -119,5 +136,7 @@ def noted_of(number: int, line: bytes, found: re.Match[bytes]) -> Noted:
     identifier, time, interface = int(found.group(1), 16), first_word(line), interface_of(line)
     if found.re is SHORT:
         return Noted(number, identifier << 18, b"", time, interface)
+    if found.re is ODD:
+        return Noted(number, identifier, b"", time, interface, kind=FD if found.group(2).startswith(b"#") else REMOTE)
     data, is_error = bytes.fromhex(found.group(2).decode()), found.re is ERROR
     return Noted(number, identifier & ~ERROR_FLAG if is_error else identifier, data, time, interface, is_error)

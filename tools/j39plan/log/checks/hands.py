@@ -4,6 +4,7 @@ from typing import NamedTuple
 
 from j39plan.j1939 import POOL, identity_in
 from j39plan.log.checks.deviations import Found
+from j39plan.log.checks.ignition import Again, Ignition
 from j39plan.log.clock import MILLISECOND, SECOND, milliseconds
 from j39plan.log.reports import Who
 from j39plan.plan.tables import Tables, Unit
@@ -131,9 +132,14 @@ class Hands:
         self._holders: dict[int, Who] = {}
         self._at: dict[Box, int] = {}
         self.first: dict[Key, int] = {}  # when each was heard first
+        self.begun: dict[Key, tuple[int, int | None]] = {}  # the line and the time of that
+        self.free: dict[Key, int] = {}  # from when on each may send that claimed another address than it had
         self.last: dict[Key, Heard] = {}
+        self.ignition = Ignition(found)
         self._heard: dict[Box, Heard] = {}
         self._since = 0  # the line at which the clock was set last
+        self._stood = 0  # the line behind which all was silent last
+        self._stale: set[int] = set()  # addresses that nobody claimed since
         self._claimed: dict[Box, int] = {}  # when each claimed an address last
         self._told: dict[Box, int | None] = {}  # what each claimed last, None of one that could claim none
         self._units_told: set[Key] = set()  # the same of whom any claim came
@@ -158,6 +164,20 @@ class Hands:
         self._fresh.clear()
         self._restarts.clear()
 
+    def stood_still(self, line: int, at: int, silence: int) -> None:
+        """Nothing at all came for so long before: who holds which address is to be claimed anew where the ignition was off."""
+        self.ignition.stood_still(line, at, silence)
+        self._tell_changes()
+        self._stood, self._stale = line, set(self._holders)
+
+    def was_held(self, address: int | None) -> bool:
+        """Whether somebody claimed an address, as far as that is known now."""
+        return address in self._holders or address in self._left
+
+    def has_claimed(self, label: str) -> bool:
+        """Whether any claim came of a unit."""
+        return label in self._units_told
+
     def claim(self, line: int, at: int | None, who: Who, identity: int | None = None) -> tuple[int, ...]:
         """A claim, or that there was no address to claim, by a box of this serial number where its unit is of any: the addresses that another
         box holds now."""
@@ -165,6 +185,10 @@ class Hands:
         key, box, address = key_of(who), box_of(who), who.address
         if at is not None:
             self._pass(at)
+            self._frees(at, key, address)
+        is_start = self._is_start(self._heard.get(box) or self._heard.get(f"?{key}"))
+        if is_start:
+            self.ignition.starts(box)
         if (unclaimed := self._heard.pop(f"?{key}", None)) is not None:
             self._heard.setdefault(box, unclaimed)
         before = self._holders.get(address) if address is not None else None
@@ -176,13 +200,14 @@ class Hands:
         changed = self._leaves(box, at, who)
         self._settles(box)
         if address is not None and before is not None and box_of(before) == box:
-            self._claims_again(line, at, who)
+            self._claims_again(line, at, who, is_start)
         elif address is not None:
             if before is not None or self._guessed(address) != who.label:
                 changed.append(address)
             self._takes(line, at, who, before, is_defence)
+        self._stale.discard(-1 if address is None else address)
         self._is_displaced(box, who)
-        self._is_heard(line, at, key, box, address)
+        self.is_heard(line, at, key, box, address)
         self._told[box] = address
         self._units_told.add(key)
         if at is not None:
@@ -194,11 +219,23 @@ class Hands:
         unit = self._units.get(who.label or "")
         return who if unit is None else who._replace(name=f"{unit.number | (identity or 0):016X}")
 
-    def _is_heard(self, line: int, at: int | None, key: Key, box: Box, address: int | None) -> None:
+    def is_heard(self, line: int, at: int | None, key: Key, box: Box, address: int | None) -> None:
         """Somebody is heard, at an address, None of one that could claim none."""
         self.last[key] = self._heard[box] = line, at, address
-        if at is not None:
-            self.first.setdefault(key, at)
+        if key not in self.first:
+            self.begun.setdefault(key, (line, at))
+            if at is not None:
+                self.first[key] = at
+
+    def _is_start(self, heard: Heard | None) -> bool:
+        """Whether a box was heard before all was silent, and not since, by when it was heard last."""
+        return heard is not None and heard[0] < self._stood
+
+    def _frees(self, at: int, key: Key, address: int | None) -> None:
+        """Somebody claims: where that is another address than it had, it may send from there on, or, where it may be contested, 250 ms later."""
+        known = self.last.get(key)
+        if known is not None and address is not None and known[2] != address:
+            self.free[key] = at + (CONTEST if address in POOL else 0)
 
     def _is_told(self, unit: Unit) -> bool:
         """Whether a claim came of a NAME of a unit."""
@@ -251,19 +288,23 @@ class Hands:
         self._fresh.pop(address, None)
         if before is not None:
             self._at.pop(box_of(before), None)
-            self._change(line, at, before, who)
+            if address not in self._stale:
+                self._change(line, at, before, who)
             if before.label and not who.label:
                 self._taken[box_of(before)] = Taken(line, at, who, before.label, self._is_box_on(before, at))
         if address in POOL and self._is_new(box, address, at) and not is_defence:
             self._fresh[address] = Claimed(line, at, who, before, self._is_contested(at, before, who))
         self._holders[address], self._at[box] = who, address
 
-    def _claims_again(self, line: int, at: int | None, who: Who) -> None:
+    def _claims_again(self, line: int, at: int | None, who: Who, is_start: bool) -> None:
         """Somebody claims the address that it holds: as an answer, or since it has restarted. Where there are no times that isn't known."""
         last = self._claimed.get(box_of(who))
-        if at is None or self._was_asked(at) or last is not None and 0 <= at - last < CONTEST:
+        if at is None or self.was_asked(at) or last is not None and 0 <= at - last < CONTEST:
             return
         text = f"{named(who)} claims address {who.address}, which it holds, and nobody asked: has it restarted?"
+        if is_start:
+            self.ignition.claims_again(Again(line, at, who.label, text))
+            return
         self._found.tell("restart", text, line, at, unit=who.label)
         before = self._time_of(self._heard.get(box_of(who)))
         if self._is_live and before is not None:
@@ -287,9 +328,9 @@ class Hands:
         text = f"{named(taken.who)} takes address {taken.who.address} from {taken.label}, which {then}"
         self._found.tell("displaced", text, taken.line, taken.at, unit=taken.label)
 
-    def _was_asked(self, at: int) -> bool:
+    def was_asked(self, at: int | None) -> bool:
         """Whether claims were asked for, so that one tells nothing."""
-        return self._asked is not None and at - self._asked <= ANSWER
+        return self._asked is not None and at is not None and at - self._asked <= ANSWER
 
     def _defends(self, who: Who, at: int | None) -> bool:
         """Whether a claim is of one that claimed this address last, or whose unit had it as a contest began that runs there."""
@@ -302,7 +343,7 @@ class Hands:
         """Whether a claim is none that was asked for, nor of one that sends from this address already."""
         known = self._heard.get(box)
         heard = self._time_of(known) if known and known[2] == address else None
-        return at is not None and not self._was_asked(at) and not (heard is not None and 0 <= at - heard < HEARD)
+        return at is not None and not self.was_asked(at) and not (heard is not None and 0 <= at - heard < HEARD)
 
     def _time_of(self, heard: Heard | None) -> int | None:
         """When somebody was heard last, by the clock as it is set now."""
@@ -342,12 +383,24 @@ class Hands:
         left = self._left.get(who.address) if who.address is not None and not who.label and not who.name else None
         return None if left is None or at is not None and left.at is not None and 0 <= at - left.at < CONTEST else left.who
 
+    def source_of(self, who: Who) -> tuple[Key, Box]:
+        """Who sends something, and which box it is, as claims have it now."""
+        holder, key = self._holders.get(who.address) if who.address is not None else None, key_of(who)
+        return key, box_of(holder if holder is not None and key_of(holder) == key else who)
+
+    def is_named(self, who: Who) -> bool:
+        """Whether who sends is known by a claim, or by the plan alone, and not by a contest."""
+        return not who.is_guess or who.address not in self._holders
+
+    @property
+    def is_settled(self) -> bool:
+        """Whether it is known of all claims what comes of them."""
+        return not self._fresh
+
     def sends(self, line: int, at: int | None, who: Who) -> None:
         """Somebody sends something that is no claim."""
-        holder = self._holders.get(who.address) if who.address is not None else None
-        if not who.is_guess or holder is None:  # else only the contest tells who it is
-            key = key_of(who)
-            self._is_heard(line, at, key, box_of(holder if holder is not None and key_of(holder) == key else who), who.address)
+        if self.is_named(who):  # else only the contest tells who it is
+            self.is_heard(line, at, *self.source_of(who), who.address)
         if self._fresh and at is not None:
             self._pass(at)
             self._is_early(line, at, who)
@@ -380,7 +433,13 @@ class Hands:
         for taken in self._taken.values():
             if taken.was_on:
                 self._tell_taken(taken, "claims no other")
+        self._tell_changes()
+        self.ignition.end()
+
+    def _tell_changes(self) -> None:
+        """Tells the addresses that changed hands often since the begin, or since all was silent."""
         for address, known in self._changes.items():
             if known.times >= HANDS:
                 near = "" if known.nearest is None else f", the nearest {milliseconds(max(known.nearest, 0))} ms apart"
                 self._found.tell("hands", f"address {address} changed hands {{}} times", known.line, value=known.times, detail=f", first from {known.text}{near}")
+        self._changes.clear()

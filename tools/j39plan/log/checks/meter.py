@@ -45,8 +45,8 @@ class Meter:
         """The log is over."""
         self._close()
 
-    def mean(self, begin: int | None, end: int | None) -> float | None:
-        """The mean of a second, where the log goes from one time to another, in nanoseconds; None where it is shorter than one."""
-        if begin is None or end is None or end - begin < 10**9 or not self.bits:
+    def mean(self, duration: int | None) -> float | None:
+        """The mean of a second of a log of this duration, in nanoseconds; None where it is shorter than one."""
+        if duration is None or duration < 10**9 or not self.bits:
             return None
-        return self.bits * 10**9 / (end - begin)
+        return self.bits * 10**9 / duration

@@ -126,10 +126,10 @@ class OtherRequests:
                     text = f"{row.text}: no answer within {milliseconds(WAITED)} ms"
                     self._found.tell("unanswered", text, place.line, place.at, unit=row.to.label)
 
-    def end(self, last: int | None) -> None:
-        """Tells what has no answer, where the last time of the log is this one."""
+    def goes_by(self, at: int | None) -> None:
+        """Time goes by, until the log's end: all that has no answer until now has none."""
         for pgn in list(self.open):
-            self._passes(pgn, last)
+            self._passes(pgn, at)
 
     def rows(self) -> list[Asked]:
         """All requests, in the order in which they came first."""

@@ -112,6 +112,12 @@ class Asked:
         unit = request.sender if kind == "asked-early" or request.to == "all" else request.to
         self._found.tell(kind, f"request {number + 1}, {request.what}: {text}", line, at, value, unit=unit)
 
+    def goes_by(self, at: int) -> None:
+        """Time goes by: all that has no answer until now is told."""
+        for number, waiting in enumerate(self._open):
+            if waiting:
+                self._pass(number, at)
+
     def end(self, last: int | None) -> None:
         """Tells what has no answer, where the last time of the log is this one. Of a log without times each request is to have one."""
         for number, waiting in enumerate(self._open):

@@ -5,7 +5,7 @@ from typing import NamedTuple
 
 from j39plan.j1939 import CONNECTION_MANAGEMENT, DATA_TRANSFER, FRAME_BYTES, PACKET_BYTES, pgn_in
 from j39plan.log.checks.deviations import Found
-from j39plan.log.clock import MILLISECOND
+from j39plan.log.clock import MILLISECOND, SECOND
 from j39plan.log.reports import Frame, Who
 from j39plan.plan.tables import Timing
 
@@ -16,6 +16,9 @@ SIZES = range(9, 1786)
 
 # So long an answer may take (Tr), and so long who sends waits for one (T3).
 ANSWER, WAITED = 200 * MILLISECOND, 1250 * MILLISECOND
+
+# So long after it was refused since its receiver has too many sessions a message may be tried again.
+TRIED, TOO_MANY = 5 * SECOND, 1
 
 # Why a transfer is given up, by the byte of an Abort.
 REASONS = {1: "too many sessions", 2: "no resources", 3: "timeout", 4: "packets while it sends none", 5: "too many repetitions",
@@ -63,12 +66,14 @@ class Route(NamedTuple):
 
 @dataclass
 class Transfer:
-    """A long message under way: its group and the number of its packets, which ones came, whether it was cleared to send; when its last frame
-    came, and whose answer is waited for since then, if one is."""
+    """A long message under way: its group, its bytes and the number of its packets, and how many may be cleared to send at once; which ones came,
+    whether it was cleared to send; when its last frame came, and whose answer is waited for since then, if one is."""
 
     route: Route
     pgn: int
+    size: int
     count: int
+    most: int
     at: int | None
     is_broadcast: bool
     waits_for: str = ""
@@ -80,6 +85,15 @@ class Transfer:
     def missing(self) -> int | None:
         """The first packet that didn't come."""
         return next((number for number in range(1, self.count + 1) if not self.came >> number & 1), None)
+
+
+class Refusal(NamedTuple):
+    """A message that its receiver had no session for: where, and what is told of it."""
+
+    line: int
+    at: int | None
+    text: str
+    unit: str | None
 
 
 class Cause(NamedTuple):
@@ -100,15 +114,16 @@ class Transfers:
     def __init__(self, timing: Timing | None, found: Found) -> None:
         self._timing, self._found = timing, found
         self._open: dict[Pair, Transfer] = {}
-        self._given_up: set[Pair] = set()
+        self.refused: dict[Pair, list[Refusal]] = {}  # what may be tried again, and is then carried whole
         self.waits: dict[Pair, tuple[int, int | None]] = {}  # what came whole, by the line and time of its last packet, and isn't acknowledged yet
 
     def announced(self, line: int, at: int | None, route: Route, frame: Frame) -> None:
         """A long message is announced by the rules."""
         is_broadcast, pair = frame.to.address is None, pair_of(frame.sender, frame.to)
         self._is_unanswered(pair)
-        self._given_up.discard(pair)
-        self._open[pair] = Transfer(route, pgn_of(frame), frame.data[3], at, is_broadcast, "" if is_broadcast else "answer")
+        size, count = int.from_bytes(frame.data[1:3], "little"), frame.data[3]
+        most = count if is_broadcast else min(count, frame.data[4] or count)
+        self._open[pair] = Transfer(route, pgn_of(frame), size, count, most, at, is_broadcast, "" if is_broadcast else "answer")
         self._look_at_priority(line, at, route, frame)
 
     def came(self, line: int, at: int | None, frame: Frame) -> bool:
@@ -132,6 +147,7 @@ class Transfers:
 
     def reported(self, line: int, at: int | None, pair: Pair) -> None:
         """All packets of a message came, so that it is to be acknowledged where it goes to one unit."""
+        self.refused.pop(pair, None)
         transfer = self._open.get(pair)
         if transfer and not transfer.is_broadcast and transfer.route.is_planned:
             self.waits[pair] = line, at
@@ -140,11 +156,11 @@ class Transfers:
         """Whether the receiver has said that it has the message."""
         return pair in self._open and self._open[pair].is_acknowledged
 
-    def cause(self, pair: Pair) -> Cause:
-        """Why a message that was announced wasn't carried whole."""
+    def cause(self, pair: Pair) -> Cause | None:
+        """Why a message that was announced wasn't carried whole; None where it was given up, which is told by itself."""
         transfer = self._open.get(pair)
-        if pair in self._given_up or transfer is None:
-            return Cause("it was given up")
+        if transfer is None:
+            return None
         if not transfer.is_broadcast and not transfer.is_cleared:
             return Cause("no clear to send")
         if transfer.missing is None:
@@ -152,7 +168,11 @@ class Transfers:
         return Cause(f"packet {{}} of {transfer.count} didn't come", transfer.missing)
 
     def goes_by(self, at: int) -> None:
-        """Time goes by: what isn't acknowledged until now isn't any more."""
+        """Time goes by: what isn't acknowledged, or tried again, until now isn't any more."""
+        for pair, refusals in list(self.refused.items()):
+            since = refusals[-1].at
+            if since is not None and not 0 <= at - since <= TRIED:
+                self._tell_refusals(pair)
         for pair, (_, since) in list(self.waits.items()):
             if since is not None and not 0 <= at - since <= WAITED:
                 self._is_unanswered(pair)
@@ -188,15 +208,29 @@ class Transfers:
         before, is_waited_for = transfer.at, transfer.waits_for == "answer"
         if frame.data[0] not in (CLEAR, WHOLE):
             return
+        if transfer.route.to and pgn_of(frame) == transfer.pgn:
+            self._fits(line, at, transfer, frame)
         transfer.at, transfer.waits_for = at, "packet" if frame.data[0] == CLEAR and frame.data[1] else ""
         if frame.data[0] == WHOLE and pgn_of(frame) == transfer.pgn:
             transfer.is_acknowledged = True
             self.waits.pop(pair_of(frame.to, frame.sender), None)
+            self.refused.pop(pair_of(frame.to, frame.sender), None)
         elif frame.data[1]:
             transfer.is_cleared = True
             transfer.came &= ~((1 << frame.data[1]) - 1 << frame.data[2])  # what is asked for again hasn't come
         if self._timing and is_waited_for and at is not None and before is not None:
             self._late(line, at, at - before, transfer, transfer.route.to)
+
+    def _fits(self, line: int, at: int | None, transfer: Transfer, frame: Frame) -> None:
+        """Whether an answer fits what was announced: a clear to send for no more packets than that allows, an acknowledgement of as many bytes."""
+        route, (control, count, high, packets) = transfer.route, frame.data[:4]
+        if control == CLEAR and count > transfer.most:
+            text = f"cleared to send {count} packets at once, its announcement allows {transfer.most}"
+        elif control == WHOLE and (count | high << 8, packets) != (transfer.size, transfer.count):
+            text = f"{count | high << 8} bytes in {packets} packets are acknowledged, announced were {transfer.size} in {transfer.count}"
+        else:
+            return
+        self._found.tell("wrong-answer", f"{route.text}: {text}", line, at, unit=route.to)
 
     def _late(self, line: int, at: int, duration: int, transfer: Transfer, unit: str | None) -> None:
         """An answer that was waited for so long, by whom it is."""
@@ -205,15 +239,22 @@ class Transfers:
 
     def _abort(self, line: int, at: int | None, frame: Frame) -> None:
         """An Abort: of a message that goes either way between the two."""
-        for pair in (pair_of(frame.sender, frame.to), pair_of(frame.to, frame.sender)):
-            transfer = self._open.pop(pair, None)
-            self.waits.pop(pair, None)
-            if transfer:
-                self._given_up.add(pair)
-                reason = REASONS.get(frame.data[1], "of its own")
-                text = f"{transfer.route.text}: given up by {frame.sender.shown}, reason {frame.data[1]} ({reason})"
-                self._found.tell("given-up", text, line, at, unit=frame.sender.label)
-                return
+        there, back = pair_of(frame.sender, frame.to), pair_of(frame.to, frame.sender)
+        pair = next((pair for pair in (there, back) if pair in self._open), None)
+        if pair is None:
+            return
+        transfer = self._open.pop(pair)
+        self.waits.pop(pair, None)
+        reason = frame.data[1]
+        text = f"{transfer.route.text}: given up by {frame.sender.shown}, reason {reason} ({REASONS.get(reason, 'of its own')})"
+        self.refused.setdefault(pair, []).append(Refusal(line, at, text, frame.sender.label))
+        if reason != TOO_MANY or pair == there or transfer.is_cleared:
+            self._tell_refusals(pair)
+
+    def _tell_refusals(self, pair: Pair) -> None:
+        """Tells that a message was given up, and not carried whole later."""
+        for refusal in self.refused.pop(pair):
+            self._found.tell("given-up", refusal.text, refusal.line, refusal.at, unit=refusal.unit)
 
     def _look_at_priority(self, line: int, at: int | None, route: Route, frame: Frame) -> None:
         """The priority of a transport frame of a planned message."""
@@ -222,7 +263,12 @@ class Transfers:
             self._found.tell("transport-priority", f"{route.text}: frames of the transport protocol have {behind}", line, at, unit=route.sender)
 
     def end(self, last: int | None) -> None:
-        """Tells what isn't acknowledged until the log's last time; in a log without times until its end."""
+        """Tells what isn't acknowledged, or tried again, until the log's last time; in a log without times until its end."""
+        if last is not None:
+            self.goes_by(last)
+        for pair, refusals in list(self.refused.items()):
+            if last is None or refusals[-1].at is None:
+                self._tell_refusals(pair)
         for pair, (_, since) in list(self.waits.items()):
             if since is None or last is None or last - since > WAITED:
                 self._is_unanswered(pair)

@@ -1,0 +1,67 @@
+"""Which units claim addresses as they have to: before they send, and where claims are asked for (SAE J1939-81)."""
+
+from j39plan.j1939 import NULL_ADDRESS
+from j39plan.log.checks.deviations import Found, Place
+from j39plan.log.checks.hands import ANSWER, Hands
+from j39plan.log.clock import milliseconds
+from j39plan.log.reports import Request
+from j39plan.plan.tables import Unit
+
+# So many units at least begin with their claims in a log that begins with the drive.
+BEGINNERS = 2
+
+
+class Claims:
+    """The units that have to claim, those that began with their claim, and who is asked for its claim and hasn't answered yet."""
+
+    def __init__(self, units: list[Unit], hands: Hands, found: Found) -> None:
+        self._labels = [unit.label for unit in units if unit.claims]
+        self._hands, self._found = hands, found
+        self._began: set[str] = set()  # who was heard first by a claim that nobody had asked for
+        self._asked_first: set[str] = set()  # and by one that was asked for
+        self.open: dict[str, Place] = {}
+
+    def anew(self) -> None:
+        """The clock was set, or frames are missing: who is asked counts no more."""
+        self.open.clear()
+
+    def claimed(self, at: int | None, label: str) -> None:
+        """A unit claims an address, or can't, before the hands know of it."""
+        self.open.pop(label, None)
+        if label not in self._hands.last:
+            (self._asked_first if self._hands.was_asked(at) else self._began).add(label)
+
+    def asked(self, line: int, at: int | None, request: Request) -> None:
+        """Claims are asked for: who is on answers."""
+        if at is None or request.to.address == NULL_ADDRESS:
+            return
+        for label in self._labels:
+            is_meant = request.to.address is None or request.to.label == label
+            if is_meant and label != request.sender.label and self._hands.is_on(label, at):
+                self.open.setdefault(label, Place(line, at))
+
+    def goes_by(self, at: int) -> None:
+        """Time goes by: who hasn't answered until now doesn't, where it was heard since."""
+        for label, place in list(self.open.items()):
+            assert place.at is not None
+            if 0 <= at - place.at <= ANSWER:
+                continue
+            del self.open[label]
+            heard = self._hands.last[label][1]
+            if heard is not None and place.at < heard:
+                text = f"{label} doesn't answer a request for claims within {milliseconds(ANSWER)} ms"
+                self._found.tell("claims-unanswered", text, place.line, place.at, unit=label)
+
+    def end(self, last: int | None) -> None:
+        """Tells what is known at the end: in a log in which most units begin with their claims each one has to."""
+        if last is not None:
+            self.goes_by(last)
+        heard = [label for label in self._labels if label in self._hands.last]
+        others = [label for label in heard if label not in self._began | self._asked_first]
+        if len(self._began) < max(BEGINNERS, len(others) + 1):
+            return
+        for label in others:
+            if not self._hands.has_claimed(label):
+                line, at = self._hands.begun[label]
+                text = f"{label} sends, and never claims an address, as {len(self._began)} other units do before they send"
+                self._found.tell("unclaimed", text, line, at, unit=label)

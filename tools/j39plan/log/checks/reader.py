@@ -1,0 +1,88 @@
+"""Hands a comparison what `follow` writes, line by line. Most lines are of messages of one frame that are as planned, and differ in their time and data
+alone: what the rest of such a line means is kept until a claim comes."""
+
+from __future__ import annotations
+
+from collections.abc import Iterator
+from itertools import islice
+from typing import NamedTuple
+
+from j39plan.j1939 import FRAME_BYTES
+from j39plan.log.checks.comparison import Comparison
+from j39plan.log.checks.feed import Feed
+from j39plan.log.reports import GROUP, KIND, Claim, Counts, Lines, Message, Who, report_of
+from j39plan.plan.tables import Tables
+
+# So many digits, and the end of the line, has the data of a frame at most; and so many meanings are kept.
+DIGITS, KEPT = 2 * FRAME_BYTES + 1, 4096
+
+
+class Plain(NamedTuple):
+    """A message of one frame of a planned flow by its line without time and data: the number of the flow, the group's number, who sends it to
+    whom, and as whom that is heard."""
+
+    flow: int
+    pgn: int
+    sender: Who
+    to: Who
+    key: str
+    box: str
+    address: int | None
+
+
+class Reader:
+    """Takes the lines of `follow` for a comparison."""
+
+    def __init__(self, comparison: Comparison, feed: Feed, tables: Tables, counts: Counts) -> None:
+        self._comparison, self._feed, self._counts = comparison, feed, counts
+        self._below = Lines(tables).below
+        self._unheard, self._beside = feed.noted
+        self._plain: dict[str, Plain] = {}
+
+    def take(self, line: str, lines: Iterator[str]) -> None:
+        """A line, and those below it."""
+        words = line.split(" ", 2)
+        head, _, data = words[-1].rpartition(" ")
+        plain = self._plain.get(head)
+        if plain is not None and len(data) <= DIGITS and not self._unheard and not self._beside:
+            self._take_plain(int(words[0]), words[1], plain)
+        elif line[0].isdigit():
+            self._report(line, lines, head)
+        else:
+            self._counts.take(line)
+
+    def _report(self, line: str, lines: Iterator[str], head: str) -> None:
+        """A report."""
+        words, below = line.split(), []
+        if words[KIND] == "group":
+            below = list(islice(lines, self._below(words[GROUP], len(words[-1]))))
+        report = report_of(words, below)
+        for noted in self._feed.unheard(report.line):
+            self._comparison.unheard(noted)
+        self._comparison.report(report, self._feed.beside(report.line))
+        if isinstance(report, Claim):
+            self._plain.clear()
+        elif isinstance(report, Message) and not below and len(report.data) < DIGITS and len(self._plain) < KEPT:
+            self._keep(head, report)
+
+    def _keep(self, head: str, message: Message) -> None:
+        """Keeps what the rest of a message's line means, where it is as planned, and it is known who sent it."""
+        sender, to = message.sender, message.to
+        if message.flow and sender.label and message.priority is None and self._comparison.hands.is_named(sender):
+            pgn = self._comparison.planned[message.group].pgn
+            self._plain[head] = Plain(message.flow, pgn, sender, to, *self._comparison.hands.source_of(sender), sender.address)
+
+    def _take_plain(self, line: int, time: str, plain: Plain) -> None:
+        """Such a message, as `report` takes it."""
+        comparison = self._comparison
+        at = comparison.clock.see(line, time)
+        if at is not None:
+            comparison.looks_at_time(line, at)
+        flow, pgn, sender, to, key, box, address = plain
+        if comparison.hands.is_settled:
+            comparison.hands.is_heard(line, at, key, box, address)
+        else:
+            comparison.hands.sends(line, at, sender)
+        if comparison.asked.open or comparison.others.open:
+            comparison.answers(line, at, sender, to, pgn)
+        comparison.sends(flow, line, at)
