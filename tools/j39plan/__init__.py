@@ -28,14 +28,15 @@ if sys.version_info < (3, 11):
 
 if TYPE_CHECKING:
     from j39plan.api import (
-        Acknowledgement, Age, Asking, Claim, Delay, Deviation, Drive, Finding, Flow, Frame, Group, Load, Message, Need, Notice, Plan, Reading,
-        Readings, Refused, Request, Signal, Stand, Text, Unit, Who, deviations, drive, follow, frame, read_plan, signals,
+        Acknowledgement, Age, Asking, Claim, Delay, Deviation, Drive, Finding, Flow, Forward, Frame, Gateway, Group, Load, Message, Need,
+        Notice, Plan, Reading, Readings, Refused, Request, Signal, Stand, Text, Unit, Vehicle, VehicleFinding, VehicleNeed, Who, deviations, drive,
+        follow, frame, read_plan, read_vehicle, signals,
     )
 
 __all__ = [
-    "Acknowledgement", "Age", "Asking", "Claim", "Delay", "Deviation", "Drive", "Finding", "Flow", "Frame", "Group", "Load", "Message", "Need",
-    "Notice", "Plan", "Reading", "Readings", "Refused", "Request", "Signal", "Stand", "Text", "Unit", "Who", "deviations", "drive", "follow",
-    "frame", "read_plan", "signals",
+    "Acknowledgement", "Age", "Asking", "Claim", "Delay", "Deviation", "Drive", "Finding", "Flow", "Forward", "Frame", "Gateway", "Group", "Load", "Message",
+    "Need", "Notice", "Plan", "Reading", "Readings", "Refused", "Request", "Signal", "Stand", "Text", "Unit", "Vehicle", "VehicleFinding",
+    "VehicleNeed", "Who", "deviations", "drive", "follow", "frame", "read_plan", "read_vehicle", "signals",
 ]
 
 if not TYPE_CHECKING:

@@ -25,14 +25,19 @@ from j39plan.plan.parts import Source
 from j39plan.plan.tables import Flow, Group, Need, Signal, Tables, Text, Unit
 from j39plan.plan.tables import Request as Asking
 from j39plan.program import Refused
+from j39plan.vehicle import answers as vehicle_answers
+from j39plan.vehicle.answer_objects import vehicle_object
+from j39plan.vehicle.files import Vehicle as VehicleFiles
+from j39plan.vehicle.tables import Forward, Gateway
+from j39plan.vehicle.tables import Need as VehicleNeed
 
 if TYPE_CHECKING:
     import pandas
 
 __all__ = [
-    "Acknowledgement", "Age", "Asking", "Claim", "Delay", "Deviation", "Drive", "Finding", "Flow", "Frame", "Group", "Load", "Message", "Need",
-    "Notice", "Plan", "Reading", "Readings", "Refused", "Request", "Signal", "Stand", "Text", "Unit", "Who", "deviations", "drive", "follow",
-    "frame", "read_plan", "signals",
+    "Acknowledgement", "Age", "Asking", "Claim", "Delay", "Deviation", "Drive", "Finding", "Flow", "Forward", "Frame", "Gateway", "Group", "Load", "Message",
+    "Need", "Notice", "Plan", "Reading", "Readings", "Refused", "Request", "Signal", "Stand", "Text", "Unit", "Vehicle", "VehicleFinding",
+    "VehicleNeed", "Who", "deviations", "drive", "follow", "frame", "read_plan", "read_vehicle", "signals",
 ]
 
 # The columns of a data frame that have few different texts.
@@ -158,6 +163,58 @@ def read_plan(name: str | os.PathLike[str]) -> Plan:
     name = os.fspath(name)
     with _with_program():
         return Plan(name, text_of(name))
+
+
+class VehicleFinding(NamedTuple):
+    """What `vehicle` found: the file and its line, the label of the bus whose plan that is, empty of the vehicle's file; the text, a hint, and its
+    number and its name, as `G12` and `TooRare`."""
+
+    file: str
+    line: int
+    bus: str
+    text: str
+    hint: str
+    number: str
+    name: str
+
+
+class Vehicle:
+    """A vehicle of several buses that the program can read, whatever it finds in it.
+
+    `name` is the name of its file; `buses` are the plans of its buses by their labels, and `gateways`, `forwards` and `needs` stand in the order
+    of the file: of each the keys as `Gateway`, `Forward` and `VehicleNeed` have them. `answer` is what `j39plan-answer vehicle` writes: by when forwards
+    are queued, how old what is needed is, and the load of each bus, in us.
+    """
+
+    def __init__(self, name: str) -> None:
+        self.name = name
+        with _with_program(), open(name, "rb") as file:
+            data = file.read()
+            status, self._parts, further = vehicle_answers.answered(name, name, data)
+        if status not in (0, 1):
+            raise Refused(status, next((f"{part.file}:{part.part.line}: {part.part.text}" for part in self._parts if part.part.line), f"{name} can't be read"))
+        files = VehicleFiles(Source(data.decode(), name), name)
+        self.answer: dict[str, Any] = vehicle_object(name, status, self._parts, None, further)
+        self.buses: dict[str, Plan] = {bus.label: read_plan(files.file_of(bus)) for bus in files.tables.buses}
+        self.gateways: list[Gateway] = files.tables.gateways
+        self.forwards: list[Forward] = files.tables.forwards
+        self.needs: list[VehicleNeed] = files.tables.needs
+
+    def __repr__(self) -> str:
+        return f"<vehicle {self.name}: {len(self.buses)} buses {len(self.gateways)} gateways {len(self.forwards)} forwards {len(self.needs)} needs>"
+
+    def findings(self) -> list[VehicleFinding]:
+        """What `vehicle` finds in the vehicle's file and in the plans of its buses. The list is empty where it says ok."""
+        return [VehicleFinding(file, part.line, bus, part.answer, part.hint, *part.answer.split()[:2]) for file, bus, part in self._parts if part.line is not None]
+
+
+def read_vehicle(name: str | os.PathLike[str]) -> Vehicle:
+    """The vehicle of a file, with the plans that it names.
+
+    Raises `Refused`, whose text begins with file and line, where the file is none, or a plan can't be read or opened; `OSError` where the file itself
+    can't be opened.
+    """
+    return Vehicle(os.fspath(name))
 
 
 def follow(

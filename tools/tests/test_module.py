@@ -45,6 +45,26 @@ class Module(InFolder):
                 "print(pickle.loads(pickle.dumps(plan.units)) == plan.units, pickle.loads(pickle.dumps(j39plan.Refused(2, 'x'))) is not None)\n")
         self.assertEqual(self.script(text), "mine, program; mine, reports; mine, signals; mine, plan\n[]\nTrue True\n")
 
+    def test_findings_by_number_and_name(self) -> None:
+        (found,) = j39plan.read_plan(example("findings/f18_late_flow.toml")).findings()
+        self.assertEqual((found.number, found.name, found.text), ("F18", "LateFlow", "F18 LateFlow 2"))
+        self.assertEqual([flow.deadline for flow in j39plan.read_plan(example("findings/f18_late_flow.toml")).flows], [None, 2])
+
+    def test_a_vehicle(self) -> None:
+        """Its buses with their plans, what gateways do, and its findings with the file and the bus."""
+        name = example("three_buses/first.toml")
+        vehicle = j39plan.read_vehicle(name)
+        self.assertEqual({label: plan.findings() for label, plan in vehicle.buses.items()}, {label: [] for label in vehicle.buses})
+        self.assertEqual((vehicle.findings(), vehicle.answer["status"]), ([], 0))
+        self.assertEqual([forward.gateway for forward in vehicle.forwards], ["CGW"] * len(vehicle.forwards))
+        text = text_of(name)
+        for bus in re.findall(r'plan = "(.*)"', text):
+            self.write(bus, text_of(os.path.join(os.path.dirname(name), bus)))
+        (found,) = j39plan.read_vehicle(self.write("v.toml", text.replace("within = 50", "within = 1"))).findings()
+        self.assertEqual((found.file, found.bus, found.line, found.number, found.name), (self.path("v.toml"), "", text.count("\n"), "G13", "NeedTooOld"))
+        with self.assertRaises(j39plan.Refused):
+            j39plan.read_vehicle(PLAN)
+
     def test_what_is_handed_out(self) -> None:
         """All that the package lists is there, the same in both lists, and nothing else; importing it loads none of it."""
         from j39plan import api

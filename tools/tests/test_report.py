@@ -327,6 +327,22 @@ length = 20
         self.assertIn(["1", "TSC1", "RETARDER", "ENGINE", "10 ms", "6.4 %", "1.28 ms", "10 ms", "12.8 %"], rows)
         self.assertIn(["3", "ET1", "ENGINE", "all", "1000 ms", "0.1 %", "3.2 ms", "50 ms", "6.4 %"], rows)
 
+    def test_what_the_times_rest_on(self) -> None:
+        """What else comes on the bus, who keeps no order, and by how much flows are late or pause; by default where the plan is silent."""
+        text = text_of(example("axle.toml"))
+        rows = self.page(self.write("silent.toml", text)).rows
+        for row in (["Priority of the transport protocol", "7"], ["Between packets to all", "50 to 200 ms"], ["Damaged frames", "none"],
+                    ["Controllers that keep no order of priority", "none"]):
+            self.assertIn(row, rows)
+        timing = "unplanned = 3\nunplanned_priority = 4\ntransport_priority = 5\nbroadcast_gap = 60\nbroadcast_gap_most = 90\nerrors = { count = 2, every = 100 }"
+        told = re.sub("unplanned = .*", timing, re.sub(r"version = \d", "version = 4", text), count=1)
+        told = told.replace('label = "ENGINE"', 'label = "ENGINE"\nqueue = "any"', 1).replace("period = 10\n", "period = 10\njitter = 2\npause = 30\n", 1)
+        rows = self.page(self.write("told.toml", told)).rows
+        for row in (["Unplanned frames that may go before a planned one", "3, of priority 4 to 7"], ["Priority of the transport protocol", "5"],
+                    ["Between packets to all", "60 to 90 ms"], ["Damaged frames", "2 in 100 ms at most"], ["Controllers that keep no order of priority", "ENGINE"]):
+            self.assertIn(row, rows)
+        self.assertEqual([row[4:7] for row in rows if row[:2] == ["1", "TSC1"]], [["10 ms", "2 ms", "30 ms"]])
+
     def test_load_of_other_plans(self) -> None:
         """A long message has no bound, nor has a flow without a period; findings on identifiers leave the load unknown; a plan without flows takes nothing."""
         text = text_of(example("axle.toml"))

@@ -60,22 +60,43 @@ class Page(OfVehicles):
         self.assertIn('<tr><th scope="row">1</th><td>B.C</td><td>EEC1 SPN190</td><td>P.E</td><td>27.56 ms</td><td>30 ms</td><td>P.E EEC1 SPN190 → CGW (1, direct) → B.C</td></tr>', page)
         self.assertIn("<figcaption>Need 1: EEC1 SPN190 by B.C from P.E, age: 27.56 ms of 30 ms</figcaption>", page)
         self.assertIn(f'role="img" aria-label="{way}"', page)
-        self.assertEqual((page.count('<line class="hop"'), page.count("<circle")), (1, 2))
-        self.assertEqual(re.findall(r"<text[^>]*>([^<]*)</text>", page), ["bus P", "bus B", "CGW, forward 1, direct", "E: EEC1 SPN190", "G to C: EEC1 SPN190"])
+        figure = page.partition("<figcaption>Need 1")[2].partition("</figure>")[0]
+        self.assertEqual((figure.count('<line class="hop"'), figure.count("<circle")), (2, 2))
+        self.assertEqual(re.findall(r"<text[^>]*>([^<]*)</text>", figure), ["bus P", "bus B", "CGW, forward 1, direct", "E: EEC1 SPN190", "G to C: EEC1 SPN190"])
 
     def test_arrows_go_from_bus_to_bus(self) -> None:
-        """From the column of the bus on which it is heard to that of the bus on which it is sent, a step lower."""
+        """A step down on the bus on which it is heard, and from there across to the bus on which it is sent."""
         lines = dict(re.findall(r'<line class="(hop)" (.*?) marker-end', self.page()))
-        self.assertEqual(lines["hop"], 'x1="110" y1="56" x2="330" y2="112"')
+        self.assertEqual(lines["hop"], 'x1="0" y1="88" x2="220" y2="88"')
         back = swapped(V, ('label = "P"', 'label = "Z"'), ('label = "B"', 'label = "P"'), ('label = "Z"', 'label = "B"'), ('"p.toml"', '"q.toml"'),
                        ('"b.toml"', '"p.toml"'), ('"q.toml"', '"b.toml"'))
         lines = dict(re.findall(r'<line class="(hop)" (.*?) marker-end', self.page(back)))
-        self.assertEqual(lines["hop"], 'x1="330" y1="56" x2="110" y2="112"')
+        self.assertEqual(lines["hop"], 'x1="220" y1="88" x2="0" y2="88"')
+
+    def test_no_label_is_cut(self) -> None:
+        """Each text is within its picture, how long the labels are whatever."""
+        long = "A_UNIT_THAT_HAS_A_LABEL_OF_32_CH"
+        page = self.page(swapped(V, ('"P.E"', f'"P.{long}"'), ('"B.C"', f'"B.{long}"')), P.replace('"E"', f'"{long}"'), B.replace('"C"', f'"{long}"'))
+        pictures = re.findall(r'<svg .*?viewBox="(-?\d+) 0 (\d+) (\d+)"(.*?)</svg>', page, re.DOTALL)
+        self.assertEqual(len(pictures), 2)
+        for first, width, height, inside in pictures:
+            texts = re.findall(r'<text x="(-?\d+)" y="(\d+)" text-anchor="(\w+)">(.*?)</text>', inside)
+            self.assertGreater(len(texts), 4)
+            for x, y, anchor, said in texts:
+                begin = int(x) - {"start": 0, "middle": 7 * len(said) / 2, "end": 7 * len(said)}[anchor]
+                self.assertTrue(int(first) <= begin and begin + 7 * len(said) <= int(first) + int(width) and int(y) <= int(height), said)
+
+    def test_the_whole_vehicle(self) -> None:
+        """Each bus with its units and their addresses, and each gateway with a dot and its unit at each of its buses."""
+        figure = self.page().partition("<figcaption>The vehicle: its buses")[2].partition("</figure>")[0]
+        self.assertEqual(sorted(re.findall(r"<text[^>]*>([^<]*)</text>", figure)), ["C 23", "CGW", "E 0", "G", "G", "bus B", "bus P"])
+        self.assertEqual((figure.count("<circle"), figure.count('<rect class="gateway"'), figure.count("<rect x=")), (2, 1, 2))
+        self.assertIn('aria-label="bus P with E, G; bus B with C, G; gateway CGW as P.G, B.G"', figure)
 
     def test_needs_that_are_not_met(self) -> None:
         page = self.page(b=swapped(B, ("byte = 4", "byte = 5")))
         self.assertIn("<td><strong>not met</strong></td><td>30 ms</td><td>–</td></tr>", page)
-        self.assertNotIn("<svg", page)
+        self.assertNotIn("<figcaption>Need", page)
         self.assertIn("<td><code>v.toml:20</code></td><td><code>G9 NeedUnmet 1</code></td>", page)
         unknown = self.page(swapped(V, ("within = 5\n", "")))
         self.assertIn("<td><strong>not shown</strong></td><td>30 ms</td>", unknown)
@@ -84,7 +105,7 @@ class Page(OfVehicles):
     def test_plans_with_findings(self) -> None:
         """The ways aren't known then, and the page of the bus has the findings."""
         page = self.page(b=swapped(B, ("address = 39", "address = 23")))
-        self.assertIn("<p>The plans of the buses have 1 findings.</p>", page)
+        self.assertIn("<p>The plans of the buses have 1 finding.</p>", page)
         self.assertIn("Not known: plans of buses have findings that are to be mended first.", page)
         self.assertIn(f"<code>{self.path('b.toml')}:11</code>", page)
         self.assertIn("<strong>ok</strong>: <code>vehicle</code> found nothing.", self.page())

@@ -9,12 +9,15 @@ from j39plan.plan.parts import Source
 
 
 class Finding(NamedTuple):
-    """What `check` found, the line of the file where it belongs, a hint, and the steps of a run that shows it."""
+    """What `check` found, the line of the file where it belongs, a hint, and the steps of a run that shows it; its number and its name, as
+    `F20` and `NeedTooOld`."""
 
     text: str
     line: int
     hint: str
     steps: list[str]
+    number: str = ""
+    name: str = ""
 
 
 class Stand(NamedTuple):
@@ -58,7 +61,8 @@ def findings(plan: Source, answer: str) -> Iterator[Finding]:
     for line, *below in parted(answer):
         if line_of(line).kind == "finding":
             at, hint = finding(plan, line)
-            yield Finding(line, at, hint or "", [line_of(step).word("step") for step in below])
+            number, name = line.split()[:2]
+            yield Finding(line, at, hint or "", [line_of(step).word("step") for step in below], number, name)
 
 
 def stands(answer: str) -> dict[str, Stand]:

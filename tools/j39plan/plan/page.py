@@ -295,7 +295,28 @@ def bits_of(group: Group) -> int:
     return 80 + 10 * group.most
 
 
-def delay_row(delay: Delay, flow: Flow, group: Group, link: str, bitrate: int) -> str:
+def premises(tables: Tables) -> list[str]:
+    """What the bounds rest on, as the plan says it: what else comes on the bus, and how the controllers send."""
+    timing = tables.timing
+    if timing is None:
+        return []
+    errors, unordered = timing.errors, [escape(unit.label) for unit in tables.units if unit.queue == "any"]
+    facts = {
+        "Unplanned frames that may go before a planned one": f"{timing.unplanned}, of priority {timing.unplanned_priority} to 7",
+        "Priority of the transport protocol": str(timing.transport_priority),
+        "Between packets to all": f"{timing.broadcast_gap} to {timing.broadcast_gap_most} ms",
+        "Damaged frames": f"{errors.count} in {errors.every} ms at most" if errors else "none",
+        "Controllers that keep no order of priority": ", ".join(unordered) or "none",
+    }
+    return [table("What the times rest on", ("Premise", "In the plan"), [row(head, [said]) for head, said in facts.items()])]
+
+
+def paced(flow: Flow) -> list[str]:
+    """By how much a flow's messages are late, and how far apart they come at most."""
+    return [f"{flow.jitter} ms" if flow.jitter else "–", f"{flow.pause} ms" if flow.pause else "–"]
+
+
+def delay_row(delay: Delay, flow: Flow, group: Group, link: str, bitrate: int, is_paced: bool) -> str:
     """A flow with what it takes of the bus and its delay, in words where it has none. What long messages take `load` alone knows."""
     taken = f"{100 * 1000 * bits_of(group) / (flow.period * bitrate):.1f} %" if flow.period and delay.frames == 1 else "–"
     if not delay.frames:
@@ -309,7 +330,8 @@ def delay_row(delay: Delay, flow: Flow, group: Group, link: str, bitrate: int) -
     else:
         share = f"{100 * delay.within / delay.limit:.1f} %"
         cells = [in_milliseconds(delay.within), in_milliseconds(delay.limit), share]
-    return row(str(delay.flow), [link, escape(flow.sender), escape(flow.to), f"{flow.period} ms" if flow.period else "–", taken, *cells])
+    ends = [link, escape(flow.sender), escape(flow.to), f"{flow.period} ms" if flow.period else "–"]
+    return row(str(delay.flow), [*ends, *(paced(flow) if is_paced else []), taken, *cells])
 
 
 def load_section(tables: Tables, load: Load) -> str:
@@ -320,13 +342,13 @@ def load_section(tables: Tables, load: Load) -> str:
     full = " <strong>That is more than the bus carries.</strong>" if taken > bitrate else ""
     parts = [f"<p>{taken} of {bitrate} bits a second at most, {100 * taken / bitrate:.1f} % of the bitrate.{full}</p>"]
     links, groups = links_of(tables), {group.label: group for group in tables.groups}
-    rows = [delay_row(delay, flow, groups[flow.group], links[flow.group], bitrate)
+    is_paced = any(flow.jitter or flow.pause for flow in tables.flows)
+    rows = [delay_row(delay, flow, groups[flow.group], links[flow.group], bitrate, is_paced)
             for delay in load.delays for flow in [tables.flows[delay.flow - 1]]]
     if rows:
-        parts.append("<p>The times count from when a frame is ready in its controller, and hold where the bus keeps the premises of "
-                     "<code>load</code>.</p>")
-        heads = ("Flow", "Group", "From", "To", "Period", "Bus load", "On the bus within", "Limit", "Of its limit")
-        parts.append(table("Delays of the flows", heads, rows))
+        parts.append("<p>The times count from when a frame is ready in its controller, and hold where the bus keeps what they rest on.</p>")
+        heads = ("Flow", "Group", "From", "To", "Period", *(("Jitter", "Pause") if is_paced else ()), "Bus load", "On the bus within", "Limit", "Of its limit")
+        parts += [*premises(tables), table("Delays of the flows", heads, rows)]
     return section("load", "Load", parts)
 
 

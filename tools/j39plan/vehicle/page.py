@@ -10,6 +10,7 @@ from j39plan.plan.page import document, in_milliseconds, row, section, table
 from j39plan.vehicle.answer_grammar import line_of
 from j39plan.vehicle.answer_places import InFile
 from j39plan.vehicle.files import Vehicle
+from j39plan.vehicle.overview import overview
 from j39plan.vehicle.page_style import VEHICLE_STYLE
 from j39plan.vehicle.picture import picture, short
 from j39plan.vehicle.tables import Bus, Forward, Need
@@ -54,7 +55,8 @@ class Page:
     def buses(self) -> str:
         """The buses side by side, each with its units."""
         boxes = "\n".join(self._bus(bus) for bus in self.vehicle.tables.buses)
-        return section("buses", "Buses", [f'<div class="buses">\n{boxes}\n</div>'])
+        whole = f"<figure>\n<figcaption>The vehicle: its buses, units with their addresses, and gateways</figcaption>\n{overview(self.vehicle)}\n</figure>"
+        return section("buses", "Buses", [whole, f'<div class="buses">\n{boxes}\n</div>'])
 
     def _bus(self, bus: Bus) -> str:
         """A bus: the file of its plan, how full it is, and its units, those of gateways by these."""

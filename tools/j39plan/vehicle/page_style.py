@@ -11,6 +11,8 @@ svg text { fill: var(--ink); stroke: var(--paper); stroke-width: 4px; paint-orde
 svg line { stroke: var(--line); stroke-width: 3px; }
 svg .hop { stroke: var(--ink); stroke-width: 1.5px; }
 svg circle, svg path { fill: var(--ink); }
+svg rect { fill: var(--paper); stroke: var(--line); }
+svg .gateway { fill: var(--head); stroke: var(--ink); }
 details { margin: 1rem 0; }
 summary { font-size: 1.25rem; cursor: pointer; }
 """
