@@ -18,7 +18,7 @@ complete -c j39plan -n '__fish_seen_subcommand_from follow' -l all -d 'show each
 complete -c j39plan -n '__fish_seen_subcommand_from help' -a 'show check addresses load run read follow frame vehicle'
 
 # The tools.
-for tool in where answer startup dbc2plan plan2dbc join forwards compare mend against fleet report signals codes plot tolog check-plans
+for tool in where answer startup dbc2plan plan2dbc join forwards compare mend against fleet table report signals codes plot tolog check-plans
     complete -c j39plan-$tool -l help -s h -d 'print the help'
     complete -c j39plan-$tool -l version -d 'print the version'
 end
@@ -81,6 +81,10 @@ complete -c j39plan-signals -l interface -x -d 'the interface that is read, as c
 complete -c j39plan-signals -l csv -d 'a row a signal'
 complete -c j39plan-signals -l json -d 'a JSON object a signal'
 complete -c j39plan-signals -l wide -d 'a row a message, two columns a signal'
+complete -c j39plan-table -l csv -d 'as rows with commas'
+complete -c j39plan-table -l json -d 'as a JSON object'
+complete -c j39plan-table -l xlsx -r -F -d 'write a workbook'
+complete -c j39plan-table -n 'not __fish_is_first_arg' -a 'units groups signals flows needs requests'
 complete -c j39plan-codes -l csv -d 'a row a code'
 complete -c j39plan-codes -l json -d 'a JSON object a code'
 complete -c j39plan-codes -l fleet -d 'each log is of a vehicle of its own'
