@@ -20,6 +20,7 @@ from j39plan.log.checks.distances import SILENCE, Distances, Rule, Tolerance
 from j39plan.log.checks.feed import Feed
 from j39plan.log.checks.meter import Meter
 from j39plan.log.checks.reader import Reader
+from j39plan.log.checks.requirements import Requirements, refuse_of_vehicle, requirement_options, wants_requirements
 from j39plan.log.checks.summary import requests_of, summary_tables, units_of
 from j39plan.log.checks.unplanned import bounds_of
 from j39plan.log.checks.watch import watched
@@ -58,6 +59,7 @@ def words_of(words: list[str] | None) -> argparse.Namespace:
     parser.add_argument("--live", action="store_true", help="each deviation as soon as it is met, with --all each time; at the end those that "
                         "only the whole log shows")
     parser.add_argument("--json", action="store_true", help="as JSON objects, each on a line; the last one is of the whole log")
+    requirement_options(parser)
     interface_option(parser)
     bus_option(parser)
     parser.add_argument("plan", metavar="PLAN", type=named, help="the name of a plan file, or of a vehicle file")
@@ -186,6 +188,9 @@ def compared(given: argparse.Namespace) -> int:
     if given.table and not given.json:
         for row in summary_tables(comparison, log.place):
             print(row)
+    if wants_requirements(given):
+        requirements = Requirements(comparison, found.all(), given.unit)
+        return requirements.put(given, lambda place: place_text(place, given.plan, log.place), lambda one: row_of(one, log.place))
     return output.whole(found, summary_of(log, meter, comparison) if meter else {})
 
 
@@ -207,6 +212,7 @@ def main(words: list[str] | None = None) -> int:
     given = words_of(words)
     vehicle = vehicle_in(given.plan)
     if vehicle is not None:
+        refuse_of_vehicle(given)
         return 1 if of_vehicle(given, vehicle) else 0
     refuse_buses(given.plan, given.bus)
     return 1 if compared(given) else 0

@@ -90,9 +90,9 @@ def compared(plan: str, log: str, options: list[str]) -> tuple[list[Deviation], 
     notes = [line.partition(": ")[2] for line in said.splitlines()]
     if status not in (0, 1) or not answer:
         raise program.Refused(status or program.FAULT, notes[-1] if notes else f"against ended with {status}")
-    if not answer.startswith("{"):
+    *rows, whole = map(json.loads, answer.splitlines() if answer.startswith("{") else ["{}"])
+    if "deviations" not in whole:
         raise program.Refused(program.UNREADABLE, f"with {' '.join(options)} against writes no list of deviations")
-    *rows, whole = map(json.loads, answer.splitlines())
     return [deviation_of(row) for row in rows if "times" in row], notes, whole
 
 

@@ -35,7 +35,7 @@ _j39plan_tool() {
   COMPREPLY=()
   if [ "$before" = --kind ]; then
     mapfile -t COMPREPLY < <(compgen -W 'dbc arxml kcd sym' -- "$word")
-  elif [[ $before =~ ^(-o|--output|--notes|--gitlab|--junit)$ ]]; then
+  elif [[ $before =~ ^(-o|--output|--notes|--gitlab|--junit|--xlsx|--reference)$ ]]; then
     compopt -o filenames 2> /dev/null
     mapfile -t COMPREPLY < <(compgen -f -- "$word")
   elif [[ $word == -* ]]; then
@@ -44,6 +44,8 @@ _j39plan_tool() {
     _j39plan_files "$word" dbc arxml kcd sym
   elif [ "$tool" = j39plan-answer ] && [ "$COMP_CWORD" -eq 1 ]; then
     mapfile -t COMPREPLY < <(compgen -W 'check addresses load vehicle' -- "$word")
+  elif [ "$tool" = j39plan-table ] && [ "$COMP_CWORD" -gt 1 ]; then
+    mapfile -t COMPREPLY < <(compgen -W 'units groups signals flows needs requests' -- "$word")
   elif [ "$tool" = j39plan-tolog ]; then
     _j39plan_files "$word" asc blf trc mf4 csv
   elif [[ $tool =~ ^j39plan-(against|fleet|signals|codes|plot)$ ]] && [ "$COMP_CWORD" -gt 1 ]; then
@@ -52,4 +54,4 @@ _j39plan_tool() {
     _j39plan_files "$word" toml
   fi
 }
-complete -F _j39plan_tool j39plan-where j39plan-answer j39plan-startup j39plan-dbc2plan j39plan-plan2dbc j39plan-join j39plan-forwards j39plan-compare j39plan-mend j39plan-against j39plan-fleet j39plan-report j39plan-signals j39plan-codes j39plan-plot j39plan-tolog j39plan-check-plans
+complete -F _j39plan_tool j39plan-where j39plan-answer j39plan-startup j39plan-dbc2plan j39plan-plan2dbc j39plan-join j39plan-forwards j39plan-compare j39plan-mend j39plan-against j39plan-fleet j39plan-table j39plan-report j39plan-signals j39plan-codes j39plan-plot j39plan-tolog j39plan-check-plans

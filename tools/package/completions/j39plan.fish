@@ -18,7 +18,7 @@ complete -c j39plan -n '__fish_seen_subcommand_from follow' -l all -d 'show each
 complete -c j39plan -n '__fish_seen_subcommand_from help' -a 'show check addresses load run read follow frame vehicle'
 
 # The tools.
-for tool in where answer startup dbc2plan plan2dbc join forwards compare mend against fleet report signals codes plot tolog check-plans
+for tool in where answer startup dbc2plan plan2dbc join forwards compare mend against fleet table report signals codes plot tolog check-plans
     complete -c j39plan-$tool -l help -s h -d 'print the help'
     complete -c j39plan-$tool -l version -d 'print the version'
 end
@@ -62,6 +62,9 @@ complete -c j39plan-report -l address -x -d 'at which address of this machine th
 complete -c j39plan-report -l port -x -d 'at which port the page is served'
 complete -c j39plan-against -l jitter -x -d 'by how much messages may come nearer than their period, as 2.5 (ms) or 10%'
 complete -c j39plan-against -l silence -x -d 'after how many periods without a message a flow is silent'
+complete -c j39plan-against -l requirements -d 'each flow, need and request: kept, broken, not seen'
+complete -c j39plan-against -l junit -r -F -d 'write the requirements as tests of JUnit, too'
+complete -c j39plan-against -l unit -x -d 'only those of one unit'
 complete -c j39plan-against -l interface -x -d 'the interface that is read, as can1'
 complete -c j39plan-against -l events -x -d 'a group or flow that is sent when something happens'
 complete -c j39plan-against -l all -d 'all lines of each deviation'
@@ -81,6 +84,10 @@ complete -c j39plan-signals -l interface -x -d 'the interface that is read, as c
 complete -c j39plan-signals -l csv -d 'a row a signal'
 complete -c j39plan-signals -l json -d 'a JSON object a signal'
 complete -c j39plan-signals -l wide -d 'a row a message, two columns a signal'
+complete -c j39plan-table -l csv -d 'as rows with commas'
+complete -c j39plan-table -l json -d 'as a JSON object'
+complete -c j39plan-table -l xlsx -r -F -d 'write a workbook'
+complete -c j39plan-table -n 'not __fish_is_first_arg' -a 'units groups signals flows needs requests'
 complete -c j39plan-codes -l csv -d 'a row a code'
 complete -c j39plan-codes -l json -d 'a JSON object a code'
 complete -c j39plan-codes -l fleet -d 'each log is of a vehicle of its own'

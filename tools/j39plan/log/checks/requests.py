@@ -33,6 +33,7 @@ class Asked:
         self._requests, self._found = tables.requests, found
         self._tolerance, self._waits = tolerance, waits  # how long a request of a unit may wait on the bus, as far as that is known
         self._numbers = {group.label: group.pgn for group in tables.groups}
+        self.times = [0] * len(self._requests)  # how often each was asked
         self._open: list[deque[Open]] = [deque() for _ in self._requests]
         self.open: set[int] = set()  # the PGNs of which a request may be open
         self._last: list[int | None] = [None] * len(self._requests)
@@ -48,6 +49,7 @@ class Asked:
         """A request of the plan."""
         number = asking.request - 1
         self._pass(number, at)
+        self.times[number] += 1
         self._open[number].append(Open(line, at))
         self.open.add(self._numbers[self._requests[number].group])
         period, last = self._requests[number].period, self._last[number]
