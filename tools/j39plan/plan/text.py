@@ -73,17 +73,20 @@ def lines_of(table: Table) -> Iterator[str]:
         yield from lines_of(part)
 
 
-def timing_of(bitrate: int) -> list[str]:
-    """What a file says of the bus as a comment that can be made a table: how many frames come unplanned it doesn't say."""
+def timing_of(bitrate: int, unplanned: int | None) -> list[str]:
+    """The table on the bus itself. Where it isn't known how many frames come unplanned, it is a comment that can be made one."""
+    if unplanned is not None:
+        return ["", "[timing]", f"bitrate = {bitrate}", f"unplanned = {unplanned}  # a guess: a claim of each unit, and three more"]
     return ["", "# For load and delays: make this a table, with how many frames come unplanned, and give each flow a period.",
             "# [timing]", f"# bitrate = {bitrate}", "# unplanned = 1"]
 
 
-def text_of(tables: Iterable[Table], source: str, version: int = WRITTEN[-1], bitrate: int | None = None, about: Iterable[str] = ()) -> str:
+def text_of(tables: Iterable[Table], source: str, version: int = WRITTEN[-1], bitrate: int | None = None, about: Iterable[str] = (),
+            unplanned: int | None = None) -> str:
     """The plan's file, with comments about it in front."""
     lines = [f"# From {plain(source)}: review it.", *(f"# {plain(text)}" for text in about), f"version = {version}"]
     if bitrate and schema.knows(version, (None, "timing")):
-        lines += timing_of(bitrate)
+        lines += timing_of(bitrate, unplanned)
     for table in tables:
         lines += lines_of(table)
     return "\n".join(lines) + "\n"

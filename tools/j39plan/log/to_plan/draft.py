@@ -27,6 +27,9 @@ from j39plan.plan.text import WRITTEN, Table, text_of
 # The most flows and requests that a plan has.
 FLOWS, REQUESTS = most_of("", "flow"), most_of("", "request")
 
+# How many frames come unplanned beside a claim of each unit, as a guess.
+UNPLANNED = 3
+
 # A plan that has nothing: by it `follow --all` tells of each frame.
 NOTHING = f"version = {WRITTEN[-1]}\n"
 
@@ -79,7 +82,7 @@ class Request:
         """Its table."""
         keys = {"group": self.group.label, "from": self.sender.label, "to": self.to.label if self.to else "all"}
         counts = {"answered": self.asked.answered, "refused": self.asked.refused, "without an answer": self.asked.unanswered}
-        told = ", ".join([f"asked {self.asked.asked} times", *(f"{count} {word}" for word, count in counts.items() if count)])
+        told = ", ".join(["asked once" if self.asked.asked == 1 else f"asked {self.asked.asked} times", *(f"{count} {word}" for word, count in counts.items() if count)])
         return Table("request", keys, [told])
 
 
@@ -196,7 +199,8 @@ class Draft:
 
     def text(self, names: str, about: Iterable[str], bitrate: int | None) -> str:
         """The text of the plan."""
-        return text_of(self.tables(), names, about=about, bitrate=bitrate)
+        claiming = sum(unit.claims for unit in self.units.units.values())
+        return text_of(self.tables(), names, about=about, bitrate=bitrate, unplanned=claiming + UNPLANNED)
 
     def rows(self) -> dict[str, Any]:
         """What was found, as plain values, for JSON."""

@@ -7,7 +7,7 @@ from collections.abc import Iterator
 from dataclasses import dataclass, field
 from typing import NamedTuple
 
-from j39plan.j1939 import FRAME_BYTES, PROPRIETARY
+from j39plan.j1939 import FRAME_BYTES, PROPRIETARY, is_pdu2
 from j39plan.left_out import Notes, plain
 from j39plan.log.to_plan.survey import Box, Seen, Survey, Way
 from j39plan.log.to_plan.units import Unit, Units
@@ -169,14 +169,14 @@ class Groups:
         self._private = self._private_in(survey)
         for way, seen in sorted(survey.ways.items(), key=lambda pair: pair[0][0]):
             sender = units.of(way[1])
-            if sender is not None and (groups := self._groups_of(way[0], sender, seen)):
+            if sender is not None and (groups := self._groups_of(way, sender, seen)):
                 self.ways[way] = groups
 
-    def _groups_of(self, pgn: int, sender: Unit, seen: Seen) -> list[Group]:
+    def _groups_of(self, way: Way, sender: Unit, seen: Seen) -> list[Group]:
         """The groups of which a message may be, with what was seen of it on a way."""
-        key = self._private.get((pgn, sender.box), pgn)
+        pgn, parts = way[0], self._parts(way, sender) or [None]
+        key: object = pgn if pgn not in PROPRIETARY else (self._private[way], *(part and part.at() for part in parts))
         if key not in self._of:
-            parts = self._parts(pgn, sender) or [None]
             if len(self.groups) + len(parts) > GROUPS:
                 self._notes.say(f"PGN {pgn}", f"a plan has at most {GROUPS} groups")
                 return []
@@ -189,17 +189,22 @@ class Groups:
             group.priorities.update(seen.priorities)
         return self._of[key]
 
-    def _private_in(self, survey: Survey) -> dict[tuple[int, Box], object]:
-        """What tells the private groups apart: of one number those of two makers, or of two units that send them in other lengths or priorities."""
-        all_of: dict[tuple[int, Box], tuple[Unit, set[int], set[int]]] = {}
-        for (pgn, box, _), seen in survey.ways.items():
+    def _private_in(self, survey: Survey) -> dict[Way, object]:
+        """What tells the private groups of ways apart: of one number those of two makers, and those that a unit sends in other lengths or priorities
+        to another receiver, where each frame names its receiver, or than another unit does."""
+        met = {(pgn, box) for pgn, box, to in survey.ways if to is None or is_pdu2(pgn)}
+        alike: dict[Way, tuple[set[int], set[int]]] = {}
+        for (pgn, box, to), seen in survey.ways.items():
+            lengths, priorities = alike.setdefault((pgn, box, None if (pgn, box) in met else to), (set(), set()))
+            lengths.update(seen.lengths)
+            priorities.update(seen.priorities)
+        found: dict[Way, object] = {}
+        for pgn, box, to in survey.ways:
             sender = self._units.of(box) if pgn in PROPRIETARY else None
             if sender is not None:
-                _, lengths, priorities = all_of.setdefault((pgn, sender.box), (sender, set(), set()))
-                lengths.update(seen.lengths)
-                priorities.update(seen.priorities)
-        return {(pgn, box): (pgn, self._maker(sender), frozenset(lengths), frozenset(priorities))
-                for (pgn, box), (sender, lengths, priorities) in all_of.items()}
+                lengths, priorities = alike[pgn, box, None if (pgn, box) in met else to]
+                found[pgn, box, to] = pgn, self._maker(sender), frozenset(lengths), frozenset(priorities)
+        return found
 
     def _span(self, group: Group) -> tuple[int, int]:
         """From which length to behind which one the known group goes."""
@@ -212,18 +217,23 @@ class Groups:
         maker = sender.name >> 21 & 0x7FF
         return maker if sender.claims and maker else sender.box
 
-    def _parts(self, pgn: int, sender: Unit) -> list[Part | None]:
-        """The groups of a number in the first known plan that has it; private ones where it sends them from this unit."""
+    def _parts(self, way: Way, sender: Unit) -> list[Part | None]:
+        """The groups of a number in the first known plan that has it; private ones where it sends them on this way."""
         for source in self._known:
-            found: list[Part | None] = [part for part in source["group"] if part.number("pgn") == pgn and
-                                        (pgn not in PROPRIETARY or self._is_sent(source, part, sender))]
+            found: list[Part | None] = [part for part in source["group"] if part.number("pgn") == way[0] and
+                                        (way[0] not in PROPRIETARY or self._is_sent(source, part, sender, way[2]))]
             if found:
                 return found
         return []
 
-    def _is_sent(self, source: Source, group: Part, sender: Unit) -> bool:
-        """Whether a known plan has a unit send a group."""
-        return any(flow.text("group") == group.label and self._units.called.get((source.name, flow.text("from"))) == sender.box for flow in source["flow"])
+    def _is_sent(self, source: Source, group: Part, sender: Unit, to: Box | None) -> bool:
+        """Whether a known plan has a unit send a group to a receiver."""
+        receiver = None if to is None else self._units.of(to)
+        for flow in source["flow"]:
+            ends = [self._units.called.get((source.name, flow.text(end))) for end in ("from", "to")]
+            if flow.text("group") == group.label and ends == [sender.box, receiver.box if receiver else None]:
+                return True
+        return False
 
     def _label(self, pgn: int, part: Part | None, sender: Unit) -> str:
         """What a group is called: as in the known plan, else by its number."""

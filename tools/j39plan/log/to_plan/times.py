@@ -6,13 +6,13 @@ from collections import Counter
 from typing import NamedTuple
 
 from j39plan.log.to_plan.measures import STEP, Sent
-from j39plan.log.clock import MILLISECOND, milliseconds
+from j39plan.log.clock import MILLISECOND, in_words, milliseconds
 from j39plan.plan.schema import most_of
 
-# What periods are multiples of, in ms, from those that are looked for first; and how far from such a number a median may be: a hundredth,
-# half a millisecond at least.
+# What periods are multiples of, in ms, from those that are looked for first; and how far from such a multiple a median may be: a hundredth of it,
+# and a tenth of the step; half a millisecond at least.
 ROUND = (1000, 500, 250, 100, 50, 25, 20, 10, 5, 2, 1)
-SHARE, LEAST = 100, MILLISECOND // 2
+SHARE, PART, LEAST = 100, 10, MILLISECOND // 2
 
 # A flow has a period where it has so many distances, and where the middle eight tenths of them lie within half of the one in the middle.
 FEW, TENTH, WIDTH = 3, 10, 2
@@ -45,7 +45,7 @@ def rounded(distance: int) -> int:
     """The period that a distance in nanoseconds may be of, in ms: the roundest one near to it."""
     for step in ROUND:
         period = (distance + step * MILLISECOND // 2) // (step * MILLISECOND) * step
-        if period and abs(period * MILLISECOND - distance) <= max(distance // SHARE, LEAST):
+        if period and abs(period * MILLISECOND - distance) <= max(min(distance // SHARE, step * MILLISECOND // PART), LEAST):
             return period
     return max(1, round(distance / MILLISECOND))
 
@@ -81,9 +81,16 @@ def times_of(sent: Sent, before: int, behind: int) -> Times:
     period = rounded(middle * STEP)
     if period > LONGEST:
         return Times({}, told)
+    if before + behind > span_of(sent) and 2 * max(before, behind) > 3 * period * MILLISECOND:
+        return Times({}, f"{told}, in {in_words(span_of(sent))} of {in_words(before + span_of(sent) + behind)}: too seldom for a period")
     core, apart = parted(sent.distances, count, period)
     longest = sent.longest[core[-1][0] * STEP // MILLISECOND]
-    return Times(keys_of(core[0][0] * STEP, longest, period, max(before, behind) if count < MANY else 0), told_of(core, apart))
+    return Times(keys_of(core[0][0] * STEP, longest, period, before, behind), told_of(core, apart, ends_of(before, behind, longest)))
+
+
+def span_of(sent: Sent) -> int:
+    """How long a flow was sent."""
+    return (sent.last or 0) - (sent.first or 0)
 
 
 def parted(distances: Counter[int], count: int, period: int) -> tuple[list[tuple[int, int]], list[tuple[int, int]]]:
@@ -96,11 +103,10 @@ def parted(distances: Counter[int], count: int, period: int) -> tuple[list[tuple
     return (core, out) if core else (sorted(distances.items()), [])
 
 
-def keys_of(least: int, most: int, period: int, silence: int) -> dict[str, int]:
+def keys_of(least: int, most: int, period: int, *silences: int) -> dict[str, int]:
     """The keys of a flow with distances from one to another, in nanoseconds: how much nearer messages come than its period is its jitter, and how
-    far apart its pause, where a silence in which none came counts, if that is no longer than one and a half periods."""
-    if 2 * silence <= 3 * period * MILLISECOND:
-        most = max(most, silence)
+    far apart its pause, where silences at the log's begin and end count, as long as these are no longer than one and a half periods."""
+    most = max(most, *(silence for silence in silences if 2 * silence <= 3 * period * MILLISECOND), 0)
     jitter = max(0, up(period * MILLISECOND - least))
     if jitter >= period:  # two that came at once
         jitter = 0
@@ -109,10 +115,16 @@ def keys_of(least: int, most: int, period: int, silence: int) -> dict[str, int]:
     return {key: number for key, number in keys.items() if number and number <= LONGEST}
 
 
-def told_of(core: list[tuple[int, int]], apart: list[tuple[int, int]]) -> str:
-    """What was seen of a flow, and which few distances its times don't cover."""
-    others = [f"{count} of {shown(step)}" if count > 1 else shown(step) for step, count in apart[:3]]
+def ends_of(before: int, behind: int, longest: int) -> list[str]:
+    """What is told of a flow that begins late or ends early, by more than its longest distance."""
+    begins = [f"first sent {in_words(before)} after its unit was heard"] if before > longest else []
+    return begins + ([f"last sent {in_words(behind)} before the end"] if behind > longest else [])
+
+
+def told_of(core: list[tuple[int, int]], apart: list[tuple[int, int]], ends: list[str]) -> str:
+    """What was seen of a flow, which few distances its times don't cover, and what is told of its begin and end."""
+    others = [f"{count} of {shown(step)} ms" if count > 1 else f"{shown(step)} ms" for step, count in apart[:3]]
     rest = sum(count for _, count in apart[3:])
     if rest:
         others.append(f"{rest} more")
-    return spread(core) + (f"; beside these {', '.join(others)}" if others else "")
+    return "; ".join([spread(core), *([f"not covered: {', '.join(others)}"] if others else []), *ends])

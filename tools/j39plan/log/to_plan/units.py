@@ -8,7 +8,7 @@ from dataclasses import dataclass, field
 from typing import Any
 
 from j39plan.j1939 import IDENTITY_BITS, NAME_FIELDS, identity_in, kind_of
-from j39plan.left_out import Notes
+from j39plan.left_out import Notes, plain
 from j39plan.log.to_plan.survey import WINDOW, Box, Survey
 from j39plan.plan.parts import Part, Source
 from j39plan.plan.schema import Value, most_of
@@ -17,8 +17,8 @@ from j39plan.plan.text import Labels, Table
 # The most units that a plan has.
 UNITS = most_of("", "unit")
 
-# The bit of a NAME that SAE J1939-81 reserves, which is 0.
-RESERVED = 1 << 48
+# The bit of a NAME that SAE J1939-81 reserves, which is 0, and that of who may choose an address.
+RESERVED, ARBITRARY = 1 << 48, 1 << 63
 
 # Addresses of service tools (SAE J1939): off-board tools have these two.
 TOOLS = (249, 250)
@@ -73,12 +73,13 @@ class Units:
         self.called: dict[tuple[str, str], Box] = {}  # who a known plan's unit is, by its file and its label
         self._taken: dict[int, str] = {}  # identity numbers of units without a claim
         self.units: dict[Box, Unit] = {}
-        boxes = sorted([*self._claimed(), *self._silent()], key=lambda unit: (unit.address, unit.name))
-        self._number(boxes)
+        boxes = [*self._claimed(), *self._silent()]
         for unit in boxes[UNITS:]:
             notes.say(f"unit at address {unit.address}", f"a plan has at most {UNITS} units")
         for unit in boxes[:UNITS]:
             unit.label = self._label(unit)
+        self._number(boxes[:UNITS])
+        for unit in sorted(boxes[:UNITS], key=lambda unit: (unit.address, unit.name)):
             granted = survey.granted.get(unit.box)
             unit.window = granted.most if granted and granted.is_limited else WINDOW
             self.units[unit.box] = unit
@@ -121,11 +122,18 @@ class Units:
         kinds = Counter(kind_of(unit.name) for unit in units)
         names = {unit.name for unit in units if unit.claims}
         for unit in units:
-            unit.has_identity = not unit.claims or kinds[kind_of(unit.name)] > 1
+            unit.has_identity = kind_of(unit.name) == 0 and not unit.claims or kinds[kind_of(unit.name)] > 1
             while not unit.claims and unit.name in names:
-                unit.name = (unit.name + 256) % (1 << IDENTITY_BITS)
-            if not unit.has_identity:
+                unit.name = kind_of(unit.name) + (identity_in(unit.name) + 256) % (1 << IDENTITY_BITS)
+            names.add(unit.name)
+            if not unit.has_identity and unit.claims:
                 unit.remarks.append(f"its box has the serial number {identity_in(unit.name)}")
+
+    def _takes_name(self, unit: Unit, part: Part) -> None:
+        """A unit of which no claim is in the log has the NAME that a known plan has; who doesn't claim can't choose its address."""
+        if not unit.claims and name_in(part):
+            unit.name = name_in(part) & ~ARBITRARY | identity_in(unit.name)
+            unit.remarks = [f"no claim of it is in the log: whether it claims is guessed, its NAME is that of {plain(part.at())}"]
 
     def _label(self, unit: Unit) -> str:
         """What a unit is called: as in a known plan, else by its address."""
@@ -134,5 +142,6 @@ class Units:
                 is_one = kind_of(unit.name) == name_in(part) != 0 or part.number("address") == unit.address and (name_in(part) == 0 or not unit.claims)
                 if is_one and (source.name, part.label) not in self.called:
                     self.called[source.name, part.label] = unit.box
+                    self._takes_name(unit, part)
                     return self._labels.label(part.label)
         return self._labels.label(f"TOOL_{unit.address}" if unit.address in TOOLS else f"ECU_{unit.address}")
