@@ -27,6 +27,10 @@ class Agenda:
         """When the next call is due, None where there is none."""
         return self._heap[0][0] if self._heap else None
 
+    def clear(self) -> None:
+        """Nothing of it is to be done any more."""
+        self._heap.clear()
+
     def wake(self, now: float) -> None:
         """Does what is due at a time; what is added meanwhile too, if that is due."""
         self.now = max(now, self.now)

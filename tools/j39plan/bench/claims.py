@@ -11,8 +11,8 @@ from j39plan.plan.tables import Unit
 # So long who claims an address that may be chosen waits before it sends, and at most so long who could claim none before it says so, in seconds.
 CONTEST, DELAY = 0.251, 0.153
 
-# How far apart the units come up, and within which time they answer a request for claims.
-APART, PROMPT = 0.01, 0.005
+# How far apart the units come up and give their addresses back, and within which time they answer a request for claims.
+APART, BACK, PROMPT = 0.01, 0.001, 0.005
 
 # The priority of claims.
 PRIORITY = 6
@@ -29,6 +29,7 @@ class Box:
     number: int
     address: int | None = None
     ready: float = 0.0
+    is_up: bool = False
 
     def is_ready(self, now: float) -> bool:
         """Whether it may send messages."""
@@ -40,6 +41,7 @@ class Claims:
 
     def __init__(self, boxes: list[Box], others: Iterable[Unit], kept: Iterable[int], agenda: Agenda, put: Put, chance: random.Random) -> None:
         self._boxes, self._agenda, self._put, self._chance = boxes, agenda, put, chance
+        self.left: Callable[[int], None] = lambda address: None  # is told which address a box has left
         self._others, self._kept = {unit.label: unit for unit in others}, frozenset(kept)
         self.known: dict[int, int] = {}  # of each NAME the address that it claimed last
         self.moves = self.defences = 0
@@ -51,6 +53,7 @@ class Claims:
 
     def _up(self, box: Box) -> None:
         """A box comes up at the address that it prefers."""
+        box.is_up = True
         if box.unit.claims:
             self._claim(box, box.unit.address)
         else:
@@ -87,6 +90,7 @@ class Claims:
             self._tell(box)
             return
         self.moves += 1
+        self.left(address)
         free = self._free(box, address) if box.unit.may_choose else None
         if free is None:
             box.address = None
@@ -104,7 +108,7 @@ class Claims:
     def asked(self, to: int) -> None:
         """Claims are asked for, of all or of one address."""
         for box in self._boxes:
-            if box.unit.claims and to in (GLOBAL_ADDRESS, box.address):
+            if box.unit.claims and box.is_up and to in (GLOBAL_ADDRESS, box.address):
                 delay = PROMPT if box.address is not None else DELAY
                 self._agenda.after(self._chance.random() * delay, self._tell, box)
 
@@ -124,8 +128,10 @@ class Claims:
         return unit.address, not unit.claims
 
     def give_back(self) -> None:
-        """All boxes that claim say that they hold no address any more."""
-        for box in self._boxes:
+        """All boxes that claim say, one after another, that they hold no address any more."""
+        for number, box in enumerate(self._boxes):
             if box.unit.claims and box.address is not None:
+                self.left(box.address)
                 box.address = None
-                self._tell(box)
+                self._agenda.after(BACK * number, self._tell, box)
+            box.is_up = False

@@ -25,7 +25,7 @@ BEGIN, ASKS = 0.4, 1.5
 PROMPT, SOON = (0.005, 0.02), 0.15
 
 # By how much a message comes later than its period, where the plan has no jitter by which it may be early.
-LATE = 0.0005
+LATE = 0.001
 
 # The least distance of a broadcast's frames, and the priority of the transport protocol and of requests, where the plan has no `timing`.
 GAP, PACKETS, ASKING = 50, 7, 6
@@ -35,10 +35,12 @@ REFUSED = 1
 
 @dataclass
 class Settings:
-    """Which units are left out, the identity number of the first unit that has none in the plan, and where chance begins."""
+    """Which units are left out, the identity number of the first unit that has none in the plan, how often flows without a period are sent, in ms,
+    None where they aren't, and where chance begins."""
 
     without: frozenset[str] = frozenset()
     serial: int = 1
+    period: int | None = None
     seed: int = 1
 
 
@@ -52,7 +54,7 @@ class Rest:
     """The units on the bench. `put` hands a frame to the bus; what others send is `heard`, and what is due is done by `wake`."""
 
     def __init__(self, tables: Tables, kept: Iterable[int], settings: Settings, values: Values, put: Callable[[int, bytes], None]) -> None:
-        self._tables, self._values, self._out = tables, values, put
+        self._tables, self._values, self._out, self._period = tables, values, put, settings.period
         self._chance, self.agenda = random.Random(settings.seed), Agenda()
         self.boxes = numbered(tables, settings)
         self._here = {box.unit.label: box for box in self.boxes}
@@ -61,12 +63,13 @@ class Rest:
         timing = tables.timing
         gap, priority = (timing.broadcast_gap, timing.transport_priority) if timing else (GAP, PACKETS)
         self.transport = Transport(self.agenda, self._put, priority, gap / 1000, self._window_at)
+        self.claims.left = self.transport.stop
         self._groups = values.groups()
         self.sent: Counter[int] = Counter()  # of each flow by its number
         self.skipped: Counter[int] = Counter()
         self.answered = self.refused = 0
         self._next: dict[int, float] = {}  # when each flow is due that has a period
-        self._begin = 0.0
+        self._begin, self._is_ending = 0.0, False
 
     def begin(self, now: float) -> None:
         """The units come up."""
@@ -74,11 +77,22 @@ class Rest:
         self._put(identifier_of(ASKING, REQUEST, NULL_ADDRESS, GLOBAL_ADDRESS), ADDRESS_CLAIMED.to_bytes(3, "little"))
         self.claims.begin()
         for flow in self._tables.flows:
-            if flow.sender in self._here and not flow.on_request and flow.period:
-                self._at_period(flow, now + BEGIN + self._chance.random() * min(flow.period / 1000, 1))
+            period = flow.period or self._period
+            if flow.sender in self._here and not flow.on_request and period:
+                spread = period / 1000 - (BEGIN if period > 2000 * BEGIN else 0)
+                self._at_period(flow, now + BEGIN + self._chance.random() * spread)
         for request in self._tables.requests:
             if request.sender in self._here:
                 self.agenda.after(ASKS + self._chance.random(), self._asks, request)
+
+    def ends(self) -> None:
+        """No long message begins any more."""
+        self._is_ending = True
+
+    def stop(self) -> None:
+        """All units stop, and give their addresses back."""
+        self.agenda.clear()
+        self.claims.give_back()
 
     def _put(self, identifier: int, data: bytes) -> None:
         """A frame of a unit here, which the others here hear."""
@@ -121,16 +135,18 @@ class Rest:
     def _after(self, flow: Flow, due: float) -> float:
         """When the next message of a flow is due: on the grid of its period, where the plan has jitter for a timer that is late; else so long after this
         one, in the middle between its period and its pause, or a little behind its period."""
-        assert flow.period is not None
-        period, now = flow.period / 1000, self.agenda.now
+        every, now = flow.period or self._period or 0, self.agenda.now
+        period = every / 1000
         if flow.jitter and now - due < flow.jitter / 2000:
             return due + period
-        spare = (flow.pause - flow.period) / 2000 if flow.pause else LATE
+        spare = (flow.pause - every) / 2000 if flow.pause else LATE
         return now + period + min(spare, period / 4)
 
     def _message(self, flow: Flow) -> None:
         """A message of a flow."""
         box, group = self._here[flow.sender], self._groups[flow.group]
+        if self._is_ending and group.most > FRAME_BYTES:
+            return
         if not box.is_ready(self.agenda.now) or box.address is None:
             self.skipped[flow.number] += 1
             return
@@ -152,10 +168,8 @@ class Rest:
 
     def _asks(self, request: Request) -> None:
         """A unit here asks for a group."""
-        box, to = self._here[request.sender], GLOBAL_ADDRESS
-        if request.to != "all":
-            to = self.claims.address_of(request.to)[0] or NULL_ADDRESS
-        if box.is_ready(self.agenda.now) and box.address is not None and to != NULL_ADDRESS:
+        box, to = self._here[request.sender], GLOBAL_ADDRESS if request.to == "all" else self.claims.address_of(request.to)[0]
+        if box.is_ready(self.agenda.now) and box.address is not None and to is not None:
             self._put(identifier_of(ASKING, REQUEST, box.address, to), self._groups[request.group].pgn.to_bytes(3, "little"))
         if request.period:
             self.agenda.after(request.period / 1000 + LATE, self._asks, request)

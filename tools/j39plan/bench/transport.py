@@ -105,15 +105,17 @@ class Transport:
 
     def _next_broadcast(self, source: int, queue: Broadcasts) -> None:
         """The next message of a unit to all is announced, if there is one."""
-        queue.is_busy = bool(queue.waiting)
-        if queue.waiting:
+        queue.is_busy = bool(queue.waiting) and self._broadcasts.get(source) is queue
+        if queue.is_busy:
             one = queue.waiting.popleft()
             self._manage(source, GLOBAL_ADDRESS, bytes((BAM, *one.about)), one.pgn)
             one.done(True)
             self._agenda.after(self._gap + MORE, self._broadcast_packet, source, queue, one)
 
     def _broadcast_packet(self, source: int, queue: Broadcasts, one: Sending) -> None:
-        """A packet of a message to all."""
+        """A packet of a message to all, unless its unit has left its address."""
+        if self._broadcasts.get(source) is not queue:
+            return
         self._put(identifier_of(self._priority, DATA_TRANSFER, source, GLOBAL_ADDRESS), one.packet(one.next))
         one.next += 1
         if one.next <= one.count:
@@ -122,12 +124,16 @@ class Transport:
             self.tally.sent += 1
             self._agenda.after(self._gap + MORE, self._next_broadcast, source, queue)
 
-    def stop(self, source: int) -> None:
-        """Whoever was at an address isn't any more: what it sends ends without a word."""
-        self._broadcasts.pop(source, Broadcasts()).waiting.clear()
-        for table in (self._sending, self._receiving):
-            for ends in [ends for ends in table if source in ends]:
-                table.pop(ends)  # type: ignore[attr-defined]
+    @property
+    def is_idle(self) -> bool:
+        """Whether no message is under way."""
+        return not (self._sending or self._receiving or any(queue.is_busy for queue in self._broadcasts.values()))
+
+    def stop(self, address: int) -> None:
+        """Whoever was at an address isn't any more: its messages end without a word."""
+        self._broadcasts.pop(address, None)
+        self._sending = {ends: one for ends, one in self._sending.items() if address not in ends}
+        self._receiving = {ends: one for ends, one in self._receiving.items() if address not in ends}
 
     def send(self, source: int, to: int, pgn: int, data: bytes, done: Callable[[bool], None]) -> bool:
         """A unit asks to send a message to one receiver; not while it has another one for this."""
