@@ -19,7 +19,7 @@ from j39plan.bench.values import Values, Wrong
 from j39plan.j1939 import pgn_in, source_in
 from j39plan.plan.parts import source_in as text_source
 from j39plan.plan.tables import Tables
-from tests.support import TOOLS, InFolder, example, needs, plans, run, text_of
+from tests.support import TOOLS, InFolder, needs, plans, run, text_of
 
 PLAN = """version = 4
 [[unit]]

@@ -99,10 +99,10 @@ class Values:
         found = re.fullmatch(r"([^=]+)=([^:]+):([^:]+):(\d+(?:\.\d+)?)", text)
         if found is None or not float(found[4]):
             raise Wrong(f"{text} is no ramp, as EEC1.SPN190=800:2000:10")
-        duration = float(found[4])
+        duration, ends = float(found[4]), found.group(2, 3)
 
         def course(signal: Signal) -> Course:
-            first, last = (value_of(signal, part) for part in found.group(2, 3))
+            first, last = (value_of(signal, part) for part in ends)
             raw_of(signal, last)
             return lambda time: first + (last - first) * Fraction(time % duration) / Fraction(duration)
 
@@ -112,7 +112,7 @@ class Values:
         """Signals have the values of a table from the times of its rows on: its first column is the time in seconds, the others are named for signals.
         An empty cell leaves the value of before."""
         rows = csv.reader(lines)
-        heads = next(rows, [])
+        heads: list[str] = next(rows, [])
         columns: list[tuple[list[float], list[Fraction]]] = [([], []) for _ in heads[1:]]
         signals = [self.signal(head.strip())[1] for head in heads[1:]]
         for number, row in enumerate(rows, 2):
@@ -127,7 +127,7 @@ class Values:
                     values.append(value)
         for head, (times, values) in zip(heads[1:], columns):
             if times:
-                self._add(head.strip(), lambda signal, times=times, values=values: stepped(times, values))
+                self._add(head.strip(), stepped(times, values))
 
     def record(self, way: Way, time: float, data: bytes) -> None:
         """A message of a log, so many seconds after its begin."""
@@ -153,9 +153,11 @@ class Values:
         return self._groups
 
 
-def stepped(times: list[float], values: list[Fraction]) -> Course:
-    """The value of the last time until now, else of the first one."""
-    return lambda time: values[max(bisect.bisect_right(times, time) - 1, 0)]
+def stepped(times: list[float], values: list[Fraction]) -> Callable[[Signal], Course]:
+    """Of any signal the value of the last time until now, else of the first one."""
+    def course(_: Signal) -> Course:
+        return lambda time: values[max(bisect.bisect_right(times, time) - 1, 0)]
+    return course
 
 
 def with_bits(number: int, span: range, raw: int) -> int:
