@@ -15,12 +15,13 @@ WRITTEN = schema.VERSIONS[1:]
 
 @dataclass
 class Table:
-    """A table of a plan: its keys, remarks that stand as a comment behind the first one, and the tables in it."""
+    """A table of a plan: its keys, remarks that stand as a comment behind the first one, the tables in it, and comments behind other keys."""
 
     header: str
     keys: dict[str, Any]
     remarks: list[str] = field(default_factory=list)
     inside: list["Table"] = field(default_factory=list)
+    beside: dict[str, str] = field(default_factory=dict)
 
 
 def as_label(name: str) -> str:
@@ -62,27 +63,30 @@ def lines_of(table: Table) -> Iterator[str]:
     """The lines of a table and of the tables in it. A key that is as it is where it isn't said, or a table without any, needn't be written."""
     yield ""
     yield f"[[{table.header}]]"
-    comment = f"  # {'; '.join(table.remarks)}" if table.remarks else ""
-    defaults = schema.keys_of(table.header.rpartition(".")[2])
+    remarks, defaults = table.remarks, schema.keys_of(table.header.rpartition(".")[2])
     for key, value in table.keys.items():
         if value not in (defaults.get(key), {}) or key == "name":
-            yield f"{key} = {spelled(value)}{comment}"
-            comment = ""
+            comment = "; ".join([*remarks, *filter(None, (table.beside.get(key),))])
+            yield f"{key} = {spelled(value)}" + (f"  # {comment}" if comment else "")
+            remarks = []
     for part in table.inside:
         yield from lines_of(part)
 
 
-def timing_of(bitrate: int) -> list[str]:
-    """What a file says of the bus as a comment that can be made a table: how many frames come unplanned it doesn't say."""
+def timing_of(bitrate: int, unplanned: int | None) -> list[str]:
+    """The table on the bus itself. Where it isn't known how many frames come unplanned, it is a comment that can be made one."""
+    if unplanned is not None:
+        return ["", "[timing]", f"bitrate = {bitrate}", f"unplanned = {unplanned}  # a guess: a claim of each unit, and three more"]
     return ["", "# For load and delays: make this a table, with how many frames come unplanned, and give each flow a period.",
             "# [timing]", f"# bitrate = {bitrate}", "# unplanned = 1"]
 
 
-def text_of(tables: Iterable[Table], source: str, version: int = WRITTEN[-1], bitrate: int | None = None) -> str:
-    """The plan's file."""
-    lines = [f"# From {plain(source)}: review it.", f"version = {version}"]
+def text_of(tables: Iterable[Table], source: str, version: int = WRITTEN[-1], bitrate: int | None = None, about: Iterable[str] = (),
+            unplanned: int | None = None) -> str:
+    """The plan's file, with comments about it in front."""
+    lines = [f"# From {plain(source)}: review it.", *(f"# {plain(text)}" for text in about), f"version = {version}"]
     if bitrate and schema.knows(version, (None, "timing")):
-        lines += timing_of(bitrate)
+        lines += timing_of(bitrate, unplanned)
     for table in tables:
         lines += lines_of(table)
     return "\n".join(lines) + "\n"

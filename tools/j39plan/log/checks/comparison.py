@@ -102,6 +102,7 @@ class Comparison:
         self.names_itself(at, who)
         if who.label:
             self.claims.claimed(at, who.label)
+        gives_back = who.address is None and self.hands.holds(who, identity)
         for address in self.hands.claim(line, at, who, identity):
             for begun in self._begun.values():
                 if address in (begun.pair[0][2], begun.pair[1][2]) and not begun.between:
@@ -111,6 +112,8 @@ class Comparison:
         unit = self.units.get(who.label or "")
         if unit is None:
             self.found.tell("stranger", f"NAME {who.name} ({fields_of(who.name or '0')}) {claims}: no unit has it", line, at)
+        elif gives_back:
+            return  # nobody has taken the address that it held
         elif who.address is None:
             self.found.tell("address", f"{unit.label} {claims}", line, at, unit=unit.label)
         elif who.address != unit.address and not unit.may_choose:

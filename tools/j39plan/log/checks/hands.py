@@ -177,6 +177,9 @@ class Hands:
     def has_claimed(self, label: str) -> bool:
         """Whether any claim came of a unit."""
         return label in self._units_told
+    def holds(self, who: Who, identity: int | None = None) -> bool:
+        """Whether the box of somebody holds an address that it claimed and that nobody has claimed since."""
+        return box_of(self._with_name(who, identity)) in self._at
 
     def claim(self, line: int, at: int | None, who: Who, identity: int | None = None) -> tuple[int, ...]:
         """A claim, or that there was no address to claim, by a box of this serial number where its unit is of any: the addresses that another

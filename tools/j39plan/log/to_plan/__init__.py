@@ -1,0 +1,1 @@
+"""A first plan of a bus, from a log of it."""

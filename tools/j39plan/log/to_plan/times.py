@@ -1,0 +1,130 @@
+"""The times of a flow by how far apart its messages came: its period, its jitter and its pause."""
+
+from __future__ import annotations
+
+from collections import Counter
+from typing import NamedTuple
+
+from j39plan.log.to_plan.measures import STEP, Sent
+from j39plan.log.clock import MILLISECOND, in_words, milliseconds
+from j39plan.plan.schema import most_of
+
+# What periods are multiples of, in ms, from those that are looked for first; and how far from such a multiple a median may be: a hundredth of it,
+# and a tenth of the step; half a millisecond at least.
+ROUND = (1000, 500, 250, 100, 50, 25, 20, 10, 5, 2, 1)
+SHARE, PART, LEAST = 100, 10, MILLISECOND // 2
+
+# A flow has a period where it has so many distances, and where the middle eight tenths of them lie within half of the one in the middle.
+FEW, TENTH, WIDTH = 3, 10, 2
+
+# Of at least so many distances those are apart that are below half the period or above one and a half, if they are fewer than a hundredth.
+MANY, RARE = 20, 100
+
+# The longest period and the longest pause of a plan, in ms.
+LONGEST = most_of("flow", "period")
+
+
+class Times(NamedTuple):
+    """The keys of a flow by which it is timed, and what was seen of it."""
+
+    keys: dict[str, int]
+    seen: str
+
+
+def quantile(distances: list[tuple[int, int]], share: int, of: int) -> int:
+    """The number below which a share of numbers lies, which stand in their order with how often each is there."""
+    left = sum(count for _, count in distances) * share // of
+    for number, count in distances:
+        left -= count
+        if left < 0:
+            return number
+    return distances[-1][0]
+
+
+def rounded(distance: int) -> int:
+    """The period that a distance in nanoseconds may be of, in ms: the roundest one near to it."""
+    for step in ROUND:
+        period = (distance + step * MILLISECOND // 2) // (step * MILLISECOND) * step
+        if period and abs(period * MILLISECOND - distance) <= max(min(distance // SHARE, step * MILLISECOND // PART), LEAST):
+            return period
+    return max(1, round(distance / MILLISECOND))
+
+
+def up(duration: int) -> int:
+    """A duration in nanoseconds in whole ms, no less."""
+    return -(-duration // MILLISECOND)
+
+
+def shown(step: int) -> str:
+    """A distance in ms."""
+    return milliseconds(step * STEP)
+
+
+def spread(distances: list[tuple[int, int]]) -> str:
+    """How far apart messages came, in words."""
+    count, least, most = sum(number for _, number in distances), distances[0][0], distances[-1][0]
+    if least == most:
+        return f"{count} distance{'s' if count > 1 else ''} of {shown(least)} ms"
+    return f"{count} distances of {shown(least)} to {shown(most)} ms, half of them up to {shown(quantile(distances, 1, 2))} ms"
+
+
+def times_of(sent: Sent, before: int, behind: int) -> Times:
+    """The times of a flow that was sent first so long after its unit was heard, and last so long before the log's end, in nanoseconds."""
+    distances = sorted(sent.distances.items())
+    count = sent.distances.total()
+    if not count:
+        return Times({}, f"sent {'once' if sent.count == 1 else f'{sent.count} times'}")
+    middle, told = quantile(distances, 1, 2), spread(distances)
+    width = quantile(distances, TENTH - 1, TENTH) - quantile(distances, 1, TENTH)
+    if count < FEW or not middle or width * WIDTH > middle:
+        return Times({}, f"{told}: {'too few' if count < FEW else 'too irregular'} for a period")
+    period = rounded(middle * STEP)
+    if period > LONGEST:
+        return Times({}, told)
+    if before + behind > span_of(sent) and 2 * max(before, behind) > 3 * period * MILLISECOND:
+        return Times({}, f"{told}, in {in_words(span_of(sent))} of {in_words(before + span_of(sent) + behind)}: too seldom for a period")
+    core, apart = parted(sent.distances, count, period)
+    longest = sent.longest[core[-1][0] * STEP // MILLISECOND]
+    return Times(keys_of(core[0][0] * STEP, longest, period, before, behind), told_of(core, apart, ends_of(before, behind, longest)))
+
+
+def span_of(sent: Sent) -> int:
+    """How long a flow was sent."""
+    return (sent.last or 0) - (sent.first or 0)
+
+
+def parted(distances: Counter[int], count: int, period: int) -> tuple[list[tuple[int, int]], list[tuple[int, int]]]:
+    """The distances that a period explains, and those few that are far from it: a message that is missing or one too many."""
+    unit = period * MILLISECOND // STEP
+    near, far = [(step, times) for step, times in distances.items() if 2 * step < unit], [(step, times) for step, times in distances.items() if 2 * step > 3 * unit]
+    apart = [few for few in (near, far) if count >= MANY and 0 < sum(times for _, times in few) * RARE <= count + RARE - 1]
+    out = sorted(pair for few in apart for pair in few)
+    core = sorted(pair for pair in distances.items() if pair not in out)
+    return (core, out) if core else (sorted(distances.items()), [])
+
+
+def keys_of(least: int, most: int, period: int, *silences: int) -> dict[str, int]:
+    """The keys of a flow with distances from one to another, in nanoseconds: how much nearer messages come than its period is its jitter, and how
+    far apart its pause, where silences at the log's begin and end count, as long as these are no longer than one and a half periods."""
+    most = max(most, *(silence for silence in silences if 2 * silence <= 3 * period * MILLISECOND), 0)
+    jitter = max(0, up(period * MILLISECOND - least))
+    if jitter >= period:  # two that came at once
+        jitter = 0
+    pause = max(period, up(most) - jitter)
+    keys = {"period": period, "jitter": jitter, "pause": pause}
+    return {key: number for key, number in keys.items() if number and number <= LONGEST}
+
+
+def ends_of(before: int, behind: int, longest: int) -> list[str]:
+    """What is told of a flow that begins late or ends early, by more than its longest distance."""
+    begins = [f"first sent {in_words(before)} after its unit was heard"] if before > longest else []
+    return begins + ([f"last sent {in_words(behind)} before the end"] if behind > longest else [])
+
+
+def told_of(core: list[tuple[int, int]], apart: list[tuple[int, int]], ends: list[str]) -> str:
+    """What was seen of a flow, which few distances its times don't cover, and what is told of its begin and end."""
+    others = [f"{count} of {shown(step)} ms" if count > 1 else f"{shown(step)} ms" for step, count in apart[:3]]
+    rest = sum(count for _, count in apart[3:])
+    if rest:
+        others.append(f"{rest} more")
+    return "; ".join([spread(core), *([f"not covered: {', '.join(others)}"] if others else []), *ends])
