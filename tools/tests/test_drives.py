@@ -19,6 +19,7 @@ class Claims(Deviations):
         self.assertEqual(self.told(*begin, (3, BRAKES)), [])
         self.assertEqual(self.told(*begin, plan=PLAN.replace("address = 11\n", "address = 11\nclaims = false\n")), [])
         self.assertEqual(self.told(*begin[1:]), [])  # one may be plugged in later
+        self.assertEqual(self.told((0.9, EBC1), *begin), [])  # BRAKES may have claimed before the log began
         self.assertEqual(self.told((0.5, ASKS), *begin), [])  # the log may have begun in mid-drive, and BRAKES may not have been there
 
     def test_a_request_for_claims_that_is_not_answered(self) -> None:

@@ -8,7 +8,7 @@ from collections.abc import Sequence
 
 from j39plan import program
 from tests.support import TOOLS, InFolder, run, there, without_times
-from tests.test_deviations import BRAKES, EBC1, HITCH, PLAN, brakes, lines_of
+from tests.test_deviations import BRAKES, HITCH, PLAN, brakes, lines_of
 
 HSTAT = "18FF1480#0000000000000000"
 TEXT = "flow 2, EBC1 from BRAKES to all: not sent any more, its period is 100 ms"

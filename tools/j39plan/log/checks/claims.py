@@ -17,7 +17,7 @@ class Claims:
     def __init__(self, units: list[Unit], hands: Hands, found: Found) -> None:
         self._labels = [unit.label for unit in units if unit.claims]
         self._hands, self._found = hands, found
-        self._began: set[str] = set()  # who was heard first by a claim that nobody had asked for
+        self._began: dict[str, int] = {}  # who was heard first by a claim that nobody had asked for, with its line
         self._asked_first: set[str] = set()  # and by one that was asked for
         self.open: dict[str, Place] = {}
 
@@ -25,11 +25,15 @@ class Claims:
         """The clock was set, or frames are missing: who is asked counts no more."""
         self.open.clear()
 
-    def claimed(self, at: int | None, label: str) -> None:
+    def claimed(self, line: int, at: int | None, label: str) -> None:
         """A unit claims an address, or can't, before the hands know of it."""
         self.open.pop(label, None)
-        if label not in self._hands.last:
-            (self._asked_first if self._hands.was_asked(at) else self._began).add(label)
+        if label in self._hands.last:
+            return
+        if self._hands.was_asked(at):
+            self._asked_first.add(label)
+        else:
+            self._began[label] = line
 
     def asked(self, line: int, at: int | None, request: Request) -> None:
         """Claims are asked for: who is on answers."""
@@ -53,15 +57,17 @@ class Claims:
                 self._found.tell("claims-unanswered", text, place.line, place.at, unit=label)
 
     def end(self, last: int | None) -> None:
-        """Tells what is known at the end: in a log in which most units begin with their claims each one has to."""
+        """Tells what is known at the end: in a log in which most units begin with their claims each one has to that is heard first behind some of these.
+        Others may have claimed before the log began."""
         if last is not None:
             self.goes_by(last)
         heard = [label for label in self._labels if label in self._hands.last]
-        others = [label for label in heard if label not in self._began | self._asked_first]
+        others = [label for label in heard if label not in self._began and label not in self._asked_first]
         if len(self._began) < max(BEGINNERS, len(others) + 1):
             return
+        since = sorted(self._began.values())[BEGINNERS - 1]
         for label in others:
-            if not self._hands.has_claimed(label):
-                line, at = self._hands.begun[label]
+            line, at = self._hands.begun[label]
+            if line > since and not self._hands.has_claimed(label):
                 text = f"{label} sends, and never claims an address, as {len(self._began)} other units do before they send"
                 self._found.tell("unclaimed", text, line, at, unit=label)

@@ -101,7 +101,7 @@ class Comparison:
             self.numbers.claim(line, at, who.label, identity)
         self.names_itself(at, who)
         if who.label:
-            self.claims.claimed(at, who.label)
+            self.claims.claimed(line, at, who.label)
         gives_back = who.address is None and self.hands.holds(who, identity)
         for address in self.hands.claim(line, at, who, identity):
             for begun in self._begun.values():
