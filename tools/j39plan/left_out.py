@@ -14,6 +14,11 @@ def plain(text: object) -> str:
     return "".join(char if char.isprintable() else "?" for char in " ".join(str(text).split()))
 
 
+def some_of(names: list[str], most: int = 5) -> str:
+    """The first of several names, and how many more there are."""
+    return ", ".join(names[:most]) + (f" and {len(names) - most} more" if len(names) > most else "")
+
+
 class Note(NamedTuple):
     """What could not be carried over as it is in a file, where there are several its name, and the reason."""
 

@@ -86,7 +86,7 @@ class FurtherFaults(InFolder):
     def test_what_is_no_integer_for_the_program(self) -> None:
         """10.0 isn't, and no truth value."""
         self.assertEqual(self.answer(PLAN.replace("length = 8", "length = 8.0").replace("bits = 16", "bits = true"))[5:7],
-                         ["14: also length = 8.0: integer 1..1785", "18: also bits = true: integer 1..64"])
+                         ["14: also length = 8.0: integer 1..1785; without a point: 8", "18: also bits = true: integer 1..64"])
 
     def test_tables_that_are_lists(self) -> None:
         """A header of one bracket is told which one is meant."""

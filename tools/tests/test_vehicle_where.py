@@ -88,7 +88,7 @@ class Plans(OfVehicles):
     def test_further_faults_of_a_refused_plan(self) -> None:
         name = self.vehicle(b=swapped(B, ("address = 23", "adress = 23"), ("bits = 16", 'bits = "16"')))
         self.assertEqual(self.where(name), (2, ["bus B", "b.toml:7: refused UnknownKey unit 1  (key adress; did you mean address?)",
-                                                "b.toml:21: also bits = \"16\": integer 1..64"]))
+                                                "b.toml:21: also bits = \"16\": integer 1..64; without quotation marks: 16"]))
 
     def test_a_plan_that_is_missing(self) -> None:
         name = self.vehicle(swapped(V, ("p.toml", "q.toml")))

@@ -7,7 +7,7 @@ from itertools import count
 from typing import Any, NamedTuple
 
 from j39plan.dbc.names import IDENTITY_ATTRIBUTE
-from j39plan.left_out import Notes
+from j39plan.left_out import Notes, some_of
 from j39plan.plan.schema import ABSENT, knows
 
 
@@ -28,6 +28,7 @@ def numbers_of(boxes: list[Box], keeps: bool, version: int, notes: Notes) -> dic
         return with_free_ones(boxes, given, notes)
     if keeps:
         return {**given, **of_those_alike(boxes, notes)}
+    say_nameless(boxes, notes)
     kept: dict[str, int] = {}
     for box in boxes:
         alike = [other for other in boxes if other.name == box.name and None not in (other.number, box.number) and other.number != box.number]
@@ -38,6 +39,14 @@ def numbers_of(boxes: list[Box], keeps: bool, version: int, notes: Notes) -> dic
         elif box.number:
             notes.say(f"unit {box.unit}, {IDENTITY_ATTRIBUTE[0]}", f"{box.number} is left away: each box has a number of its own")
     return kept
+
+
+def say_nameless(boxes: list[Box], notes: Notes) -> None:
+    """Says of which units the files give no NAME, where by that they aren't told apart."""
+    units = sorted(box.unit for box in boxes if not box.name and box.number is None)
+    if len(units) > 1:
+        why = "no NAME is given, so nothing tells them apart (F1): give each its function, or number them by --identity"
+        notes.say(f"units {some_of(units)}", why)
 
 
 def of_those_alike(boxes: list[Box], notes: Notes) -> dict[str, int]:

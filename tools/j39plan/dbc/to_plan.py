@@ -21,8 +21,8 @@ from j39plan.dbc.remarks import long, milliseconds, quoted, received_by, remark
 from j39plan.dbc.signals import BYTES, Signals, goes_to_all_ones
 from j39plan.dbc.times import Times, number_of, times_of
 from j39plan.j1939 import GLOBAL_ADDRESS, NULL_ADDRESS, PROPRIETARY, SERVICES
-from j39plan.left_out import LeftOut, Notes, plain
-from j39plan.plan.schema import ABSENT, knows, most_of
+from j39plan.left_out import LeftOut, Notes, plain, some_of
+from j39plan.plan.schema import knows, most_of
 from j39plan.plan.text import WRITTEN, Labels, Table, as_label
 
 if TYPE_CHECKING:
@@ -31,16 +31,8 @@ if TYPE_CHECKING:
 # The most of each that a plan has.
 UNITS, GROUPS, FLOWS, NEEDS = (most_of("", array) for array in ("unit", "group", "flow", "need"))
 
-# So many names stand in one note.
-SHOWN = 5
-
 # What the period of a flow and the distance of records may be, in ms and in bytes.
 PERIODS, DISTANCES = range(1, most_of("flow", "period") + 1), range(1, most_of("group", "every") + 1)
-
-
-def some_of(names: list[str]) -> str:
-    """The first of several names, and how many more there are."""
-    return ", ".join(names[:SHOWN]) + (f" and {len(names) - SHOWN} more" if len(names) > SHOWN else "")
 
 
 def number_in(node: Node, attribute: str, most: int, value: object, notes: Notes) -> int | None:
@@ -229,18 +221,10 @@ class Conversion:
             self.notes.say(f"unit {name}", f"a plan has at most {UNITS} units")
         nodes = [(self.network.nodes[name], address) for name, address in list(addresses.items())[:UNITS]]
         boxes = [Box(node.name, address, name_of(node, self.notes), own(node, *IDENTITY_ATTRIBUTE, self.notes)) for node, address in nodes]
-        self.say_nameless(boxes)
         numbers = numbers_of(boxes, self.keeps_numbers, self.version, self.notes)
         for (node, address), box in zip(nodes, boxes, strict=True):
             number = numbers.get(node.name)
             self.add_unit(node, address, box.name if number is None else {"identity": number, **box.name})
-
-    def say_nameless(self, boxes: list[Box]) -> None:
-        """Says of which units the files give no NAME, where by that they aren't told apart."""
-        units = sorted(box.unit for box in boxes if not box.name and box.number is None)
-        if len(units) > 1 and not self.keeps_numbers and knows(self.version, (ABSENT, "name", "identity")):
-            why = "no NAME is given, so nothing tells them apart (F1): give each its function, or number them by --identity"
-            self.notes.say(f"units {some_of(units)}", why)
 
     def say_whole_ranges(self) -> None:
         """Says which signals have ranges that go to all ones, though by the standard the greatest numbers are no values."""

@@ -177,7 +177,7 @@ def repeated_table(statement: Statement) -> Told | None:
         return None
     name, above = header.group(1), HEADER.search(statement.text.split("\n")[first - 1])
     was_list, is_list = (found is not None and found.group().startswith("[[") for found in (above, header))
-    if above is not None and above.group(1).startswith(f"{name}."):
+    if was_list and above is not None and above.group(1).startswith(f"{name}."):
         return first, f"[[{above.group(1)}]] belongs below a [[{name}]], and the first one is at line {line}"
     if is_list == was_list:
         return line, f"[{name}] stands at line {first} too"
