@@ -10,8 +10,8 @@ PATIENCE, BETWEEN = 2.0, 10.0
 class Progress:
     """Says how far the work is: on a terminal in one line that is cleared at the end, else in a line now and then."""
 
-    def __init__(self) -> None:
-        self._next = time.monotonic() + PATIENCE
+    def __init__(self, patience: float = PATIENCE) -> None:
+        self._next = time.monotonic() + patience
         self._is_shown = False
 
     def say(self, text: str) -> None:

@@ -1,5 +1,6 @@
 """Mends of a plan: each takes its finding away by what `check` says of the plan that is written, and changes nothing else of the file."""
 
+import math
 import os
 import re
 import subprocess
@@ -124,7 +125,9 @@ class Mended(InPlans):
     def test_each_example(self) -> None:
         """Of each finding of the examples the first mends are written as `check` says that they are, and `patch` takes the difference; what isn't
         mended is found as before."""
-        unmended = {"f05_same_pgn": {"F5"}, "f13_private_unsent": {"F13"}, "f04_bad_pgn": {"F4"}, "several": {"F4", "F5"}}
+        unmended = {"f05_same_pgn": {"F5 SamePgn CCVS WHEEL_SPEED 65265"}, "f13_private_unsent": {"F13 PrivateUnsent HYDRAULICS"},
+                    "f04_bad_pgn": {"F4 BadPgn MAKER_STATUS 65300", "F4 BadPgn CLAIM 60928"},
+                    "several": {"F4 BadPgn DIAGNOSIS 65300", "F5 SamePgn EEC1 ETC1 61444"}}
         plans = [name for name in examples(".toml") if f"{os.sep}findings{os.sep}" in name]
         self.assertGreaterEqual(len(plans), 28)
         for name in plans:
@@ -132,12 +135,12 @@ class Mended(InPlans):
             if what in ("f03_too_few_addresses", "f17_overload"):
                 continue  # they take long, and are tried below
             with self.subTest(what):
-                found = mended(text, Judge(Progress()))
+                found = mended(text, Judge(Progress(math.inf)))
                 status, check = program.call(["check", self.write("new.toml", found.text)])
                 self.assertEqual((found.status, found.answer), (status, check))
-                self.assertEqual({line.split()[0] for line in check.splitlines() if line.startswith("F")}, unmended.get(what, set()))
+                self.assertEqual({line for line in check.splitlines() if line.startswith("F")}, unmended.get(what, set()))
                 for one in found.tried:
-                    self.assertEqual(bool(one.mends or one.by), one.text.split()[0] not in unmended.get(what, ()), one)
+                    self.assertEqual(bool(one.mends or one.by), one.text not in unmended.get(what, ()), one)
                 self.assertEqual(self.patched(text, difference("plan.toml", text, found.text)), found.text)
 
     def patched(self, text: str, difference: str) -> str:
@@ -187,6 +190,26 @@ class Mended(InPlans):
         self.assertIn("mend: group G: private = true, version = 4", answer)
         self.assertEqual((status, "+version = 4\n" in answer, "+private = true\n" in answer), (0, True, True))
 
+    def test_selectors(self) -> None:
+        """Of two groups of one number the second is told by other bits: it gets those of the first, and keeps its value, which nobody else has."""
+        groups = "".join(f'\n[[group]]\nlabel = "{label}"\npgn = 51968\npriority = 3\nlength = 8\nwhen = {{ byte = 1, bits = {bits}, value = {value} }} # {label}\n'
+                         for label, bits, value in (("A", 4, 2), ("B", 8, 13), ("C", 4, 3)))
+        status, answer = self.mend(f"version = 4\n{groups}")
+        self.assertEqual(status, 0)
+        self.assertIn("-when = { byte = 1, bits = 8, value = 13 } # B\n+when = { byte = 1, bits = 4, value = 13 } # B\n", answer)
+
+    def test_a_need_of_what_is_sent_on_request(self) -> None:
+        """Nobody asks: the unit asks itself, or the flow is sent without that."""
+        text = text_of(example("findings/f19_need_unmet.toml")) + '\n[[flow]]\ngroup = "ET1"\nfrom = "ENGINE"\nto = "all"\non_request = true\n'
+        self.assertEqual([line.partition(": ")[2] for line in self.mends(text)],
+                         ['a new request: group = "ET1", from = "CLUSTER", to = "ENGINE"', "flow 2 (ET1 from ENGINE to all): on_request = false"])
+
+    def test_what_a_change_would_bring(self) -> None:
+        """A maker's own number that is private and that no flow sends is a finding too."""
+        status, answer = self.mend(text_of(example("findings/f04_bad_pgn.toml")))
+        self.assertEqual(status, 1)
+        self.assertIn("private = true (brings F13 PrivateUnsent MAKER_STATUS)", answer)
+
     def test_a_need_without_a_sender(self) -> None:
         """Nobody knows who of two units has it: the flow is said, and isn't written."""
         text = text_of(example("findings/f19_need_unmet.toml"))
@@ -215,7 +238,7 @@ class Times(InPlans):
 
     def test_no_assignment(self) -> None:
         """A frame that waits for the one that has begun takes 1,280 us: with a deadline of 1 ms no priority serves."""
-        draft = Draft(URGENT.replace("deadline = 2", "deadline = 1"), Judge(Progress()))
+        draft = Draft(URGENT.replace("deadline = 2", "deadline = 1"), Judge(Progress(math.inf)))
         self.assertIsNone(Assignment(draft).found("F18 LateFlow 4"))
 
     def test_jitter_and_queue(self) -> None:
@@ -228,7 +251,7 @@ class Times(InPlans):
     def test_too_full(self) -> None:
         """16 frames of 160 bits each 10 ms are 256,000 bits a second: without 6,000 of them 250,000 are left, of 16 ms, since one each 16 ms is 10,000."""
         text = text_of(example("findings/f17_overload.toml"))
-        draft = Draft(text, Judge(Progress()))
+        draft = Draft(text, Judge(Progress(math.inf)))
         change = setting(("flow", 1), period=16)
         self.assertEqual((draft.outcome(change, ["F17 Overload 256000"]).is_gone, draft.outcome(setting(("flow", 1), period=15), ["F17 Overload 256000"]).is_gone),
                          (True, False))
@@ -246,12 +269,12 @@ class Times(InPlans):
     def test_slack(self) -> None:
         """A bus of 250,000 bits carries 15 frames of 160 bits each 10 ms beside X's 1,600 a second; one more is an overload. All 15 and the one that
         has begun leave X time, and the last of the 15 waits for the one that has begun and 14 others: 16 times 640 us are 10.24 ms, too many."""
-        draft = Draft(URGENT[:URGENT.index('\n[[group]]\nlabel = "Y"')], Judge(Progress()))
+        draft = Draft(URGENT[:URGENT.index('\n[[group]]\nlabel = "Y"')], Judge(Progress(math.inf)))
         self.assertEqual(Guest(draft).room(0, 10), (14, False))
 
     def test_what_is_left(self) -> None:
         """X is alone: 1,280 of 100,000 us."""
-        slack = Slack([left_of(draft_flow, Delay(1, 1280, 100000, 1)) for draft_flow in Draft(URGENT, Judge(Progress())).tables.flows[:1]],
+        slack = Slack([left_of(draft_flow, Delay(1, 1280, 100000, 1)) for draft_flow in Draft(URGENT, Judge(Progress(math.inf))).tables.flows[:1]],
                       [Room(3, every, 14, every == 1000) for every in (10, 100, 1000)])
         self.assertEqual(slack_object(slack)["flows"], [{"flow": 1, "what": "X from A to all", "within": 1280, "limit": 100000, "left": 98720}])
         lines = list(slack_lines(slack))

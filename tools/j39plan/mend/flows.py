@@ -121,6 +121,9 @@ def unmet_of(draft: Draft, need: Need) -> Iterator[Attempt]:
     yield Attempt("its flow to all", (
         Mend(f"flow {flow.number} ({flow.what})", 'to = "all"', setting(flow.place, to="all"), f"{need.unit} hears it then")
         for flow in flows if flow.to not in ("all", need.unit)))
+    yield Attempt("its flow not on request alone", (
+        Mend(f"flow {flow.number} ({flow.what})", "on_request = false", setting(flow.place, on_request=False), "only if the unit sends it by itself")
+        for flow in flows if flow.on_request and flow.to in ("all", need.unit)))
     senders = [need.sender] if need.sender else list(dict.fromkeys(flow.sender for flow in flows))
     within = need.within if draft.tables.timing else None
     yield Attempt(f"a flow of {' or '.join(senders) or 'who sends it'}", (

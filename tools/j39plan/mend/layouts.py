@@ -3,6 +3,7 @@
 from __future__ import annotations
 
 from collections.abc import Iterable, Iterator
+from dataclasses import replace
 
 from j39plan.j1939 import IDENTIFIERS, PROPRIETARY, pgn_in, without_destination
 from j39plan.mend.attempts import Attempt, Mend
@@ -111,13 +112,14 @@ def same_number(draft: Draft, line: Line) -> Iterator[Attempt]:
     """Two groups of one number can't be told apart (F5)."""
     groups = {group.label: group for group in draft.tables.groups}
     some = [groups[line.word("group")], groups[line.word("other")]]
-    if all(group.when for group in some):
-        group = some[1]
-        assert group.when is not None
-        used = {other.when.value for other in groups.values() if other.pgn == group.pgn and other.when}
-        numbers = [number for number in range(min(1 << group.when.bits, len(used) + 1)) if number not in used]
-        yield Attempt("another value of when", [
-            Mend(f"group {group.label}", f"when.value = {number}", setting((*group.place, "when"), value=number), SAYS) for number in numbers])
+    first, second = some[0].when, some[1].when
+    if first and second:
+        used = {other.when.value for other in groups.values() if other.pgn == some[1].pgn and other is not some[1] and other.when}
+        numbers = [number for number in (second.value, *range(len(used) + 1)) if number not in used and number < 1 << first.bits]
+        yield Attempt("when of the same bits, with another value", [
+            Mend(f"group {some[1].label}", f"when = {first.byte}.{first.bit}, {first.bits} bits, value {number}",
+                 setting((*some[1].place, "when"), **{key: value for key, value in vars(replace(first, value=number)).items() if value != getattr(second, key)}),
+                 SAYS) for number in numbers])
     yield Attempt("private = true of both, each sent by its own maker's units", [
         Mend("2 groups", "private = true", setting(some[0].place, private=True) + setting(some[1].place, private=True))]
         if some[0].pgn in PROPRIETARY and not all(group.private for group in some) else [])

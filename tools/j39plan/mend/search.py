@@ -9,7 +9,7 @@ from typing import NamedTuple
 from j39plan.mend import addresses, flows, layouts, times
 from j39plan.mend.attempts import Attempt, Mend
 from j39plan.mend.edits import Change
-from j39plan.mend.judge import Draft, Judge, key_of
+from j39plan.mend.judge import Draft, Judge, Outcome, key_of
 from j39plan.plan.answer_grammar import Line, line_of
 from j39plan.plan.answer_places import finding
 from j39plan.plan.schema import VERSIONS
@@ -18,6 +18,10 @@ ATTEMPTS: dict[str, Callable[[Draft, Line], Iterator[Attempt]]] = {**addresses.A
 
 # Findings whose mends may take tables away, after which the others have other numbers: they come last.
 LAST = ("F10", "F11", "F25")
+
+
+# So many findings are named that a change would bring.
+BROUGHT = 2
 
 
 class Tried(NamedTuple):
@@ -42,25 +46,36 @@ class Mended(NamedTuple):
 
 
 def mends_of(draft: Draft, text: str) -> tuple[list[Mend], list[str]]:
-    """Of each attempt against a finding the first change that mends; and of what none does."""
+    """Of each attempt against a finding the first change that mends; and of what none does, with what it brings instead."""
     mends, in_vain = [], []
     for attempt in ATTEMPTS[text.split()[0]](draft, line_of(text)):
-        mend = next((mend for one in attempt.mends if (mend := as_mends(draft, one, text))), None)
+        mend, brought = first_of(draft, attempt, text)
         if mend is not None:
             mends.append(mend)
         else:
-            in_vain.append(attempt.what)
+            in_vain.append(attempt.what + (f" (brings {', '.join(brought[:BROUGHT])}{', ..' * (len(brought) > BROUGHT)})" if brought else ""))
     return mends, in_vain
 
 
-def as_mends(draft: Draft, mend: Mend, text: str) -> Mend | None:
-    """A change that takes a finding away and brings none: as it is, or with the last version of the format, where the plan's doesn't know a key of
-    it; None of another."""
+def first_of(draft: Draft, attempt: Attempt, text: str) -> tuple[Mend | None, list[str]]:
+    """The first change of an attempt that takes a finding away and brings none; where there is none, what the first brings that takes it away."""
+    brought: list[str] = []
+    for one in attempt.mends:
+        mend, outcome = judged(draft, one, text)
+        if outcome.mends:
+            return mend, []
+        if outcome.is_gone and not brought:
+            brought = outcome.new or []
+    return None, brought
+
+
+def judged(draft: Draft, mend: Mend, text: str) -> tuple[Mend, Outcome]:
+    """A change with what becomes of a finding by it: as it is, or with the last version of the format, where the plan's doesn't know a key of it."""
     outcome = draft.outcome(mend.change, [text])
     if outcome.new is None and draft.source.version < VERSIONS[-1]:
         mend = mend._replace(what=f"{mend.what}, version = {VERSIONS[-1]}", change=mend.change + Change(((("version",), VERSIONS[-1]),)))
         outcome = draft.outcome(mend.change, [text])
-    return mend if outcome.mends else None
+    return mend, outcome
 
 
 def next_of(draft: Draft, given_up: set[str]) -> str | None:
