@@ -156,14 +156,32 @@ class OtherFiles(InFolder):
             self.assertFalse(os.path.exists(self.path("a.svg")))
 
     def test_one_of_several_logs_that_is_none(self) -> None:
-        """It is named; a log of one frame is one, and a packed one is told apart."""
+        """It is named; a log of one frame is one, and each is named."""
         drive, short, other = self.write("a.log", text_of(LOG)), self.write("b.log", "18FEEE00#8AFF0030FFFFFFFF\n"), self.write("c.asc", "date Mon Nov 23\n")
         for tool in ("against.py", "signals.py"):
             self.assertIn(run(tool, PLAN, drive, short)[0], (0, 1))
             self.assertEqual(run(tool, PLAN, drive, other)[::2], (2, f"{tool[:-3]}: {other} has no frame: {CONVERTER}\n"))
-            with gzip.open(self.path("a.log.gz"), "wb") as file:
-                file.write(text_of(LOG).encode())
-            self.assertRegex(run(tool, PLAN, self.path("a.log.gz"))[2], r"/a\.log\.gz has no frame, and .*: it is packed by gzip: read it as <\(zcat FILE\)\n")
+
+    def test_packed_logs(self) -> None:
+        """One that gzip has packed is read as it is, alone and beside others; what is left of a damaged one isn't taken for the whole. One from a pipe is told apart."""
+        with gzip.open(self.path("a.log.gz"), "wb") as file:
+            file.write(text_of(LOG).encode())
+        with open(self.path("a.log.gz"), "rb") as packed:
+            data = packed.read()
+        with open(self.path("cut.log.gz"), "wb") as cut:
+            cut.write(data[:len(data) // 2])
+        for tool in ("against.py", "signals.py", "fleet.py"):
+            plainly = run(tool, PLAN, self.write("a.log", text_of(LOG)))
+            unpacked = run(tool, PLAN, self.path("a.log.gz"))
+            self.assertEqual((unpacked[0], [part.replace("a.log.gz", "a.log").split() for part in unpacked[1:]]), (plainly[0], [part.split() for part in plainly[1:]]))
+            status, _, said = run(tool, PLAN, self.path("cut.log.gz"))
+            self.assertEqual((status, "it can't be unpacked" in said), (4, True), said)
+        one, both = (run("signals.py", PLAN, *logs)[1].count("\n") - 1 for logs in ([self.path("a.log")], [self.path("a.log.gz"), self.path("a.log")]))
+        self.assertEqual((both, one > 10), (2 * one, True))
+        with open(self.path("a.log.gz"), "rb") as packed:
+            ended = subprocess.run(["bash", "-c", f"{TOOLS}/against.py {PLAN} <(cat)"], stdin=packed, capture_output=True, text=True, check=False,
+                                   env={**os.environ, "J39PLAN": program.path()})
+        self.assertRegex(ended.stderr, r" has no frame, and .*: it is packed by gzip: read it as <\(zcat FILE\)\n")
 
     def test_names_of_any_bytes(self) -> None:
         """A name that is no text, or has a line feed, is no fault of a plan."""

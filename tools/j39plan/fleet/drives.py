@@ -19,7 +19,7 @@ from typing import Any, NamedTuple, TypedDict
 from j39plan import program
 from j39plan.fleet.signals import Code, Signals, Spread
 from j39plan.log.clock import DAY, SECOND, nanoseconds
-from j39plan.log.files import PACKED, OneInterface
+from j39plan.log.files import OneInterface, is_packed, whole
 from j39plan.log.reports import Writer, as_it_comes, identity_of, who_of
 from j39plan.log.serial_numbers import by_kind
 from j39plan.plan.tables import Tables
@@ -209,10 +209,11 @@ def started(plan: str, log: str, source: int) -> subprocess.Popen[bytes]:
 def followed(plan: str, log: str, tables: Tables, interface: str | None) -> Followed:
     """What `follow` says of a log, or of an interface of it."""
     found = Followed(tables)
-    with open(log, "rb") as file, started(plan, "/dev/stdin" if interface else log, subprocess.PIPE if interface else subprocess.DEVNULL) as process:
+    is_piped = bool(interface) or is_packed(log)
+    with whole(log) as file, started(plan, "/dev/stdin" if is_piped else log, subprocess.PIPE if is_piped else subprocess.DEVNULL) as process:
         assert process.stdout is not None and process.stderr is not None
         part = OneInterface(file, interface) if interface else None
-        writer = Writer(as_it_comes(part), process.stdin, False) if part and process.stdin else None
+        writer = Writer(as_it_comes(part or file), process.stdin, False) if process.stdin else None
         if writer:
             writer.start()
         found.take(iter(process.stdout))
@@ -224,9 +225,7 @@ def followed(plan: str, log: str, tables: Tables, interface: str | None) -> Foll
         raise program.Refused(status if status > 0 else program.FAULT, said.removeprefix("j39plan: ") or f"j39plan ended with {status}")
     found.counts["elsewhere"] += part.elsewhere if part else 0
     if found.counts["frames"] == 0 and found.counts["bad"]:
-        with open(log, "rb") as begin:
-            why = "it is packed by gzip: unpack it first" if begin.read(len(PACKED)) == PACKED else "is it a log of candump -L?"
-        raise program.Refused(program.UNREADABLE, f"none of its lines spells a frame: {why}")
+        raise program.Refused(program.UNREADABLE, "none of its lines spells a frame: is it a log of candump -L?")
     if not found.counts["frames"] + found.counts.get("skipped", 0) + found.counts["elsewhere"]:
         raise program.Refused(program.UNREADABLE, "it has no frame")
     return found

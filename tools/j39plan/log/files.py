@@ -3,6 +3,8 @@ of one."""
 
 import argparse
 import bisect
+import errno
+import gzip
 import io
 import os
 import re
@@ -10,6 +12,7 @@ import select
 import signal
 import stat
 import time
+import zlib
 from collections.abc import Sequence
 from types import FrameType
 from typing import BinaryIO, Self
@@ -36,9 +39,42 @@ LINE_MOST = 8000
 NAMED = 8
 
 
-def is_live(file: io.FileIO) -> bool:
+class Unpacked(gzip.GzipFile):
+    """What gzip has packed in a file, which may be damaged."""
+
+    def readinto(self, buffer: "memoryview | bytearray") -> int:  # type: ignore[override]
+        """Reads what comes next."""
+        try:
+            return super().readinto(buffer)
+        except (EOFError, zlib.error, gzip.BadGzipFile) as why:
+            raise OSError(errno.EIO, f"it can't be unpacked: {why}", self.name) from why
+
+
+# A file as it is read: itself, or what gzip has packed in it.
+Opened = io.FileIO | Unpacked
+
+
+def is_live(file: Opened) -> bool:
     """Whether a file is no regular one, so that somebody may wait for what has come of it."""
     return not stat.S_ISREG(os.fstat(file.fileno()).st_mode)
+
+
+def opened(name: str) -> Opened:
+    """A file of a log, unpacked where gzip has packed it. A pipe is read as it is."""
+    return Unpacked(name, "rb") if is_packed(name) else open(name, "rb", buffering=0)
+
+
+def is_packed(name: str) -> bool:
+    """Whether gzip has packed a file, which is no pipe."""
+    if not os.path.isfile(name):
+        return False
+    with open(name, "rb", buffering=0) as file:
+        return file.read(len(PACKED)) == PACKED
+
+
+def whole(name: str) -> io.BufferedReader:
+    """A file of a log, unpacked, that is read to its end by one reader."""
+    return io.BufferedReader(opened(name), KEPT)  # type: ignore[arg-type]
 
 
 class Log(io.RawIOBase):
@@ -48,7 +84,7 @@ class Log(io.RawIOBase):
     def __init__(self, names: Sequence[str], interface: str | None = None) -> None:
         super().__init__()
         self.names, self.interface = list(names), interface
-        self.files = [open(name, "rb", buffering=0) for name in names]
+        self.files = [opened(name) for name in names]
         self.is_live = any(map(is_live, self.files))
         self._at, self._lines, self._starts, self._is_cut = 0, 0, [0], False
         self._head = self._tail = b""
@@ -104,8 +140,13 @@ class Log(io.RawIOBase):
         """The files that were read and are no logs: they have lines, and none of them a frame. Of a single one the program tells that."""
         return [*self._unframed]
 
+    @property
+    def is_unpacked(self) -> bool:
+        """Whether a file of it is unpacked as it is read, so that it isn't read itself."""
+        return any(isinstance(file, Unpacked) for file in self.files)
+
     def is_packed(self) -> bool:
-        """Whether the first file is packed by gzip."""
+        """Whether the first file is packed by gzip, and wasn't unpacked."""
         return self.ends()[0].startswith(PACKED)
 
     def _look_for_frames(self, name: str, piece: bytes) -> None:
@@ -132,6 +173,8 @@ class Log(io.RawIOBase):
             return self._ends
         if self._head or self.is_live:
             return self._head, self._tail
+        if self.is_unpacked:
+            return b"", b""
         file, size = self.files[0].fileno(), os.fstat(self.files[0].fileno()).st_size
         return os.pread(file, KEPT, 0), os.pread(file, KEPT, max(size - KEPT, 0))
 
@@ -144,7 +187,7 @@ class Log(io.RawIOBase):
         read = self.interface or (named[0] if named else "")
         return read, [name for name in named if name != read][:NAMED]
 
-    def _comes(self, file: io.FileIO) -> bool:
+    def _comes(self, file: Opened) -> bool:
         """Waits until more of a file is there, or it ends; behind an interrupt not for long."""
         if self._end is None:
             select.select([file, self._woken], [], [])

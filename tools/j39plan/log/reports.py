@@ -305,7 +305,7 @@ def started(plan: str, log: IO[bytes] | int, options: Iterable[str]) -> subproce
 
 def started_for(plan: str, log: Log, options: Iterable[str], is_piped: bool) -> subprocess.Popen[bytes]:
     """The program that follows a log, which an interrupt doesn't end where it is to end the log alone."""
-    source: IO[bytes] | int = subprocess.PIPE if is_piped else log.files[0]
+    source = subprocess.PIPE if is_piped else log.files[0].fileno()
     if not log.is_live or signal.getsignal(signal.SIGINT) is signal.SIG_IGN:
         return started(plan, source, options)
     signal.signal(signal.SIGINT, signal.SIG_IGN)
@@ -317,7 +317,7 @@ def started_for(plan: str, log: Log, options: Iterable[str], is_piped: bool) -> 
 
 def lines_of(plan: str, log: Log, counts: Counts, fed: Callable[[Any], Iterable[bytes]] | None = None, at_once: bool = False) -> Iterator[str]:
     """The lines that `follow` writes of a log, as it is read; of all frames where `fed` hands on the log, each piece at once where that is asked for."""
-    is_piped = fed is not None or log.is_live or len(log.files) > 1 or log.interface is not None
+    is_piped = fed is not None or log.is_live or log.is_unpacked or len(log.files) > 1 or log.interface is not None
     reader = started_for(plan, log, ["--all"] if fed else [], is_piped)
     assert reader.stdout is not None
     writer = part = None

@@ -11,7 +11,7 @@ from typing import NamedTuple
 from j39plan import program
 from j39plan.j1939 import ADDRESS_CLAIMED, FRAME_BYTES, GLOBAL_ADDRESS, identity_in, kind_of, pgn_in, source_in
 from j39plan.log.checks.feed import FRAME
-from j39plan.log.files import LINE_MOST, interface_of
+from j39plan.log.files import LINE_MOST, interface_of, whole
 from j39plan.plan.cut import of_any_number
 from j39plan.plan.tables import Tables, Unit
 
@@ -47,7 +47,7 @@ def name_in(line: bytes) -> int | None:
 
 def pieces_of(name: str) -> Iterator[bytes]:
     """A file in pieces of whole lines."""
-    with open(name, "rb") as file:
+    with whole(name) as file:
         while piece := file.read(PIECE):
             yield piece + file.readline(LINE_MOST)
 

@@ -46,6 +46,20 @@ _j39plan_tool() {
     mapfile -t COMPREPLY < <(compgen -W 'check addresses load vehicle' -- "$word")
   elif [ "$tool" = j39plan-table ] && [ "$COMP_CWORD" -gt 1 ]; then
     mapfile -t COMPREPLY < <(compgen -W 'units groups signals flows needs requests' -- "$word")
+  elif [ "$tool" = j39plan-log2plan ]; then
+    case $before in
+      --dbc) _j39plan_files "$word" dbc arxml kcd sym ;;
+      --groups) _j39plan_files "$word" toml ;;
+      *) _j39plan_files "$word" log ;;
+    esac
+  elif [ "$tool $before" = 'j39plan-cut --plan' ]; then
+    _j39plan_files "$word" toml
+  elif [ "$tool" = j39plan-cut ]; then
+    _j39plan_files "$word" log
+  elif [ "$tool $before" = 'j39plan-restbus --table' ]; then
+    _j39plan_files "$word" csv
+  elif [[ "$tool $before" =~ ^j39plan-restbus\ --(log|replay)$ ]]; then
+    _j39plan_files "$word" log
   elif [ "$tool" = j39plan-tolog ]; then
     _j39plan_files "$word" asc blf trc mf4 csv
   elif [[ $tool =~ ^j39plan-(against|fleet|signals|codes|plot)$ ]] && [ "$COMP_CWORD" -gt 1 ]; then
@@ -54,4 +68,4 @@ _j39plan_tool() {
     _j39plan_files "$word" toml
   fi
 }
-complete -F _j39plan_tool j39plan-where j39plan-answer j39plan-startup j39plan-dbc2plan j39plan-plan2dbc j39plan-join j39plan-forwards j39plan-compare j39plan-mend j39plan-against j39plan-fleet j39plan-table j39plan-report j39plan-signals j39plan-codes j39plan-plot j39plan-tolog j39plan-check-plans
+complete -F _j39plan_tool j39plan-where j39plan-answer j39plan-startup j39plan-dbc2plan j39plan-log2plan j39plan-plan2dbc j39plan-join j39plan-forwards j39plan-compare j39plan-mend j39plan-against j39plan-fleet j39plan-table j39plan-report j39plan-signals j39plan-codes j39plan-plot j39plan-tolog j39plan-cut j39plan-restbus j39plan-check-plans

@@ -5,14 +5,15 @@ from __future__ import annotations
 from collections import Counter
 from dataclasses import dataclass, field
 
-from j39plan.j1939 import FRAME_BYTES
+from j39plan.j1939 import ACKNOWLEDGEMENT, FRAME_BYTES
 from j39plan.log.checks.comparison import Comparison, Settings
 from j39plan.log.checks.deviations import Found
 from j39plan.log.checks.distances import Rule, Tolerance
+from j39plan.log.checks.other_requests import BYTES, CONTROL, PGN
 from j39plan.log.checks.requests import WAITED
 from j39plan.log.checks.unplanned import Bounds
 from j39plan.log.clock import MILLISECOND
-from j39plan.log.reports import Message, Request
+from j39plan.log.reports import ACKNOWLEDGEMENTS, Frame, Message, Request
 from j39plan.log.to_plan.groups import Bytes
 from j39plan.plan.tables import Tables
 
@@ -59,6 +60,12 @@ class Measures(Comparison):
         if at is not None:
             self._asks[request.pgn, request.to.shown] = at
         super().request(line, at, request)
+
+    def single(self, line: int, at: int | None, frame: Frame) -> None:
+        """A frame of no planned group, as an acknowledgement by which a unit refuses what it was asked for."""
+        super().single(line, at, frame)
+        if frame.pgn == ACKNOWLEDGEMENT and len(frame.data) == BYTES and 0 < frame.data[CONTROL] < len(ACKNOWLEDGEMENTS):
+            self._asks.pop((int.from_bytes(frame.data[PGN:], "little"), frame.sender.shown), None)
 
     def message(self, line: int, at: int | None, message: Message) -> None:
         """A message of a planned group."""

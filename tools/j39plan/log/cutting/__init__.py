@@ -1,0 +1,1 @@
+"""Parts of logs, and logs of two clocks."""

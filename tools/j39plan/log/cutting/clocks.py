@@ -1,0 +1,85 @@
+"""Logs of one bus by two loggers: how much later the clock of one is than that of the other."""
+
+from __future__ import annotations
+
+import io
+from collections.abc import Iterator
+from typing import NamedTuple
+
+from j39plan.log.clock import SECOND, nanoseconds, spelled_time
+from j39plan.log.files import LINE_MOST, Log
+
+# So many frames that both have once are wanted at least, and of so many differences at each end the one in the middle counts.
+FEW, ENDS = 3, 99
+
+
+class Common(NamedTuple):
+    """A frame that both logs have once: when it came by the clock of the second one, and how much later than by that of the first one."""
+
+    at: int
+    later: int
+
+
+class Shift(NamedTuple):
+    """How much later the second clock is, at its begin and at its end; how many frames tell that, and how far these are from it at most."""
+
+    begin: Common
+    end: Common
+    count: int
+    spread: int
+
+    def at(self, time: int) -> int:
+        """A time of the second clock by the first one."""
+        whole = self.end.at - self.begin.at
+        drift = 0 if whole <= 0 else (self.end.later - self.begin.later) * (time - self.begin.at) // whole
+        return time - self.begin.later - drift
+
+
+def lines_of(log: Log) -> Iterator[bytes]:
+    """The lines of a log; of one that is too long its begin."""
+    whole, is_begun = io.BufferedReader(log, 1 << 16), False
+    while piece := whole.readline(LINE_MOST):
+        if not is_begun:
+            yield piece
+        is_begun = not piece.endswith(b"\n")
+
+
+def times_in(log: Log) -> dict[bytes, int | None]:
+    """When each frame came, in nanoseconds; None where it came more than once."""
+    found: dict[bytes, int | None] = {}
+    for line in lines_of(log):
+        words = line.split()
+        at = nanoseconds(words[0].decode("ascii", "replace")) if len(words) > 1 else None
+        frame = words[-2] if words[-1:] in ([b"R"], [b"T"]) and len(words) > 2 else words[-1] if words else b""
+        if at is not None and b"#" in frame:
+            found[frame] = None if frame in found else at
+    return found
+
+
+def middle(common: list[Common]) -> Common:
+    """Of several frames the times in the middle of both clocks."""
+    return Common(sorted(one.at for one in common)[len(common) // 2], sorted(one.later for one in common)[len(common) // 2])
+
+
+def shift_of(first: Log, second: Log) -> Shift | None:
+    """By how much the clock of the second log is later, None where too few frames tell it."""
+    times = times_in(first)
+    common = sorted(Common(at, at - known) for frame, at in times_in(second).items() if at is not None and (known := times.get(frame)) is not None)
+    if len(common) < FEW:
+        return None
+    part = max(1, min(ENDS, len(common) // 2))
+    begin, end = middle(common[:part]), middle(common[-part:])
+    found = Shift(begin, end, len(common), 0)
+    return found._replace(spread=max(abs(one.at - one.later - found.at(one.at)) for one in common))
+
+
+def shifted(line: bytes, shift: Shift) -> bytes:
+    """A line with its time by the first clock; one without a time as it is."""
+    head, blank, rest = line.partition(b" ")
+    at = nanoseconds(head.decode("ascii", "replace"))
+    return line if at is None else spelled_time(max(shift.at(at), 0)).encode() + blank + rest
+
+
+def in_ms(duration: int) -> str:
+    """A difference of clocks, in s or ms."""
+    return f"{duration / SECOND:.6f} s" if abs(duration) >= SECOND else f"{duration / 10**6:.3f} ms"
