@@ -134,12 +134,12 @@ def shift_by(given: argparse.Namespace) -> Shift | None:
 def say(given: argparse.Namespace, count: int, shift: Shift | None) -> None:
     """Says how many lines were kept, and what was found of the clocks."""
     if given.json:
-        clocks = {} if shift is None else {"later": shift.begin.later / SECOND, "later_at_end": shift.end.later / SECOND, "frames": shift.count,
+        clocks = {} if shift is None else {"later": shift.begin.later / SECOND, "later_at_end": shift.end.later / SECOND, "frames": shift.frames,
                                            "spread": shift.spread / SECOND}
         print(json.dumps({"lines": count, **clocks}), file=sys.stderr)
         return
     if shift:
-        program.say(f"the clock is {in_ms(shift.begin.later)} later at the begin and {in_ms(shift.end.later)} at the end, by {shift.count} frames; "
+        program.say(f"the clock is {in_ms(shift.begin.later)} later at the begin and {in_ms(shift.end.later)} at the end, by {shift.frames} frames; "
                     f"they are {in_ms(shift.spread)} apart at most")
     program.say(f"{count} lines")
 
