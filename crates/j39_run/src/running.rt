@@ -1,12 +1,12 @@
 //! A schedule that runs on a bus, line after line.
-ghost use Rattle.std.specs.Prelude.{◌≡◌, ◌<◌, ◌^◌, true, [], ◌∷◌, IfOk, OnErr, OnOk, None, Some};
+ghost use Rattle.std.specs.Prelude.{◌≡◌, ◌<◌, ◌^◌, nat_le, true, [], ◌∷◌, IfOk, OnErr, OnOk, None, Some};
 ghost use Rattle.j39_bus.specs.Stands.{Stands};
 ghost use Rattle.j39_network.specs.declared.plan.Plan.{Plan as APlan};
 ghost use Rattle.j39_id.specs.Lines.{Line, Short, tells};
 ghost use Rattle.j39_schedule.specs.Schedule.{line_order, read_as};
 ghost use Rattle.j39_world.specs.Run.{cause_of, refusal};
 ghost use Rattle.j39_world.specs.World.{World, all_off};
-ghost use Rattle.j39_run.specs.RunText.{is_running};
+ghost use Rattle.j39_run.specs.RunText.{is_running, most_frames};
 ghost use Rattle.j39_run.specs.inside.Doing.{HasRun, OrdersStep, RunsOn};
 
 use crate::halt::Halt;
@@ -31,6 +31,13 @@ pub(crate) struct Running {
     pub place: usize,
     pub text: TextBuffer,
     pub halt: Halt,
+}
+
+// Whether a run that has sent so many frames does no further step.
+fn is_full(sent: usize) -> bool
+    ensures { result ≡ nat_le most_frames sent }
+{
+    sent >= MOST_FRAMES
 }
 
 // Where a run ends at this line, whose step was not done. A step for which memory was wanted ends no run.
@@ -71,7 +78,7 @@ impl Running {
             → refusal plan w step.now ≡ None) }
     {
         let shown = self.bus.frames().len();
-        if shown >= MOST_FRAMES {
+        if is_full(shown) {
             self.halt = Halt::Full(self.place);
             return Ok(());
         }
