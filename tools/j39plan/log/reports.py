@@ -342,14 +342,14 @@ def lines_of(plan: str, log: Log, counts: Counts, fed: Callable[[Any], Iterable[
         raise program.Refused(status)
 
 
-def said_of(plan: str, log: Log, tables: Tables, counts: Counts) -> Iterator[Said]:
-    """What `follow` says of a log, as it is read."""
-    return said_in(lines_of(plan, log, counts), tables, counts)
+def said_of(plan: str, log: Log, tables: Tables, counts: Counts, fed: Callable[[Any], Iterable[bytes]] | None = None) -> Iterator[Said]:
+    """What `follow` says of a log, as `lines_of` has it."""
+    return said_in(lines_of(plan, log, counts, fed), tables, counts)
 
 
-def follow(plan: str, log: Log, tables: Tables, counts: Counts) -> Iterator[Report]:
+def follow(plan: str, log: Log, tables: Tables, counts: Counts, fed: Callable[[Any], Iterable[bytes]] | None = None) -> Iterator[Report]:
     """The reports of a log, as `said_of` has them."""
-    return starmap(report_of, said_of(plan, log, tables, counts))
+    return starmap(report_of, said_of(plan, log, tables, counts, fed))
 
 
 def tables_of(plan: str) -> Tables:
