@@ -22,6 +22,9 @@ UNREADABLE, MEMORY, DEVICE, TOO_LONG, MISSING, FAULT = 2, 3, 4, 5, 69, 70
 # The most bytes that the program takes as a plan or a schedule.
 INPUT_MOST = 16_777_216
 
+# The name of standard input.
+INPUT = "/dev/stdin"
+
 # The folder of this package.
 PACKAGE = os.path.dirname(os.path.realpath(__file__))
 
@@ -147,7 +150,7 @@ def parser(description: str, own_version: bool = False) -> argparse.ArgumentPars
 
 def input_name(text: str) -> str:
     """The name of a file that is read: that of standard input by `-`."""
-    return "/dev/stdin" if text == "-" else text
+    return INPUT if text == "-" else text
 
 
 def plan_word(words: argparse.ArgumentParser) -> None:

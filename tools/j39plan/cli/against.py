@@ -25,7 +25,7 @@ from j39plan.log.checks.summary import requests_of, summary_tables, units_of
 from j39plan.log.checks.unplanned import bounds_of
 from j39plan.log.checks.watch import watched
 from j39plan.log.clock import SECOND, ends_of, nanoseconds
-from j39plan.log.files import Log, interface_option, named
+from j39plan.log.files import Log, interface_option
 from j39plan.log.reports import Counts, lines_of, tables_of
 from j39plan.log.serial_numbers import by_kind
 from j39plan.plan.cut import bare
@@ -62,8 +62,8 @@ def words_of(words: list[str] | None) -> argparse.Namespace:
     requirement_options(parser)
     interface_option(parser)
     bus_option(parser)
-    parser.add_argument("plan", metavar="PLAN", type=named, help="the name of a plan file, or of a vehicle file")
-    parser.add_argument("logs", metavar="LOG", nargs="+", type=named, help="names of files as candump -L writes them, in the order of the drive, - for standard "
+    parser.add_argument("plan", metavar="PLAN", type=program.input_name, help="the name of a plan file, or of a vehicle file")
+    parser.add_argument("logs", metavar="LOG", nargs="+", type=program.input_name, help="names of files as candump -L writes them, in the order of the drive, - for standard "
                         "input; BUS=LOG of a bus of a vehicle")
     return parser.parse_args(words)
 

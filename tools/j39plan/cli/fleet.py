@@ -19,7 +19,7 @@ from j39plan import program
 from j39plan.fleet.drives import Drive, answered
 from j39plan.fleet.table import Fleet
 from j39plan.fleet.team import Task, team
-from j39plan.log.files import INPUT, interface_option, named
+from j39plan.log.files import interface_option
 from j39plan.plan.files import opened
 from j39plan.plan.tables import Tables
 from j39plan.vehicle.drives import bus_option, drives_of, events_on, refuse_buses, vehicle_in
@@ -113,8 +113,8 @@ def words_of(words: list[str] | None) -> argparse.Namespace:
     """The words of the command line."""
     parser = program.parser(__doc__)
     parser.epilog = "example: %(prog)s plan.toml drives/*.log"
-    parser.add_argument("plan", metavar="PLAN", type=named, help="the name of a plan file, or of a vehicle file")
-    parser.add_argument("logs", metavar="LOG", nargs="+", type=named, help="the name of a file as candump -L writes it, - for standard input; BUS=LOG of a bus "
+    parser.add_argument("plan", metavar="PLAN", type=program.input_name, help="the name of a plan file, or of a vehicle file")
+    parser.add_argument("logs", metavar="LOG", nargs="+", type=program.input_name, help="the name of a file as candump -L writes it, - for standard input; BUS=LOG of a bus "
                         "of a vehicle")
     parser.add_argument("--jitter", metavar="TIME", help="by how much messages may come nearer than their flow's period, as of against")
     parser.add_argument("--silence", metavar="N", help="after how many periods a flow is silent, as of against")
@@ -132,7 +132,7 @@ def words_of(words: list[str] | None) -> argparse.Namespace:
 @contextlib.contextmanager
 def input_copied(logs: list[str]) -> Iterator[str]:
     """The name of a copy of standard input, which processes can't read themselves, as long as it is needed; empty where no log is that."""
-    if INPUT not in logs:
+    if program.INPUT not in logs:
         yield ""
         return
     with tempfile.NamedTemporaryFile(suffix=".log") as copy:
@@ -157,7 +157,7 @@ def compared(given: argparse.Namespace) -> Gathered:
     options += [word for name in given.events for word in ("--events", name)]
     plan, logs = plan_of(given.plan, options), different(given.logs)
     with input_copied(logs) as copy:
-        tasks: list[Task] = [(*plan, log, copy if log == INPUT else os.path.abspath(log), options) for log in largest_first(logs)]
+        tasks: list[Task] = [(*plan, log, copy if log == program.INPUT else os.path.abspath(log), options) for log in largest_first(logs)]
         found, is_whole = gathered(team(given.processes, given.scheduler)(tasks), len(tasks))
     status = max((drive["status"] for drive in found.values() if drive["failed"]), default=int(any(drive["deviations"] for drive in found.values())))
     return Gathered(Fleet(Tables.shown(plan[1]), [found[log] for log in logs if log in found]), len(found), len(logs), is_whole, status)

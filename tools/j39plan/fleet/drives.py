@@ -149,26 +149,35 @@ class Followed:
 
     def take(self, lines: Iterator[bytes]) -> None:
         """Takes the lines of `follow`."""
+        known: dict[bytes, list[int]] = {}
         for line in lines:
             if line[:2] == b"  ":
-                self._signals.count(self._group, self._sender, line, self._line, self._at)
+                counted = known.get(line)
+                if counted is not None:
+                    counted[0] += 1
+                else:
+                    self._signals.count(known, self._group, self._sender, line, self._line, self._at)
             elif line[:1].isdigit():
-                self._report(line.decode().split())
+                known = self._report(line.decode())
             else:
                 self._end(line.decode().split())
 
-    def _report(self, words: list[str]) -> None:
+    def _report(self, line: str) -> dict[bytes, list[int]]:
+        """A report; of a message the lines that came below those of its group, of another one none."""
+        words = line.split(" ", 3)
         self._line = int(words[0])
         at = self._at = nanoseconds(words[1])
         if at is not None:
             self._silences.see(at)
         if words[2] == "group":
-            self._group, self._sender = words[3], who_of(words[5]).shown
-            self._signals.sent(words[8] == "flow")
-            if words[8] == "flow":
-                self._silences.sent(int(words[9]), self._line)
-        elif words[2] in ("claim", "cannot"):
-            self._claim(words)
+            self._group, _, sender, _, _, is_flow, number, *_ = words[3].split(" ", 7)
+            self._sender = who_of(sender).shown
+            if is_flow == "flow":
+                self._silences.sent(int(number), self._line)
+            return self._signals.sent(is_flow == "flow", self._group)
+        if words[2] in ("claim", "cannot"):
+            self._claim(line.split())
+        return {}
 
     def _claim(self, words: list[str]) -> None:
         name, _, address = words[3].partition("@")

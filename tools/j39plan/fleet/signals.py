@@ -13,6 +13,9 @@ from j39plan.plan.tables import Tables
 # How many lines of signals are counted before they are looked at.
 COUNTED = 1 << 16
 
+# What stands before the line of a trouble code where lines are counted.
+MARK = b"!"
+
 # A trouble code as `follow` writes it, below its message.
 CODE = re.compile(rb"  \S+ dtc spn (\d+) fmi (\d+)")
 
@@ -45,26 +48,28 @@ class Signals:
 
     def __init__(self, tables: Tables) -> None:
         self._scales = {(group.label, signal.label): measure_of(signal.unit) for group in tables.groups for signal in group.signals}
-        self._counts: dict[tuple[bool, str, bytes], list[int]] = {}
+        self._counts: dict[tuple[bool, str], dict[bytes, list[int]]] = {}
+        self._kept = 0
         self._found: dict[bool, dict[str, Spread]] = {True: {}, False: {}}
         self._codes: dict[tuple[int, int, str, str], Code] = {}
-        self._is_planned = True
 
-    def sent(self, is_planned: bool) -> None:
-        """The lines that come are of a message of a flow, or of one of none."""
-        self._is_planned = is_planned
+    def sent(self, is_planned: bool, group: str) -> dict[bytes, list[int]]:
+        """The lines that came below messages of a group that a flow has, or none, with how often each came and the first message: who finds a line
+        there counts it there. Those of trouble codes stand there behind a mark, so that each one is looked at."""
+        return self._counts.setdefault((is_planned, group), {})
 
-    def count(self, group: str, sender: str, line: bytes, number: int, at: int | None) -> None:
-        """A line below that of a message."""
+    def count(self, known: dict[bytes, list[int]], group: str, sender: str, line: bytes, number: int, at: int | None) -> None:
+        """Another line below that of a message, by those that are known, or one of a trouble code."""
         if b" dtc spn " in line:
             self._code(group, sender, line, number, at)
-        known = self._counts.get((self._is_planned, group, line))
-        if known is not None:
-            known[0] += 1
-            return
-        if len(self._counts) >= COUNTED:
+            line = MARK + line
+            if line in known:
+                known[line][0] += 1
+                return
+        if self._kept >= COUNTED:
             self._look()
-        self._counts[self._is_planned, group, line] = [1, number]
+        known[line] = [1, number]
+        self._kept += 1
 
     def _code(self, group: str, sender: str, line: bytes, number: int, at: int | None) -> None:
         """A trouble code came."""
@@ -86,14 +91,20 @@ class Signals:
 
     def _look(self) -> None:
         """Takes what was counted apart."""
-        for (is_planned, group, line), (times, number) in self._counts.items():
-            label, _, said = line.decode().strip().partition(" ")
-            signal = label.partition("[")[0]  # of a record its place stands behind the label
-            scale = self._scales.get((group, signal))
-            if scale is not None:
-                reading = reading_of(said, scale)
-                self._see(self._found[is_planned], f"{group}.{signal}", reading.state, reading.value, times, number)
-        self._counts.clear()
+        for (is_planned, group), lines in self._counts.items():
+            for line, (times, number) in lines.items():
+                self._take(self._found[is_planned], group, line.removeprefix(MARK), times, number)
+            lines.clear()
+        self._kept = 0
+
+    def _take(self, found: dict[str, Spread], group: str, line: bytes, times: int, number: int) -> None:
+        """Takes a line that came so often."""
+        label, _, said = line.decode().strip().partition(" ")
+        signal = label.partition("[")[0]  # of a record its place stands behind the label
+        scale = self._scales.get((group, signal))
+        if scale is not None:
+            reading = reading_of(said, scale)
+            self._see(found, f"{group}.{signal}", reading.state, reading.value, times, number)
 
     @staticmethod
     def _see(found: dict[str, Spread], name: str, state: str, value: str, times: int, line: int) -> None:

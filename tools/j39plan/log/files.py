@@ -17,6 +17,8 @@ from collections.abc import Sequence
 from types import FrameType
 from typing import BinaryIO, Self
 
+from j39plan import program
+
 # So much of the begin and of the end of a log is kept, to see its first and its last time.
 KEPT = 1 << 16
 
@@ -25,9 +27,6 @@ GRACE = 0.5
 
 # A frame in a line of a log, and how many bytes one has at most up to its data.
 FRAME, FRAME_MOST = re.compile(rb"(?:^|\s)[0-9A-Fa-f]{3,8}#", re.MULTILINE), 16
-
-# The name of standard input.
-INPUT = "/dev/stdin"
 
 # How a file begins that gzip has packed.
 PACKED = b"\x1f\x8b"
@@ -236,14 +235,9 @@ class OneInterface:
         return b"\n"
 
 
-def named(text: str) -> str:
-    """The name of a file; `-` is standard input."""
-    return INPUT if text == "-" else text
-
-
 def drive_words(words: argparse.ArgumentParser, name: str, names: str) -> None:
     """The words of a log, of what is chosen of it, and of further logs."""
-    words.add_argument("log", metavar="LOG", type=named, help="the name of a file as candump -L writes it, - for standard input")
+    words.add_argument("log", metavar="LOG", type=program.input_name, help="the name of a file as candump -L writes it, - for standard input")
     words.add_argument("names", metavar=name, nargs="*", help=f"{names}; any other name is that of a further log of the drive")
 
 

@@ -343,7 +343,7 @@ def lines_of(plan: str, log: Log, counts: Counts, fed: Callable[[Any], Iterable[
 
 
 def said_of(plan: str, log: Log, tables: Tables, counts: Counts, fed: Callable[[Any], Iterable[bytes]] | None = None) -> Iterator[Said]:
-    """What `follow` says of a log, as it is read; of all frames where `fed` hands on the log."""
+    """What `follow` says of a log, as `lines_of` has it."""
     return said_in(lines_of(plan, log, counts, fed), tables, counts)
 
 
