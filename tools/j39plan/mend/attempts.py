@@ -18,7 +18,9 @@ class Mend(NamedTuple):
 
 
 class Attempt(NamedTuple):
-    """What is tried, in words, and the changes, of which the first that mends is taken."""
+    """What is tried, in words, and the changes, of which the first that mends is taken. What is long to try, or changes much, is tried only where
+    nothing before it mends."""
 
     what: str
     mends: Iterable[Mend]
+    is_last: bool = False

@@ -7,6 +7,8 @@ and the others one as near to it as can be.
 
 from __future__ import annotations
 
+from functools import cached_property, lru_cache
+
 from j39plan.j1939 import FRAME_BYTES
 from j39plan.mend.edits import Change
 from j39plan.mend.judge import Draft
@@ -35,10 +37,15 @@ class Assignment:
 
     def found(self, *wanted: str) -> Priorities | None:
         """Priorities by which these findings are gone and no other one came, with as few others than planned as this search finds."""
-        priorities = self._assigned(self._hopeless())
+        priorities = self._all
         if priorities is None or not self._mends(priorities, wanted):
             return None
         return self._nearest(self._shortened(priorities, wanted), wanted)
+
+    @cached_property
+    def _all(self) -> Priorities | None:
+        """Audsley's assignment, which is the same for each late flow."""
+        return self._assigned(self._hopeless())
 
     def _late_in(self, findings: list[str] | None) -> set[int]:
         """The flows that are late by what is found."""
@@ -103,3 +110,9 @@ class Assignment:
             if level is not None:
                 priorities = {**priorities, label: level}
         return priorities
+
+
+@lru_cache(maxsize=1)
+def assignment_of(draft: Draft) -> Assignment:
+    """The assignment of a plan, which is looked for once as long as the plan stays as it is."""
+    return Assignment(draft)

@@ -47,8 +47,11 @@ class Mended(NamedTuple):
 
 def mends_of(draft: Draft, text: str) -> tuple[list[Mend], list[str]]:
     """Of each attempt against a finding the first change that mends; and of what none does, with what it brings instead."""
-    mends, in_vain = [], []
+    mends: list[Mend] = []
+    in_vain: list[str] = []
     for attempt in ATTEMPTS[text.split()[0]](draft, line_of(text)):
+        if attempt.is_last and mends:
+            continue
         mend, brought = first_of(draft, attempt, text)
         if mend is not None:
             mends.append(mend)

@@ -9,7 +9,7 @@ from j39plan.mend.attempts import Attempt, Mend
 from j39plan.mend.edits import Change, setting
 from j39plan.mend.flows import flow_of
 from j39plan.mend.judge import Draft, greatest, least
-from j39plan.mend.priorities import LEVELS, Assignment
+from j39plan.mend.priorities import LEVELS, assignment_of
 from j39plan.plan.answer_grammar import Line
 from j39plan.plan.schema import bitrates_of, most_of
 from j39plan.plan.tables import Flow, Group, Need
@@ -29,7 +29,7 @@ def in_time(draft: Draft, line: Line) -> Iterator[Attempt]:
     if group.most <= FRAME_BYTES:
         yield Attempt(f"a smaller priority number of {group.label}", (of_priority(group, level) for level in range(group.priority - 1, -1, -1)))
         yield Attempt("a larger priority number of one other group", later_groups(draft, group, line.text))
-        yield Attempt("other priorities of several groups (Audsley)", assigned(draft, line.text))
+        yield Attempt("other priorities of several groups (Audsley)", assigned(draft, line.text), is_last=True)
     yield Attempt("a longer deadline or period", longer(draft, flow, line.text))
     yield Attempt("less jitter", less_jitter(draft, flow, line.text))
     yield from other_drivers(draft, flow)
@@ -52,7 +52,7 @@ def later_groups(draft: Draft, late: Group, finding: str) -> Iterator[Mend]:
 
 def assigned(draft: Draft, finding: str) -> Iterator[Mend]:
     """Priorities of several groups."""
-    assignment = Assignment(draft)
+    assignment = assignment_of(draft)
     priorities = assignment.found(finding)
     groups = [group for group in draft.tables.groups if (priorities or {}).get(group.label, group.priority) != group.priority]
     if priorities and len(groups) > 1:  # one alone was tried before
