@@ -25,7 +25,7 @@ class Shift(NamedTuple):
 
     begin: Common
     end: Common
-    count: int
+    frames: int
     spread: int
 
     def at(self, time: int) -> int:

@@ -76,9 +76,9 @@ class Measures(Comparison):
         is_text = (known is None or known.is_text) and length > FRAME_BYTES and TEXT.issuperset(bytes.fromhex(message.data))
         of_group[length] = Bytes(number, number, is_text) if known is None else Bytes(known.ones & number, known.ever | number, is_text)
 
-    def sends(self, number: int, line: int, at: int | None) -> None:
+    def sends(self, number: int, line: int, at: int | None, waited: int = 0) -> None:
         """A message of a flow has come, by where it began."""
-        super().sends(number, line, at)
+        super().sends(number, line, at, waited)
         sent, last = self.by_flow[number], self._last.get(number)
         sent.count += 1
         sent.asked += at is not None and self._is_asked(number, at)
