@@ -128,9 +128,11 @@ class Times(unittest.TestCase):
     def sent(self, *distances: float) -> Sent:
         """A flow whose messages came so far apart, in ms."""
         sent = Sent(len(distances) + 1, 0, 0, 0)
+        sent.keep(0, True)
         for distance in distances:
             sent.take(round(distance * MILLISECOND))
             sent.last = (sent.last or 0) + round(distance * MILLISECOND)
+            sent.keep(sent.last, False)
         return sent
 
     def test_rounded(self) -> None:
@@ -143,6 +145,12 @@ class Times(unittest.TestCase):
         self.assertEqual(times_of(self.sent(100, 100, 100), 0, 0).keys, {"period": 100, "pause": 100})
         self.assertEqual(times_of(self.sent(100, 97.5, 103.2, 99.9), 0, 0).keys, {"period": 100, "jitter": 3, "pause": 101})
         self.assertEqual(times_of(self.sent(100, 100, 100), 140 * MILLISECOND, 0).keys, {"period": 100, "pause": 140})
+
+    def test_rows(self) -> None:
+        """A period is no longer than the mean, since messages run ahead of a longer one; what runs ahead for a while is jitter, and what falls behind a pause."""
+        self.assertEqual(times_of(self.sent(*[99.4, 99.8] * 50), 0, 0).keys, {"period": 99, "pause": 100})
+        self.assertEqual(times_of(self.sent(*[98] * 5, *[102] * 5, *[100] * 30), 0, 0).keys, {"period": 100, "jitter": 10, "pause": 100})
+        self.assertEqual(times_of(self.sent(*[100, 101] * 50), 0, 0).keys, {"period": 100, "pause": 101})
 
     def test_few_that_are_apart(self) -> None:
         """Of many a few that are far from the period aren't covered, and told; of few each one counts."""

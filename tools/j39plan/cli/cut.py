@@ -15,8 +15,8 @@ from j39plan.log.clock import SECOND, nanoseconds
 from j39plan.log.cutting.clocks import Shift, in_ms, lines_of, shift_of, shifted
 from j39plan.log.cutting.selection import Chosen, Selection, Window, around
 from j39plan.log.files import Log, interface_option
-from j39plan.log.reports import Counts, follow
-from j39plan.log.to_plan.draft import NOTHING
+from j39plan.log.reports import Counts
+from j39plan.log.to_plan.draft import NOTHING, all_of
 from j39plan.plan.cut import bare
 from j39plan.plan.files import opened
 from j39plan.plan.tables import Tables
@@ -109,7 +109,7 @@ def selected(given: argparse.Namespace, log: Log, window: Window) -> Iterator[by
     """The lines of units and groups that are asked for."""
     with plan_of(given.plan) as (plan, tables):
         selection, counts = Selection(tables, chosen_of(given, tables)), Counts()
-        yield from selection.kept(follow(plan, log, tables, counts, selection.pieces), window)
+        yield from selection.kept(all_of(plan, log, counts, selection.pieces), window)
         counts.refuse_without_frames(log)
 
 

@@ -46,8 +46,8 @@ def words_of(words: list[str] | None) -> argparse.Namespace:
 
 
 def planned_by(files: list[str]) -> list[Source]:
-    """The plans that DBC files make, each with the file's name. What isn't carried over is said by dbc2plan."""
-    return [Source(dbc2plan.made(dbc2plan.options([name]), Unsaid())[1], name) for name in files]
+    """The plan that DBC files make together, with the files' names. What isn't carried over is said by dbc2plan."""
+    return [Source(dbc2plan.made(dbc2plan.options(files), Unsaid())[1], ", ".join(map(os.path.basename, files)))] if files else []
 
 
 @contextlib.contextmanager

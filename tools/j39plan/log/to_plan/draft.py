@@ -13,7 +13,7 @@ from j39plan.log.checks.feed import Feed
 from j39plan.log.checks.other_requests import Asked
 from j39plan.log.clock import nanoseconds
 from j39plan.log.files import Log
-from j39plan.log.reports import Counts, Report, Who, follow
+from j39plan.log.reports import Counts, Report, Who, lines_of, reports_of
 from j39plan.log.to_plan.groups import Group, Groups
 from j39plan.log.to_plan.measures import Measures, Sent
 from j39plan.log.to_plan.survey import Survey
@@ -86,6 +86,11 @@ class Request:
         return Table("request", keys, [told])
 
 
+def all_of(plan: str, log: Log, counts: Counts, fed: Callable[[Any], Iterable[bytes]]) -> Iterator[Report]:
+    """The reports of `follow --all` of a log that is handed on so."""
+    return reports_of(lines_of(plan, log, counts, fed), Tables.of(plan), counts)
+
+
 def told_reports(reports: Iterable[Report], progress: Progress) -> Iterator[Report]:
     """Reports, as they come; how far they are is told."""
     for report in reports:
@@ -111,7 +116,7 @@ class Draft:
         """What the log has, read by a plan of nothing."""
         survey = Survey()
         with program.file_of(NOTHING) as plan, Log(self._logs, self._interface) as log:
-            survey.take(told_reports(follow(plan, log, Tables.of(plan), self.counts, feed_of()), self._progress))
+            survey.take(told_reports(all_of(plan, log, self.counts, feed_of()), self._progress))
             self.counts.refuse_without_frames(log)
             self.counts.refuse_a_guess(log)
             self.counts.say(log)
@@ -138,7 +143,7 @@ class Draft:
         with program.file_of(text) as plan, Log(self._logs, self._interface) as log:
             tables = Tables.of(plan)
             measures = Measures(tables)
-            for report in told_reports(follow(plan, log, tables, counts, feed.pieces), self._progress):
+            for report in told_reports(all_of(plan, log, counts, feed.pieces), self._progress):
                 measures.report(report, feed.beside(report.line))
         last = nanoseconds(feed.last_time)
         measures.ends(last, counts.frames > 0)

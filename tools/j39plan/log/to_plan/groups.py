@@ -8,9 +8,9 @@ from dataclasses import dataclass, field
 from typing import NamedTuple
 
 from j39plan.j1939 import FRAME_BYTES, PROPRIETARY, is_pdu2
-from j39plan.left_out import Notes, plain
+from j39plan.left_out import Notes
 from j39plan.log.to_plan.survey import Box, Seen, Survey, Way
-from j39plan.log.to_plan.units import Unit, Units
+from j39plan.log.to_plan.units import Unit, Units, place_of
 from j39plan.plan.parts import Part, Source
 from j39plan.plan.schema import default_of, most_of
 from j39plan.plan.text import Labels, Table
@@ -89,7 +89,7 @@ class Group:
 
     def _remarks(self) -> list[str]:
         """What is remarked of it: where it is from."""
-        return [f"by {plain(self.part.at())}"] if self.part else []
+        return [f"by {place_of(self.part)}"] if self.part else []
 
     def _beside(self) -> dict[str, str]:
         """Comments behind its keys: how often which length and priority was seen, where they aren't always the same."""

@@ -2,6 +2,7 @@
 
 from __future__ import annotations
 
+from array import array
 from collections import Counter
 from dataclasses import dataclass, field
 
@@ -20,6 +21,9 @@ from j39plan.plan.tables import Tables
 # Distances are told apart by so many nanoseconds.
 STEP = 10_000
 
+# Of so many messages of a flow it is kept when each began; and what stands there where distances begin anew.
+KEPT, GAP = 200_000, -1
+
 # Characters of a text: those that can be printed, and what fills it up.
 TEXT = frozenset((*range(0x20, 0x7F), 0x00, 0xFF))
 
@@ -27,7 +31,8 @@ TEXT = frozenset((*range(0x20, 0x7F), 0x00, 0xFF))
 @dataclass
 class Sent:
     """Messages of a flow: how many, how many of them were asked for, when the first and the last one began, in nanoseconds, and how far apart
-    they began, in steps; of each whole millisecond the longest distance that begins with it."""
+    they began, in steps; of each whole millisecond the longest distance that begins with it; and of so many of them when each began, with a gap
+    where the clock was set."""
 
     count: int = 0
     asked: int = 0
@@ -35,6 +40,14 @@ class Sent:
     last: int | None = None
     distances: Counter[int] = field(default_factory=Counter)
     longest: dict[int, int] = field(default_factory=dict)
+    times: array[int] = field(default_factory=lambda: array("q"))
+
+    def keep(self, at: int, is_anew: bool) -> None:
+        """A message began."""
+        if len(self.times) < KEPT:
+            if is_anew:
+                self.times.append(GAP)
+            self.times.append(at)
 
     def take(self, distance: int) -> None:
         """Two messages began so far apart."""
@@ -84,6 +97,7 @@ class Measures(Comparison):
         sent.asked += at is not None and self._is_asked(number, at)
         if at is None:
             return
+        sent.keep(at, last is None or at < last)
         if last is not None and at >= last:
             sent.take(at - last)
         self._last[number] = at

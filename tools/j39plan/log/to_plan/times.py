@@ -3,10 +3,12 @@
 from __future__ import annotations
 
 from collections import Counter
+from collections.abc import Iterable
 from typing import NamedTuple
 
-from j39plan.log.to_plan.measures import STEP, Sent
+from j39plan.log.checks.rows import CLOCKS
 from j39plan.log.clock import MILLISECOND, in_words, milliseconds
+from j39plan.log.to_plan.measures import GAP, STEP, Sent
 from j39plan.plan.schema import most_of
 
 # What periods are multiples of, in ms, from those that are looked for first; and how far from such a multiple a median may be: a hundredth of it,
@@ -19,6 +21,9 @@ FEW, TENTH, WIDTH = 3, 10, 2
 
 # Of at least so many distances those are apart that are below half the period or above one and a half, if they are fewer than a hundredth.
 MANY, RARE = 20, 100
+
+# So many pauses are tried at most between a period and twice that.
+TRIES = 50
 
 # The longest period and the longest pause of a plan, in ms.
 LONGEST = most_of("flow", "period")
@@ -85,7 +90,8 @@ def times_of(sent: Sent, before: int, behind: int) -> Times:
         return Times({}, f"{told}, in {in_words(span_of(sent))} of {in_words(before + span_of(sent) + behind)}: too seldom for a period")
     core, apart = parted(sent.distances, count, period)
     longest = sent.longest[core[-1][0] * STEP // MILLISECOND]
-    return Times(keys_of(core[0][0] * STEP, longest, period, before, behind), told_of(core, apart, ends_of(before, behind, longest)))
+    kept = Row(sent.times, range(core[0][0] * STEP, longest + 1))
+    return Times(keys_of(kept, slower(core, period), before, behind), told_of(core, apart, ends_of(before, behind, longest)))
 
 
 def span_of(sent: Sent) -> int:
@@ -103,14 +109,54 @@ def parted(distances: Counter[int], count: int, period: int) -> tuple[list[tuple
     return (core, out) if core else (sorted(distances.items()), [])
 
 
-def keys_of(least: int, most: int, period: int, *silences: int) -> dict[str, int]:
-    """The keys of a flow with distances from one to another, in nanoseconds: how much nearer messages come than its period is its jitter, and how
-    far apart its pause, where silences at the log's begin and end count, as long as these are no longer than one and a half periods."""
-    most = max(most, *(silence for silence in silences if 2 * silence <= 3 * period * MILLISECOND), 0)
-    jitter = max(0, up(period * MILLISECOND - least))
+class Row(NamedTuple):
+    """When messages began, in nanoseconds, and the distances that count: behind any other one a row begins anew."""
+
+    times: Iterable[int]
+    core: range
+
+    def ahead(self, step: int) -> int:
+        """By how much one comes at most before it is due by all before it, where each is due so long after the one before, or when that came late."""
+        return self._off(step, 1)
+
+    def behind(self, step: int) -> int:
+        """By how much one comes at most after that, where each is due so long after the one before, or when that came early."""
+        return self._off(-step, -1)
+
+    def _off(self, step: int, sign: int) -> int:
+        """The same with times that are counted in one direction."""
+        due: int | None = None
+        last: int | None = None
+        worst = 0
+        for time in self.times:
+            at = sign * time
+            if time == GAP or last is not None and time - last not in self.core:
+                due = None
+            last = None if time == GAP else time
+            if last is None:
+                continue
+            worst = worst if due is None else max(worst, due - at)
+            due = (at if due is None or at > due else due) + step
+        return worst
+
+
+def slower(core: list[tuple[int, int]], period: int) -> int:
+    """A period that is no longer than the mean of the distances, but for what clocks may differ by: else messages run ahead of it."""
+    count = sum(times for _, times in core)
+    mean = sum(step * times for step, times in core) * STEP // count
+    return period if period * MILLISECOND * (1000 - CLOCKS) <= 1000 * mean else max(1, mean // MILLISECOND)
+
+
+def keys_of(row: Row, period: int, *silences: int) -> dict[str, int]:
+    """The keys of a flow: how much nearer messages come than its period, one after another, is its jitter, and how far apart its pause, where silences
+    at the log's begin and end count, as long as these are no longer than one and a half periods."""
+    most = max(row.core[-1], *(silence for silence in silences if 2 * silence <= 3 * period * MILLISECOND), 0)
+    jitter = up(max(period * MILLISECOND - row.core[0], row.ahead(period * (1000 - CLOCKS) * MILLISECOND // 1000), 0))
     if jitter >= period:  # two that came at once
         jitter = 0
     pause = max(period, up(most) - jitter)
+    while pause < 2 * period and row.behind(pause * (1000 + CLOCKS) * MILLISECOND // 1000) > jitter * MILLISECOND:
+        pause += max(1, period // TRIES)
     keys = {"period": period, "jitter": jitter, "pause": pause}
     return {key: number for key, number in keys.items() if number and number <= LONGEST}
 

@@ -7,6 +7,7 @@ from collections.abc import Iterable, Iterator
 from dataclasses import dataclass, field
 from typing import Any
 
+from j39plan.dbc.reader import KINDS
 from j39plan.j1939 import IDENTITY_BITS, NAME_FIELDS, identity_in, kind_of
 from j39plan.left_out import Notes, plain
 from j39plan.log.to_plan.survey import WINDOW, Box, Survey
@@ -35,6 +36,11 @@ def name_in(part: Part) -> int:
     name = part["name"]
     assert isinstance(name, dict)
     return kind_of(sum(int(value) << first for key, first, _ in NAME_FIELDS if isinstance(value := name.get(key), int)))
+
+
+def place_of(part: Part) -> str:
+    """Where a part of a known plan stands: its file and line; of a DBC and the like the file."""
+    return plain(part.source.name if part.source.name.rpartition(".")[2].lower() in KINDS else part.at())
 
 
 @dataclass
@@ -133,7 +139,7 @@ class Units:
         """A unit of which no claim is in the log has the NAME that a known plan has; who doesn't claim can't choose its address."""
         if not unit.claims and name_in(part):
             unit.name = name_in(part) & ~ARBITRARY | identity_in(unit.name)
-            unit.remarks = [f"no claim of it is in the log: whether it claims is guessed, its NAME is that of {plain(part.at())}"]
+            unit.remarks = [f"no claim of it is in the log: whether it claims is guessed, its NAME is that of {place_of(part)}"]
 
     def _label(self, unit: Unit) -> str:
         """What a unit is called: as in a known plan, else by its address."""
