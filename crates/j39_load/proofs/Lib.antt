@@ -11,7 +11,8 @@ pub mod DemandLaws
 pub mod Different
 pub mod EachFrames
 pub mod DamagedFirst
-pub mod FoundWaits
+pub mod FewClaims
+mod FoundWaits
 pub mod KeepingAll
 pub mod KeepingAnyErrors
 pub mod KeepingAnyOrder

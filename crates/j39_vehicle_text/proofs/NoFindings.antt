@@ -26,7 +26,7 @@ block_calm : (bus : BusPlan) (others : List LoadFinding) (text : List ℕ) → I
 block_calm bus others text block none =
     let nothing : found bus.plan ≡ [] = empty (found bus.plan) (omega (arith, none)) in
     let calm : others ≡ [] = empty others (omega (arith, none)) in
-    (nothing, subst (AreLoadFindings bus.plan bus.plan.timing) calm block.wrong)
+    (nothing, subst (AreLoadFindings bus.plan (timing_of bus.plan)) calm block.wrong)
 
 -- where no plan has a finding, each plan is calm
 pub plans_calm : (buses : List BusPlan) (others : List (List LoadFinding)) (text : List ℕ) → AreBlocks buses others text

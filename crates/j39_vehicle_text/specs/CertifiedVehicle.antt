@@ -19,7 +19,7 @@ use Rattle.j39_vehicle_time_laws.specs.VehicleAges.{AreAgesKept, AreForwardedPau
 
 -- nothing is found in a plan and in what it asks of its bus
 abbrev pub HasCalmPlan : BusPlan → Type 0
-HasCalmPlan bus = (found bus.plan ≡ []) × AreLoadFindings bus.plan bus.plan.timing []
+HasCalmPlan bus = (found bus.plan ≡ []) × AreLoadFindings bus.plan (timing_of bus.plan) []
 
 -- nothing is found in a vehicle
 pub record HasNoFindings (v : Vehicle) : Type 0 where
