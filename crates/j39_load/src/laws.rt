@@ -16,12 +16,13 @@ ghost use Rattle.j39_network.specs.declared.plan.timing.Timing.{Timing as Timing
 ghost use Rattle.j39_network.specs.declared.plan.to.To.TheVariants.{All as ToAllUnits, One};
 ghost use Rattle.j39_network.specs.declared.plan.unit_plan.UnitPlan.{UnitPlan as PlannedUnits};
 ghost use Rattle.j39_load.specs.declared.waits.delay.Delay.{Delay as Delays};
-ghost use Rattle.j39_load.specs.FreshNeeds.{AreNeedsFresh};
+ghost use Rattle.j39_load.specs.FreshNeeds.{AreAgesBounds, AreNeedsFresh};
 ghost use Rattle.j39_load.specs.KeepsBroadcasts.{KeepsTurns};
 ghost use Rattle.j39_load.specs.KeepsErrors.{AreInTimeWithErrors, AreInTimeWithErrorsInAnyOrder, KeepsErrors};
 ghost use Rattle.j39_load.specs.KeepsErrors.{origins_with, planned_with};
 ghost use Rattle.j39_load.specs.KeepsPlan.{AreFramesInTime, CanBeKept, IsSingleFlow, KeepsQueues, KeepsToPlan};
 ghost use Rattle.j39_load.specs.KeepsPlan.{origins_of};
+ghost use Rattle.j39_load.specs.KeptDeadlines.{AreEachInTime};
 ghost use Rattle.j39_load.specs.KeptReceivers.{AreNotGivenUp};
 ghost use Rattle.j39_load.specs.KeptTogether.{CanBeKeptTogether, CanSendAll};
 ghost use Rattle.j39_load.specs.Delays.{announcements_place, packets_place};
@@ -31,7 +32,8 @@ ghost use Rattle.j39_load.specs.Loads.{bits_of_ms, frames_to_all, frames_to_one,
 ghost use Rattle.j39_load.specs.LosslessTransfers.{IsReceiverOf, TakeFramesTold, TakesFrames};
 ghost use Rattle.j39_load.specs.Asked.{asked_of, frames_asked, total_load};
 ghost use Rattle.j39_load.specs.PlannedFrames.{AreAllOrdered, AreDeadlinesKept, AreDelaysBounds, AreFramesInAnyOrder};
-ghost use Rattle.j39_load.specs.PlannedFrames.{AreFramesOfPlan, AreShortFlowsBounded, AreTimesBounds};
+ghost use Rattle.j39_load.specs.PlannedFrames.{AreFramesOfPlan, AreLateDelaysBounds, AreShortFlowsBounded};
+ghost use Rattle.j39_load.specs.PlannedFrames.{AreTimesBounds};
 ghost use Rattle.j39_load.specs.PlannedFrames.{ArePlannedFramesInTime, ComeInAnyOrder, ComeInTurn};
 ghost use Rattle.j39_load.specs.Ranks.{AreHeldApart, AreHeldByPlan, AreTwinFlows, AreUnitsPlanned, IsAskedBetween};
 ghost use Rattle.j39_load.specs.Ranks.{IsShortFlow, LieBetween, RequestLiesBetween};
@@ -53,14 +55,19 @@ ghost use Rattle.j39_world.specs.HeldAddresses.{ArePlannedApart};
 
 /// The delays of a plan bound the time of its frames. A delay that `Loads::delays` tells holds in every schedule whose
 /// planned frames are those of the plan's flows, of which a flow without a period has none, whether units keep order or
-/// don't; and where each unit of the plan keeps it, in every legal schedule of such frames (`bounds`). So does a time
-/// in which long messages to all are whole (`whole`); and where `load_findings` finds nothing, it tells a delay of each
+/// don't; and where each unit of the plan keeps it, in every legal schedule of such frames (`bounds`). So does one that
+/// is above the flow's deadline (`beyond`), an age that is told of a need, whatever the need asks for (`ages`), and a
+/// time in which long messages to all are whole (`whole`); and where `load_findings` finds nothing, it tells a delay of each
 /// flow whose messages go in one frame, within the flow's limit (`short`), and a time of each flow with long messages
 /// to all of which a deadline is written, within this (`deadlines`). So it is of a plan in which `check_load` finds
 /// nothing (`checked`).
 pub fn delays_are_bounds()
     ensures bounds { (plan : Plans) (timing : Timings) (stays : PlannedUnits → Bool) (delays : List (Option Delays))
         → AsksOfBus plan timing stays delays → AreDelaysBounds timing (asked_of timing plan stays) delays }
+    ensures beyond { (plan : Plans) (timing : Timings) (stays : PlannedUnits → Bool) (delays : List (Option Delays))
+        → AsksOfBus plan timing stays delays → AreLateDelaysBounds timing (asked_of timing plan stays) delays }
+    ensures ages { (plan : Plans) (timing : Timings) (stays : PlannedUnits → Bool) (delays : List (Option Delays))
+        → AsksOfBus plan timing stays delays → AreAgesBounds plan timing (asked_of timing plan stays) delays }
     ensures whole { (plan : Plans) (timing : Timings) (stays : PlannedUnits → Bool) (delays : List (Option Delays))
         → AsksOfBus plan timing stays delays → AreTimesBounds timing (asked_of timing plan stays) delays }
     ensures short { (plan : Plans) (timing : Timings) (stays : PlannedUnits → Bool) (delays : List (Option Delays))
@@ -251,6 +258,14 @@ pub fn kept_plans_are_in_time()
 pub fn kept_plans_lose_no_receiver()
     ensures { (plan : Plans) (timing : Timings) → Clean plan → AreLoadFindings plan (Some timing) []
         → AreNotGivenUp plan timing }
+{}
+
+/// Of such a plan each long message to all of a flow with a deadline is whole within it from its release, on each bus
+/// that keeps to it in the plan's own words, whether units keep order or not, and on which each message is sent to its
+/// end and units take turns: also a message that is wanted while another one of its flow is under way.
+pub fn kept_plans_meet_deadlines()
+    ensures { (plan : Plans) (timing : Timings) → Clean plan → AreLoadFindings plan (Some timing) []
+        → AreEachInTime plan timing }
 {}
 
 /// Of such a plan each need that asks for an age has a flow that meets it, and on each bus that keeps to the plan in

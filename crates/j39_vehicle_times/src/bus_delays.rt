@@ -23,6 +23,7 @@ fn bits_within(delay: Option<Delay>) -> Option<u32>
 {
     match delay {
         Some(Delay::Within(bits)) => Some(bits),
+        Some(Delay::Beyond(_)) => None,
         Some(Delay::Late) => None,
         Some(Delay::Long(_)) => None,
         Some(Delay::Whole(_)) => None,
