@@ -297,9 +297,10 @@ module _ (plan : Plan) (timing : Timing) (clean : Clean plan) (stays : UnitPlan 
         let queued : s.queued (sends.announcement u m) ≤ by = omega (arith, announced, soon) in
         let follows = follow m 0 (b.packets u m) (sends.announcement u m) below (omega arith)
         (λ some. within_bits timing.bitrate timing.broadcast_gap_most (frame_end s (sends.announcement u m)) (s.queued (sends.packet u m 0)) (sends.first_gap u m below)) in
+        let sum = sum_by-cons (λ (x : LongMessage). time_of_message first_time (bits_of_ms timing timing.broadcast_gap_most) packet_bits (length x.packets)) (message m) [] in
+        let counted = ap (time_of_message first_time (bits_of_ms timing timing.broadcast_gap_most) packet_bits) (packets_count m 0 (b.packets u m)) in
         let size : time_of_messages first_time (bits_of_ms timing timing.broadcast_gap_most) packet_bits (message m ∷ []) ≡ time m =
-        sum_by-cons (λ (x : LongMessage). time_of_message first_time (bits_of_ms timing timing.broadcast_gap_most) packet_bits (length x.packets)) (message m) []
-        ∙ ap (time_of_message first_time (bits_of_ms timing timing.broadcast_gap_most) packet_bits) (packets_count m 0 (b.packets u m)) in
+        omega (arith, sum, counted) in
         let whole = messages_whole s planned of (announcements_place asked u) (packets_place asked u) (bits_of_ms timing timing.broadcast_gap_most) has.announced
         has.sent has.load.announcements.stream has.load.packets.stream (sent_first m below) (sent_rest m below) (message m ∷ []) by (queued, follows, tt)
         (All-cons (IsBroadcast s planned of (announcements_place asked u) (packets_place asked u)) (message m) [] (is_broadcast m below)
@@ -311,7 +312,10 @@ module _ (plan : Plan) (timing : Timing) (clean : Clean plan) (stays : UnitPlan 
     chain_ends : (j n by : ℕ) → j + n < count → b.announced u j ≤ by → ((i : ℕ) → j ≤ i → i < j + n → b.announced u (suc i) ≤ ends i)
         → by + total (suc n) (λ i. time (j + i)) < s.now → ends (j + n) ≤ by + total (suc n) (λ i. time (j + i))
     unfolding total
-    chain_ends j zero by below soon next seen = message_ends (j + 0) by below (subst (λ (k : ℕ). b.announced u k ≤ by) (omega arith) soon) (omega (arith, seen))
+    chain_ends j zero by below soon next seen =
+        let same : j ≡ j + 0 = omega arith in
+        let one = message_ends (j + 0) by below (subst (λ (k : ℕ). b.announced u k ≤ by) same soon) (omega (arith, seen)) in
+        omega (arith, one)
     chain_ends j (suc n) by below soon next seen =
         let before : ends (j + n) ≤ by + total (suc n) (λ i. time (j + i)) =
         chain_ends j n by (omega (arith, below)) soon (λ i from up. next i from (omega (arith, up))) (omega (arith, seen)) in
@@ -376,62 +380,64 @@ module _ (plan : Plan) (timing : Timing) (clean : Clean plan) (stays : UnitPlan 
     module _ (takes : TakeTurns b (whole_from timing s planned sent sends)) (f late apart : ℕ) (short : turn.time ≤ apart)
         (wanted : (m : ℕ) → m < count → b.flow u m ≡ f → b.wanted u m ≤ b.release u m + late)
         (spaced : (l m : ℕ) → l < m → m < count → b.flow u l ≡ f → b.flow u m ≡ f → b.release u l + apart ≤ b.release u m) where
-      -- each message of it is whole in time, where those before it are
+      -- a message of it, where those before it are over when it is wanted at last
+      module _ (m : ℕ) (below : m < count) (its : b.flow u m ≡ f) (seen : b.release u m + (late + turn.time) < s.now)
+          (earlier : (i : ℕ) → i < m → b.flow u i ≡ f → ends i ≤ b.release u m + late) where
+        abbrev by : ℕ
+        by = b.release u m + late
+
+        module _ (j : ℕ) (inside : j ≤ m) (over : (i : ℕ) → i < j → ends i ≤ by) (goes_on : by < ends j) where
+          open_from : (i : ℕ) → j ≤ i → i ≤ m → by < ends i
+          open_from i from up = let later = in_order j i from (omega (arith, up, below)) in omega (arith, later, goes_on)
+
+          soon : b.announced u j ≤ by
+          soon = takes.at_once u j m by inside below (wanted m below its) over
+
+          next : (i : ℕ) → j ≤ i → i < m → b.announced u (suc i) ≤ ends i
+          next i from up =
+              let open = open_from i from (omega (arith, up)) in
+              let is_wanted = wanted m below its in
+              takes.at_once u (suc i) m (ends i) (omega (arith, up)) below (omega (arith, is_wanted, open))
+              (λ l before. in_order l i (omega (arith, before)) (omega (arith, up, below)))
+
+          other_flows : (k l : ℕ) → j ≤ k → k < l → l ≤ m → b.flow u k ≢ b.flow u l
+          other_flows k l from before up same =
+              let open = open_from k from (omega (arith, before, up)) in
+              elim (cases_eq l m) [
+                | inl last_one ↦
+                    let ended = earlier k (omega (arith, before, last_one)) (same ∙ (ap (b.flow u) last_one ∙ its)) in
+                    absurd (omega (arith, ended, open))
+                | inr middle ↦ elim (takes.once u k l m before (omega (arith, up, middle)) below same) [
+                  | inl ended ↦ let is_wanted = wanted m below its in absurd (omega (arith, ended, is_wanted, open))
+                  | inr (i, first, its_flow, ended) ↦
+                      let over_by = earlier i first (its_flow ∙ its) in
+                      absurd (omega (arith, ended, over_by, open))
+                ]
+              ]
+
+          of_open : ends m ≤ b.release u m + (late + turn.time)
+          of_open =
+              let far : j + (m - j) ≡ m = omega (arith, inside) in
+              let most = turn_most j (m - j) m far below other_flows in
+              let chained = chain_ends j (m - j) by (omega (arith, far, below)) soon (λ i from up. next i from (omega (arith, up, far))) (omega (arith, most, seen)) in
+              let same : ends (j + (m - j)) ≡ ends m = ap ends far in
+              omega (arith, chained, most, same)
+
+        one_ends : ends m ≤ b.release u m + (late + turn.time)
+        one_ends =
+            let (j, over, open) = first_open ends (b.release u m + late) (suc m) in
+            elim open [
+              | inl all ↦ let ended = over m (omega (arith, all)) in omega (arith, ended)
+              | inr (inside, goes_on) ↦ of_open j (omega (arith, inside)) over goes_on
+            ]
+
+      -- each message of it is whole in time
       flow_ends : (n m : ℕ) → m < n → m < count → b.flow u m ≡ f → b.release u m + (late + turn.time) < s.now → ends m ≤ b.release u m + (late + turn.time)
       flow_ends zero m fuel below its seen = absurd (omega (arith, fuel))
-      flow_ends (suc n) m fuel below its seen =
-          let (j, over, open) = first_open ends (b.release u m + late) (suc m) in
-          elim open [
-            | inl all ↦ let ended = over m (omega (arith, all)) in omega (arith, ended)
-            | inr (inside, goes_on) ↦ of_open j (omega (arith, inside)) over goes_on
-          ]
-        where
-          abbrev by : ℕ
-          by = b.release u m + late
-
-          -- an earlier one of the flow is over when this one is wanted at last
-          earlier : (i : ℕ) → i < m → b.flow u i ≡ f → ends i ≤ by
-          earlier i before its_flow =
-              let behind = spaced i m before below its_flow its in
-              let ended = flow_ends n i (omega (arith, before, fuel)) (omega (arith, before, below)) its_flow (omega (arith, behind, seen)) in
-              omega (arith, ended, behind, short)
-
-          module _ (j : ℕ) (inside : j ≤ m) (over : (i : ℕ) → i < j → ends i ≤ by) (goes_on : by < ends j) where
-            open_from : (i : ℕ) → j ≤ i → i ≤ m → by < ends i
-            open_from i from up = let later = in_order j i from (omega (arith, up, below)) in omega (arith, later, goes_on)
-
-            soon : b.announced u j ≤ by
-            soon = takes.at_once u j m by inside below (wanted m below its) over
-
-            next : (i : ℕ) → j ≤ i → i < m → b.announced u (suc i) ≤ ends i
-            next i from up =
-                let open = open_from i from (omega (arith, up)) in
-                let is_wanted = wanted m below its in
-                takes.at_once u (suc i) m (ends i) (omega (arith, up)) below (omega (arith, is_wanted, open))
-                (λ l before. in_order l i (omega (arith, before)) (omega (arith, up, below)))
-
-            other_flows : (k l : ℕ) → j ≤ k → k < l → l ≤ m → b.flow u k ≢ b.flow u l
-            other_flows k l from before up same =
-                let open = open_from k from (omega (arith, before, up)) in
-                elim (cases_eq l m) [
-                  | inl last ↦
-                      let ended = earlier k (omega (arith, before, last)) (same ∙ (ap (b.flow u) last ∙ its)) in
-                      absurd (omega (arith, ended, open))
-                  | inr middle ↦ elim (takes.once u k l m before (omega (arith, up, middle)) below same) [
-                    | inl ended ↦ let is_wanted = wanted m below its in absurd (omega (arith, ended, is_wanted, open))
-                    | inr (i, first, its_flow, ended) ↦
-                        let over_by = earlier i first (its_flow ∙ its) in
-                        absurd (omega (arith, ended, over_by, open))
-                  ]
-                ]
-
-            of_open : ends m ≤ b.release u m + (late + turn.time)
-            of_open =
-                let far : j + (m - j) ≡ m = omega (arith, inside) in
-                let most = turn_most j (m - j) m far below other_flows in
-                let chained = chain_ends j (m - j) by (omega (arith, far, below)) soon (λ i from up. next i from (omega (arith, up, far))) (omega (arith, most, seen)) in
-                let last : ends (j + (m - j)) ≡ ends m = ap ends far in
-                omega (arith, chained, most, last)
+      flow_ends (suc n) m fuel below its seen = one_ends m below its seen (λ i before its_flow.
+          let behind = spaced i m before below its_flow its in
+          let ended = flow_ends n i (omega (arith, before, fuel)) (omega (arith, before, below)) its_flow (omega (arith, behind, seen)) in
+          omega (arith, ended, behind, short))
 
 -- ---- plans
 
