@@ -20,12 +20,12 @@ each_once n place weight k most below small own =
     total-le k (λ g. total n (λ i. cond (true && eqb (place i) g) (weight i) 0)) most (λ g in_k.
     at_most_one n (λ i. true && eqb (place i) g) weight (most g)
     (λ i in_n is.
-        let here = eqb-true (place i) g (and_parts true (eqb (place i) g) is).1 in
-        subst (λ (x : ℕ). weight i ≤ most x) here (small i in_n))
+    let here = eqb-true (place i) g (and_parts true (eqb (place i) g) is).1 in
+    subst (λ (x : ℕ). weight i ≤ most x) here (small i in_n))
     (λ i j in_i in_j is_i is_j.
-        let at_i = eqb-true (place i) g (and_parts true (eqb (place i) g) is_i).1 in
-        let at_j = eqb-true (place j) g (and_parts true (eqb (place j) g) is_j).1 in
-        own i j in_i in_j (at_i ∙ sym at_j))) in
+    let at_i = eqb-true (place i) g (and_parts true (eqb (place i) g) is_i).1 in
+    let at_j = eqb-true (place j) g (and_parts true (eqb (place j) g) is_j).1 in
+    own i j in_i in_j (at_i ∙ sym at_j))) in
     omega (arith, groups, each)
 
 -- the first place, and those behind it

@@ -46,8 +46,7 @@ fn claims_again(since: Option<u64>, claim: Claim) -> bool
 fn defends(kept: Option<Contest>, since: Option<u64>, claim: Claim) -> bool
     ensures { result ≡ is_defended kept since claim }
 {
-    claims_again(since, claim)
-        || is_defender(running(kept, claim.time), claim.claimant.party)
+    claims_again(since, claim) || is_defender(running(kept, claim.time), claim.claimant.party)
 }
 
 // Since when the NAME that holds an address does, if one does.

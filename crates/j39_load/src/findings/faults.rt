@@ -34,7 +34,9 @@ fn finding_at(fault: FlowFault, flow: usize, delay: Option<Delay>) -> Option<Loa
 {
     match (fault, delay) {
         (FlowFault::WithoutPeriod, None) => Some(LoadFinding::NoPeriod(flow)),
-        (FlowFault::Lateness, Some(Delay::Late | Delay::Beyond(_))) => Some(LoadFinding::LateFlow(flow)),
+        (FlowFault::Lateness, Some(Delay::Late | Delay::Beyond(_))) => Some(LoadFinding::LateFlow(
+            flow,
+        )),
         (FlowFault::Lateness, Some(Delay::Whole(whole))) if is_whole_late(&whole) => {
             Some(LoadFinding::LateFlow(flow))
         }

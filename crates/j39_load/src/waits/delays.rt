@@ -268,7 +268,11 @@ fn turn_at(turns: &[Option<Turn>], unit: usize) -> Option<Turn>
     ensures turn { result ≡ turn_at turns.now unit }
     ensures short { IsShortTurn result }
 {
-    if unit < turns.len() { turns[unit] } else { None }
+    if unit < turns.len() {
+        turns[unit]
+    } else {
+        None
+    }
 }
 
 // Whether messages are wanted no more often than they can be sent: a turn is over within the period, and what waits is
