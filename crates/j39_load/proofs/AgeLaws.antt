@@ -24,7 +24,7 @@ use Rattle.j39_load.specs.declared.waits.delay.Delay.{Delay}
 use Rattle.j39_load.specs.declared.waits.delay.Delay.TheVariants.{Within, Beyond, Late, Long, Whole}
 use Rattle.j39_load.specs.declared.findings.load_finding.LoadFinding.TheVariants.{NeedTooOld}
 use Rattle.j39_load.specs.Ages.{ages_for, ages_of, is_in_limit, is_too_old, least, least_age, old_needs, oldness, smaller_known}
-use Rattle.j39_load.specs.FreshNeeds.{AreAgesBounds, AreNeedsFresh, IsNeedFresh}
+use Rattle.j39_load.specs.FreshNeeds.{AreNeedAgesBounds, AreNeedsFresh, IsNeedFresh}
 use Rattle.j39_load.specs.LoadFindings.{AreLoadFindings, AsksOfBus, load_findings}
 use Rattle.j39_load.specs.Asked.{asked_of, total_load}
 use Rattle.j39_load.specs.Loads.{bits_of_ms, load_of_flow, loads_of}
@@ -198,5 +198,5 @@ fresh_where_checked plan timing clean (stays, delays, asks, none) =
 
 -- whatever the need asks for
 pub ages_bound : (plan : Plan) (timing : Timing) (stays : UnitPlan → Bool) (delays : List (Option Delay)) → AsksOfBus plan timing stays delays
-    → AreAgesBounds plan timing (asked_of timing plan stays) delays
+    → AreNeedAgesBounds plan timing (asked_of timing plan stays) delays
 ages_bound plan timing stays delays asks n need age at is_age = aged_need plan timing stays delays asks need age age is_age (omega arith)

@@ -29,7 +29,7 @@ use Rattle.j39_load.specs.Ages.{old_needs}
 use Rattle.j39_load.specs.AnyQueues.{Buffering, IsBuffering}
 use Rattle.j39_load.specs.Asked.{Asked, asked_of, frames_asked, total_load}
 use Rattle.j39_load.specs.Broadcasts.{broadcast_by, broadcasts_by}
-use Rattle.j39_load.specs.Delays.{IsTurn, IsTurnBy, IsWaitIn, announcements_place, keeps_up, known_turn, longest_pause, packet_time, packets_place, turn_of}
+use Rattle.j39_load.specs.Delays.{IsTurn, IsTurnBy, IsWaitIn, announcements_place, keeps_up, known_turn, longest_pause, packet_time, packets_place, flow_turn}
 use Rattle.j39_load.specs.Delays.{turn_time, whole_time}
 use Rattle.j39_load.specs.KeepsBroadcasts.{IsMessageToAll, KeepsTurns}
 use Rattle.j39_load.specs.KeepsPlan.{KeepsQueues, KeepsToPlan, origins_of, source_place}
@@ -65,7 +65,7 @@ record HasTurn (timing : Timing) (asked : Asked) (buffering : Buffering) (u : �
   pub sent : ℕ
   pub first : IsWaitIn timing buffering (announcements_place asked u) load.announcements (Some announced)
   pub rest : IsWaitIn timing buffering (packets_place asked u) load.packets (Some sent)
-  pub is : turn_of timing load announced sent ≡ turn
+  pub is : flow_turn timing load announced sent ≡ turn
 
 module _ (timing : Timing) (asked : Asked) (buffering : Buffering) (u : ℕ) (turn : Turn) where
   has_turn : (load : Option UnitLoad) → get_or asked.units u None ≡ load → IsTurnBy timing asked buffering u load (Some turn)
@@ -85,7 +85,7 @@ module _ (timing : Timing) (asked : Asked) (buffering : Buffering) (u : ℕ) (tu
         sent = p;
         first = first;
         rest = rest;
-        is = (cond_some (leb (packet_time timing load p) (longest_pause timing)) (turn_of timing load a p) turn (sym told)).1;
+        is = (cond_some (leb (packet_time timing load p) (longest_pause timing)) (flow_turn timing load a p) turn (sym told)).1;
       }
 
 -- a time that each message keeps: a turn that is over within the period

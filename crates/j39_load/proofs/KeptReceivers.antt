@@ -25,7 +25,7 @@ use Rattle.j39_load.specs.declared.waits.whole_time.WholeTime.{WholeTime}
 use Rattle.j39_load.specs.Ages.{old_needs}
 use Rattle.j39_load.specs.AnyQueues.{IsBuffering, Buffering}
 use Rattle.j39_load.specs.Asked.{Asked, asked_of, frames_asked, total_load}
-use Rattle.j39_load.specs.Delays.{IsTurn, IsTurnBy, IsWaitIn, known_turn, longest_pause, packet_time, packets_place, turn_of, whole_time}
+use Rattle.j39_load.specs.Delays.{IsTurn, IsTurnBy, IsWaitIn, known_turn, longest_pause, packet_time, packets_place, flow_turn, whole_time}
 use Rattle.j39_load.specs.KeepsPlan.{origins_of, source_place}
 use Rattle.j39_load.specs.KeptReceivers.{AreNotGivenUp}
 use Rattle.j39_load.specs.LoadFindings.{AreLoadFindings, AsksOfBus, load_findings}
@@ -63,7 +63,7 @@ module _ (timing : Timing) (asked : Asked) (buffering : Buffering) (u : ℕ) whe
       by_waits None sent rest told = absurd (none-some turn (sym told))
       by_waits (Some a) None rest told = absurd (none-some turn (sym told))
       by_waits (Some a) (Some wait) rest told =
-          let short = (cond_some (leb (packet_time timing load wait) (longest_pause timing)) (turn_of timing load a wait) turn (sym told)).0 in
+          let short = (cond_some (leb (packet_time timing load wait) (longest_pause timing)) (flow_turn timing load a wait) turn (sym told)).0 in
           record { load = load; at = at; wait = wait; is = rest; short = leb-true (packet_time timing load wait) (longest_pause timing) short }
 
   by_time : (broadcast : Broadcast) (whole : WholeTime) (bits : ℕ) (time : Option Turn) → IsTurn timing asked buffering u time

@@ -11,7 +11,6 @@ pub mod DemandLaws
 pub mod Different
 pub mod EachFrames
 pub mod DamagedFirst
-pub mod FewClaims
 mod FoundWaits
 pub mod KeepingAll
 pub mod KeepingAnyErrors

@@ -25,12 +25,12 @@ use Rattle.j39_load.specs.Ages.{old_needs}
 use Rattle.j39_load.specs.Asked.{Asked, asked_of, total_load}
 use Rattle.j39_load.specs.Delays.{AreFlowDelays}
 use Rattle.j39_load.specs.BusTimes.{timing_of, with_claims}
-use Rattle.j39_load.specs.LiveClaims.{claiming, claims_of, unplanned_of}
+use Rattle.j39_load.specs.LiveClaims.{claiming, claims_told, unplanned_of}
 use Rattle.j39_load.specs.LoadFindings.{AreLoadFindings, AsksOfBus, all_findings, load_findings}
 use Rattle.j39_findings.specs.Standing.{DecidesWhoStays}
 use Rattle.j39_load.specs.VehicleLoads.{AreLoadsAlike, StandAlike}
 use Rattle.j39_load.proofs.OneLoad.{AreSeenAlike, asked_alike, told_once}
-use Rattle.j39_load.proofs.FewClaims.{few_unplanned}
+use Rattle.j39_load.specs.inside.FewClaims.{few_unplanned}
 use Rattle.j39_network.specs.PlannedUnits.{units_of}
 use Rattle.j39_network.specs.Staying.{StaysBeside}
 use Rattle.j39_network.proofs.StayingBoxes.{stay_alike}
@@ -77,7 +77,7 @@ module _ (plan vehicle : Plan) (is : IsVehicleOf plan vehicle) (apart : AreDisti
   timing_alike =
       ap (option_map (with_claims vehicle)) is.timing ∙ ap (λ (f : Timing → Timing). option_map f plan.timing) same
     where
-      as_many : claims_of vehicle ≡ claims_of plan
+      as_many : claims_told vehicle ≡ claims_told plan
       as_many =
           let units = as_many_claim plan.units.items vehicle.units.items is.boxes in
           let strangers = is.strangers in
@@ -85,7 +85,7 @@ module _ (plan vehicle : Plan) (is : IsVehicleOf plan vehicle) (apart : AreDisti
 
       unplanned : (timing : Timing) → unplanned_of vehicle timing ≡ unplanned_of plan timing
       unplanned timing =
-          ap (λ (b : Bool). if b then max timing.unplanned (claims_of vehicle) else timing.unplanned) is.live
+          ap (λ (b : Bool). if b then max timing.unplanned (claims_told vehicle) else timing.unplanned) is.live
           ∙ ap (λ (n : ℕ). if plan.live then max timing.unplanned n else timing.unplanned) as_many
 
       same : with_claims vehicle ≡ with_claims plan

@@ -31,7 +31,7 @@ use Rattle.j39_load.specs.Asked.{Asked, announcements_of_unit, asked_of, frames_
 use Rattle.j39_load.specs.Asked.{total_load}
 use Rattle.j39_load.specs.Broadcasts.{broadcasts_by, known_unit_load, unit_loads_of}
 use Rattle.j39_load.specs.Delays.{IsDelayOf, IsTurnBy, IsWaitIn, IsWholeTime, announcements_place, known_turn, longest_pause, packet_time}
-use Rattle.j39_load.specs.Delays.{packets_place, turn_of, turn_time, whole_time}
+use Rattle.j39_load.specs.Delays.{packets_place, flow_turn, turn_time, whole_time}
 use Rattle.j39_load.specs.LoadFindings.{AreLoadFindings, AsksOfBus, is_whole_late, lateness, load_findings, time_of_each, without_period}
 use Rattle.j39_load.specs.Loads.{bits_of_ms}
 use Rattle.j39_load.specs.LineLists.{lines_of_each}
@@ -200,7 +200,7 @@ module _ (plan : Plan) (timing : Timing) (stays : UnitPlan → Bool) where
         by_waits (Some a) None first rest told = absurd (none-some turn (sym told))
         by_waits (Some a) (Some p) first rest told =
             let same : turn_time timing load a p ≡ turn.time =
-            ap (λ (t : Turn). t.time) (cond_some (leb (packet_time timing load p) (longest_pause timing)) (turn_of timing load a p) turn (sym told)).1 in
+            ap (λ (t : Turn). t.time) (cond_some (leb (packet_time timing load p) (longest_pause timing)) (flow_turn timing load a p) turn (sym told)).1 in
             subst (λ (n : ℕ). AreWholeInAnyOrder timing asked u late (late + n)) same (in_any_order u late load its a p first rest)
 
     by_time : (broadcast : Broadcast) (whole : WholeTime) (bits : ℕ) (turn : Option Turn)

@@ -4,7 +4,7 @@ use Rattle.std.specs.Option.{option_map}
 use Rattle.j39_network.specs.declared.plan.Plan.{Plan}
 use Rattle.j39_network.specs.declared.plan.timing.Timing.{Timing}
 use Rattle.j39_load.specs.LiveClaims.{unplanned_of}
-use Rattle.j39_load.proofs.FewClaims.{few_unplanned}
+use Rattle.j39_load.specs.inside.FewClaims.{few_unplanned}
 
 -- its frames that aren't planned are so many more, and still no more than a plan can tell
 abbrev pub with_claims : Plan → Timing → Timing

@@ -134,8 +134,8 @@ abbrev pub turn_time : Timing → UnitLoad → ℕ → ℕ → ℕ
 turn_time timing load announced sent =
     load.flows * (announced + load.announcements.stream.bits) + load.all_packets * packet_time timing load sent
 
-abbrev pub turn_of : Timing → UnitLoad → ℕ → ℕ → Turn
-turn_of timing load announced sent = record {
+abbrev pub flow_turn : Timing → UnitLoad → ℕ → ℕ → Turn
+flow_turn timing load announced sent = record {
   time = turn_time timing load announced sent;
   announcement = announced + load.announcements.stream.bits;
   packet = packet_time timing load sent;
@@ -144,7 +144,7 @@ turn_of timing load announced sent = record {
 -- where both waits are known, and no receiver gives up
 abbrev pub known_turn : Timing → UnitLoad → Option ℕ → Option ℕ → Option Turn
 known_turn timing load (Some announced) (Some sent) =
-    if nat_le (packet_time timing load sent) (longest_pause timing) then Some (turn_of timing load announced sent)
+    if nat_le (packet_time timing load sent) (longest_pause timing) then Some (flow_turn timing load announced sent)
     else None
 known_turn timing load _ _ = None
 

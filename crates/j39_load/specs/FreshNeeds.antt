@@ -61,6 +61,6 @@ AreNeedsFresh plan timing = (stays : UnitPlan → Bool) × (delays : List (Optio
     → IsNeedFresh plan timing (asked_of timing plan stays) delays need (bits_of_ms timing within))
 
 -- and each age that is told of a need is one, whether the need asks for less or not
-abbrev pub AreAgesBounds : Plan → Timing → Asked → List (Option Delay) → Type 0
-AreAgesBounds plan timing asked delays = (n : ℕ) (need : NeedPlan) (age : ℕ) → slice_get plan.needs.items n ≡ Some need
+abbrev pub AreNeedAgesBounds : Plan → Timing → Asked → List (Option Delay) → Type 0
+AreNeedAgesBounds plan timing asked delays = (n : ℕ) (need : NeedPlan) (age : ℕ) → slice_get plan.needs.items n ≡ Some need
     → least_age timing plan.requests.items plan.flows.items delays need ≡ Some age → IsNeedFresh plan timing asked delays need age

@@ -16,7 +16,7 @@ ghost use Rattle.j39_network.specs.declared.plan.timing.Timing.{Timing as Timing
 ghost use Rattle.j39_network.specs.declared.plan.to.To.TheVariants.{All as ToAllUnits, One};
 ghost use Rattle.j39_network.specs.declared.plan.unit_plan.UnitPlan.{UnitPlan as PlannedUnits};
 ghost use Rattle.j39_load.specs.declared.waits.delay.Delay.{Delay as Delays};
-ghost use Rattle.j39_load.specs.FreshNeeds.{AreAgesBounds, AreNeedsFresh};
+ghost use Rattle.j39_load.specs.FreshNeeds.{AreNeedAgesBounds, AreNeedsFresh};
 ghost use Rattle.j39_load.specs.KeepsBroadcasts.{KeepsTurns};
 ghost use Rattle.j39_load.specs.KeepsErrors.{AreInTimeWithErrors, AreInTimeWithErrorsInAnyOrder, KeepsErrors};
 ghost use Rattle.j39_load.specs.KeepsErrors.{origins_with, planned_with};
@@ -67,7 +67,7 @@ pub fn delays_are_bounds()
     ensures beyond { (plan : Plans) (timing : Timings) (stays : PlannedUnits → Bool) (delays : List (Option Delays))
         → AsksOfBus plan timing stays delays → AreLateDelaysBounds timing (asked_of timing plan stays) delays }
     ensures ages { (plan : Plans) (timing : Timings) (stays : PlannedUnits → Bool) (delays : List (Option Delays))
-        → AsksOfBus plan timing stays delays → AreAgesBounds plan timing (asked_of timing plan stays) delays }
+        → AsksOfBus plan timing stays delays → AreNeedAgesBounds plan timing (asked_of timing plan stays) delays }
     ensures whole { (plan : Plans) (timing : Timings) (stays : PlannedUnits → Bool) (delays : List (Option Delays))
         → AsksOfBus plan timing stays delays → AreTimesBounds timing (asked_of timing plan stays) delays }
     ensures short { (plan : Plans) (timing : Timings) (stays : PlannedUnits → Bool) (delays : List (Option Delays))

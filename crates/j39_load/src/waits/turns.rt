@@ -2,7 +2,7 @@
 ghost use Rattle.std.specs.Prelude.{◌≡◌, ◌<◌, ◌^◌, length, IfOk, Some};
 ghost use Rattle.std.specs.Option.{ForSome};
 ghost use Rattle.j39_load.specs.AskedLoads.{asked_in};
-ghost use Rattle.j39_load.specs.Delays.{IsTurn, known_turn, packet_time, turn_of, turn_time};
+ghost use Rattle.j39_load.specs.Delays.{IsTurn, known_turn, packet_time, flow_turn, turn_time};
 ghost use Rattle.j39_load.specs.SoundLoads.{IsSoundUnit};
 ghost use Rattle.j39_load.specs.inside.BufferingDelays.{AreFitBufferingDelays, buffering_of};
 ghost use Rattle.j39_load.specs.inside.TurnTimes.{AreShortTurns, AreTurns, IsShortTurn};
@@ -28,11 +28,11 @@ fn packet_time(timing: Timing, load: &UnitLoad, sent: u32) -> u64
 }
 
 // The longest message of each flow of a unit, one after the other, where announcements and packets wait for so long.
-fn turn_of(timing: Timing, load: &UnitLoad, announced: u32, sent: u32) -> Turn
+fn flow_turn(timing: Timing, load: &UnitLoad, announced: u32, sent: u32) -> Turn
     requires load { IsSoundUnit load.now }
     requires announced { announced < 2 ^ 27 }
     requires sent { sent < 2 ^ 27 }
-    ensures turn { result ≡ turn_of timing load.now announced sent }
+    ensures turn { result ≡ flow_turn timing load.now announced sent }
     ensures short { IsShortTurn (Some result) }
 {
     let announcement = u64::from(announced) + u64::from(load.announcements.stream.bits);
@@ -65,7 +65,7 @@ fn known_turn(
         return None;
     };
     if packet_time(timing, load, sent) <= u64::from(bits_of_ms(timing, 750)) {
-        Some(turn_of(timing, load, announced, sent))
+        Some(flow_turn(timing, load, announced, sent))
     } else {
         None
     }
