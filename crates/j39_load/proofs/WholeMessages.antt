@@ -1,9 +1,9 @@
 -- The times that are told of long messages to all bound when they are whole.
-use Rattle.std.proofs.Common.{◌≡◌, ℕ, zero, suc, ◌+◌, ◌*◌, ◌<◌, ◌≤◌, Bool, true, not, leb, if◌then◌else◌, List, [], ◌∷◌, ◌++◌, length, get_or, map, sum_by}
+use Rattle.std.proofs.Common.{◌≡◌, ℕ, zero, suc, ◌+◌, ◌*◌, ◌<◌, ◌≤◌, Bool, true, false, not, leb, if◌then◌else◌, List, [], ◌∷◌, ◌++◌, length, get_or, map, sum_by}
 use Rattle.std.proofs.Common.{Option, Some, None}
 use Rattle.std.proofs.Common.{refl, sym, ap, ◌∙◌, subst, inl, inr, arith}
 use Rattle.std.proofs.Math.Nat.{mul-le-mul_left}
-use Rattle.std.proofs.lemmas.Bool.{cases_Bool, leb-true}
+use Rattle.std.proofs.lemmas.Bool.{cases_Bool, false≢true, leb-true}
 use Rattle.std.proofs.lemmas.List.{get_or-append-add, get_or_append_left, length-map}
 use Rattle.std.proofs.lemmas.List.FromFn.{get_or-map-range_with_len, length-map-range_with_len}
 use Rattle.std.proofs.lemmas.List.Sorted.{sum_by-IsPermutation}
@@ -261,8 +261,8 @@ module _ (plan : Plan) (timing : Timing) (stays : UnitPlan → Bool) where
     -- where it isn't late it is known, and within its deadline
     not_late : (limit : ℕ) (each : Bool) (bits : Option ℕ) → is_in_limit limit (if each then bits else None) ≡ true
         → (each ≡ true) × ((n : ℕ) × (bits ≡ Some n) × (n ≤ limit))
-    not_late limit false bits is = absurd (cc)
-    not_late limit true None is = absurd (cc)
+    not_late limit false bits is = absurd (false≢true is)
+    not_late limit true None is = absurd (false≢true is)
     not_late limit true (Some n) is = (refl, (n, refl, leb-true n limit is))
 
     in_time : (flow : ℕ) (whole : WholeTime) (limit : ℕ) → whole.limit ≡ Some limit → lateness flow (Some (Whole whole)) ≡ []

@@ -2,6 +2,7 @@
 use Rattle.std.specs.Prelude.{◌≡◌, ℕ, Bool, List, [], Some}
 use Rattle.std.specs.List.{slice_get}
 use Rattle.j39_findings.specs.Found.{found}
+use Rattle.j39_load.specs.BusTimes.{timing_of}
 use Rattle.j39_load.specs.LoadFindings.{AreLoadFindings}
 use Rattle.j39_plan_text.specs.Certified.{IsCertified}
 use Rattle.j39_vehicle.specs.declared.vehicle.Vehicle.{Vehicle}

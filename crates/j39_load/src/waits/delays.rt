@@ -279,7 +279,9 @@ fn turn_at(turns: &[Option<Turn>], unit: usize) -> Option<Turn>
 // announced before the next one is wanted.
 fn keeps_up(broadcast: &Broadcast, turn: Turn) -> bool
     requires broadcast { IsSoundBroadcast broadcast.now }
-    requires short { IsShortTurn (Some turn) }
+    requires announcement { turn.announcement < 2 ^ 28 }
+    requires packet { turn.packet < 2 ^ 28 }
+    requires time { turn.time < 2 ^ 60 }
     ensures { result ≡ keeps_up broadcast.now turn }
 {
     let apart = u64::from(broadcast.apart);
