@@ -115,9 +115,9 @@ first_open ends by zero = (0, (λ i below. absurd (omega (arith, below))), inl r
 first_open ends by (suc n) =
     let (j, over, last) = first_open ends by n in
     elim last [
-      | inr (inside, open) ↦ (j, over, inr (omega (arith, inside), open))
+      | inr (inside, left_open) ↦ (j, over, inr (omega (arith, inside), left_open))
       | inl same ↦ elim (cases_lt by (ends n)) [
-        | inl open ↦ (n, (λ i below. over i (omega (arith, below, same))), inr (omega arith, open))
+        | inl left_open ↦ (n, (λ i below. over i (omega (arith, below, same))), inr (omega arith, left_open))
         | inr ended ↦ (suc n, (λ i below. elim (cases_eq i n) [
           | inl here ↦ subst (λ (k : ℕ). ends k ≤ by) (sym here) ended
           | inr other ↦ over i (omega (arith, below, same, other))
@@ -395,23 +395,23 @@ module _ (plan : Plan) (timing : Timing) (clean : Clean plan) (stays : UnitPlan 
 
           next : (i : ℕ) → j ≤ i → i < m → b.announced u (suc i) ≤ ends i
           next i from up =
-              let open = open_from i from (omega (arith, up)) in
+              let left_open = open_from i from (omega (arith, up)) in
               let is_wanted = wanted m below its in
-              takes.at_once u (suc i) m (ends i) (omega (arith, up)) below (omega (arith, is_wanted, open))
+              takes.at_once u (suc i) m (ends i) (omega (arith, up)) below (omega (arith, is_wanted, left_open))
               (λ l before. in_order l i (omega (arith, before)) (omega (arith, up, below)))
 
           other_flows : (k l : ℕ) → j ≤ k → k < l → l ≤ m → b.flow u k ≢ b.flow u l
           other_flows k l from before up same =
-              let open = open_from k from (omega (arith, before, up)) in
+              let left_open = open_from k from (omega (arith, before, up)) in
               elim (cases_eq l m) [
                 | inl last_one ↦
                     let ended = earlier k (omega (arith, before, last_one)) (same ∙ (ap (b.flow u) last_one ∙ its)) in
-                    absurd (omega (arith, ended, open))
+                    absurd (omega (arith, ended, left_open))
                 | inr middle ↦ elim (takes.once u k l m before (omega (arith, up, middle)) below same) [
-                  | inl ended ↦ let is_wanted = wanted m below its in absurd (omega (arith, ended, is_wanted, open))
+                  | inl ended ↦ let is_wanted = wanted m below its in absurd (omega (arith, ended, is_wanted, left_open))
                   | inr (i, first, its_flow, ended) ↦
                       let over_by = earlier i first (its_flow ∙ its) in
-                      absurd (omega (arith, ended, over_by, open))
+                      absurd (omega (arith, ended, over_by, left_open))
                 ]
               ]
 
@@ -425,8 +425,8 @@ module _ (plan : Plan) (timing : Timing) (clean : Clean plan) (stays : UnitPlan 
 
         one_ends : ends m ≤ b.release u m + (late + turn.time)
         one_ends =
-            let (j, over, open) = first_open ends (b.release u m + late) (suc m) in
-            elim open [
+            let (j, over, left_open) = first_open ends (b.release u m + late) (suc m) in
+            elim left_open [
               | inl all ↦ let ended = over m (omega (arith, all)) in omega (arith, ended)
               | inr (inside, goes_on) ↦ of_open j (omega (arith, inside)) over goes_on
             ]

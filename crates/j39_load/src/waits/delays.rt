@@ -194,6 +194,7 @@ fn short_delay(
 ) -> Result<Delay, AllocError>
     requires buffering_delays { AreFitBufferingDelays buffering_delays.now }
     requires frames { AreSound frames.now }
+    requires paced { frames.now.stream.period < 2 ^ 31 }
     requires limit { limit < 2 ^ 31 }
     ensures { IfOk result (IsShortDelay timing (buffering_of buffering_delays.now).frames flow frames.now limit) }
 {
@@ -250,6 +251,7 @@ fn frame_delay(
 ) -> Result<Delay, AllocError>
     requires buffering_delays { AreFitBufferingDelays buffering_delays.now }
     requires frames { AreSound frames.now }
+    requires paced { frames.now.stream.period < 2 ^ 31 }
     requires limit { limit < 2 ^ 31 }
     ensures { IfOk result (IsFrameDelay timing (buffering_of buffering_delays.now) flow frames.now limit) }
 {
