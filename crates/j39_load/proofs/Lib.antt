@@ -21,7 +21,6 @@ pub mod KeepingErrors
 pub mod KeepingFrames
 pub mod KeepingPlan
 pub mod KeepingTurns
-pub mod KeptDeadlines
 pub mod KeptInTime
 pub mod KeptReceivers
 pub mod LeastKnown
@@ -29,7 +28,6 @@ pub mod LoadAnswers
 pub mod LosslessTransfers
 pub mod Milliseconds
 pub mod BufferingDelays
-pub mod OnceEach
 pub mod OneLoad
 pub mod PartFrames
 pub mod PlacedFrames
