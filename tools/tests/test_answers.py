@@ -37,6 +37,10 @@ SAID = [
     ("flow 6 G A all frames 4 late of 605000 us", "flow", {"flow": 6, "group": "G", "from": "A", "to": "all", "frames": 4, "limit": 605000}),
     ("need 1 B G age 20640 of 21000 us", "need", {"need": 1, "unit": "B", "group": "G", "age": 20640, "limit": 21000}),
     ("need 2 B G S old of 20000 us", "need", {"need": 2, "unit": "B", "group": "G", "signal": "S", "limit": 20000}),
+    ("flow 7 G A all late 12000 of 10000 us", "flow", {"flow": 7, "group": "G", "from": "A", "to": "all", "late": 12000, "limit": 10000}),
+    ("flow 8 G A all frames 4 late 605760 of 605000 us", "flow",
+     {"flow": 8, "group": "G", "from": "A", "to": "all", "frames": 4, "late": 605760, "limit": 605000}),
+    ("need 3 B G S old 21280 of 21000 us", "need", {"need": 3, "unit": "B", "group": "G", "signal": "S", "old": 21280, "limit": 21000}),
     ("load 640 of 250000", "load", {"load": 640, "bitrate": 250000}),
 ]
 

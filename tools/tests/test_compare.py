@@ -177,7 +177,7 @@ class Needed(Compared):
     def test_a_need_that_becomes_too_old(self) -> None:
         """By the age that its unit knows, whatever the new plan asks for."""
         old = text_of(example("findings/f20_need_too_old.toml")).replace("within = 21", "within = 22")
-        for within, age in ((22, "not shown young enough, of 22000 us"), (30, "26280 of 30000 us")):
+        for within, age in ((22, "26280 of 22000 us, too old"), (30, "26280 of 30000 us")):
             new = old.replace("within = 22", f"within = {within}").replace("pause = 20", "pause = 25")
             status, found = self.compare(old, new)
             told = [re.sub(r"^\S+:\d+: | \(.*\)$", "", line) for line in found if ": breaks: " in line or ": age " in line]

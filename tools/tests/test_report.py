@@ -269,11 +269,11 @@ length = 20
         self.assertNotIn("age", [cell for row in rows for cell in row])
         self.assertIn(["ENGINE", "EEC1 for CLUSTER"], rows)
         self.assertEqual([row for row in rows if row[0] in "123" and len(row) == 8], [
-            ["1", "CLUSTER", "EEC1", "–", "any unit", "ENGINE", "21 ms", "not shown to be so young"],
+            ["1", "CLUSTER", "EEC1", "–", "any unit", "ENGINE", "21 ms", "21.28 ms, too old"],
             ["2", "CLUSTER", "EEC1", "–", "ENGINE", "ENGINE", "22 ms", "21.28 ms"],
             ["3", "ENGINE", "EEC1", "–", "any unit", "nobody", "–", "–"]])
         rows = self.page(self.write("plan.toml", text + more.partition("[[need]]\nunit = \"ENGINE\"")[0])).rows
-        self.assertEqual([row[7] for row in rows if row[0] in "12" and len(row) == 8], ["not shown to be so young", "21.28 ms"])
+        self.assertEqual([row[7] for row in rows if row[0] in "12" and len(row) == 8], ["21.28 ms, too old", "21.28 ms"])
         self.assertNotIn('id="needs"', run("report.py", PLAN)[1])
 
     def test_units_of_any_serial_number(self) -> None:
@@ -300,10 +300,13 @@ length = 20
             ("flow 3 G A all frames 7", Delay(3, None, None, 7)), ("flow 4 G A all frames 7 whole within 605760 us", Delay(4, 605760, None, 7)),
             ("flow 5 G A all frames 7 whole within 605760 of 700000 us", Delay(5, 605760, 700000, 7)),
             ("flow 6 G A all frames 7 late of 600000 us", Delay(6, None, 600000, 7)),
+            ("flow 7 G A all late 2560 of 2000 us", Delay(7, None, 2000, 1, 2560)),
+            ("flow 8 G A all frames 7 late 605760 of 605000 us", Delay(8, None, 605000, 7, 605760)),
         ):
             self.assertEqual(answers.delay_of(line_of(line)), delay)
         self.assertEqual(answers.age_of(line_of("need 1 B G age 21280 of 22000 us")), Age(1, 21280, 22000))
         self.assertEqual(answers.age_of(line_of("need 2 B G S old of 21000 us")), Age(2, None, 21000))
+        self.assertEqual(answers.age_of(line_of("need 3 B G old 21280 of 21000 us")), Age(3, None, 21000, 21280))
 
     def test_load(self) -> None:
         """The delays and the load are those that `load` prints; a plan that says nothing of the bus has no such section."""
@@ -313,7 +316,8 @@ length = 20
             for number, word, first, last in re.findall(r"^flow (\d+) .* (within|late)(?: (\d+))? of (\d+) us$", answer, re.MULTILINE):
                 shown = rows.pop(int(number))[6:8]
                 self.assertEqual(shown[1], f"{int(last) / 1000:g} ms")
-                self.assertEqual(shown[0], f"{int(first) / 1000:g} ms" if word == "within" else "not shown to be in time")
+                time = f"{int(first) / 1000:g} ms" if first else "not shown to be in time"
+                self.assertEqual(shown[0], f"{time}, late" if first and word == "late" else time)
             self.assertEqual(rows, {})
         self.assertIn("32160 of 250000 bits a second at most, 12.9 % of the bitrate.</p>", run("report.py", example("axle.toml"))[1])
         full = "256000 of 250000 bits a second at most, 102.4 % of the bitrate. <strong>That is more than the bus carries.</strong>"

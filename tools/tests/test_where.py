@@ -143,21 +143,6 @@ class Lint(InFolder):
         for other in (LINTED, plan.replace("version = 4", "version = 4\nlive = true"), beside, plan.partition("[[flow]]")[0]):
             self.assertNotIn("hint live", "".join(self.lines(other)[1]))
 
-    def test_frames_of_units_that_claim_on_a_live_bus(self) -> None:
-        """Where unplanned is less than the units that claim, strangers and a request."""
-        units = UNIT.format("A", 0, 1) + UNIT.format("B", 1, 2)
-
-        def hinted(unplanned: int, live: str = "live = true\n", behind: str = "") -> list[str]:
-            head = f"version = 4\n{live}timing = {{ bitrate = 250000, unplanned = {unplanned} }}\n"
-            return self.lines(head + units + behind)[1]
-
-        self.assertIn("3: hint unplanned = 2: on a live bus units claim at any time: 3 frames, of 2 units and a request for claims", hinted(2))
-        for lines, told in ((hinted(3), False), (hinted(2, behind="claims = false\n"), False), (hinted(1, behind="claims = false\n"), True),
-                            (hinted(2, live=""), False)):
-            self.assertEqual("hint unplanned" in "".join(lines), told, lines)
-        said = "4: hint unplanned = 7: on a live bus units claim at any time: 8 frames, of 2 units, 5 strangers and a request for claims"
-        self.assertIn(said, hinted(7, "live = true\nstrangers = 5\n"))
-
     def test_units_that_prefer_one_address(self) -> None:
         """Of two that may choose one moves; beside a fixed one the other does, in whichever order they stand."""
         def hinted(*units: tuple[str, int, bool]) -> list[str]:

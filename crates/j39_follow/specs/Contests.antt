@@ -49,10 +49,19 @@ pub record Runs (kept : Option Contest) (time : Option ℕ) (c : Contest) : Type
   pub begun : c.since ≤ now
   pub lasts : now < c.since + claim_wait
 
--- a NAME that claims the address defends it: it claimed it last, or a contest runs there that it, or another NAME of its unit, defends
-abbrev pub Defends : Plan → List Frame → Option Contest → Option ℕ → ℕ → ℕ → Type 0
-Defends plan frames kept time address name =
-    ClaimedLast frames name address ⊎ ((c : Contest) × Runs kept time c × IsSameParty c.defender (likely_named plan name))
+-- where both times are known the second is no more than 250 ms behind the first: a unit answers a claim of its address as soon as it has heard it
+abbrev pub IsSoon : Option ℕ → Option ℕ → Type 0
+IsSoon since time = (first now : ℕ) → since ≡ Some first → time ≡ Some now → now ≤ first + claim_wait
+
+-- the NAME claimed the address last, and whoever holds it now came to hold it so short a time ago
+abbrev pub ClaimsAgain : List Frame → Contention → Option ℕ → ℕ → ℕ → Type 0
+ClaimsAgain frames old time address name =
+    ClaimedLast frames name address × ((holder : ℕ) → HoldsByFrames frames holder address → IsSoon old.since time)
+
+-- a NAME that claims the address defends it: it does so again, or a contest runs there that it, or another NAME of its unit, defends
+abbrev pub Defends : Plan → List Frame → Contention → Option ℕ → ℕ → ℕ → Type 0
+Defends plan frames old time address name =
+    ClaimsAgain frames old time address name ⊎ ((c : Contest) × Runs old.contest time c × IsSameParty c.defender (likely_named plan name))
 
 -- no NAME holds the address, and this is that of the unit that would claim it first
 abbrev pub IsGuessed : Plan → List Frame → ℕ → ℕ → Type 0
@@ -61,9 +70,9 @@ IsGuessed plan frames address name =
 
 -- a NAME that claims the address is opposed by one that holds it, which is smaller, or against which it doesn't defend the address; or by a
 -- smaller one that is guessed
-abbrev pub Opposes : Plan → List Frame → Option Contest → Option ℕ → ℕ → ℕ → ℕ → Type 0
-Opposes plan frames kept time address claimant opponent =
-    (HoldsByFrames frames opponent address × ((opponent < claimant) ⊎ (¬ Defends plan frames kept time address claimant)))
+abbrev pub Opposes : Plan → List Frame → Contention → Option ℕ → ℕ → ℕ → ℕ → Type 0
+Opposes plan frames old time address claimant opponent =
+    (HoldsByFrames frames opponent address × ((opponent < claimant) ⊎ (¬ Defends plan frames old time address claimant)))
     ⊎ (IsGuessed plan frames address opponent × (opponent < claimant))
 
 -- ---- a line
@@ -77,7 +86,7 @@ pub record Begins (plan : Plan) (before : List Timed) (old : Contention) (x : Ti
   pub claims : Claims x.frame claimant address
   pub since : x.time ≡ Some c.since
   pub free : (other : Contest) → ¬ Runs old.contest x.time other
-  pub opposes : Opposes plan (frames_of before) old.contest x.time address claimant opponent
+  pub opposes : Opposes plan (frames_of before) old x.time address claimant opponent
   pub another : ¬ IsSameParty (likely_named plan opponent) (likely_named plan claimant)
   pub defender : c.defender ≡ likely_named plan opponent
   pub taken : c.taken ≡ (if nat_lt claimant opponent then old.taken else None)
@@ -104,12 +113,18 @@ Takes frames f address = Claims f (name_in f) address × (¬ HoldsByFrames frame
 -- when the address was taken by a claim, behind a line: a claim by which a NAME comes to hold it has the line's time, but none where it defends it
 abbrev pub IsTakenBehind : Plan → List Timed → Contention → Timed → ℕ → Option ℕ → Type 0
 IsTakenBehind plan before old x address taken =
-    (Takes (frames_of before) x.frame address × Defends plan (frames_of before) old.contest x.time address (name_in x.frame) × (taken ≡ None))
-    ⊎ (Takes (frames_of before) x.frame address × (¬ Defends plan (frames_of before) old.contest x.time address (name_in x.frame))
+    (Takes (frames_of before) x.frame address × Defends plan (frames_of before) old x.time address (name_in x.frame) × (taken ≡ None))
+    ⊎ (Takes (frames_of before) x.frame address × (¬ Defends plan (frames_of before) old x.time address (name_in x.frame))
     × (taken ≡ x.time))
     ⊎ ((¬ Takes (frames_of before) x.frame address) × (taken ≡ old.taken))
 
+-- since when it is held, behind a line: a claim by which a NAME comes to hold it has the line's time
+abbrev pub IsHeldSince : List Timed → Contention → Timed → ℕ → Option ℕ → Type 0
+IsHeldSince before old x address since =
+    (Takes (frames_of before) x.frame address × (since ≡ x.time)) ⊎ ((¬ Takes (frames_of before) x.frame address) × (since ≡ old.since))
+
 pub record IsContentionBehind (plan : Plan) (before : List Timed) (old : Contention) (x : Timed) (address : ℕ) (new : Contention) : Type 0 where
+  pub since : IsHeldSince before old x address new.since
   pub taken : IsTakenBehind plan before old x address new.taken
   pub contest : IsContestBehind plan before old x address new.contest
 
@@ -122,9 +137,9 @@ Leads plan address before old (x ∷ rest) new =
     (next : Contention) × IsContentionBehind plan before old x address next × Leads plan address (before ++ x ∷ []) next rest new
 
 abbrev pub nothing_contended : Contention
-nothing_contended = record { taken = None; contest = None }
+nothing_contended = record { since = None; taken = None; contest = None }
 
--- when the address was taken last, and the contest that is kept there
+-- since when the address is held, when it was taken last, and the contest that is kept there
 abbrev pub IsContention : Plan → List Timed → ℕ → Contention → Type 0
 IsContention plan log address new = Leads plan address [] nothing_contended log new
 

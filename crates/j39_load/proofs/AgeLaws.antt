@@ -21,10 +21,10 @@ use Rattle.j39_network.specs.declared.plan.request_plan.RequestPlan.{RequestPlan
 use Rattle.j39_network.specs.declared.plan.timing.Timing.{Timing}
 use Rattle.j39_network.specs.declared.plan.unit_plan.UnitPlan.{UnitPlan}
 use Rattle.j39_load.specs.declared.waits.delay.Delay.{Delay}
-use Rattle.j39_load.specs.declared.waits.delay.Delay.TheVariants.{Within, Late, Long, Whole}
+use Rattle.j39_load.specs.declared.waits.delay.Delay.TheVariants.{Within, Beyond, Late, Long, Whole}
 use Rattle.j39_load.specs.declared.findings.load_finding.LoadFinding.TheVariants.{NeedTooOld}
-use Rattle.j39_load.specs.Ages.{ages_for, ages_of, is_in_limit, is_too_old, least, old_needs, oldness, smaller_known}
-use Rattle.j39_load.specs.FreshNeeds.{AreNeedsFresh, IsNeedFresh}
+use Rattle.j39_load.specs.Ages.{ages_for, ages_of, is_in_limit, is_too_old, least, least_age, old_needs, oldness, smaller_known}
+use Rattle.j39_load.specs.FreshNeeds.{AreNeedAgesBounds, AreNeedsFresh, IsNeedFresh}
 use Rattle.j39_load.specs.LoadFindings.{AreLoadFindings, AsksOfBus, load_findings}
 use Rattle.j39_load.specs.Asked.{asked_of, total_load}
 use Rattle.j39_load.specs.Loads.{bits_of_ms, load_of_flow, loads_of}
@@ -78,6 +78,7 @@ module _ (timing : Timing) (age : ℕ) where
   sum_of : (met : Bool) (flow : FlowPlan) (delay : Option Delay) → least (if met then ages_of timing flow delay else []) ≡ Some age → IsSumOf met flow delay
   sum_of false flow delay is = absurd (none-some age is)
   sum_of true flow None is = absurd (none-some age is)
+  sum_of true flow (Some (Beyond bits)) is = absurd (none-some age is)
   sum_of true flow (Some Late) is = absurd (none-some age is)
   sum_of true flow (Some (Long frames)) is = absurd (none-some age is)
   sum_of true flow (Some (Whole whole)) is = absurd (none-some age is)
@@ -122,6 +123,45 @@ young_where true young met none = absurd (true≢false met)
 young_where false true met none = refl
 young_where false false met none = absurd (true≢false none)
 
+-- what has an age brings it on every bus, where this is no more than so many bits
+module _ (plan : Plan) (timing : Timing) (stays : UnitPlan → Bool) (delays : List (Option Delay)) (asks : AsksOfBus plan timing stays delays)
+    (need : NeedPlan) (age most : ℕ) (is_age : least_age timing plan.requests.items plan.flows.items delays need ≡ Some age) (young : age ≤ most) where
+  pub aged_need : IsNeedFresh plan timing (asked_of timing plan stays) delays need most
+  aged_need =
+      let (place, flow, its, single) = of_flow timing age plan.requests.items delays need 0 plan.flows.items is_age in
+      let sum = sum_of timing age (meets plan.requests.items need flow) flow (slice_index_or delays (0 + place) None) single in
+      let below : place < length delays =
+      let inside = slice_get_within plan.flows.items place flow its in
+      let count = asks.waits.count in
+      let sized : length (loads_of timing plan stays) ≡ length plan.flows.items = length-map plan.flows.items (load_of_flow timing plan stays) in
+      omega (arith, count, inside, sized) in
+      let here : slice_get delays place ≡ Some (slice_index_or delays place None) = slice_get-get_or delays place None below in
+      let zero_place : 0 + place ≡ place = omega arith in
+      let delayed : slice_get delays place ≡ Some (Some (Within sum.bits)) =
+      here ∙ ap Some (ap (λ (k : ℕ). slice_index_or delays k None) (sym zero_place) ∙ sum.delayed) in
+      let bound = bounded plan timing stays delays asks place sum.bits delayed in
+      record {
+        place = place;
+        flow = flow;
+        its = its;
+        meets = (Decides-meets plan.requests.items need flow).0 sum.meets;
+        unasked = sum.unasked;
+        pause = sum.pause;
+        paused = sum.paused;
+        bits = sum.bits;
+        delayed = delayed;
+        young = omega (arith, young, sum.sum);
+        bounded = bound;
+        in_any_order = λ s controllers planned of legal known from to coming seen.
+            subst (λ (b : ℕ). IsFresh s planned of place (bits_of_ms timing sum.pause + b) (from + b) (to + b)) (sym bound.sum)
+            (fresh s planned of place bound.frames.stream bound.wait (bits_of_ms timing sum.pause) from to
+            (bound.in_any_order s controllers planned of legal known) coming seen);
+        fresh = λ ordered s planned of legal known from to coming seen.
+            subst (λ (b : ℕ). IsFresh s planned of place (bits_of_ms timing sum.pause + b) (from + b) (to + b)) (sym bound.sum)
+            (fresh s planned of place bound.frames.stream bound.wait (bits_of_ms timing sum.pause) from to
+            (bound.bounds ordered s planned of legal known) coming seen);
+      }
+
 module _ (plan : Plan) (timing : Timing) (clean : Clean plan) (stays : UnitPlan → Bool) (delays : List (Option Delay)) (asks : AsksOfBus plan timing stays delays)
     (none : load_findings timing (total_load timing (asked_of timing plan stays)) delays ++ old_needs timing plan.requests.items plan.flows.items delays plan.needs.items ≡ []) where
   parts : (load_findings timing (total_load timing (asked_of timing plan stays)) delays ≡ [])
@@ -147,43 +187,16 @@ module _ (plan : Plan) (timing : Timing) (clean : Clean plan) (stays : UnitPlan 
             let here : get_or plan.needs.items k d ≡ d = get_or_from_slice_get plan.needs.items k d d is in
             subst (λ (x : NeedPlan). SomeMeets (Meets plan.requests.items x) plan.flows.items) here ((parts_of plan clean).needs k d below)
 
-    fresh_need : IsNeedFresh plan timing (asked_of timing plan stays) delays need within
+    fresh_need : IsNeedFresh plan timing (asked_of timing plan stays) delays need (bits_of_ms timing within)
     fresh_need =
         let (age, is_age, young) = young_age _ _ (young_where _ _ met not_too_old) in
-        let (place, flow, its, single) = of_flow timing age plan.requests.items delays need 0 plan.flows.items is_age in
-        let sum = sum_of timing age (meets plan.requests.items need flow) flow (slice_index_or delays (0 + place) None) single in
-        let below : place < length delays =
-        let inside = slice_get_within plan.flows.items place flow its in
-        let count = asks.waits.count in
-        let sized : length (loads_of timing plan stays) ≡ length plan.flows.items = length-map plan.flows.items (load_of_flow timing plan stays) in
-        omega (arith, count, inside, sized) in
-        let here : slice_get delays place ≡ Some (slice_index_or delays place None) = slice_get-get_or delays place None below in
-        let zero_place : 0 + place ≡ place = omega arith in
-        let delayed : slice_get delays place ≡ Some (Some (Within sum.bits)) =
-        here ∙ ap Some (ap (λ (k : ℕ). slice_index_or delays k None) (sym zero_place) ∙ sum.delayed) in
-        let bound = bounded plan timing stays delays asks place sum.bits delayed in
-        record {
-          place = place;
-          flow = flow;
-          its = its;
-          meets = (Decides-meets plan.requests.items need flow).0 sum.meets;
-          unasked = sum.unasked;
-          pause = sum.pause;
-          paused = sum.paused;
-          bits = sum.bits;
-          delayed = delayed;
-          young = omega (arith, young, sum.sum);
-          bounded = bound;
-          in_any_order = λ s controllers planned of legal known from to coming seen.
-              subst (λ (b : ℕ). IsFresh s planned of place (bits_of_ms timing sum.pause + b) (from + b) (to + b)) (sym bound.sum)
-              (fresh s planned of place bound.frames.stream bound.wait (bits_of_ms timing sum.pause) from to
-              (bound.in_any_order s controllers planned of legal known) coming seen);
-          fresh = λ ordered s planned of legal known from to coming seen.
-              subst (λ (b : ℕ). IsFresh s planned of place (bits_of_ms timing sum.pause + b) (from + b) (to + b)) (sym bound.sum)
-              (fresh s planned of place bound.frames.stream bound.wait (bits_of_ms timing sum.pause) from to
-              (bound.bounds ordered s planned of legal known) coming seen);
-        }
+        aged_need plan timing stays delays asks need age (bits_of_ms timing within) is_age young
 
 pub fresh_where_checked : (plan : Plan) (timing : Timing) → Clean plan → AreLoadFindings plan (Some timing) [] → AreNeedsFresh plan timing
 fresh_where_checked plan timing clean (stays, delays, asks, none) =
     (stays, delays, asks, fresh_need plan timing clean stays delays asks (sym none))
+
+-- whatever the need asks for
+pub ages_bound : (plan : Plan) (timing : Timing) (stays : UnitPlan → Bool) (delays : List (Option Delay)) → AsksOfBus plan timing stays delays
+    → AreNeedAgesBounds plan timing (asked_of timing plan stays) delays
+ages_bound plan timing stays delays asks n need age at is_age = aged_need plan timing stays delays asks need age age is_age (omega arith)

@@ -1,7 +1,7 @@
 -- The delays of a plan's flows bound the waits of their frames, since a wait that has room for the streams before has room for the traffic.
-use Rattle.std.proofs.Common.{◌≡◌, ℕ, ◌≤◌, Bool, true, false, leb, if◌then◌else◌, List, [], ◌++◌, length, get_or, unwrap_or, All, IfSome, Option, Some, None}
-use Rattle.std.proofs.Common.{refl, sym, ap, ◌∙◌, subst, inl, arith}
-use Rattle.std.proofs.lemmas.Bool.{leb-true, true≢false}
+use Rattle.std.proofs.Common.{◌≡◌, ℕ, ◌<◌, ◌≤◌, Bool, true, false, leb, if◌then◌else◌, List, [], ◌++◌, length, get_or, unwrap_or, All, IfSome, Option, Some, None}
+use Rattle.std.proofs.Common.{refl, sym, ap, ◌∙◌, subst, inl, inr, arith}
+use Rattle.std.proofs.lemmas.Bool.{cases_lt, leb-false, leb-true, true≢false}
 use Rattle.std.proofs.lemmas.Option.{same_Some, none-some, slice_get_within, slice_get-get_or, get_or_from_slice_get}
 use Rattle.std.specs.Bool.{MatchBool}
 use Rattle.std.specs.List.{slice_get}
@@ -9,7 +9,7 @@ use Rattle.j39_network.specs.declared.plan.Plan.{Plan}
 use Rattle.j39_network.specs.declared.plan.timing.Timing.{Timing}
 use Rattle.j39_network.specs.declared.plan.unit_plan.UnitPlan.{UnitPlan}
 use Rattle.j39_load.specs.declared.waits.delay.Delay.{Delay}
-use Rattle.j39_load.specs.declared.waits.delay.Delay.TheVariants.{Within, Late, Long, Whole}
+use Rattle.j39_load.specs.declared.waits.delay.Delay.TheVariants.{Within, Beyond, Late, Long, Whole}
 use Rattle.j39_load.specs.declared.frames.flow_frames.FlowFrames.{FlowFrames}
 use Rattle.j39_load.specs.declared.loads.flow_load.FlowLoad.{FlowLoad}
 use Rattle.j39_load.specs.declared.frames.messages.Messages.{Messages}
@@ -18,12 +18,12 @@ use Rattle.j39_load.specs.declared.waits.whole_time.WholeTime.{WholeTime}
 use Rattle.j39_load.specs.AnyQueues.{IsBuffering, Buffering, keep_order, may_be_passed}
 use Rattle.j39_load.specs.Asked.{Asked, asked_of, frames_asked, total_load}
 use Rattle.j39_load.specs.Damage.{damage_frames}
-use Rattle.j39_load.specs.Delays.{HasDelay, IsDelay, IsDelayOf, IsFrameDelay, IsShortDelay, IsWaitIn, IsWaitOf, any_delay}
+use Rattle.j39_load.specs.Delays.{HasDelay, IsDelay, IsDelayOf, IsDelayWithin, IsFrameDelay, IsShortDelay, IsWaitIn, IsWaitOf, any_delay, judged}
 use Rattle.j39_load.specs.LoadFindings.{AsksOfBus, lateness, load_findings, overload, without_period}
 use Rattle.j39_load.specs.Loads.{loads_of}
 use Rattle.j39_load.specs.LineLists.{lines_of_each}
-use Rattle.j39_load.specs.PlannedFrames.{AreAllOrdered, AreDelaysBounds, AreFramesInAnyOrder, AreFramesOfPlan, AreShortFlowsBounded, ComeInAnyOrder, IsBounded}
-use Rattle.j39_load.specs.PlannedFrames.{IsInTimeInAnyOrder, IsInTimeOnEveryBus, no_frames, planned_at}
+use Rattle.j39_load.specs.PlannedFrames.{AreAllOrdered, AreDelaysBounds, AreFramesInAnyOrder, AreFramesOfPlan, AreLateDelaysBounds, AreShortFlowsBounded}
+use Rattle.j39_load.specs.PlannedFrames.{ComeInAnyOrder, IsBounded, IsBoundedBeyond, IsInTimeInAnyOrder, IsInTimeOnEveryBus, no_frames, planned_at}
 use Rattle.j39_load.proofs.AnyTraffic.{any_in_time, any_sent, ordered_bound, ordered_sent, wait_of_queue_group}
 use Rattle.j39_load.proofs.PositivePeriods.{ArePaced, HasPeriod, of_loads, all_paced}
 use Rattle.j39_load.proofs.Sending.{IsSent, all_sent}
@@ -65,8 +65,54 @@ in_order timing all ordered i frames wait bounds s planned of legal known =
 
 -- ---- bounds
 
-within_late : (bits : ℕ) → Within bits ≡ Late → ⊥
+pub within_late : (bits : ℕ) → Within bits ≡ Late → ⊥
 within_late bits is = cc
+
+within_beyond : (bits more : ℕ) → Within bits ≡ Beyond more → ⊥
+within_beyond bits more is = cc
+
+beyond_late : (bits : ℕ) → Beyond bits ≡ Late → ⊥
+beyond_late bits is = cc
+
+-- where a time is judged to be within its limit it is
+pub judged_within : (frames : FlowFrames) (limit time bits : ℕ) → Within bits ≡ judged frames limit time → (bits ≡ time) × (bits ≤ limit)
+judged_within frames limit time bits told = go (leb time limit) refl told
+  where
+    same_bits : (a b : ℕ) → Within a ≡ Within b → a ≡ b
+    same_bits a b e = cc
+
+    later : (fits : Bool) → Within bits ≡ (if fits then Beyond time else Late) → ⊥
+    later true told = within_beyond bits time told
+    later false told = within_late bits told
+
+    go : (fits : Bool) → leb time limit ≡ fits → Within bits ≡ (if fits then Within time else (if leb time frames.stream.period then Beyond time else Late))
+        → (bits ≡ time) × (bits ≤ limit)
+    go false fits told = absurd (later (leb time frames.stream.period) told)
+    go true fits told =
+        let same = same_bits bits time told in
+        let inside = leb-true time limit fits in
+        (same, omega (arith, same, inside))
+
+-- and where it is judged to be beyond it, it is within the period
+judged_beyond : (frames : FlowFrames) (limit time bits : ℕ) → Beyond bits ≡ judged frames limit time
+    → (bits ≡ time) × (limit < bits) × (bits ≤ frames.stream.period)
+judged_beyond frames limit time bits told = go (leb time limit) refl told
+  where
+    same_bits : (a b : ℕ) → Beyond a ≡ Beyond b → a ≡ b
+    same_bits a b e = cc
+
+    later : (fits : Bool) → leb time frames.stream.period ≡ fits → limit < time → Beyond bits ≡ (if fits then Beyond time else Late)
+        → (bits ≡ time) × (limit < bits) × (bits ≤ frames.stream.period)
+    later false fits above told = absurd (beyond_late bits told)
+    later true fits above told =
+        let same = same_bits bits time told in
+        let inside = leb-true time frames.stream.period fits in
+        (same, omega (arith, same, above), omega (arith, same, inside))
+
+    go : (fits : Bool) → leb time limit ≡ fits → Beyond bits ≡ (if fits then Within time else (if leb time frames.stream.period then Beyond time else Late))
+        → (bits ≡ time) × (limit < bits) × (bits ≤ frames.stream.period)
+    go true fits told = absurd (within_beyond time bits (sym told))
+    go false fits told = later (leb time frames.stream.period) refl (leb-false time limit fits) told
 
 module _ (timing : Timing) (asked : List (Option FlowFrames)) (paced : All HasPeriod (asked ++ damage_frames timing))
     (sent : All (λ (f : Option FlowFrames). IfSome f IsSent) asked) (buffering : Buffering) (is : IsBuffering timing asked buffering) (flow : ℕ) (frames : FlowFrames)
@@ -74,12 +120,15 @@ module _ (timing : Timing) (asked : List (Option FlowFrames)) (paced : All HasPe
   abbrev Bound : Type 0
   Bound = (wait : ℕ) × (bits ≡ delay_of frames.stream wait) × (bits ≤ limit) × IsInTimeInAnyOrder timing asked flow frames wait
 
-  -- of a unit that keeps order
-  ordered_frames : keep_order frames ≡ true → (passed : Bool) → may_be_passed buffering frames.greatest_ident ≡ passed
-      → MatchBool passed (Within bits ≡ Late) (IsShortDelay timing buffering.frames flow frames limit (Within bits))
-      → IsSingle frames.stream → limit ≤ frames.stream.period → Bound
-  ordered_frames ordered true passed told single limited = absurd (within_late bits told)
-  ordered_frames ordered false passed (wait, inside, least, sum) single limited =
+  abbrev BoundBeyond : Type 0
+  BoundBeyond = (wait : ℕ) × (bits ≡ delay_of frames.stream wait) × (limit < bits) × (bits ≤ frames.stream.period)
+      × IsInTimeInAnyOrder timing asked flow frames wait
+
+  -- of a unit that keeps order, of a delay within some bits that are no more than the period
+  by_delay : keep_order frames ≡ true → may_be_passed buffering frames.greatest_ident ≡ false → (most : ℕ)
+      → IsDelayWithin timing buffering.frames flow frames most bits → IsSingle frames.stream → most ≤ frames.stream.period
+      → (wait : ℕ) × (bits ≡ delay_of frames.stream wait) × (bits ≤ most) × IsInTimeInAnyOrder timing asked flow frames wait
+  by_delay ordered passed most (wait, inside, least, sum) single limited =
       let within = inside.within in (
         wait,
         sum,
@@ -89,34 +138,44 @@ module _ (timing : Timing) (asked : List (Option FlowFrames)) (paced : All HasPe
             (omega (arith, within, limited)),
       )
 
-  -- of one that keeps none
-  told_within : (wait : Option ℕ) → Within bits ≡ any_delay frames limit wait
-      → (w : ℕ) × (wait ≡ Some w) × (bits ≡ delay_of frames.stream w) × (bits ≤ limit)
-  told_within None told = absurd (within_late bits told)
-  told_within (Some w) told = go (leb (delay_of frames.stream w) limit) refl told
-    where
-      go : (fits : Bool) → leb (delay_of frames.stream w) limit ≡ fits
-          → Within bits ≡ (if fits then Within (delay_of frames.stream w) else Late)
-          → (v : ℕ) × (Some w ≡ Some v) × (bits ≡ delay_of frames.stream v) × (bits ≤ limit)
-      go false fits told = absurd (within_late bits told)
-      go true fits told =
-          let same : bits ≡ delay_of frames.stream w = same_bits bits (delay_of frames.stream w) told in
-          let inside = leb-true (delay_of frames.stream w) limit fits in
-          (w, refl, same, omega (arith, same, inside))
-        where
-          same_bits : (a b : ℕ) → Within a ≡ Within b → a ≡ b
-          same_bits a b e = cc
+  ordered_frames : keep_order frames ≡ true → (passed : Bool) → may_be_passed buffering frames.greatest_ident ≡ passed
+      → MatchBool passed (Within bits ≡ Late) (IsShortDelay timing buffering.frames flow frames limit (Within bits))
+      → IsSingle frames.stream → limit ≤ frames.stream.period → Bound
+  ordered_frames ordered true passed told single limited = absurd (within_late bits told)
+  ordered_frames ordered false passed told single limited = by_delay ordered passed limit told single limited
 
-  unordered_frames : keep_order frames ≡ false → Within bits ≡ any_delay frames limit (get_or buffering.waits flow None) → Bound
-  unordered_frames kept told =
-      let (w, known_wait, sum, inside) = told_within (get_or buffering.waits flow None) told in
-      let by_queue_group = wait_of_queue_group timing asked paced sent buffering.waits is.bounded flow frames at kept w known_wait in (
-        w,
-        sum,
-        inside,
-        λ s controllers planned of legal known.
-            any_in_time timing asked paced sent s controllers planned of legal flow known flow frames at kept (inl refl) w by_queue_group,
-      )
+  ordered_beyond : keep_order frames ≡ true → (passed : Bool) → may_be_passed buffering frames.greatest_ident ≡ passed
+      → MatchBool passed (Beyond bits ≡ Late) (IsShortDelay timing buffering.frames flow frames limit (Beyond bits))
+      → IsSingle frames.stream → BoundBeyond
+  ordered_beyond ordered true passed told single = absurd (beyond_late bits told)
+  ordered_beyond ordered false passed told single =
+      let (wait, sum, inside, bounds) = by_delay ordered passed frames.stream.period told.1 single (omega arith) in
+      let above : limit < bits = elim (cases_lt limit bits) [
+        | inl above ↦ above
+        | inr below ↦
+            let least = told.1.3 in
+            absurd (told.0 told.1.0 (record { demand_fits = told.1.1.demand_fits; within = omega (arith, below, least) }))
+      ] in
+      (wait, sum, above, inside, bounds)
+
+  -- of one that keeps none
+  by_wait : keep_order frames ≡ false → (w : ℕ) → get_or buffering.waits flow None ≡ Some w → IsInTimeInAnyOrder timing asked flow frames w
+  by_wait kept w known_wait s controllers planned of legal known =
+      any_in_time timing asked paced sent s controllers planned of legal flow known flow frames at kept (inl refl) w
+      (wait_of_queue_group timing asked paced sent buffering.waits is.bounded flow frames at kept w known_wait)
+
+  unordered_frames : keep_order frames ≡ false → (wait : Option ℕ) → get_or buffering.waits flow None ≡ wait → Within bits ≡ any_delay frames limit wait → Bound
+  unordered_frames kept None known_wait told = absurd (within_late bits told)
+  unordered_frames kept (Some w) known_wait told =
+      let (sum, inside) = judged_within frames limit (delay_of frames.stream w) bits told in
+      (w, sum, inside, by_wait kept w known_wait)
+
+  unordered_beyond : keep_order frames ≡ false → (wait : Option ℕ) → get_or buffering.waits flow None ≡ wait → Beyond bits ≡ any_delay frames limit wait
+      → BoundBeyond
+  unordered_beyond kept None known_wait told = absurd (beyond_late bits told)
+  unordered_beyond kept (Some w) known_wait told =
+      let (sum, above, inside) = judged_beyond frames limit (delay_of frames.stream w) bits told in
+      (w, sum, above, inside, by_wait kept w known_wait)
 
   pub frames_bounded : IsFrameDelay timing buffering flow frames limit (Within bits) → IsSingle frames.stream → limit ≤ frames.stream.period → Bound
   frames_bounded delayed single limited = go (keep_order frames) refl delayed
@@ -126,10 +185,23 @@ module _ (timing : Timing) (asked : List (Option FlowFrames)) (paced : All HasPe
           (MatchBool (may_be_passed buffering frames.greatest_ident) (Within bits ≡ Late) (IsShortDelay timing buffering.frames flow frames limit (Within bits)))
           (Within bits ≡ any_delay frames limit (get_or buffering.waits flow None)) → Bound
       go true keeps told = ordered_frames keeps (may_be_passed buffering frames.greatest_ident) refl told single limited
-      go false keeps told = unordered_frames keeps told
+      go false keeps told = unordered_frames keeps (get_or buffering.waits flow None) refl told
+
+  pub frames_beyond : IsFrameDelay timing buffering flow frames limit (Beyond bits) → IsSingle frames.stream → BoundBeyond
+  frames_beyond delayed single = go (keep_order frames) refl delayed
+    where
+      go : (keeps : Bool) → keep_order frames ≡ keeps
+          → MatchBool keeps
+          (MatchBool (may_be_passed buffering frames.greatest_ident) (Beyond bits ≡ Late) (IsShortDelay timing buffering.frames flow frames limit (Beyond bits)))
+          (Beyond bits ≡ any_delay frames limit (get_or buffering.waits flow None)) → BoundBeyond
+      go true keeps told = ordered_beyond keeps (may_be_passed buffering frames.greatest_ident) refl told single
+      go false keeps told = unordered_beyond keeps (get_or buffering.waits flow None) refl told
 
 whole_within : (whole : WholeTime) (bits : ℕ) → Whole whole ≡ Within bits → ⊥
 whole_within whole bits is = cc
+
+whole_beyond : (whole : WholeTime) (bits : ℕ) → Whole whole ≡ Beyond bits → ⊥
+whole_beyond whole bits is = cc
 
 whole_late : (whole : WholeTime) → Whole whole ≡ Late → ⊥
 whole_late whole is = cc
@@ -137,21 +209,25 @@ whole_late whole is = cc
 long_within : (count bits : ℕ) → Long count ≡ Within bits → ⊥
 long_within count bits is = cc
 
+long_beyond : (count bits : ℕ) → Long count ≡ Beyond bits → ⊥
+long_beyond count bits is = cc
+
 long_late : (count : ℕ) → Long count ≡ Late → ⊥
 long_late count is = cc
 
 -- the delay of frames of single messages is a bound, or none is told
 never_told : (timing : Timing) (buffering : Buffering) (flow : ℕ) (frames : FlowFrames) (limit : ℕ) (delay : Delay) → ((bits : ℕ) → delay ≡ Within bits → ⊥)
-    → (delay ≡ Late → ⊥) → (IsShortDelay timing buffering.frames flow frames limit delay → ⊥) → IsFrameDelay timing buffering flow frames limit delay → ⊥
-never_told timing buffering flow frames limit delay bound none short told = go (keep_order frames) (may_be_passed buffering frames.greatest_ident) told
+    → ((bits : ℕ) → delay ≡ Beyond bits → ⊥) → (delay ≡ Late → ⊥) → (IsShortDelay timing buffering.frames flow frames limit delay → ⊥) → IsFrameDelay timing buffering flow frames limit delay → ⊥
+never_told timing buffering flow frames limit delay bound beyond none short told = go (keep_order frames) (may_be_passed buffering frames.greatest_ident) told
   where
     late : (wait : Option ℕ) → delay ≡ any_delay frames limit wait → ⊥
     late None is = none is
-    late (Some w) is = by (leb (delay_of frames.stream w) limit) is
+    late (Some w) is = by (leb (delay_of frames.stream w) limit) (leb (delay_of frames.stream w) frames.stream.period) is
       where
-        by : (fits : Bool) → delay ≡ (if fits then Within (delay_of frames.stream w) else Late) → ⊥
-        by true is = bound (delay_of frames.stream w) is
-        by false is = none is
+        by : (fits later : Bool) → delay ≡ (if fits then Within (delay_of frames.stream w) else (if later then Beyond (delay_of frames.stream w) else Late)) → ⊥
+        by true later is = bound (delay_of frames.stream w) is
+        by false true is = beyond (delay_of frames.stream w) is
+        by false false is = none is
 
     go : (keeps passed : Bool) → MatchBool keeps (MatchBool passed (delay ≡ Late) (IsShortDelay timing buffering.frames flow frames limit delay))
         (delay ≡ any_delay frames limit (get_or buffering.waits flow None)) → ⊥
@@ -162,12 +238,12 @@ never_told timing buffering flow frames limit delay bound none short told = go (
 pub never_whole : (timing : Timing) (buffering : Buffering) (flow : ℕ) (frames : FlowFrames) (limit : ℕ) (whole : WholeTime)
     → IsFrameDelay timing buffering flow frames limit (Whole whole) → ⊥
 never_whole timing buffering flow frames limit whole =
-    never_told timing buffering flow frames limit (Whole whole) (whole_within whole) (whole_late whole) (λ short. short)
+    never_told timing buffering flow frames limit (Whole whole) (whole_within whole) (whole_beyond whole) (whole_late whole) (λ short. short)
 
 pub never_long : (timing : Timing) (buffering : Buffering) (flow : ℕ) (frames : FlowFrames) (limit count : ℕ)
     → IsFrameDelay timing buffering flow frames limit (Long count) → ⊥
 never_long timing buffering flow frames limit count =
-    never_told timing buffering flow frames limit (Long count) (long_within count) (long_late count) (λ short. short)
+    never_told timing buffering flow frames limit (Long count) (long_within count) (long_beyond count) (long_late count) (λ short. short)
 
 -- frames of a unit's broadcasts, for which a wait is told
 module _ (timing : Timing) (asked : List (Option FlowFrames)) (paced : All HasPeriod (asked ++ damage_frames timing))
@@ -249,6 +325,34 @@ module _ (plan : Plan) (timing : Timing) (stays : UnitPlan → Bool) (delays : L
   of_messages buffering buffering_delays flow load (ToOne frames) bits its is told = absurd told
   of_messages buffering buffering_delays flow load (ToAll broadcast) bits its is told = absurd told
 
+  beyond_short : (buffering : Buffering) → IsBuffering timing (frames_asked asked) buffering → (flow : ℕ) (load : FlowLoad) (messages : Messages) (bits : ℕ)
+      → slice_get asked.flows flow ≡ Some (Some load)
+      → load.messages ≡ messages → IsDelayOf timing asked buffering flow messages load.limit (Beyond bits) → IsBoundedBeyond timing asked flow bits
+  beyond_short buffering buffering_delays flow load (Short frames) bits its short delayed =
+      let known : ArePaced load.limit (Short frames) = subst (ArePaced load.limit) short (of_loads timing plan stays flow load its).messages in
+      let at = own_read asked.flows asked.units asked.requests flow load frames its short in
+      let bound = frames_beyond timing (frames_asked asked) (all_paced timing plan stays) (all_sent timing plan stays) buffering buffering_delays flow frames at
+      load.limit bits delayed known.1 in
+      record {
+        load = load;
+        its = its;
+        frames = frames;
+        short = short;
+        wait = bound.0;
+        sum = bound.1;
+        beyond = bound.2;
+        inside = bound.3;
+        in_any_order = bound.4;
+        bounds = λ ordered. in_order timing (frames_asked asked) ordered flow frames bound.0 bound.4;
+      }
+  beyond_short buffering buffering_delays flow load (ToOne frames) bits its is told = absurd told
+  beyond_short buffering buffering_delays flow load (ToAll broadcast) bits its is told = absurd told
+
+  pub bounded_beyond : AreLateDelaysBounds timing asked delays
+  bounded_beyond flow bits at =
+      let (buffering, buffering_delays, (load, its, is)) = delay_at flow (Some (Beyond bits)) at in
+      beyond_short buffering buffering_delays flow load load.messages bits its refl is
+
   pub bounded : AreDelaysBounds timing asked delays
   bounded flow bits at =
       let (buffering, buffering_delays, (load, its, is)) = delay_at flow (Some (Within bits)) at in
@@ -274,6 +378,8 @@ short_bounded plan timing stays delays asks none flow load frames its short =
     go paced on_time None at = absurd (let told = told_nothing without_period 0 delays paced flow None at in
         let some : 1 ≡ 0 = ap length told in omega arith)
     go paced on_time (Some (Within bits)) at = (bits, at, bounded plan timing stays delays asks flow bits at)
+    go paced on_time (Some (Beyond bits)) at = absurd (let told = told_nothing lateness 0 delays on_time flow (Some (Beyond bits)) at in
+        let some : 1 ≡ 0 = ap length told in omega arith)
     go paced on_time (Some Late) at = absurd (let told = told_nothing lateness 0 delays on_time flow (Some Late) at in
         let some : 1 ≡ 0 = ap length told in omega arith)
     go paced on_time (Some (Long count)) at = absurd (let told = told_of plan timing stays delays asks flow load (Short frames) (Long count) its short at in

@@ -20,11 +20,12 @@ use Rattle.j39_load.specs.declared.loads.flow_load.FlowLoad.{FlowLoad}
 use Rattle.j39_load.specs.declared.frames.messages.Messages.{Messages}
 use Rattle.j39_load.specs.declared.frames.messages.Messages.TheVariants.{Short, ToAll, ToOne}
 use Rattle.j39_load.specs.declared.loads.unit_load.UnitLoad.{UnitLoad}
+use Rattle.j39_load.specs.declared.waits.turn.Turn.{Turn}
 use Rattle.j39_load.specs.declared.waits.whole_time.WholeTime.{WholeTime}
 use Rattle.j39_load.specs.Ages.{old_needs}
 use Rattle.j39_load.specs.AnyQueues.{IsBuffering, Buffering}
 use Rattle.j39_load.specs.Asked.{Asked, asked_of, frames_asked, total_load}
-use Rattle.j39_load.specs.Delays.{IsTurnTime, IsTurnTimeBy, IsWaitIn, known_turn_time, longest_pause, packet_time, packets_place, turn_time, whole_time}
+use Rattle.j39_load.specs.Delays.{IsTurn, IsTurnBy, IsWaitIn, known_turn, longest_pause, packet_time, packets_place, flow_turn, whole_time}
 use Rattle.j39_load.specs.KeepsPlan.{origins_of, source_place}
 use Rattle.j39_load.specs.KeptReceivers.{AreNotGivenUp}
 use Rattle.j39_load.specs.LoadFindings.{AreLoadFindings, AsksOfBus, load_findings}
@@ -52,20 +53,20 @@ record HasPause (timing : Timing) (asked : Asked) (buffering : Buffering) (u : �
   pub short : packet_time timing load wait ≤ longest_pause timing
 
 module _ (timing : Timing) (asked : Asked) (buffering : Buffering) (u : ℕ) where
-  by_load : (turn : ℕ) (load : Option UnitLoad) → get_or asked.units u None ≡ load → IsTurnTimeBy timing asked buffering u load (Some turn)
+  by_load : (turn : Turn) (load : Option UnitLoad) → get_or asked.units u None ≡ load → IsTurnBy timing asked buffering u load (Some turn)
       → HasPause timing asked buffering u
   by_load turn None at is = absurd (none-some turn (sym is))
   by_load turn (Some load) at (announced, sent, first, rest, told) = by_waits announced sent rest told
     where
       by_waits : (announced sent : Option ℕ) → IsWaitIn timing buffering (packets_place asked u) load.packets sent
-          → Some turn ≡ known_turn_time timing load announced sent → HasPause timing asked buffering u
+          → Some turn ≡ known_turn timing load announced sent → HasPause timing asked buffering u
       by_waits None sent rest told = absurd (none-some turn (sym told))
       by_waits (Some a) None rest told = absurd (none-some turn (sym told))
       by_waits (Some a) (Some wait) rest told =
-          let short = (cond_some (leb (packet_time timing load wait) (longest_pause timing)) (turn_time timing load a wait) turn (sym told)).0 in
+          let short = (cond_some (leb (packet_time timing load wait) (longest_pause timing)) (flow_turn timing load a wait) turn (sym told)).0 in
           record { load = load; at = at; wait = wait; is = rest; short = leb-true (packet_time timing load wait) (longest_pause timing) short }
 
-  by_time : (broadcast : Broadcast) (whole : WholeTime) (bits : ℕ) (time : Option ℕ) → IsTurnTime timing asked buffering u time
+  by_time : (broadcast : Broadcast) (whole : WholeTime) (bits : ℕ) (time : Option Turn) → IsTurn timing asked buffering u time
       → whole ≡ whole_time broadcast time → whole.bits ≡ Some bits → HasPause timing asked buffering u
   by_time broadcast whole bits None is same told = absurd (none-some bits (sym (ap (λ (w : WholeTime). w.bits) same) ∙ told))
   by_time broadcast whole bits (Some turn) is same told = by_load turn (get_or asked.units u None) refl is
@@ -94,7 +95,7 @@ module _ (plan : Plan) (timing : Timing) (clean : Clean plan) (stays : UnitPlan 
       else long_messages timing plan.units.items stays flow pace group flow.to) (lt-leb group.most 8 long)
       ∙ ap (long_messages timing plan.units.items stays flow pace group) goes in
       let deadline : (broadcast_of timing flow pace group).deadline ≡ Some (bits_of_ms timing limit) = ap (option_map (bits_of_ms timing)) written in
-      let (whole, bits, told, within, is) = deadlines_kept plan timing stays delays asks none f (bits_of_ms timing limit) its_load
+      let (whole, bits, told, each, within, is) = deadlines_kept plan timing stays delays asks none f (bits_of_ms timing limit) its_load
       (broadcast_of timing flow pace group) at messages deadline in
       let same : is.load ≡ its_load = same_Some _ _ (same_Some _ _ (sym is.its ∙ at)) in
       let sender : is.broadcast.sender ≡ flow.sender = ap sender_of (sym is.long ∙ (ap (λ (l : FlowLoad). l.messages) same ∙ messages)) in

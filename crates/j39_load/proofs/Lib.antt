@@ -11,7 +11,7 @@ pub mod DemandLaws
 pub mod Different
 pub mod EachFrames
 pub mod DamagedFirst
-pub mod FoundWaits
+mod FoundWaits
 pub mod KeepingAll
 pub mod KeepingAnyErrors
 pub mod KeepingAnyOrder

@@ -25,7 +25,8 @@ use Rattle.j39_network.specs.declared.plan.unit_plan.UnitPlan.{UnitPlan}
 use Rattle.j39_network.proofs.VehicleUnits.{AreBoth}
 use Rattle.j39_load.specs.declared.frames.broadcast.Broadcast.{Broadcast}
 use Rattle.j39_load.specs.declared.waits.delay.Delay.{Delay}
-use Rattle.j39_load.specs.declared.waits.delay.Delay.TheVariants.{Within, Late, Long, Whole}
+use Rattle.j39_load.specs.declared.waits.delay.Delay.TheVariants.{Within, Beyond, Late, Long, Whole}
+use Rattle.j39_load.specs.declared.waits.turn.Turn.{Turn}
 use Rattle.j39_load.specs.declared.frames.flow_frames.FlowFrames.{FlowFrames}
 use Rattle.j39_load.specs.declared.loads.flow_load.FlowLoad.{FlowLoad}
 use Rattle.j39_load.specs.declared.frames.messages.Messages.{Messages}
@@ -37,8 +38,8 @@ use Rattle.j39_load.specs.AnyQueues.{IsQueueGroupLevel, IsQueueGroupWait, IsBuff
 use Rattle.j39_load.specs.AnyQueues.{keep_order, leasts_of, may_be_passed, buffered, streams_with, least_unbounded, with_unplanned}
 use Rattle.j39_load.specs.Asked.{Asked, asked_by, asked_of, frames_asked}
 use Rattle.j39_load.specs.Broadcasts.{broadcast_frames, broadcasts_by, known_unit_load, least_packets, unit_loads_of}
-use Rattle.j39_load.specs.Delays.{HasDelayBy, IsDelay, IsDelayOf, IsFrameDelay, IsLeastWait, IsShortDelay, IsTurnTimeBy, IsWaitIn, IsWaitOf, IsWholeTime}
-use Rattle.j39_load.specs.Delays.{AreFlowDelays, announcements_place, any_delay, known_turn_time, need_of, packets_place, whole_time}
+use Rattle.j39_load.specs.Delays.{HasDelayBy, IsDelay, IsDelayOf, IsDelayWithin, IsFrameDelay, IsLeastWait, IsShortDelay, IsTurnBy, IsWaitIn, IsWaitOf, IsWholeTime}
+use Rattle.j39_load.specs.Delays.{AreFlowDelays, announcements_place, any_delay, known_turn, need_of, packets_place, whole_time}
 use Rattle.j39_load.specs.Demands.{announcements_demand, demands_of, packets_demand}
 use Rattle.j39_load.specs.LoadFindings.{AsksOfBus}
 use Rattle.j39_load.specs.Loads.{any_unit, destination_at, flow_load, frames_to_one, greatest_address, group_ident, is_any, least_address, load_of_flow}
@@ -284,17 +285,28 @@ module _ (timing : Timing) (all : List (Option FlowFrames)) (flow : ℕ) where
     | inr above ↦ above
   ]
 
-  one_short_delay : (frames : FlowFrames) (limit : ℕ) (delay other : Delay) → IsShortDelay timing all flow frames limit delay
-      → IsShortDelay timing all flow frames limit other → delay ≡ other
-  one_short_delay frames limit (Within bits) (Within more) is another =
+  one_within : (frames : FlowFrames) (most bits more : ℕ) → IsDelayWithin timing all flow frames most bits → IsDelayWithin timing all flow frames most more
+      → bits ≡ more
+  one_within frames most bits more is another =
       let above = not_less frames is.0 another.0 is.1.demand_fits another.2 in
       let below = not_less frames another.0 is.0 another.1.demand_fits is.2 in
       let waits : is.0 ≡ another.0 = omega (arith, above, below) in
-      ap Within (is.3 ∙ ap (delay_of frames.stream) waits ∙ sym another.3)
-  one_short_delay frames limit (Within bits) Late is another = absurd (another is.0 is.1)
+      is.3 ∙ ap (delay_of frames.stream) waits ∙ sym another.3
+
+  one_short_delay : (frames : FlowFrames) (limit : ℕ) (delay other : Delay) → IsShortDelay timing all flow frames limit delay
+      → IsShortDelay timing all flow frames limit other → delay ≡ other
+  one_short_delay frames limit (Within bits) (Within more) is another = ap Within (one_within frames limit bits more is another)
+  one_short_delay frames limit (Within bits) (Beyond more) is another = absurd (another.0 is.0 is.1)
+  one_short_delay frames limit (Within bits) Late is another = absurd (another.0 is.0 is.1)
   one_short_delay frames limit (Within bits) (Long count) is another = absurd another
   one_short_delay frames limit (Within bits) (Whole whole) is another = absurd another
-  one_short_delay frames limit Late (Within bits) is another = absurd (is another.0 another.1)
+  one_short_delay frames limit (Beyond bits) (Within more) is another = absurd (is.0 another.0 another.1)
+  one_short_delay frames limit (Beyond bits) (Beyond more) is another = ap Beyond (one_within frames frames.stream.period bits more is.1 another.1)
+  one_short_delay frames limit (Beyond bits) Late is another = absurd (another.1 is.1.0 is.1.1)
+  one_short_delay frames limit (Beyond bits) (Long count) is another = absurd another
+  one_short_delay frames limit (Beyond bits) (Whole whole) is another = absurd another
+  one_short_delay frames limit Late (Within bits) is another = absurd (is.0 another.0 another.1)
+  one_short_delay frames limit Late (Beyond bits) is another = absurd (is.1 another.1.0 another.1.1)
   one_short_delay frames limit Late Late is another = refl
   one_short_delay frames limit Late (Long count) is another = absurd another
   one_short_delay frames limit Late (Whole whole) is another = absurd another
@@ -403,19 +415,19 @@ module _ (timing : Timing) (asked : Asked) (buffering : Buffering) where
       go true false is another = one_short_delay timing buffering.frames flow frames limit delay other is another
       go false passed is another = is ∙ sym another
 
-  one_turn_time : (u : ℕ) (load : Option UnitLoad) (time other : Option ℕ) → IsTurnTimeBy timing asked buffering u load time
-      → IsTurnTimeBy timing asked buffering u load other → time ≡ other
-  one_turn_time u None time other is another = is ∙ sym another
-  one_turn_time u (Some load) time other is another =
+  one_turn : (u : ℕ) (load : Option UnitLoad) (turn other : Option Turn) → IsTurnBy timing asked buffering u load turn
+      → IsTurnBy timing asked buffering u load other → turn ≡ other
+  one_turn u None turn other is another = is ∙ sym another
+  one_turn u (Some load) turn other is another =
       let announced = one_wait_in (announcements_place asked u) load.announcements is.0 another.0 is.2 another.2 in
       let sent = one_wait_in (packets_place asked u) load.packets is.1 another.1 is.3 another.3 in
-      is.4 ∙ ap (λ (a : Option ℕ). known_turn_time timing load a is.1) announced
-      ∙ ap (λ (p : Option ℕ). known_turn_time timing load another.0 p) sent ∙ sym another.4
+      is.4 ∙ ap (λ (a : Option ℕ). known_turn timing load a is.1) announced
+      ∙ ap (λ (p : Option ℕ). known_turn timing load another.0 p) sent ∙ sym another.4
 
   one_whole_time : (broadcast : Broadcast) (whole other : WholeTime) → IsWholeTime timing asked buffering broadcast whole
       → IsWholeTime timing asked buffering broadcast other → whole ≡ other
   one_whole_time broadcast whole other is another =
-      is.2 ∙ ap (whole_time broadcast) (one_turn_time broadcast.sender (slice_index_or asked.units broadcast.sender None) is.0 another.0 is.1 another.1)
+      is.2 ∙ ap (whole_time broadcast) (one_turn broadcast.sender (slice_index_or asked.units broadcast.sender None) is.0 another.0 is.1 another.1)
       ∙ sym another.2
 
   one_delay : (flow : ℕ) (messages : Messages) (limit : ℕ) (delay other : Delay) → IsDelayOf timing asked buffering flow messages limit delay
@@ -424,16 +436,20 @@ module _ (timing : Timing) (asked : Asked) (buffering : Buffering) where
       one_frame_delay flow frames limit delay other is another
   one_delay flow (ToOne frames) limit (Long count) (Long more) is another = ap Long (is ∙ sym another)
   one_delay flow (ToOne frames) limit (Long count) (Within bits) is another = absurd another
+  one_delay flow (ToOne frames) limit (Long count) (Beyond bits) is another = absurd another
   one_delay flow (ToOne frames) limit (Long count) Late is another = absurd another
   one_delay flow (ToOne frames) limit (Long count) (Whole whole) is another = absurd another
   one_delay flow (ToOne frames) limit (Within bits) other is another = absurd is
+  one_delay flow (ToOne frames) limit (Beyond bits) other is another = absurd is
   one_delay flow (ToOne frames) limit Late other is another = absurd is
   one_delay flow (ToOne frames) limit (Whole whole) other is another = absurd is
   one_delay flow (ToAll broadcast) limit (Whole whole) (Whole more) is another = ap Whole (one_whole_time broadcast whole more is another)
   one_delay flow (ToAll broadcast) limit (Whole whole) (Within bits) is another = absurd another
+  one_delay flow (ToAll broadcast) limit (Whole whole) (Beyond bits) is another = absurd another
   one_delay flow (ToAll broadcast) limit (Whole whole) Late is another = absurd another
   one_delay flow (ToAll broadcast) limit (Whole whole) (Long count) is another = absurd another
   one_delay flow (ToAll broadcast) limit (Within bits) other is another = absurd is
+  one_delay flow (ToAll broadcast) limit (Beyond bits) other is another = absurd is
   one_delay flow (ToAll broadcast) limit Late other is another = absurd is
   one_delay flow (ToAll broadcast) limit (Long count) other is another = absurd is
 

@@ -172,7 +172,7 @@ both plan clean g group at s planned of flow bytes written age from to fresh t l
     )
 
 module _ (plan : Plan) (timing : Timing) (clean : Clean plan) (stays : UnitPlan → Bool) (delays : List (Option Delay)) (need : NeedPlan) (within : ℕ)
-    (fresh : IsNeedFresh plan timing (asked_of timing plan stays) delays need within) where
+    (fresh : IsNeedFresh plan timing (asked_of timing plan stays) delays need (bits_of_ms timing within)) where
   group_below : fresh.flow.group < length plan.groups.items
   group_below =
       let here : get_or plan.flows.items fresh.place fresh.flow ≡ fresh.flow =

@@ -1,10 +1,14 @@
 -- The plan of each vehicle asks the same of its bus as the plan, where no two units may be one.
 use Rattle.std.proofs.Common.{◌≡◌, ◌≢◌, ℕ, zero, suc, ◌<◌, Bool, true, false, List, [], ◌∷◌, Option, Some, None, if◌then◌else◌, ◌==◌, ◌++◌}
-use Rattle.std.proofs.Common.{refl, sym, ◌∙◌, ap, subst, inl, inr, arith}
+use Rattle.std.proofs.Common.{refl, sym, ◌+◌, ◌≤◌, ◌∙◌, ap, cond, max, subst, inl, inr, arith}
+use denote.Struct.Props.{props}
+use mathlib.Core.HLevel.{is_prop→PathP}
 use Rattle.std.specs.Bool.{MatchBool}
-use Rattle.std.specs.List.{slice_get}
+use Rattle.std.specs.List.{AllZip, slice_get}
+use Rattle.std.specs.Option.{option_map}
 use Rattle.std.proofs.lemmas.Bool.{cases_Bool, eqb-true, eq-eqb}
 use Rattle.std.proofs.lemmas.Option.{none-some, same_Some}
+use Rattle.std.proofs.lemmas.List.Sums.{sum_by-cons}
 use Rattle.std.proofs.lemmas.Slice.Zip.{AllZip-long}
 use Rattle.j39_network.specs.Kinds.{AreDistinctUnits}
 use Rattle.j39_network.specs.VehiclePlans.{IsBoxOf, IsVehicleOf}
@@ -20,10 +24,13 @@ use Rattle.j39_load.specs.declared.findings.load_finding.LoadFinding.{LoadFindin
 use Rattle.j39_load.specs.Ages.{old_needs}
 use Rattle.j39_load.specs.Asked.{Asked, asked_of, total_load}
 use Rattle.j39_load.specs.Delays.{AreFlowDelays}
+use Rattle.j39_load.specs.BusTimes.{timing_of, with_claims}
+use Rattle.j39_load.specs.LiveClaims.{claiming, claims_told, unplanned_of}
 use Rattle.j39_load.specs.LoadFindings.{AreLoadFindings, AsksOfBus, all_findings, load_findings}
 use Rattle.j39_findings.specs.Standing.{DecidesWhoStays}
 use Rattle.j39_load.specs.VehicleLoads.{AreLoadsAlike, StandAlike}
 use Rattle.j39_load.proofs.OneLoad.{AreSeenAlike, asked_alike, told_once}
+use Rattle.j39_load.specs.inside.FewClaims.{few_unplanned}
 use Rattle.j39_network.specs.PlannedUnits.{units_of}
 use Rattle.j39_network.specs.Staying.{StaysBeside}
 use Rattle.j39_network.proofs.StayingBoxes.{stay_alike}
@@ -53,7 +60,40 @@ told_at stays (x ∷ units) (y ∷ boxes) own (suc k) unit box at_unit at_box = 
       ∙ told_at stays units boxes (λ i j b c below first second. own (suc i) (suc j) b c (omega (arith, below)) first second) k unit box at_unit at_box
 ]
 
+-- as many boxes claim as units
+as_many_claim : (units boxes : List UnitPlan) → AllZip IsBoxOf units boxes → claiming boxes ≡ claiming units
+as_many_claim [] [] are = refl
+as_many_claim [] (box ∷ boxes) are = absurd are
+as_many_claim (unit ∷ units) [] are = absurd are
+as_many_claim (unit ∷ units) (box ∷ boxes) are =
+    sum_by-cons (λ (x : UnitPlan). cond x.claims 1 0) box boxes
+    ∙ (ap (λ (b : Bool). cond b 1 0 + claiming boxes) are.0.claims ∙ ap (λ (n : ℕ). cond unit.claims 1 0 + n) (as_many_claim units boxes are.1))
+    ∙ sym (sum_by-cons (λ (x : UnitPlan). cond x.claims 1 0) unit units)
+
 module _ (plan vehicle : Plan) (is : IsVehicleOf plan vehicle) (apart : AreDistinctUnits plan) where
+  -- of its bus the same is known
+  pub timing_alike : timing_of vehicle ≡ timing_of plan
+  unfolding timing_of
+  timing_alike =
+      ap (option_map (with_claims vehicle)) is.timing ∙ ap (λ (f : Timing → Timing). option_map f plan.timing) same
+    where
+      as_many : claims_told vehicle ≡ claims_told plan
+      as_many =
+          let units = as_many_claim plan.units.items vehicle.units.items is.boxes in
+          let strangers = is.strangers in
+          omega (arith, units, strangers)
+
+      unplanned : (timing : Timing) → unplanned_of vehicle timing ≡ unplanned_of plan timing
+      unplanned timing =
+          ap (λ (b : Bool). if b then max timing.unplanned (claims_told vehicle) else timing.unplanned) is.live
+          ∙ ap (λ (n : ℕ). if plan.live then max timing.unplanned n else timing.unplanned) as_many
+
+      same : with_claims vehicle ≡ with_claims plan
+      same = λ i timing. record timing {
+        unplanned = unplanned timing i;
+        unplanned_range = is_prop→PathP (λ k. unplanned timing k ≤ 1000) (λ k. hlevel props) (few_unplanned vehicle timing) (few_unplanned plan timing) i;
+      }
+
   abbrev units : List UnitPlan
   units = plan.units.items
 
@@ -142,6 +182,7 @@ module _ (plan vehicle : Plan) (is : IsVehicleOf plan vehicle) (apart : AreDisti
   loads_alike = record {
     standing = stand_alike;
     asked = λ timing stays told tells tell. same_asked stays told tells tell timing;
-    findings = λ findings are. subst (λ (timing : Option Timing). AreLoadFindings vehicle timing findings) (sym is.timing)
-        (findings_alike plan.timing findings are);
+    timing = timing_alike;
+    findings = λ findings are. subst (λ (timing : Option Timing). AreLoadFindings vehicle timing findings) (sym timing_alike)
+        (findings_alike (timing_of plan) findings are);
   }

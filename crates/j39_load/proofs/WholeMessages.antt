@@ -1,9 +1,9 @@
 -- The times that are told of long messages to all bound when they are whole.
-use Rattle.std.proofs.Common.{◌≡◌, ℕ, zero, suc, ◌+◌, ◌*◌, ◌<◌, ◌≤◌, Bool, true, not, leb, if◌then◌else◌, List, [], ◌∷◌, ◌++◌, length, get_or, map, sum_by}
+use Rattle.std.proofs.Common.{◌≡◌, ℕ, zero, suc, ◌+◌, ◌*◌, ◌<◌, ◌≤◌, Bool, true, false, not, leb, if◌then◌else◌, List, [], ◌∷◌, ◌++◌, length, get_or, map, sum_by}
 use Rattle.std.proofs.Common.{Option, Some, None}
 use Rattle.std.proofs.Common.{refl, sym, ap, ◌∙◌, subst, inl, inr, arith}
 use Rattle.std.proofs.Math.Nat.{mul-le-mul_left}
-use Rattle.std.proofs.lemmas.Bool.{cases_Bool, leb-true}
+use Rattle.std.proofs.lemmas.Bool.{cases_Bool, false≢true, leb-true}
 use Rattle.std.proofs.lemmas.List.{get_or-append-add, get_or_append_left, length-map}
 use Rattle.std.proofs.lemmas.List.FromFn.{get_or-map-range_with_len, length-map-range_with_len}
 use Rattle.std.proofs.lemmas.List.Sorted.{sum_by-IsPermutation}
@@ -15,7 +15,7 @@ use Rattle.j39_network.specs.declared.plan.timing.Timing.{Timing}
 use Rattle.j39_network.specs.declared.plan.unit_plan.UnitPlan.{UnitPlan}
 use Rattle.j39_load.specs.declared.frames.broadcast.Broadcast.{Broadcast}
 use Rattle.j39_load.specs.declared.waits.delay.Delay.{Delay}
-use Rattle.j39_load.specs.declared.waits.delay.Delay.TheVariants.{Within, Late, Long, Whole}
+use Rattle.j39_load.specs.declared.waits.delay.Delay.TheVariants.{Within, Beyond, Late, Long, Whole}
 use Rattle.j39_load.specs.declared.frames.flow_frames.FlowFrames.{FlowFrames}
 use Rattle.j39_load.specs.declared.loads.flow_load.FlowLoad.{FlowLoad}
 use Rattle.j39_load.specs.declared.findings.load_finding.LoadFinding.TheVariants.{LateFlow}
@@ -23,15 +23,16 @@ use Rattle.j39_load.specs.declared.frames.messages.Messages.{Messages}
 use Rattle.j39_load.specs.declared.frames.messages.Messages.TheVariants.{Short, ToAll, ToOne}
 use Rattle.j39_load.specs.declared.loads.request_load.RequestLoad.{RequestLoad}
 use Rattle.j39_load.specs.declared.loads.unit_load.UnitLoad.{UnitLoad}
+use Rattle.j39_load.specs.declared.waits.turn.Turn.{Turn}
 use Rattle.j39_load.specs.declared.waits.whole_time.WholeTime.{WholeTime}
 use Rattle.j39_load.specs.Ages.{is_in_limit, old_needs}
 use Rattle.j39_load.specs.AnyQueues.{IsBuffering, Buffering}
 use Rattle.j39_load.specs.Asked.{Asked, announcements_of_unit, asked_of, frames_asked, frames_of_flow, frames_of_request, packets_of_unit, singles_of_flow}
 use Rattle.j39_load.specs.Asked.{total_load}
 use Rattle.j39_load.specs.Broadcasts.{broadcasts_by, known_unit_load, unit_loads_of}
-use Rattle.j39_load.specs.Delays.{IsDelayOf, IsTurnTimeBy, IsWaitIn, IsWholeTime, announcements_place, known_turn_time, longest_pause, packet_time}
-use Rattle.j39_load.specs.Delays.{packets_place, turn_time, whole_time}
-use Rattle.j39_load.specs.LoadFindings.{AreLoadFindings, AsksOfBus, is_whole_late, lateness, load_findings, without_period}
+use Rattle.j39_load.specs.Delays.{IsDelayOf, IsTurnBy, IsWaitIn, IsWholeTime, announcements_place, known_turn, longest_pause, packet_time}
+use Rattle.j39_load.specs.Delays.{packets_place, flow_turn, turn_time, whole_time}
+use Rattle.j39_load.specs.LoadFindings.{AreLoadFindings, AsksOfBus, is_whole_late, lateness, load_findings, time_of_each, without_period}
 use Rattle.j39_load.specs.Loads.{bits_of_ms}
 use Rattle.j39_load.specs.LineLists.{lines_of_each}
 use Rattle.j39_load.specs.PlannedFrames.{AreAllOrdered, AreDeadlinesKept, AreMessagesOf, ArePlannedFramesInTime, AreTimesBounds, AreWholeInAnyOrder}
@@ -187,27 +188,27 @@ module _ (plan : Plan) (timing : Timing) (stays : UnitPlan → Bool) where
           omega (arith, whole, most)
 
     -- where the time of a unit is known both waits are
-    by_load : (u late bits : ℕ) (load : Option UnitLoad) → get_or asked.units u None ≡ load → IsTurnTimeBy timing asked buffering u load (Some bits)
-        → AreWholeInAnyOrder timing asked u late (late + bits)
-    by_load u late bits None its is = absurd (none-some bits (sym is))
-    by_load u late bits (Some load) its (announced, sent, first, rest, told) = by_waits announced sent first rest told
+    by_load : (u late : ℕ) (turn : Turn) (load : Option UnitLoad) → get_or asked.units u None ≡ load → IsTurnBy timing asked buffering u load (Some turn)
+        → AreWholeInAnyOrder timing asked u late (late + turn.time)
+    by_load u late turn None its is = absurd (none-some turn (sym is))
+    by_load u late turn (Some load) its (announced, sent, first, rest, told) = by_waits announced sent first rest told
       where
         by_waits : (announced sent : Option ℕ) → IsWaitIn timing buffering (announcements_place asked u) load.announcements announced
-            → IsWaitIn timing buffering (packets_place asked u) load.packets sent → Some bits ≡ known_turn_time timing load announced sent
-            → AreWholeInAnyOrder timing asked u late (late + bits)
-        by_waits None sent first rest told = absurd (none-some bits (sym told))
-        by_waits (Some a) None first rest told = absurd (none-some bits (sym told))
+            → IsWaitIn timing buffering (packets_place asked u) load.packets sent → Some turn ≡ known_turn timing load announced sent
+            → AreWholeInAnyOrder timing asked u late (late + turn.time)
+        by_waits None sent first rest told = absurd (none-some turn (sym told))
+        by_waits (Some a) None first rest told = absurd (none-some turn (sym told))
         by_waits (Some a) (Some p) first rest told =
-            let same : turn_time timing load a p ≡ bits =
-            (cond_some (leb (packet_time timing load p) (longest_pause timing)) (turn_time timing load a p) bits (sym told)).1 in
+            let same : turn_time timing load a p ≡ turn.time =
+            ap (λ (t : Turn). t.time) (cond_some (leb (packet_time timing load p) (longest_pause timing)) (flow_turn timing load a p) turn (sym told)).1 in
             subst (λ (n : ℕ). AreWholeInAnyOrder timing asked u late (late + n)) same (in_any_order u late load its a p first rest)
 
-    by_time : (broadcast : Broadcast) (whole : WholeTime) (bits : ℕ) (time : Option ℕ)
-        → IsTurnTimeBy timing asked buffering broadcast.sender (get_or asked.units broadcast.sender None) time → whole ≡ whole_time broadcast time
+    by_time : (broadcast : Broadcast) (whole : WholeTime) (bits : ℕ) (turn : Option Turn)
+        → IsTurnBy timing asked buffering broadcast.sender (get_or asked.units broadcast.sender None) turn → whole ≡ whole_time broadcast turn
         → whole.bits ≡ Some bits → AreWholeInAnyOrder timing asked broadcast.sender broadcast.jitter bits
     by_time broadcast whole bits None is same told = absurd (none-some bits (sym (ap (λ (w : WholeTime). w.bits) same) ∙ told))
     by_time broadcast whole bits (Some turn) is same told =
-        let sum : broadcast.jitter + turn ≡ bits = same_Some (broadcast.jitter + turn) bits (sym (ap (λ (w : WholeTime). w.bits) same) ∙ told) in
+        let sum : broadcast.jitter + turn.time ≡ bits = same_Some (broadcast.jitter + turn.time) bits (sym (ap (λ (w : WholeTime). w.bits) same) ∙ told) in
         subst (λ (n : ℕ). AreWholeInAnyOrder timing asked broadcast.sender broadcast.jitter n) sum
         (by_load broadcast.sender broadcast.jitter turn (get_or asked.units broadcast.sender None) refl is)
 
@@ -258,13 +259,15 @@ module _ (plan : Plan) (timing : Timing) (stays : UnitPlan → Bool) where
         of_messages buffering buffering_delays flow bits load load.messages whole its refl is told
 
     -- where it isn't late it is known, and within its deadline
-    not_late : (limit : ℕ) (bits : Option ℕ) → is_in_limit limit bits ≡ true → (n : ℕ) × (bits ≡ Some n) × (n ≤ limit)
-    not_late limit None is = absurd (cc)
-    not_late limit (Some n) is = (n, refl, leb-true n limit is)
+    not_late : (limit : ℕ) (each : Bool) (bits : Option ℕ) → is_in_limit limit (if each then bits else None) ≡ true
+        → (each ≡ true) × ((n : ℕ) × (bits ≡ Some n) × (n ≤ limit))
+    not_late limit false bits is = absurd (false≢true is)
+    not_late limit true None is = absurd (false≢true is)
+    not_late limit true (Some n) is = (refl, (n, refl, leb-true n limit is))
 
     in_time : (flow : ℕ) (whole : WholeTime) (limit : ℕ) → whole.limit ≡ Some limit → lateness flow (Some (Whole whole)) ≡ []
-        → is_in_limit limit whole.bits ≡ true
-    in_time flow whole limit is none = elim (cases_Bool (is_in_limit limit whole.bits)) [
+        → is_in_limit limit (time_of_each whole) ≡ true
+    in_time flow whole limit is none = elim (cases_Bool (is_in_limit limit (time_of_each whole))) [
       | inl in_it ↦ in_it
       | inr out ↦
           let late : is_whole_late whole ≡ true = rw (is) (ap not out) in
@@ -280,11 +283,12 @@ module _ (plan : Plan) (timing : Timing) (stays : UnitPlan → Bool) where
         go paced on_time (get_or delays flow None) (slice_get-get_or delays flow None (omega (arith, count, below)))
       where
         go : lines_of_each without_period 0 delays ≡ [] → lines_of_each lateness 0 delays ≡ [] → (delay : Option Delay) → slice_get delays flow ≡ Some delay
-            → (whole : WholeTime) × (bits : ℕ) × (slice_get delays flow ≡ Some (Some (Whole whole))) × (bits ≤ limit)
+            → (whole : WholeTime) × (bits : ℕ) × (slice_get delays flow ≡ Some (Some (Whole whole))) × (whole.each ≡ true) × (bits ≤ limit)
             × AreWholeWithin timing asked flow whole bits
         go paced on_time None at = absurd (let told = told_nothing without_period 0 delays paced flow None at in
             let some : 1 ≡ 0 = ap length told in omega arith)
         go paced on_time (Some (Within bits)) at = absurd ((told_of plan timing stays delays asks flow load (ToAll broadcast) (Within bits) its long at).2)
+        go paced on_time (Some (Beyond bits)) at = absurd ((told_of plan timing stays delays asks flow load (ToAll broadcast) (Beyond bits) its long at).2)
         go paced on_time (Some Late) at = absurd ((told_of plan timing stays delays asks flow load (ToAll broadcast) Late its long at).2)
         go paced on_time (Some (Long count)) at = absurd ((told_of plan timing stays delays asks flow load (ToAll broadcast) (Long count) its long at).2)
         go paced on_time (Some (Whole whole)) at =
@@ -294,8 +298,8 @@ module _ (plan : Plan) (timing : Timing) (stays : UnitPlan → Bool) where
             let same : 0 + flow ≡ flow = omega arith in
             let none_told : lateness flow (Some (Whole whole)) ≡ [] =
             subst (λ (n : ℕ). lateness n (Some (Whole whole)) ≡ []) same (told_nothing lateness 0 delays on_time flow (Some (Whole whole)) at) in
-            let known = not_late limit whole.bits (in_time flow whole limit written none_told) in
-            (whole, known.0, at, known.2, of_broadcast by_buffering.0 by_buffering.1 flow known.0 load broadcast whole its long is known.1)
+            let (each, (bits, known, within)) = not_late limit whole.each whole.bits (in_time flow whole limit written none_told) in
+            (whole, bits, at, each, within, of_broadcast by_buffering.0 by_buffering.1 flow bits load broadcast whole its long is known)
 
 pub in_time_where_checked : (plan : Plan) (timing : Timing) → AreLoadFindings plan (Some timing) [] → ArePlannedFramesInTime plan timing
 in_time_where_checked plan timing (stays, delays, asks, none) =

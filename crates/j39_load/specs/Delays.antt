@@ -1,18 +1,19 @@
 -- How long the messages of each flow take, from their releases: the waits of frames (Davis, Burns, Bril, Lukkien,
 -- Real-Time Systems 35, 2007), and when a long message to all is whole.
-use Rattle.std.specs.Prelude.{◌≡◌, ℕ, ◌+◌, ◌*◌, ◌^◌, ◌<◌, ◌≤◌, ◌==◌, nat_le, if◌then◌else◌, List, [], ◌∷◌, ◌++◌, length, slice_index_or, Option, Some, None}
+use Rattle.std.specs.Prelude.{◌≡◌, ℕ, ◌+◌, ◌*◌, ◌^◌, ◌<◌, ◌≤◌, ◌==◌, nat_le, Bool, false, ◌&&◌, if◌then◌else◌, List, [], ◌∷◌, ◌++◌, length, slice_index_or, Option, Some, None}
 use Rattle.std.specs.Bool.{MatchBool}
 use Rattle.std.specs.List.{slice_get}
-use Rattle.std.specs.Option.{option_map}
+use Rattle.std.specs.Option.{option_map, option_map_or}
 use Rattle.j39_network.specs.declared.plan.timing.Timing.{Timing}
 use Rattle.j39_load.specs.declared.frames.broadcast.Broadcast.{Broadcast}
 use Rattle.j39_load.specs.declared.waits.delay.Delay.{Delay}
-use Rattle.j39_load.specs.declared.waits.delay.Delay.TheVariants.{Within, Late, Long, Whole}
+use Rattle.j39_load.specs.declared.waits.delay.Delay.TheVariants.{Within, Beyond, Late, Long, Whole}
 use Rattle.j39_load.specs.declared.frames.flow_frames.FlowFrames.{FlowFrames}
 use Rattle.j39_load.specs.declared.loads.flow_load.FlowLoad.{FlowLoad}
 use Rattle.j39_load.specs.declared.frames.messages.Messages.{Messages}
 use Rattle.j39_load.specs.declared.frames.messages.Messages.TheVariants.{Short, ToAll, ToOne}
 use Rattle.j39_load.specs.declared.loads.unit_load.UnitLoad.{UnitLoad}
+use Rattle.j39_load.specs.declared.waits.turn.Turn.{Turn}
 use Rattle.j39_load.specs.declared.waits.whole_time.WholeTime.{WholeTime}
 use Rattle.j39_load.specs.AnyQueues.{IsBuffering, Buffering, keep_order, may_be_passed}
 use Rattle.j39_load.specs.Asked.{Asked, frames_asked}
@@ -60,19 +61,34 @@ pub record IsInTime (timing : Timing) (all : List (Option FlowFrames)) (i : ℕ)
   pub demand_fits : need_of timing all i frames wait ≤ wait
   pub within : delay_of frames.stream wait ≤ limit
 
--- the delay of a flow whose messages go in one frame each, of these, with this limit, at its place: that of the least
--- wait that is in time, or none is
-abbrev pub IsShortDelay : Timing → List (Option FlowFrames) → ℕ → FlowFrames → ℕ → Delay → Type 0
-IsShortDelay timing all flow frames limit (Within bits) = (wait : ℕ) × IsInTime timing all flow frames limit wait
+-- that of the least wait that has room, where it is at most so many bits
+abbrev pub IsDelayWithin : Timing → List (Option FlowFrames) → ℕ → FlowFrames → ℕ → ℕ → Type 0
+IsDelayWithin timing all flow frames most bits = (wait : ℕ) × IsInTime timing all flow frames most wait
     × IsLeastWait timing all flow frames wait × (bits ≡ delay_of frames.stream wait)
-IsShortDelay timing all flow frames limit Late = (wait : ℕ) → ¬ IsInTime timing all flow frames limit wait
+
+-- no wait is in time
+abbrev pub HasNoneWithin : Timing → List (Option FlowFrames) → ℕ → FlowFrames → ℕ → Type 0
+HasNoneWithin timing all flow frames most = (wait : ℕ) → ¬ IsInTime timing all flow frames most wait
+
+-- the delay of a flow whose messages go in one frame each, of these, with this limit, at its place: that of the least
+-- wait that is in time; or, where none is, of the least one that is within the period, or none is
+abbrev pub IsShortDelay : Timing → List (Option FlowFrames) → ℕ → FlowFrames → ℕ → Delay → Type 0
+IsShortDelay timing all flow frames limit (Within bits) = IsDelayWithin timing all flow frames limit bits
+IsShortDelay timing all flow frames limit (Beyond bits) =
+    HasNoneWithin timing all flow frames limit × IsDelayWithin timing all flow frames frames.stream.period bits
+IsShortDelay timing all flow frames limit Late =
+    HasNoneWithin timing all flow frames limit × HasNoneWithin timing all flow frames frames.stream.period
 IsShortDelay timing all flow frames limit _ = ⊥
+
+-- that of frames that have one of so many bits, by their limit and their period
+abbrev pub judged : FlowFrames → ℕ → ℕ → Delay
+judged frames limit bits =
+    if nat_le bits limit then Within bits else (if nat_le bits frames.stream.period then Beyond bits else Late)
 
 -- that of frames that wait for so long in a unit that keeps no order
 abbrev pub any_delay : FlowFrames → ℕ → Option ℕ → Delay
 any_delay frames limit None = Late
-any_delay frames limit (Some wait) =
-    if nat_le (delay_of frames.stream wait) limit then Within (delay_of frames.stream wait) else Late
+any_delay frames limit (Some wait) = judged frames limit (delay_of frames.stream wait)
 
 -- that of a flow whose messages go in one frame each: where its sender keeps order, among the frames that are buffered
 -- no longer, unless one of which it isn't known from when on may go before it
@@ -118,36 +134,53 @@ abbrev pub turn_time : Timing → UnitLoad → ℕ → ℕ → ℕ
 turn_time timing load announced sent =
     load.flows * (announced + load.announcements.stream.bits) + load.all_packets * packet_time timing load sent
 
--- where both waits are known, and no receiver gives up
-abbrev pub known_turn_time : Timing → UnitLoad → Option ℕ → Option ℕ → Option ℕ
-known_turn_time timing load (Some announced) (Some sent) =
-    if nat_le (packet_time timing load sent) (longest_pause timing) then Some (turn_time timing load announced sent)
-    else None
-known_turn_time timing load _ _ = None
+abbrev pub flow_turn : Timing → UnitLoad → ℕ → ℕ → Turn
+flow_turn timing load announced sent = record {
+  time = turn_time timing load announced sent;
+  announcement = announced + load.announcements.stream.bits;
+  packet = packet_time timing load sent;
+}
 
--- the time of the unit at a place, which asks this
-abbrev pub IsTurnTimeBy : Timing → Asked → Buffering → ℕ → Option UnitLoad → Option ℕ → Type 0
-IsTurnTimeBy timing asked buffering u None time = time ≡ None
-IsTurnTimeBy timing asked buffering u (Some load) time = (announced sent : Option ℕ)
+-- where both waits are known, and no receiver gives up
+abbrev pub known_turn : Timing → UnitLoad → Option ℕ → Option ℕ → Option Turn
+known_turn timing load (Some announced) (Some sent) =
+    if nat_le (packet_time timing load sent) (longest_pause timing) then Some (flow_turn timing load announced sent)
+    else None
+known_turn timing load _ _ = None
+
+-- the turn of the unit at a place, which asks this
+abbrev pub IsTurnBy : Timing → Asked → Buffering → ℕ → Option UnitLoad → Option Turn → Type 0
+IsTurnBy timing asked buffering u None turn = turn ≡ None
+IsTurnBy timing asked buffering u (Some load) turn = (announced sent : Option ℕ)
     × IsWaitIn timing buffering (announcements_place asked u) load.announcements announced
     × IsWaitIn timing buffering (packets_place asked u) load.packets sent
-    × (time ≡ known_turn_time timing load announced sent)
+    × (turn ≡ known_turn timing load announced sent)
 
-abbrev pub IsTurnTime : Timing → Asked → Buffering → ℕ → Option ℕ → Type 0
-IsTurnTime timing asked buffering u time = IsTurnTimeBy timing asked buffering u (slice_index_or asked.units u None) time
+abbrev pub IsTurn : Timing → Asked → Buffering → ℕ → Option Turn → Type 0
+IsTurn timing asked buffering u turn = IsTurnBy timing asked buffering u (slice_index_or asked.units u None) turn
 
--- where the unit's time is this, that of a flow's broadcasts, from the release at which one is wanted: each other flow
+-- of a turn the part that is a message's own: its announcement and its packets
+abbrev pub own_time : Broadcast → Turn → ℕ
+own_time broadcast turn = turn.announcement + broadcast.packets * turn.packet
+
+-- messages are wanted no more often than they can be sent: a turn is over within the period, and what waits is announced before the next one is wanted
+abbrev pub keeps_up : Broadcast → Turn → Bool
+keeps_up broadcast turn =
+    nat_le turn.time broadcast.apart && nat_le (broadcast.jitter + turn.time) (broadcast.apart + own_time broadcast turn)
+
+-- where the unit's turn is this, the time of a flow's broadcasts, from the release at which one is wanted: each other flow
 -- of the unit goes before it once at most
-abbrev pub whole_time : Broadcast → Option ℕ → WholeTime
-whole_time broadcast time = record {
+abbrev pub whole_time : Broadcast → Option Turn → WholeTime
+whole_time broadcast turn = record {
   frames = frames_to_all broadcast.packets;
-  bits = option_map (λ turn. broadcast.jitter + turn) time;
+  bits = option_map (λ (t : Turn). broadcast.jitter + t.time) turn;
   limit = broadcast.deadline;
+  each = option_map_or (keeps_up broadcast) turn false;
 }
 
 abbrev pub IsWholeTime : Timing → Asked → Buffering → Broadcast → WholeTime → Type 0
-IsWholeTime timing asked buffering broadcast whole = (time : Option ℕ) × IsTurnTime timing asked buffering broadcast.sender time
-    × (whole ≡ whole_time broadcast time)
+IsWholeTime timing asked buffering broadcast whole = (turn : Option Turn) × IsTurn timing asked buffering broadcast.sender turn
+    × (whole ≡ whole_time broadcast turn)
 
 -- ---- flows
 

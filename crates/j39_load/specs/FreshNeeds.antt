@@ -10,6 +10,7 @@ use Rattle.j39_network.specs.declared.plan.timing.Timing.{Timing}
 use Rattle.j39_network.specs.declared.plan.unit_plan.UnitPlan.{UnitPlan}
 use Rattle.j39_load.specs.declared.waits.delay.Delay.{Delay}
 use Rattle.j39_load.specs.declared.waits.delay.Delay.TheVariants.{Within}
+use Rattle.j39_load.specs.Ages.{least_age}
 use Rattle.j39_load.specs.Asked.{Asked, asked_of, frames_asked}
 use Rattle.j39_load.specs.LoadFindings.{AsksOfBus}
 use Rattle.j39_load.specs.Loads.{bits_of_ms}
@@ -34,9 +35,9 @@ IsFreshInAnyOrder timing asked flow pause stream wait delay = (s : Schedule) (co
     → KeepsComing s planned of flow pause from to → to + (stream.jitter + wait) < s.now
     → IsFresh s planned of flow (pause + delay) (from + delay) (to + delay)
 
--- some flow that isn't sent as an answer meets the need; for the longest time that it may be silent and its delay, which bounds its frames' time on every bus, together
--- no more is asked than the need allows; and what comes by it is never older
-pub record IsNeedFresh (plan : Plan) (timing : Timing) (asked : Asked) (delays : List (Option Delay)) (need : NeedPlan) (within : ℕ) : Type 0 where
+-- some flow that isn't sent as an answer meets the need; the longest time that it may be silent and its delay, which bounds its frames' time on every bus, are together
+-- so many bits at most; and what comes by it is never older
+pub record IsNeedFresh (plan : Plan) (timing : Timing) (asked : Asked) (delays : List (Option Delay)) (need : NeedPlan) (most : ℕ) : Type 0 where
   pub place : ℕ
   pub flow : FlowPlan
   pub its : slice_get plan.flows.items place ≡ Some flow
@@ -46,7 +47,7 @@ pub record IsNeedFresh (plan : Plan) (timing : Timing) (asked : Asked) (delays :
   pub paused : flow.pause ≡ Some pause
   pub bits : ℕ
   pub delayed : slice_get delays place ≡ Some (Some (Within bits))
-  pub young : bits_of_ms timing pause + bits ≤ bits_of_ms timing within
+  pub young : bits_of_ms timing pause + bits ≤ most
   pub bounded : IsBounded timing asked place bits
   pub in_any_order :
       IsFreshInAnyOrder timing asked place (bits_of_ms timing pause) bounded.frames.stream bounded.wait bits
@@ -57,4 +58,9 @@ pub record IsNeedFresh (plan : Plan) (timing : Timing) (asked : Asked) (delays :
 abbrev pub AreNeedsFresh : Plan → Timing → Type 0
 AreNeedsFresh plan timing = (stays : UnitPlan → Bool) × (delays : List (Option Delay)) × AsksOfBus plan timing stays delays
     × ((n : ℕ) (need : NeedPlan) (within : ℕ) → slice_get plan.needs.items n ≡ Some need → need.within ≡ Some within
-    → IsNeedFresh plan timing (asked_of timing plan stays) delays need within)
+    → IsNeedFresh plan timing (asked_of timing plan stays) delays need (bits_of_ms timing within))
+
+-- and each age that is told of a need is one, whether the need asks for less or not
+abbrev pub AreNeedAgesBounds : Plan → Timing → Asked → List (Option Delay) → Type 0
+AreNeedAgesBounds plan timing asked delays = (n : ℕ) (need : NeedPlan) (age : ℕ) → slice_get plan.needs.items n ≡ Some need
+    → least_age timing plan.requests.items plan.flows.items delays need ≡ Some age → IsNeedFresh plan timing asked delays need age

@@ -3,6 +3,7 @@ pub mod AnyQueues
 pub mod Asked
 pub mod AskedLoads
 pub mod Broadcasts
+pub mod BusTimes
 pub mod Damage
 pub mod Delays
 pub mod Demands
@@ -12,6 +13,7 @@ pub mod KeepsErrors
 pub mod KeptReceivers
 pub mod KeptTogether
 pub mod KeepsPlan
+pub mod LiveClaims
 pub mod LoadAnswers
 pub mod LoadFindings
 pub mod Loads

@@ -6,7 +6,7 @@ use Rattle.j39_network.specs.declared.plan.Plan.{Plan}
 use Rattle.j39_network.specs.declared.plan.timing.Timing.{Timing}
 use Rattle.j39_network.specs.declared.plan.unit_plan.UnitPlan.{UnitPlan}
 use Rattle.j39_load.specs.declared.waits.delay.Delay.{Delay}
-use Rattle.j39_load.specs.declared.waits.delay.Delay.TheVariants.{Late, Whole}
+use Rattle.j39_load.specs.declared.waits.delay.Delay.TheVariants.{Beyond, Late, Whole}
 use Rattle.j39_load.specs.declared.findings.load_finding.LoadFinding.{LoadFinding}
 use Rattle.j39_load.specs.declared.findings.load_finding.LoadFinding.TheVariants.{NoPeriod, Overload, LateFlow, NeedTooOld}
 use Rattle.j39_load.specs.declared.waits.whole_time.WholeTime.{WholeTime}
@@ -30,14 +30,19 @@ abbrev pub without_period : ℕ → Option Delay → List LoadFinding
 without_period flow None = NoPeriod flow ∷ []
 without_period flow (Some delay) = []
 
--- the deadline of long messages to all is written, and they aren't shown to be whole within it
+-- the time of long messages to all, where each of them keeps it
+abbrev pub time_of_each : WholeTime → Option ℕ
+time_of_each whole = if whole.each then whole.bits else None
+
+-- the deadline of long messages to all is written, and not each of them is shown to be whole within it
 abbrev pub is_whole_late : WholeTime → Bool
-is_whole_late whole = option_map_or (λ limit. not (is_in_limit limit whole.bits)) whole.limit false
+is_whole_late whole = option_map_or (λ limit. not (is_in_limit limit (time_of_each whole))) whole.limit false
 
 -- no wait of the flow at a place is within its limit; or its long messages to all aren't shown to be whole within a
 -- deadline that is written
 abbrev pub lateness : ℕ → Option Delay → List LoadFinding
 lateness flow (Some Late) = LateFlow flow ∷ []
+lateness flow (Some (Beyond bits)) = LateFlow flow ∷ []
 lateness flow (Some (Whole whole)) = if is_whole_late whole then LateFlow flow ∷ [] else []
 lateness flow _ = []
 

@@ -7,7 +7,7 @@ use Rattle.j39_network.specs.declared.plan.timing.Timing.{Timing}
 use Rattle.j39_network.specs.declared.plan.unit_plan.UnitPlan.{UnitPlan}
 use Rattle.j39_load.specs.declared.frames.broadcast.Broadcast.{Broadcast}
 use Rattle.j39_load.specs.declared.waits.delay.Delay.{Delay}
-use Rattle.j39_load.specs.declared.waits.delay.Delay.TheVariants.{Whole, Within}
+use Rattle.j39_load.specs.declared.waits.delay.Delay.TheVariants.{Beyond, Whole, Within}
 use Rattle.j39_load.specs.declared.frames.flow_frames.FlowFrames.{FlowFrames}
 use Rattle.j39_load.specs.declared.loads.flow_load.FlowLoad.{FlowLoad}
 use Rattle.j39_load.specs.declared.frames.messages.Messages.TheVariants.{Short, ToAll}
@@ -138,10 +138,29 @@ pub record IsBounded (timing : Timing) (asked : Asked) (flow bits : ℕ) : Type 
   pub in_any_order : IsInTimeInAnyOrder timing (frames_asked asked) flow frames wait
   pub bounds : AreAllOrdered (frames_asked asked) → IsInTimeOnEveryBus timing (frames_asked asked) flow frames wait
 
+-- the flow's messages go in one frame, and its delay is above a deadline that is written, and within its period; it bounds its frames' time on
+-- every bus all the same
+pub record IsBoundedBeyond (timing : Timing) (asked : Asked) (flow bits : ℕ) : Type 0 where
+  pub load : FlowLoad
+  pub its : slice_get asked.flows flow ≡ Some (Some load)
+  pub frames : FlowFrames
+  pub short : load.messages ≡ Short frames
+  pub wait : ℕ
+  pub sum : bits ≡ delay_of frames.stream wait
+  pub beyond : load.limit < bits
+  pub inside : bits ≤ frames.stream.period
+  pub in_any_order : IsInTimeInAnyOrder timing (frames_asked asked) flow frames wait
+  pub bounds : AreAllOrdered (frames_asked asked) → IsInTimeOnEveryBus timing (frames_asked asked) flow frames wait
+
 -- each delay that is told is a bound
 abbrev pub AreDelaysBounds : Timing → Asked → List (Option Delay) → Type 0
 AreDelaysBounds timing asked delays =
     (flow bits : ℕ) → slice_get delays flow ≡ Some (Some (Within bits)) → IsBounded timing asked flow bits
+
+-- also where it is above the deadline
+abbrev pub AreLateDelaysBounds : Timing → Asked → List (Option Delay) → Type 0
+AreLateDelaysBounds timing asked delays =
+    (flow bits : ℕ) → slice_get delays flow ≡ Some (Some (Beyond bits)) → IsBoundedBeyond timing asked flow bits
 
 -- and one is told of each flow whose messages go in one frame
 abbrev pub AreShortFlowsBounded : Timing → Asked → List (Option Delay) → Type 0
@@ -225,7 +244,7 @@ AreTimesBounds timing asked delays = (flow bits : ℕ) (whole : WholeTime)
 abbrev pub AreDeadlinesKept : Timing → Asked → List (Option Delay) → Type 0
 AreDeadlinesKept timing asked delays = (flow limit : ℕ) (load : FlowLoad) (broadcast : Broadcast)
     → slice_get asked.flows flow ≡ Some (Some load) → load.messages ≡ ToAll broadcast → broadcast.deadline ≡ Some limit
-    → (whole : WholeTime) × (bits : ℕ) × (slice_get delays flow ≡ Some (Some (Whole whole))) × (bits ≤ limit)
+    → (whole : WholeTime) × (bits : ℕ) × (slice_get delays flow ≡ Some (Some (Whole whole))) × (whole.each ≡ true) × (bits ≤ limit)
     × AreWholeWithin timing asked flow whole bits
 
 -- ---- plans

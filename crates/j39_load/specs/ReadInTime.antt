@@ -93,7 +93,7 @@ AreReadInAnyOrder timing asked flow group pause stream wait delay = (s : Schedul
 
 -- the need is fresh by a flow, and what was received last of this flow reads as it was written
 pub record IsNeedRead (plan : Plan) (timing : Timing) (asked : Asked) (delays : List (Option Delay)) (need : NeedPlan) (within : ℕ) : Type 0 where
-  pub fresh : IsNeedFresh plan timing asked delays need within
+  pub fresh : IsNeedFresh plan timing asked delays need (bits_of_ms timing within)
   pub group : GroupPlan
   pub of : slice_get plan.groups.items fresh.flow.group ≡ Some group
   pub in_any_order : AreReadInAnyOrder timing asked fresh.place group (bits_of_ms timing fresh.pause) fresh.bounded.frames.stream fresh.bounded.wait fresh.bits

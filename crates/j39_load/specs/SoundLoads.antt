@@ -28,11 +28,21 @@ broadcast_part (Short frames) = None
 broadcast_part (ToOne frames) = None
 broadcast_part (ToAll broadcast) = Some broadcast
 
+abbrev pub short_part : Messages → Option FlowFrames
+short_part (Short frames) = Some frames
+short_part (ToOne frames) = None
+short_part (ToAll broadcast) = None
+
+-- what goes in one frame each has a period of milliseconds
+abbrev pub HaveFitPeriod : Messages → Type 0
+HaveFitPeriod messages = IfSome (short_part messages) (λ (f : FlowFrames). f.stream.period < 2 ^ 31)
+
 abbrev pub AreSoundMessages : Messages → Type 0
 AreSoundMessages messages = AreSoundIfAny (own_frames messages) × IfSome (broadcast_part messages) IsSoundBroadcast
 
 pub record IsSoundLoad (load : FlowLoad) : Type 0 where
   pub messages : AreSoundMessages load.messages
+  pub paced : HaveFitPeriod load.messages
   pub singles : AreSoundIfAny load.singles
   pub limit : load.limit < 2 ^ 31
 

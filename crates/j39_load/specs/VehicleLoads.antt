@@ -6,6 +6,7 @@ use Rattle.j39_network.specs.declared.plan.timing.Timing.{Timing}
 use Rattle.j39_network.specs.declared.plan.unit_plan.UnitPlan.{UnitPlan}
 use Rattle.j39_load.specs.declared.findings.load_finding.LoadFinding.{LoadFinding}
 use Rattle.j39_load.specs.Asked.{asked_of}
+use Rattle.j39_load.specs.BusTimes.{timing_of}
 use Rattle.j39_load.specs.LoadFindings.{AreLoadFindings}
 use Rattle.j39_findings.specs.Standing.{DecidesWhoStays}
 
@@ -16,9 +17,10 @@ pub record StandAlike (plan vehicle : Plan) (stays : UnitPlan → Bool) : Type 0
   pub same : (u : ℕ) (unit box : UnitPlan) → slice_get plan.units.items u ≡ Some unit → slice_get vehicle.units.items u ≡ Some box
       → told box ≡ stays unit
 
--- the same units stay, each flow, each unit and each request asks the same, and the same is wrong with it
+-- the same is known of its bus, the same units stay, each flow, each unit and each request asks the same, and the same is wrong with it
 pub record AreLoadsAlike (plan vehicle : Plan) : Type 0 where
+  pub timing : timing_of vehicle ≡ timing_of plan
   pub standing : (stays : UnitPlan → Bool) → DecidesWhoStays plan stays → StandAlike plan vehicle stays
   pub asked : (timing : Timing) (stays told : UnitPlan → Bool) → DecidesWhoStays plan stays → DecidesWhoStays vehicle told
       → asked_of timing plan stays ≡ asked_of timing vehicle told
-  pub findings : (findings : List LoadFinding) → AreLoadFindings plan plan.timing findings → AreLoadFindings vehicle vehicle.timing findings
+  pub findings : (findings : List LoadFinding) → AreLoadFindings plan (timing_of plan) findings → AreLoadFindings vehicle (timing_of vehicle) findings

@@ -2,6 +2,7 @@
 pub mod Broadcasting
 pub mod Extremes
 pub mod FlowSearch
+pub mod FewClaims
 pub mod FewFrames
 pub mod FrameParts
 pub mod PlannedBuses

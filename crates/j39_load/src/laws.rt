@@ -16,7 +16,7 @@ ghost use Rattle.j39_network.specs.declared.plan.timing.Timing.{Timing as Timing
 ghost use Rattle.j39_network.specs.declared.plan.to.To.TheVariants.{All as ToAllUnits, One};
 ghost use Rattle.j39_network.specs.declared.plan.unit_plan.UnitPlan.{UnitPlan as PlannedUnits};
 ghost use Rattle.j39_load.specs.declared.waits.delay.Delay.{Delay as Delays};
-ghost use Rattle.j39_load.specs.FreshNeeds.{AreNeedsFresh};
+ghost use Rattle.j39_load.specs.FreshNeeds.{AreNeedAgesBounds, AreNeedsFresh};
 ghost use Rattle.j39_load.specs.KeepsBroadcasts.{KeepsTurns};
 ghost use Rattle.j39_load.specs.KeepsErrors.{AreInTimeWithErrors, AreInTimeWithErrorsInAnyOrder, KeepsErrors};
 ghost use Rattle.j39_load.specs.KeepsErrors.{origins_with, planned_with};
@@ -31,7 +31,8 @@ ghost use Rattle.j39_load.specs.Loads.{bits_of_ms, frames_to_all, frames_to_one,
 ghost use Rattle.j39_load.specs.LosslessTransfers.{IsReceiverOf, TakeFramesTold, TakesFrames};
 ghost use Rattle.j39_load.specs.Asked.{asked_of, frames_asked, total_load};
 ghost use Rattle.j39_load.specs.PlannedFrames.{AreAllOrdered, AreDeadlinesKept, AreDelaysBounds, AreFramesInAnyOrder};
-ghost use Rattle.j39_load.specs.PlannedFrames.{AreFramesOfPlan, AreShortFlowsBounded, AreTimesBounds};
+ghost use Rattle.j39_load.specs.PlannedFrames.{AreFramesOfPlan, AreLateDelaysBounds, AreShortFlowsBounded};
+ghost use Rattle.j39_load.specs.PlannedFrames.{AreTimesBounds};
 ghost use Rattle.j39_load.specs.PlannedFrames.{ArePlannedFramesInTime, ComeInAnyOrder, ComeInTurn};
 ghost use Rattle.j39_load.specs.Ranks.{AreHeldApart, AreHeldByPlan, AreTwinFlows, AreUnitsPlanned, IsAskedBetween};
 ghost use Rattle.j39_load.specs.Ranks.{IsShortFlow, LieBetween, RequestLiesBetween};
@@ -53,14 +54,19 @@ ghost use Rattle.j39_world.specs.HeldAddresses.{ArePlannedApart};
 
 /// The delays of a plan bound the time of its frames. A delay that `Loads::delays` tells holds in every schedule whose
 /// planned frames are those of the plan's flows, of which a flow without a period has none, whether units keep order or
-/// don't; and where each unit of the plan keeps it, in every legal schedule of such frames (`bounds`). So does a time
-/// in which long messages to all are whole (`whole`); and where `load_findings` finds nothing, it tells a delay of each
+/// don't; and where each unit of the plan keeps it, in every legal schedule of such frames (`bounds`). So does one that
+/// is above the flow's deadline (`beyond`), an age that is told of a need, whatever the need asks for (`ages`), and a
+/// time in which long messages to all are whole (`whole`); and where `load_findings` finds nothing, it tells a delay of each
 /// flow whose messages go in one frame, within the flow's limit (`short`), and a time of each flow with long messages
 /// to all of which a deadline is written, within this (`deadlines`). So it is of a plan in which `check_load` finds
 /// nothing (`checked`).
 pub fn delays_are_bounds()
     ensures bounds { (plan : Plans) (timing : Timings) (stays : PlannedUnits → Bool) (delays : List (Option Delays))
         → AsksOfBus plan timing stays delays → AreDelaysBounds timing (asked_of timing plan stays) delays }
+    ensures beyond { (plan : Plans) (timing : Timings) (stays : PlannedUnits → Bool) (delays : List (Option Delays))
+        → AsksOfBus plan timing stays delays → AreLateDelaysBounds timing (asked_of timing plan stays) delays }
+    ensures ages { (plan : Plans) (timing : Timings) (stays : PlannedUnits → Bool) (delays : List (Option Delays))
+        → AsksOfBus plan timing stays delays → AreNeedAgesBounds plan timing (asked_of timing plan stays) delays }
     ensures whole { (plan : Plans) (timing : Timings) (stays : PlannedUnits → Bool) (delays : List (Option Delays))
         → AsksOfBus plan timing stays delays → AreTimesBounds timing (asked_of timing plan stays) delays }
     ensures short { (plan : Plans) (timing : Timings) (stays : PlannedUnits → Bool) (delays : List (Option Delays))

@@ -5,6 +5,7 @@
 mod findings;
 mod frames;
 mod laws;
+mod live_claims;
 mod loads;
 mod queues;
 mod waits;
@@ -19,5 +20,6 @@ pub use laws::{
     plans_can_be_kept_together, plans_can_be_kept_whole, plans_in_order,
     serial_numbers_change_no_load, short_flows_have_different_identifiers, written_bytes_are_told,
 };
+pub use live_claims::timing_of;
 pub use loads::{FlowLoad, Loads, RequestLoad, UnitLoad};
 pub use waits::{Delay, WholeTime};

@@ -4,6 +4,7 @@ use Rattle.j39_network.specs.declared.plan.Plan.{Plan}
 use Rattle.j39_network.specs.declared.plan.timing.Timing.{Timing}
 use Rattle.j39_findings.specs.declared.checking.finding.Finding.{Finding}
 use Rattle.j39_findings.specs.Found.{found}
+use Rattle.j39_load.specs.BusTimes.{timing_of}
 use Rattle.j39_load.specs.declared.findings.load_answer.LoadAnswer.{LoadAnswer}
 use Rattle.j39_load.specs.declared.findings.load_finding.LoadFinding.{LoadFinding}
 use Rattle.j39_load.specs.Asked.{Asked, asked_of, total_load}
@@ -16,7 +17,7 @@ use Rattle.j39_plan_text.specs.LoadLines.{loads_text}
 use Rattle.j39_stream.specs.declared.verdict.Verdict.{Verdict}
 use Rattle.j39_stream.specs.declared.verdict.Verdict.TheVariants.{Findings}
 
-module _ (plan : Plan) (timing : Timing) (is : plan.timing ≡ Some timing) (answer : LoadAnswer) (told : IsLoadAnswer plan timing answer)
+module _ (plan : Plan) (timing : Timing) (is : timing_of plan ≡ Some timing) (answer : LoadAnswer) (told : IsLoadAnswer plan timing answer)
     (findings : List Finding) (listed : findings ≡ found plan) where
   -- some finding hides the times
   none_wrong : shows_times findings ≡ false → ¬ ((found plan ≡ []) × (answer.findings.items ≡ []))
@@ -24,16 +25,16 @@ module _ (plan : Plan) (timing : Timing) (is : plan.timing ≡ Some timing) (ans
 
   -- what is told of the plan's load is told of a plan with its timing
   of_plan : (text : List ℕ) (verdict : Verdict) → WritesLoads plan timing told.stays answer.delays.items text verdict
-      → IsLoadReport plan plan.timing text verdict
+      → IsLoadReport plan (timing_of plan) text verdict
   of_plan text verdict loads =
       subst (λ (t : Option Timing). IsLoadReport plan t text verdict) (sym is) (told.stays, answer.delays.items, told.asks, loads)
 
   -- it is what check writes
   pub as_checked : (text : List ℕ) → shows_times findings ≡ false → text ≡ findings_text plan findings answer.findings.items
-      → IsLoadReport plan plan.timing text Findings
+      → IsLoadReport plan (timing_of plan) text Findings
   as_checked text hidden written =
       let others = answer.findings.items in
-      let late : AreLoadFindings plan plan.timing others =
+      let late : AreLoadFindings plan (timing_of plan) others =
       subst (λ (t : Option Timing). AreLoadFindings plan t others) (sym is) (told.stays, answer.delays.items, told.asks, told.found) in
       let shown : text ≡ findings_text plan (found plan) others = written ∙ ap (λ (fs : List Finding). findings_text plan fs others) listed in
       let report : IsReport plan text Findings = (others, late, none_wrong hidden, shown) in
@@ -44,7 +45,7 @@ module _ (plan : Plan) (timing : Timing) (is : plan.timing ≡ Some timing) (ans
   -- the loads, and the findings of which they don't tell
   pub loads_told : (text : List ℕ) (verdict : Verdict) → shows_times findings ≡ true
       → text ≡ loads_text plan timing (asked_in answer.loads) answer.delays.items ++ untold_text plan findings answer.findings.items
-      → verdict ≡ load_verdict findings answer.findings.items → IsLoadReport plan plan.timing text verdict
+      → verdict ≡ load_verdict findings answer.findings.items → IsLoadReport plan (timing_of plan) text verdict
   loads_told text verdict shown written verdict_is =
       let delays = answer.delays.items in
       let others = answer.findings.items in

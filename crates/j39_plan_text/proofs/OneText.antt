@@ -15,6 +15,7 @@ use Rattle.j39_toml.specs.Outcome.{first}
 use Rattle.j39_network.specs.declared.plan.timing.Timing.{Timing}
 use Rattle.j39_findings.specs.Found.{found}
 use Rattle.j39_findings.proofs.FoundLaws.{none_from_clean}
+use Rattle.j39_load.specs.BusTimes.{timing_of}
 use Rattle.j39_load.specs.declared.waits.delay.Delay.{Delay}
 use Rattle.j39_load.specs.declared.findings.load_finding.LoadFinding.{LoadFinding}
 use Rattle.j39_load.specs.LoadFindings.{AreLoadFindings, all_findings}
@@ -42,11 +43,11 @@ one_list plan (Some timing) findings others are more =
 pub one_report : (plan : Plan) → HasOneReport plan
 one_report plan text other Done Done is another = (is.3 ∙ sym another.3, refl)
 one_report plan text other Done Findings is another =
-    absurd (another.2 (none_from_clean plan is.0, sym (one_list plan plan.timing [] another.0 is.1 another.1)))
+    absurd (another.2 (none_from_clean plan is.0, sym (one_list plan (timing_of plan) [] another.0 is.1 another.1)))
 one_report plan text other Findings Done is another =
-    absurd (is.2 (none_from_clean plan another.0, sym (one_list plan plan.timing [] is.0 another.1 is.1)))
+    absurd (is.2 (none_from_clean plan another.0, sym (one_list plan (timing_of plan) [] is.0 another.1 is.1)))
 one_report plan text other Findings Findings is another =
-    (is.3 ∙ ap (findings_text plan (found plan)) (one_list plan plan.timing is.0 another.0 is.1 another.1) ∙ sym another.3, refl)
+    (is.3 ∙ ap (findings_text plan (found plan)) (one_list plan (timing_of plan) is.0 another.0 is.1 another.1) ∙ sym another.3, refl)
 one_report plan text other Done Refused is another = absurd another
 one_report plan text other Done Unreadable is another = absurd another
 one_report plan text other Findings Refused is another = absurd another
@@ -160,7 +161,7 @@ one_load_answer plan (Some timing) text other verdict another is are =
     one_told plan timing is.0 are.0 is.1 are.1 same.0 same.1 text other verdict another is.3 are.3
 
 pub one_load_report : (plan : Plan) → HasOneLoadReport plan
-one_load_report plan text other verdict another = one_load_answer plan plan.timing text other verdict another
+one_load_report plan text other verdict another = one_load_answer plan (timing_of plan) text other verdict another
 
 -- ---- show
 

@@ -13,11 +13,12 @@ use Rattle.j39_network.specs.declared.plan.timing.Timing.{Timing}
 use Rattle.j39_network.specs.declared.plan.unit_plan.UnitPlan.{UnitPlan}
 use Rattle.j39_findings.proofs.FoundLaws.{are_findings}
 use Rattle.j39_findings.proofs.Vehicles.{clean_vehicle, found_alike}
+use Rattle.j39_load.specs.BusTimes.{timing_of}
 use Rattle.j39_load.specs.declared.waits.delay.Delay.{Delay}
 use Rattle.j39_load.specs.declared.findings.load_finding.LoadFinding.{LoadFinding}
 use Rattle.j39_load.specs.Asked.{Asked, asked_of, total_load}
 use Rattle.j39_load.specs.LoadFindings.{all_findings}
-use Rattle.j39_load.proofs.Vehicles.{asks_alike, loads_alike, same_findings}
+use Rattle.j39_load.proofs.Vehicles.{asks_alike, loads_alike, same_findings, timing_alike}
 use Rattle.j39_stream.specs.declared.verdict.Verdict.{Verdict}
 use Rattle.j39_stream.specs.declared.verdict.Verdict.TheVariants.{Done, Findings, Refused, Unreadable}
 use Rattle.j39_plan_text.specs.AddressesText.{IsAddressesReport, StayingHolds}
@@ -203,5 +204,5 @@ module _ (plan vehicle : Plan) (is : IsVehicleOf plan vehicle) (apart : AreDisti
     check = check_alike;
     addresses = addresses_alike holds;
     load = λ text verdict report.
-        subst (λ (timing : Option Timing). IsLoadReport vehicle timing text verdict) (sym is.timing) (load_of_timing plan.timing text verdict report);
+        subst (λ (timing : Option Timing). IsLoadReport vehicle timing text verdict) (sym (timing_alike plan vehicle is apart)) (load_of_timing (timing_of plan) text verdict report);
   }

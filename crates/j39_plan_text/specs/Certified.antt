@@ -5,6 +5,7 @@ use Rattle.std.specs.Prelude.{◌≡◌, Some}
 use Rattle.j39_network.specs.VehiclePlans.{IsVehicleOf}
 use Rattle.j39_network.specs.declared.plan.Plan.{Plan}
 use Rattle.j39_network.specs.declared.plan.timing.Timing.{Timing}
+use Rattle.j39_load.specs.BusTimes.{timing_of}
 use Rattle.j39_load.specs.FreshNeeds.{AreNeedsFresh}
 use Rattle.j39_load.specs.KeepsErrors.{AreInTimeWithErrors, AreInTimeWithErrorsInAnyOrder}
 use Rattle.j39_load.specs.KeepsPlan.{AreFramesInTime}
@@ -20,20 +21,20 @@ pub record IsSoundInTime (plan : Plan) : Type 0 where
   -- each flow whose messages go in one frame has a delay within its limit, which bounds its frames' time in every schedule of such flows,
   -- whether units keep order or don't; and each with long messages to all and a written deadline has a time within it, which bounds that of each
   -- message at whose release none of its flow waits or is under way
-  pub in_time : (timing : Timing) → plan.timing ≡ Some timing → ArePlannedFramesInTime plan timing
+  pub in_time : (timing : Timing) → timing_of plan ≡ Some timing → ArePlannedFramesInTime plan timing
   -- of each need that asks for an age some flow that meets it brings nothing older while it keeps its `pause`, in every schedule of such flows
-  pub fresh : (timing : Timing) → plan.timing ≡ Some timing → AreNeedsFresh plan timing
+  pub fresh : (timing : Timing) → timing_of plan ≡ Some timing → AreNeedsFresh plan timing
   -- and where the frames of this flow carry bytes that were written signal after signal, each signal reads as it was written in those that
   -- were received last, which are no older than that
-  pub read : (timing : Timing) → plan.timing ≡ Some timing → AreNeedsRead plan timing
+  pub read : (timing : Timing) → timing_of plan ≡ Some timing → AreNeedsRead plan timing
   -- in the plan's own words: on every bus that keeps to it each frame that is a whole message is sent in time, also where frames are damaged, and
   -- each value that is needed arrives within its age, while the flow that brings it keeps its `pause`
-  pub kept : (timing : Timing) → plan.timing ≡ Some timing → AreFramesInTime plan timing
-  pub damaged : (timing : Timing) → plan.timing ≡ Some timing → AreInTimeWithErrors plan timing
-  pub damaged_in_any_order : (timing : Timing) → plan.timing ≡ Some timing → AreInTimeWithErrorsInAnyOrder plan timing
+  pub kept : (timing : Timing) → timing_of plan ≡ Some timing → AreFramesInTime plan timing
+  pub damaged : (timing : Timing) → timing_of plan ≡ Some timing → AreInTimeWithErrors plan timing
+  pub damaged_in_any_order : (timing : Timing) → timing_of plan ≡ Some timing → AreInTimeWithErrorsInAnyOrder plan timing
   -- nor does a receiver give up a long message to all that has a deadline, where each packet is queued soon enough behind the frame before
-  pub receivers : (timing : Timing) → plan.timing ≡ Some timing → AreNotGivenUp plan timing
-  pub values : (timing : Timing) → plan.timing ≡ Some timing → AreValuesInTime plan timing
+  pub receivers : (timing : Timing) → timing_of plan ≡ Some timing → AreNotGivenUp plan timing
+  pub values : (timing : Timing) → timing_of plan ≡ Some timing → AreValuesInTime plan timing
 
 pub record IsCertified (plan : Plan) : Type 0 where
   -- what holds of the plan

@@ -4,6 +4,7 @@ use Rattle.j39_network.specs.declared.plan.Plan.{Plan}
 use Rattle.j39_findings.specs.declared.checking.finding.Finding.{Finding}
 use Rattle.j39_findings.specs.Findings.{Clean}
 use Rattle.j39_findings.specs.Found.{found}
+use Rattle.j39_load.specs.BusTimes.{timing_of}
 use Rattle.j39_load.specs.declared.findings.load_finding.LoadFinding.{LoadFinding}
 use Rattle.j39_load.specs.LoadFindings.{AreLoadFindings}
 use Rattle.j39_plan_text.specs.Certified.{IsCertified}
@@ -32,8 +33,8 @@ findings_text plan findings others = finding_lines 1 16 plan findings
 -- what is written for a plan, with the verdict: one in which nothing is wrong is sound, and its frames
 -- are in time
 abbrev pub IsReport : Plan → List ℕ → Verdict → Type 0
-IsReport plan text Done = Clean plan × AreLoadFindings plan plan.timing [] × IsCertified plan × (text ≡ ok_line plan)
-IsReport plan text Findings = (others : List LoadFinding) × AreLoadFindings plan plan.timing others
+IsReport plan text Done = Clean plan × AreLoadFindings plan (timing_of plan) [] × IsCertified plan × (text ≡ ok_line plan)
+IsReport plan text Findings = (others : List LoadFinding) × AreLoadFindings plan (timing_of plan) others
     × ¬ ((found plan ≡ []) × (others ≡ [])) × (text ≡ findings_text plan (found plan) others)
 IsReport plan text Refused = ⊥
 IsReport plan text Unreadable = ⊥

@@ -4,6 +4,7 @@ use Rattle.std.specs.List.{list_all}
 use Rattle.j39_findings.specs.Found.{found}
 use Rattle.j39_findings.specs.declared.checking.finding.Finding.{Finding}
 use Rattle.j39_network.specs.declared.plan.Plan.{Plan}
+use Rattle.j39_load.specs.BusTimes.{timing_of}
 use Rattle.j39_load.specs.LoadFindings.{AreLoadFindings, load_finding_number}
 use Rattle.j39_load.specs.declared.findings.load_finding.LoadFinding.{LoadFinding}
 use Rattle.j39_plan_text.specs.declared.plan_findings.PlanFindings.{PlanFindings}
@@ -11,7 +12,7 @@ use Rattle.j39_plan_text.specs.declared.plan_findings.PlanFindings.{PlanFindings
 -- these are the findings of a plan
 pub record ArePlanFindings (plan : Plan) (wrong : PlanFindings) : Type 0 where
   pub listed : wrong.findings.items ≡ found plan
-  pub others : AreLoadFindings plan plan.timing wrong.others.items
+  pub others : AreLoadFindings plan (timing_of plan) wrong.others.items
 
 -- a bus that is too full, a late flow, an old need: F17, F18 and F20
 abbrev pub is_of_times : ℕ → Bool

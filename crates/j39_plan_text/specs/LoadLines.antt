@@ -10,13 +10,14 @@ use Rattle.j39_network.specs.declared.plan.timing.Timing.{Timing}
 use Rattle.j39_network.specs.declared.plan.to.To.{To}
 use Rattle.j39_network.specs.declared.plan.to.To.TheVariants.{All, One}
 use Rattle.j39_load.specs.declared.waits.delay.Delay.{Delay}
-use Rattle.j39_load.specs.declared.waits.delay.Delay.TheVariants.{Within, Late, Long, Whole}
+use Rattle.j39_load.specs.declared.waits.delay.Delay.TheVariants.{Within, Beyond, Late, Long, Whole}
+use Rattle.j39_load.specs.declared.waits.whole_time.WholeTime.{WholeTime}
 use Rattle.j39_load.specs.declared.loads.flow_load.FlowLoad.{FlowLoad}
 use Rattle.j39_load.specs.declared.findings.load_finding.LoadFinding.{LoadFinding}
 use Rattle.j39_load.specs.declared.findings.load_finding.LoadFinding.TheVariants.{NoPeriod, Overload, LateFlow, NeedTooOld}
 use Rattle.j39_load.specs.Ages.{least_age}
 use Rattle.j39_load.specs.Asked.{Asked, total_load}
-use Rattle.j39_load.specs.LoadFindings.{load_finding_number}
+use Rattle.j39_load.specs.LoadFindings.{load_finding_number, time_of_each}
 use Rattle.j39_load.specs.Loads.{bits_of_ms, bits_of_second}
 use Rattle.j39_load.specs.SentFrames.{bit_time}
 use Rattle.j39_load.specs.LineLists.{lines_of_each}
@@ -57,24 +58,25 @@ time_text word bitrate bits = microseconds_field word bitrate bits ++ codes " us
 unfoldable pub within_text : List ℕ → Bitrate → ℕ → ℕ → List ℕ
 within_text word bitrate limit bits = microseconds_field word bitrate bits ++ time_text (codes " of ") bitrate limit
 
--- the same of bits that are known and within their limit; else another word and the limit alone
+-- the same of bits that are known, with another word where they are beyond their limit; of others this word and the limit alone
 unfoldable pub limited_text : List ℕ → List ℕ → Bitrate → ℕ → Option ℕ → List ℕ
-limited_text within beyond bitrate limit None = time_text beyond bitrate limit
+limited_text within beyond bitrate limit None = beyond ++ time_text (codes "of ") bitrate limit
 limited_text within beyond bitrate limit (Some bits) =
-    if nat_le bits limit then within_text within bitrate limit bits else time_text beyond bitrate limit
+    if nat_le bits limit then within_text within bitrate limit bits else within_text beyond bitrate limit bits
 
--- when long messages are whole, where a limit is written, and where this is known
-unfoldable pub whole_text : Bitrate → Option ℕ → Option ℕ → List ℕ
-whole_text bitrate (Some limit) bits = limited_text (codes " whole within ") (codes " late of ") bitrate limit bits
-whole_text bitrate None (Some bits) = time_text (codes " whole within ") bitrate bits
-whole_text bitrate None None = []
+-- when long messages are whole: each of them, where a limit is written
+unfoldable pub whole_text : Bitrate → WholeTime → Option ℕ → Option ℕ → List ℕ
+whole_text bitrate whole (Some limit) bits = limited_text (codes " whole within ") (codes " late ") bitrate limit (time_of_each whole)
+whole_text bitrate whole None (Some bits) = time_text (codes " whole within ") bitrate bits
+whole_text bitrate whole None None = []
 
 -- a delay, of a limit in bits
 unfoldable pub delay_text : Bitrate → ℕ → Delay → List ℕ
 delay_text bitrate limit (Within bits) = within_text (codes " within ") bitrate limit bits
+delay_text bitrate limit (Beyond bits) = within_text (codes " late ") bitrate limit bits
 delay_text bitrate limit Late = time_text (codes " late of ") bitrate limit
 delay_text bitrate limit (Long frames) = field (codes " frames ") frames
-delay_text bitrate limit (Whole whole) = field (codes " frames ") whole.frames ++ whole_text bitrate whole.limit whole.bits
+delay_text bitrate limit (Whole whole) = field (codes " frames ") whole.frames ++ whole_text bitrate whole whole.limit whole.bits
 
 -- that of a flow, where it is known how often it is sent
 unfoldable pub known_delay_text : Bitrate → Option FlowLoad → Option Delay → List ℕ
@@ -97,9 +99,9 @@ flow_line plan bitrate loads delays place flow = flow_text plan place flow
 
 -- ---- needs
 
--- how old what is needed is at most, of a limit in bits; or that it isn't shown to be within it
+-- how old what is needed is at most, of a limit in bits, which may be less
 unfoldable pub age_text : Bitrate → ℕ → Option ℕ → List ℕ
-age_text bitrate limit age = limited_text (codes " age ") (codes " old of ") bitrate limit age
+age_text bitrate limit age = limited_text (codes " age ") (codes " old ") bitrate limit age
 
 -- the age of what is needed, or that no flow meets the need
 unfoldable pub known_age_text : Plan → Timing → List (Option Delay) → NeedPlan → ℕ → List ℕ

@@ -8,6 +8,7 @@ use Rattle.j39_network.specs.declared.plan.timing.Timing.{Timing}
 use Rattle.j39_network.specs.declared.plan.unit_plan.UnitPlan.{UnitPlan}
 use Rattle.j39_findings.specs.Findings.{finding_number}
 use Rattle.j39_findings.specs.Found.{found}
+use Rattle.j39_load.specs.BusTimes.{timing_of}
 use Rattle.j39_load.specs.declared.waits.delay.Delay.{Delay}
 use Rattle.j39_load.specs.declared.findings.load_finding.LoadFinding.{LoadFinding}
 use Rattle.j39_load.specs.Asked.{asked_of, total_load}
@@ -71,11 +72,11 @@ IsLoadReport plan (Some timing) text verdict = (stays : UnitPlan → Bool) × (d
 
 -- what is written for a file
 abbrev pub IsLoadText : List ℕ → List ℕ → Verdict → Type 0
-IsLoadText = IsReportedText (λ plan text verdict. IsLoadReport plan plan.timing text verdict)
+IsLoadText = IsReportedText (λ plan text verdict. IsLoadReport plan (timing_of plan) text verdict)
 
 -- ---- laws
 
 -- a plan has one report of its load
 abbrev pub HasOneLoadReport : Plan → Type 0
 HasOneLoadReport plan = (text other : List ℕ) (verdict another : Verdict)
-    → IsLoadReport plan plan.timing text verdict → IsLoadReport plan plan.timing other another → (text ≡ other) × (verdict ≡ another)
+    → IsLoadReport plan (timing_of plan) text verdict → IsLoadReport plan (timing_of plan) other another → (text ≡ other) × (verdict ≡ another)

@@ -3,6 +3,7 @@ ghost use Rattle.std.specs.Prelude.{[]};
 ghost use Rattle.j39_plan_text.specs.Certified.{IsCertified};
 ghost use Rattle.j39_findings.specs.Findings.{Clean};
 ghost use Rattle.j39_network.specs.declared.plan.Plan.{Plan as Plans};
+ghost use Rattle.j39_load.specs.BusTimes.{timing_of};
 ghost use Rattle.j39_load.specs.LoadFindings.{AreLoadFindings};
 
 use j39_findings::serial_numbers_change_nothing;
@@ -19,7 +20,7 @@ use j39_run_laws::clean_plans_are_sound;
 /// numbers of its boxes are. It rests on the certificate of the plan and on the laws of delays, of needs and of serial
 /// numbers.
 pub fn clean_plans_are_certified()
-    ensures { (plan : Plans) → Clean plan → AreLoadFindings plan plan.timing [] → IsCertified plan }
+    ensures { (plan : Plans) → Clean plan → AreLoadFindings plan (timing_of plan) [] → IsCertified plan }
 {
     clean_plans_are_sound();
     delays_are_bounds();

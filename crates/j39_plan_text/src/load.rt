@@ -14,9 +14,10 @@ use std::alloc::{AllocError, Global};
 struct LoadReport;
 
 impl PlanReport for LoadReport {
+    ghost use Rattle.j39_load.specs.BusTimes.{timing_of};
     ghost use Rattle.j39_plan_text.specs.LoadText.{IsLoadReport};
 
-    ghost says = { λ plan. IsLoadReport plan plan.timing };
+    ghost says = { λ plan. IsLoadReport plan (timing_of plan) };
 
     fn report(&self, alloc: Global, plan: Plan) -> Result<(TextBuffer, Verdict), AllocError> {
         load_report(alloc, &plan)

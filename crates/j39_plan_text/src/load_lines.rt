@@ -134,17 +134,22 @@ fn write_limited(
 {
     match bits {
         Some(bits) if bits <= u64::from(limit) => write_within(text, within, bitrate, limit, bits),
-        _ => write_time(text, beyond, bitrate, u64::from(limit)),
+        Some(bits) => write_within(text, beyond, bitrate, limit, bits),
+        None => {
+            text.word(beyond)?;
+            write_time(text, "of ", bitrate, u64::from(limit))
+        }
     }
 }
 
 #[tactic(auto, unfolding(crate::specs::LoadLines::whole_text))]
 fn write_whole(text: &mut TextBuffer, bitrate: Bitrate, whole: WholeTime) -> Result<(), AllocError>
-    ensures { OnOk result (text.new ≡ text.old ++ whole_text bitrate whole.limit whole.bits) }
+    ensures { OnOk result (text.new ≡ text.old ++ whole_text bitrate whole whole.limit whole.bits) }
 {
     match (whole.limit, whole.bits) {
-        (Some(limit), bits) => {
-            write_limited(text, " whole within ", " late of ", bitrate, limit, bits)
+        (Some(limit), _) => {
+            let bits = whole.time_of_each();
+            write_limited(text, " whole within ", " late ", bitrate, limit, bits)
         }
         (None, Some(bits)) => write_time(text, " whole within ", bitrate, bits),
         (None, None) => Ok(()),
@@ -162,6 +167,7 @@ fn write_delay(
 {
     match delay {
         Delay::Within(bits) => write_within(text, " within ", bitrate, limit, u64::from(bits)),
+        Delay::Beyond(bits) => write_within(text, " late ", bitrate, limit, u64::from(bits)),
         Delay::Late => write_time(text, " late of ", bitrate, u64::from(limit)),
         Delay::Long(frames) => text.field(" frames ", frames),
         Delay::Whole(whole) => {
@@ -265,7 +271,7 @@ fn write_age(
 ) -> Result<(), AllocError>
     ensures { OnOk result (text.new ≡ text.old ++ age_text bitrate limit age) }
 {
-    write_limited(text, " age ", " old of ", bitrate, limit, age)
+    write_limited(text, " age ", " old ", bitrate, limit, age)
 }
 
 // The age of what is needed, or that no flow meets the need.

@@ -2,12 +2,13 @@
 ghost use Rattle.std.specs.Prelude.{◌≡◌, ◌+◌, ◌++◌, ◌≤◌, IfOk, OnOk, count_by, length};
 ghost use Rattle.j39_plan_text.specs.LoadText.{IsLoadReport, hides_times, is_untold, load_verdict, shows_times};
 ghost use Rattle.j39_plan_text.specs.LoadText.{untold_count, untold_lines, untold_text};
+ghost use Rattle.j39_load.specs.BusTimes.{timing_of};
 
 use crate::finding_lines::{is_between, write_lines};
 use crate::load_lines::{write_load_findings, write_loads};
 use crate::plan_report::write_findings;
 use j39_findings::{Finding, check};
-use j39_load::{LoadAnswer, LoadFinding};
+use j39_load::{LoadAnswer, LoadFinding, timing_of};
 use j39_network::Plan;
 use j39_stream::Verdict;
 use j39_text::TextBuffer;
@@ -101,10 +102,10 @@ fn verdict_of(findings: &[Finding], others: &[LoadFinding]) -> Verdict
 
 /// What is written of what a plan asks of its bus, with the verdict.
 pub(super) fn load_report(alloc: Global, plan: &Plan) -> Result<(TextBuffer, Verdict), AllocError>
-    ensures { IfOk result (λ report. IsLoadReport plan.now plan.now.timing report.0 report.1) }
+    ensures { IfOk result (λ report. IsLoadReport plan.now (timing_of plan.now) report.0 report.1) }
 {
     let mut text = TextBuffer::new(alloc);
-    let Some(timing) = plan.timing else {
+    let Some(timing) = timing_of(plan) else {
         text.word("refused plan NoTiming\n")?;
         return Ok((text, Verdict::Refused));
     };

@@ -2,6 +2,7 @@
 use Rattle.std.proofs.Common.{◌≡◌, ℕ, zero, suc, ◌+◌, Bool, true, List, [], ◌∷◌, ◌++◌, length, Some, refl, sym, ap, ◌∙◌, subst, arith}
 use Rattle.std.specs.List.{AllByRecursion, slice_get}
 use Rattle.j39_findings.specs.Found.{found}
+use Rattle.j39_load.specs.BusTimes.{timing_of}
 use Rattle.j39_load.specs.LoadFindings.{AreLoadFindings}
 use Rattle.j39_load.specs.declared.findings.load_finding.LoadFinding.{LoadFinding}
 use Rattle.j39_plan_text.specs.FoundInPlan.{are_of_times}
@@ -26,7 +27,7 @@ block_calm : (bus : BusPlan) (others : List LoadFinding) (text : List ℕ) → I
 block_calm bus others text block none =
     let nothing : found bus.plan ≡ [] = empty (found bus.plan) (omega (arith, none)) in
     let calm : others ≡ [] = empty others (omega (arith, none)) in
-    (nothing, subst (AreLoadFindings bus.plan bus.plan.timing) calm block.wrong)
+    (nothing, subst (AreLoadFindings bus.plan (timing_of bus.plan)) calm block.wrong)
 
 -- where no plan has a finding, each plan is calm
 pub plans_calm : (buses : List BusPlan) (others : List (List LoadFinding)) (text : List ℕ) → AreBlocks buses others text

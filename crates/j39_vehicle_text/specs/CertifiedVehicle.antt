@@ -2,6 +2,7 @@
 use Rattle.std.specs.Prelude.{◌≡◌, ℕ, Bool, List, [], Some}
 use Rattle.std.specs.List.{slice_get}
 use Rattle.j39_findings.specs.Found.{found}
+use Rattle.j39_load.specs.BusTimes.{timing_of}
 use Rattle.j39_load.specs.LoadFindings.{AreLoadFindings}
 use Rattle.j39_plan_text.specs.Certified.{IsCertified}
 use Rattle.j39_vehicle.specs.declared.vehicle.Vehicle.{Vehicle}
@@ -19,7 +20,7 @@ use Rattle.j39_vehicle_time_laws.specs.VehicleAges.{AreAgesKept, AreForwardedPau
 
 -- nothing is found in a plan and in what it asks of its bus
 abbrev pub HasCalmPlan : BusPlan → Type 0
-HasCalmPlan bus = (found bus.plan ≡ []) × AreLoadFindings bus.plan bus.plan.timing []
+HasCalmPlan bus = (found bus.plan ≡ []) × AreLoadFindings bus.plan (timing_of bus.plan) []
 
 -- nothing is found in a vehicle
 pub record HasNoFindings (v : Vehicle) : Type 0 where

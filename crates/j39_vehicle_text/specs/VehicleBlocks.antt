@@ -7,6 +7,7 @@ use Rattle.j39_network.specs.declared.plan.Plan.{Plan}
 use Rattle.j39_network.specs.declared.plan.timing.Timing.{Timing}
 use Rattle.j39_network.specs.declared.plan.unit_plan.UnitPlan.{UnitPlan}
 use Rattle.j39_load.specs.Asked.{asked_of}
+use Rattle.j39_load.specs.BusTimes.{timing_of}
 use Rattle.j39_load.specs.LoadFindings.{AreLoadFindings}
 use Rattle.j39_load.specs.declared.findings.load_finding.LoadFinding.{LoadFinding}
 use Rattle.j39_plan_text.specs.CheckText.{IsReport}
@@ -23,12 +24,12 @@ IsLoadOf plan (Some timing) text = (stays : UnitPlan → Bool) × DecidesWhoStay
 
 -- where it is to be told
 abbrev pub IsLoadWhere : Bool → Plan → List ℕ → Type 0
-IsLoadWhere is_told plan text = MatchBool is_told (IsLoadOf plan plan.timing text) (text ≡ [])
+IsLoadWhere is_told plan text = MatchBool is_told (IsLoadOf plan (timing_of plan) text) (text ≡ [])
 
 -- this is written of a bus, with whose plan's load these are wrong: the bus, what check writes of its plan, and, where each finding is one of
 -- times, how full the bus is
 pub record IsBlock (bus : BusPlan) (others : List LoadFinding) (text : List ℕ) : Type 0 where
-  pub wrong : AreLoadFindings bus.plan bus.plan.timing others
+  pub wrong : AreLoadFindings bus.plan (timing_of bus.plan) others
   pub check : List ℕ
   pub verdict : Verdict
   pub check_is : IsReport bus.plan check verdict

@@ -1,13 +1,14 @@
 //! What is written of the plans of a vehicle's buses.
 ghost use Rattle.std.specs.Prelude.{◌≡◌, ◌+◌, ◌≤◌, ◌++◌, ◌^◌, ◌&&◌, ℕ, List, IfOk, OnOk, length};
 ghost use Rattle.j39_plan_text.specs.FoundInPlan.{ArePlanFindings, are_of_times};
+ghost use Rattle.j39_load.specs.BusTimes.{timing_of};
 ghost use Rattle.j39_load.specs.declared.findings.load_finding.LoadFinding.{LoadFinding as LoadFaults};
 ghost use Rattle.j39_vehicle.specs.VehicleLimits.{bus_limit};
 ghost use Rattle.j39_vehicle_text.specs.VehicleBlocks.{AreBlocks, IsBlock, IsLoadOf, IsLoadWhere, all_are_of_times};
 ghost use Rattle.j39_vehicle_text.specs.VehicleBlocks.{count_of_plans};
 
 use crate::bus_file::write_bus;
-use j39_load::Loads;
+use j39_load::{Loads, timing_of};
 use j39_network::Plan;
 use j39_plan_text::{PlanFindings, write_check, write_load};
 use j39_text::TextBuffer;
@@ -25,9 +26,9 @@ pub struct PlansFound {
 
 // How full the bus of a plan is, where it has timing.
 fn write_load_of(alloc: Global, text: &mut TextBuffer, plan: &Plan) -> Result<(), AllocError>
-    ensures { OnOk result ((load : List ℕ) × IsLoadOf plan.now plan.now.timing load × (text.new ≡ text.old ++ load)) }
+    ensures { OnOk result ((load : List ℕ) × IsLoadOf plan.now (timing_of plan.now) load × (text.new ≡ text.old ++ load)) }
 {
-    match plan.timing {
+    match timing_of(plan) {
         Some(timing) => write_load(text, &Loads::new(alloc, timing, plan)?),
         None => Ok(()),
     }

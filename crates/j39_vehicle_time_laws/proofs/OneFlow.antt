@@ -13,6 +13,7 @@ use Rattle.j39_network.specs.declared.plan.timing.Timing.{Timing}
 use Rattle.j39_network.specs.declared.plan.to.To.{To}
 use Rattle.j39_network.specs.declared.plan.to.To.TheVariants.{All, One}
 use Rattle.j39_network.specs.declared.plan.unit_plan.UnitPlan.{UnitPlan}
+use Rattle.j39_load.specs.BusTimes.{timing_of}
 use Rattle.j39_load.specs.declared.waits.delay.Delay.{Delay}
 use Rattle.j39_load.specs.declared.waits.delay.Delay.TheVariants.{Within}
 use Rattle.j39_load.specs.declared.frames.flow_frames.FlowFrames.{FlowFrames}
@@ -65,7 +66,7 @@ own_parts v delays at time is =
 pub known_bus : (v : Vehicle) (delays : Delays) → AreDelays v delays → (b : ℕ) (timing : Timing) → timing_on v.buses.items b ≡ Some timing
     → IsKnownBus v delays b timing
 known_bus v delays told b timing timed =
-    let (bus, its, has) = and_then_some (λ (bus : BusPlan). bus.plan.timing) (slice_get v.buses.items b) timing timed in
+    let (bus, its, has) = and_then_some (λ (bus : BusPlan). timing_of bus.plan) (slice_get v.buses.items b) timing timed in
     let (stays, asks) = subst (λ (o : Option Timing). AreDelaysOn bus.plan o (delays_on delays b)) has (told.each b bus its) in
     record { bus = bus; its = its; timed = has; stays = stays; asks = asks }
 

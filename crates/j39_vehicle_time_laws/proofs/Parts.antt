@@ -5,7 +5,7 @@ use Rattle.j39_network.specs.declared.plan.timing.Bitrate.{Bitrate}
 use Rattle.j39_network.specs.declared.plan.timing.Bitrate.TheVariants.{Kbit125, Kbit250, Kbit500, Mbit1}
 use Rattle.j39_load.specs.Loads.{bits_per_ms}
 use Rattle.j39_load.specs.declared.waits.delay.Delay.{Delay}
-use Rattle.j39_load.specs.declared.waits.delay.Delay.TheVariants.{Within, Late, Long, Whole}
+use Rattle.j39_load.specs.declared.waits.delay.Delay.TheVariants.{Within, Beyond, Late, Long, Whole}
 use Rattle.j39_vehicle_times.specs.Times.{us_of_bit, bits_within, sum_known}
 
 pub sum_some : (a b : Option ℕ) (n : ℕ) → sum_known a b ≡ Some n → (x : ℕ) × (y : ℕ) × (a ≡ Some x) × (b ≡ Some y) × (n ≡ x + y)
@@ -16,6 +16,7 @@ sum_some (Some x) (Some y) n is = (x, y, refl, refl, sym (same_Some (x + y) n is
 pub within_some : (d : Option Delay) (bits : ℕ) → bits_within d ≡ Some bits → d ≡ Some (Within bits)
 within_some None bits is = absurd (none-some bits is)
 within_some (Some (Within n)) bits is = ap (λ (m : ℕ). Some (Within m)) (same_Some n bits is)
+within_some (Some (Beyond n)) bits is = absurd (none-some bits is)
 within_some (Some Late) bits is = absurd (none-some bits is)
 within_some (Some (Long n)) bits is = absurd (none-some bits is)
 within_some (Some (Whole w)) bits is = absurd (none-some bits is)

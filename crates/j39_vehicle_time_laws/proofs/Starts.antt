@@ -18,7 +18,7 @@ use Rattle.j39_load.specs.Delays.{IsShortDelay, any_delay, need_of}
 use Rattle.j39_load.specs.LoadFindings.{AsksOfBus}
 use Rattle.j39_load.specs.PlannedFrames.{AreFramesInAnyOrder, IsBounded, others_of, planned_at, traffic_of}
 use Rattle.j39_load.proofs.AnyTraffic.{begun, have, own_ordered, placed, positive, demand_fits, wait_of_queue_group}
-use Rattle.j39_load.proofs.BoundedFlows.{bounded}
+use Rattle.j39_load.proofs.BoundedFlows.{bounded, judged_within, within_late}
 use Rattle.j39_load.proofs.PositivePeriods.{ArePaced, HasPeriod, all_paced, of_loads}
 use Rattle.j39_load.proofs.Sending.{IsSent, all_sent}
 use Rattle.j39_load.proofs.StreamsBefore.{own_read}
@@ -52,21 +52,10 @@ module _ (timing : Timing) (asked : List (Option FlowFrames)) (paced : All HasPe
 
 -- ---- flows of which a delay is told
 
-late_within : (bits : ℕ) → Within bits ≡ Late → ⊥
-late_within bits is = cc
-
-same_within : (a b : ℕ) → Within a ≡ Within b → a ≡ b
-same_within a b is = cc
-
 told_wait : (frames : FlowFrames) (limit bits : ℕ) (wait : Option ℕ) → Within bits ≡ any_delay frames limit wait
     → (w : ℕ) × (wait ≡ Some w) × (bits ≡ delay_of frames.stream w)
-told_wait frames limit bits None told = absurd (late_within bits told)
-told_wait frames limit bits (Some w) told = go (leb (delay_of frames.stream w) limit) told
-  where
-    go : (fits : Bool) → Within bits ≡ (if fits then Within (delay_of frames.stream w) else Late)
-        → (n : ℕ) × (Some w ≡ Some n) × (bits ≡ delay_of frames.stream n)
-    go false told = absurd (late_within bits told)
-    go true told = (w, refl, same_within bits (delay_of frames.stream w) told)
+told_wait frames limit bits None told = absurd (within_late bits told)
+told_wait frames limit bits (Some w) told = (w, refl, (judged_within frames limit (delay_of frames.stream w) bits told).0)
 
 module _ (plan : Plan) (timing : Timing) (stays : UnitPlan → Bool) (delays : List (Option Delay)) (asks : AsksOfBus plan timing stays delays)
     (flow bits : ℕ) (at : slice_get delays flow ≡ Some (Some (Within bits))) where
@@ -87,7 +76,7 @@ module _ (plan : Plan) (timing : Timing) (stays : UnitPlan → Bool) (delays : L
     by_order : keep_order bound.frames ≡ true → (passed : Bool) → may_be_passed bound.buffering bound.frames.greatest_ident ≡ passed
         → MatchBool passed (Within bits ≡ Late) (IsShortDelay timing bound.buffering.frames flow bound.frames bound.load.limit (Within bits))
         → AreBegunWithin s planned of flow bound.wait
-    by_order ordered true passed told = absurd (late_within bits told)
+    by_order ordered true passed told = absurd (within_late bits told)
     by_order ordered false passed (wait, inside, least, sum) =
         let total = bound.sum in
         let fits = inside.within in

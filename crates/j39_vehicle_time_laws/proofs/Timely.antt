@@ -10,6 +10,7 @@ use Rattle.std.specs.Option.{option_and_then, option_map, option_map_or}
 use Rattle.j39_network.specs.declared.plan.flow_plan.FlowPlan.{FlowPlan}
 use Rattle.j39_network.specs.declared.plan.group_plan.GroupPlan.{GroupPlan}
 use Rattle.j39_network.specs.declared.plan.timing.Timing.{Timing}
+use Rattle.j39_load.specs.BusTimes.{timing_of}
 use Rattle.j39_load.specs.declared.waits.delay.Delay.{Delay}
 use Rattle.j39_vehicle.specs.declared.vehicle.Vehicle.{Vehicle}
 use Rattle.j39_vehicle.specs.declared.vehicle.bus_plan.BusPlan.{BusPlan}
@@ -158,7 +159,7 @@ module _ (v : Vehicle) (delays : Delays) (none : AreFindings v []) (told : AreDe
   unfolding bus
   bus_is = (bus_of v.buses.items at.bus at.flow sends.flow sends.its).1
 
-  no_delays : bus.plan.timing ≡ None → ⊥
+  no_delays : timing_of bus.plan ≡ None → ⊥
   no_delays untimed =
       let empty : delays_on delays at.bus ≡ [] = subst (λ (o : Option Timing). AreDelaysOn bus.plan o (delays_on delays at.bus)) untimed
       (told.each at.bus bus bus_is) in
@@ -167,14 +168,14 @@ module _ (v : Vehicle) (delays : Delays) (none : AreFindings v []) (told : AreDe
       omega (arith, inside)
 
   has_timing : ¬ (timing_on v.buses.items n.output.bus ≡ None)
-  has_timing missing = no_delays (sym (ap (option_and_then (λ (x : BusPlan). x.plan.timing)) bus_is)
+  has_timing missing = no_delays (sym (ap (option_and_then (λ (x : BusPlan). timing_of x.plan)) bus_is)
       ∙ subst (λ (b : ℕ). timing_on v.buses.items b ≡ None) sends.bus missing)
 
   is_short : (group : GroupPlan) → slice_get (groups_on v.buses.items n.output.bus) sends.flow.group ≡ Some group → group.most ≤ 8
-  is_short group its = some_cases bus.plan.timing (group.most ≤ 8)
+  is_short group its = some_cases (timing_of bus.plan) (group.most ≤ 8)
       (λ untimed. absurd (no_delays untimed))
       (λ timing timed.
-      let time : timing_on v.buses.items at.bus ≡ Some timing = ap (option_and_then (λ (x : BusPlan). x.plan.timing)) bus_is ∙ timed in
+      let time : timing_on v.buses.items at.bus ≡ Some timing = ap (option_and_then (λ (x : BusPlan). timing_of x.plan)) bus_is ∙ timed in
       let has : HasOwn v delays at (Rattle.j39_vehicle_times.specs.Times.own_of timing sends.flow bits) =
       record { timing = timing; timed = time; flow = sends.flow; its = sends.its; bits = bits; delayed = delayed; sum = refl } in
       let (short, of_flow, few) = short_group v delays told at (Rattle.j39_vehicle_times.specs.Times.own_of timing sends.flow bits) has in

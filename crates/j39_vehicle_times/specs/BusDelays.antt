@@ -5,6 +5,7 @@ use Rattle.std.specs.Option.{option_map_or}
 use Rattle.j39_network.specs.declared.plan.Plan.{Plan}
 use Rattle.j39_network.specs.declared.plan.timing.Timing.{Timing}
 use Rattle.j39_network.specs.declared.plan.unit_plan.UnitPlan.{UnitPlan}
+use Rattle.j39_load.specs.BusTimes.{timing_of}
 use Rattle.j39_load.specs.LoadFindings.{AsksOfBus}
 use Rattle.j39_load.specs.declared.waits.delay.Delay.{Delay}
 use Rattle.j39_vehicle.specs.declared.vehicle.Vehicle.{Vehicle}
@@ -23,4 +24,4 @@ delays_on delays b = option_map_or (λ told. told.items) (slice_get delays.of_bu
 -- so it is of each bus
 pub record AreDelays (v : Vehicle) (delays : Delays) : Type 0 where
   pub count : length delays.of_buses.items ≡ length v.buses.items
-  pub each : (b : ℕ) (bus : BusPlan) → slice_get v.buses.items b ≡ Some bus → AreDelaysOn bus.plan bus.plan.timing (delays_on delays b)
+  pub each : (b : ℕ) (bus : BusPlan) → slice_get v.buses.items b ≡ Some bus → AreDelaysOn bus.plan (timing_of bus.plan) (delays_on delays b)

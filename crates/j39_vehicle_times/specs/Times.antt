@@ -8,6 +8,7 @@ use Rattle.j39_network.specs.declared.plan.pace.Pace.{Pace}
 use Rattle.j39_network.specs.declared.plan.timing.Bitrate.{Bitrate}
 use Rattle.j39_network.specs.declared.plan.timing.Bitrate.TheVariants.{Kbit125, Kbit250, Kbit500, Mbit1}
 use Rattle.j39_network.specs.declared.plan.timing.Timing.{Timing}
+use Rattle.j39_load.specs.BusTimes.{timing_of}
 use Rattle.j39_load.specs.Loads.{bits_of_ms}
 use Rattle.j39_load.specs.declared.waits.delay.Delay.{Delay}
 use Rattle.j39_load.specs.declared.waits.delay.Delay.TheVariants.{Within}
@@ -44,7 +45,7 @@ sum_known (Some a) (Some b) = Some (a + b)
 
 -- of the bus at a place, where its plan has it
 abbrev pub timing_on : List BusPlan → ℕ → Option Timing
-timing_on buses b = option_and_then (λ (bus : BusPlan). bus.plan.timing) (slice_get buses b)
+timing_on buses b = option_and_then (λ (bus : BusPlan). timing_of bus.plan) (slice_get buses b)
 
 abbrev pub flow_at : List BusPlan → FlowAt → Option FlowPlan
 flow_at buses at = slice_get (flows_on buses at.bus) at.flow

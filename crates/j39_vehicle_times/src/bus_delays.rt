@@ -1,10 +1,11 @@
 //! How long the messages of each flow of each bus take.
 ghost use Rattle.std.specs.Prelude.{◌≡◌, ◌≢◌, [], IfOk, OnErr};
 ghost use Rattle.std.specs.Option.{option_copied};
+ghost use Rattle.j39_load.specs.BusTimes.{timing_of};
 ghost use Rattle.j39_vehicle_times.specs.BusDelays.{AreDelays, AreDelaysOn, delays_on};
 ghost use Rattle.j39_vehicle_times.specs.Times.{bits_within, delay_at};
 
-use j39_load::{Delay, Loads};
+use j39_load::{Delay, Loads, timing_of};
 use j39_network::Plan;
 use j39_vehicle::Vehicle;
 use j39_vehicle_findings::FlowAt;
@@ -22,6 +23,7 @@ fn bits_within(delay: Option<Delay>) -> Option<u32>
 {
     match delay {
         Some(Delay::Within(bits)) => Some(bits),
+        Some(Delay::Beyond(_)) => None,
         Some(Delay::Late) => None,
         Some(Delay::Long(_)) => None,
         Some(Delay::Whole(_)) => None,
@@ -51,9 +53,9 @@ pub fn delay_at(delays: &Delays, at: FlowAt) -> Option<u32>
 
 // The delays of the flows of a bus with this plan.
 fn delays_by(alloc: Global, plan: &Plan) -> Result<Vec<Option<Delay>>, AllocError>
-    ensures { IfOk result (λ delays. AreDelaysOn plan.now plan.now.timing delays.items) }
+    ensures { IfOk result (λ delays. AreDelaysOn plan.now (timing_of plan.now) delays.items) }
 {
-    let Some(timing) = plan.timing else {
+    let Some(timing) = timing_of(plan) else {
         return Ok(Vec::new(alloc));
     };
     let loads = Loads::new(alloc, timing, plan)?;

@@ -47,10 +47,12 @@ LINES = {
     "unit": [form_of(f"unit {{unit}} (?P<stays>{word}) {{#address}}") for word in ("stays", "may move from")],
     "stay": [form_of("stay {#stay} of {#units}")],
     "flow": [form_of("flow {#flow} {group} {from} {to}" + rest) for rest in (
-        " no period", " within {#within} of {#limit} us", " late of {#limit} us", " frames {#frames}", " frames {#frames} whole within {#within} us",
-        " frames {#frames} whole within {#within} of {#limit} us", " frames {#frames} late of {#limit} us")],
+        " no period", " within {#within} of {#limit} us", " late of {#limit} us", " late {#late} of {#limit} us", " frames {#frames}",
+        " frames {#frames} whole within {#within} us", " frames {#frames} whole within {#within} of {#limit} us",
+        " frames {#frames} late of {#limit} us", " frames {#frames} late {#late} of {#limit} us")],
     "need": [form_of("need {#need} {unit} {group}" + signal + rest)
-             for signal in ("", " {signal}") for rest in (" age {#age} of {#limit} us", " old of {#limit} us", " unmet of {#limit} us")],
+             for signal in ("", " {signal}")
+             for rest in (" age {#age} of {#limit} us", " old of {#limit} us", " old {#old} of {#limit} us", " unmet of {#limit} us")],
     "load": [form_of("load {#load} of {#bitrate}")],
 }
 

@@ -28,23 +28,25 @@ class Stand(NamedTuple):
 
 
 class Delay(NamedTuple):
-    """A flow by its number, and by `load` the time within which its frames are on the bus, None where that isn't shown; the time that they
-    have, None of a long message without a deadline of its own; and how many frames a message takes, 0 of a flow without a period. A long
-    message to all is whole within that time. Times are in us."""
+    """A flow by its number, and by `load` the time within which its frames are on the bus, None where that isn't shown to be in time; the time
+    that they have, None of a long message without a deadline of its own; how many frames a message takes, 0 of a flow without a period; and
+    of a late one the time that it takes, where one is known. A long message to all is whole within that time. Times are in us."""
 
     flow: int
     within: int | None
     limit: int | None
     frames: int
+    late: int | None = None
 
 
 class Age(NamedTuple):
-    """A need by its number, and by `load` how old what it asks for is at most, None where it isn't shown to be as young as it has to be, and
-    how old it may be. Times are in us."""
+    """A need by its number, and by `load` how old what it asks for is at most, None where it isn't shown to be as young as it has to be; how
+    old it may be; and where it may be older how old, where that is known. Times are in us."""
 
     need: int
     age: int | None
     limit: int
+    old: int | None = None
 
 
 class Load(NamedTuple):
@@ -74,12 +76,12 @@ def stands(answer: str) -> dict[str, Stand]:
 def delay_of(line: Line) -> Delay:
     """What `load` tells of a flow."""
     frames = 0 if line.said == "no period" else line.number_if_any("frames") or 1
-    return Delay(line.number("flow"), line.number_if_any("within"), line.number_if_any("limit"), frames)
+    return Delay(line.number("flow"), line.number_if_any("within"), line.number_if_any("limit"), frames, line.number_if_any("late"))
 
 
 def age_of(line: Line) -> Age:
     """What `load` tells of a need."""
-    return Age(line.number("need"), line.number_if_any("age"), line.number("limit"))
+    return Age(line.number("need"), line.number_if_any("age"), line.number("limit"), line.number_if_any("old"))
 
 
 def load_of(answer: str) -> Load | None:

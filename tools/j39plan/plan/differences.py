@@ -177,7 +177,7 @@ def told_of(source: Source, lines: list[Line]) -> dict[int, Line]:
 
 def is_too_old(told: Line, most: int) -> bool:
     """Whether a need of at most so many us isn't met by what `load` says of it: an age, or that none is shown."""
-    age = told.number_if_any("age")
+    age = told.number_if_any("old" if "old" in told.parts else "age")
     return age is None or age > most
 
 
@@ -187,7 +187,7 @@ def shown_age(said: str) -> str:
         return "unmet"
     if said.startswith("age "):
         return said.removeprefix("age ")
-    return f"not shown young enough, {said.removeprefix('old ')}"
+    return f"not shown young enough, {said.removeprefix('old ')}" if said.startswith("old of ") else f"{said.removeprefix('old ')}, too old"
 
 
 class Answers:

@@ -7,7 +7,7 @@ from html import escape
 from itertools import groupby
 
 from j39plan.j1939 import NAME_FIELDS
-from j39plan.plan.answers import Delay, Finding, Load, Stand
+from j39plan.plan.answers import Age, Delay, Finding, Load, Stand
 from j39plan.plan.page_style import STYLE
 from j39plan.plan.parts import Source
 from j39plan.plan.tables import Flow, Group, Signal, Tables, Text, Unit, serves
@@ -234,6 +234,13 @@ def needed(tables: Tables, flow: Flow) -> str:
     return f" for {', '.join(units)}" if units else ""
 
 
+def age_cell(age: Age) -> str:
+    """How old what is needed is, where that is known."""
+    if age.age is not None:
+        return in_milliseconds(age.age)
+    return "<strong>not shown to be so young</strong>" if age.old is None else f"<strong>{in_milliseconds(age.old)}, too old</strong>"
+
+
 def need_section(tables: Tables, load: Load | None) -> str:
     """Who needs what, who brings it, and how old it is when it comes."""
     links, ages = links_of(tables), {age.need: age for age in load.ages} if load else {}
@@ -241,7 +248,7 @@ def need_section(tables: Tables, load: Load | None) -> str:
     for number, need in enumerate(tables.needs, 1):
         senders = dict.fromkeys(escape(flow.sender) for flow in tables.flows if need.is_met_by(flow))
         age = ages.get(number)
-        shown = "–" if age is None else "<strong>not shown to be so young</strong>" if age.age is None else in_milliseconds(age.age)
+        shown = "–" if age is None else age_cell(age)
         rows.append(row(str(number), [
             escape(need.unit), links[need.group], escape(need.signal) or "–", escape(need.sender) or "any unit",
             ", ".join(senders) or "<strong>nobody</strong>", f"{need.within} ms" if need.within else "–", shown,
@@ -316,6 +323,18 @@ def paced(flow: Flow) -> list[str]:
     return [f"{flow.jitter} ms" if flow.jitter else "–", f"{flow.pause} ms" if flow.pause else "–"]
 
 
+def share_of(time: int, limit: int) -> str:
+    """How much of the time that there is a time takes."""
+    return f"{100 * time / limit:.1f} %"
+
+
+def late_cells(late: int | None, limit: int) -> list[str]:
+    """A late flow: the time that it takes, where that is known."""
+    if late is None:
+        return ["<strong>not shown to be in time</strong>", in_milliseconds(limit), "–"]
+    return [f"<strong>{in_milliseconds(late)}, late</strong>", in_milliseconds(limit), share_of(late, limit)]
+
+
 def delay_row(delay: Delay, flow: Flow, group: Group, link: str, bitrate: int, is_paced: bool) -> str:
     """A flow with what it takes of the bus and its delay, in words where it has none. What long messages take `load` alone knows."""
     taken = f"{100 * 1000 * bits_of(group) / (flow.period * bitrate):.1f} %" if flow.period and delay.frames == 1 else "–"
@@ -323,13 +342,12 @@ def delay_row(delay: Delay, flow: Flow, group: Group, link: str, bitrate: int, i
         cells = ["no period", "–", "–"]
     elif delay.within is None and delay.limit is None:
         cells = [f"no bound: {delay.frames} frames a message", "–", "–"]
-    elif delay.within is None:
-        cells = ["<strong>not shown to be in time</strong>", in_milliseconds(delay.limit or 0), "–"]
+    elif delay.within is None and delay.limit is not None:
+        cells = late_cells(delay.late, delay.limit)
     elif delay.limit is None:
         cells = [f"{in_milliseconds(delay.within)}, the whole message", "–", "–"]
     else:
-        share = f"{100 * delay.within / delay.limit:.1f} %"
-        cells = [in_milliseconds(delay.within), in_milliseconds(delay.limit), share]
+        cells = [in_milliseconds(delay.within), in_milliseconds(delay.limit), share_of(delay.within, delay.limit)]
     ends = [link, escape(flow.sender), escape(flow.to), f"{flow.period} ms" if flow.period else "–"]
     return row(str(delay.flow), [*ends, *(paced(flow) if is_paced else []), taken, *cells])
 

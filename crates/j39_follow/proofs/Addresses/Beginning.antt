@@ -6,14 +6,15 @@ use Rattle.std.proofs.lemmas.Option.{none-some}
 use Rattle.j39_id.specs.Addresses.{in_pool}
 use Rattle.j39_id.specs.FrameMeaning.{cannot_claim, claims_address, name_in}
 use Rattle.j39_network.specs.declared.plan.Plan.{Plan}
-use Rattle.j39_follow.specs.Contests.{Begins, BeginsNone, Defends, IsContestBehind, IsTakenBehind, Opposes, Runs, Takes, Timed, frames_of, likely_named}
+use Rattle.j39_follow.specs.Contests.{Begins, BeginsNone, Defends, IsContestBehind, IsHeldSince, IsTakenBehind, Opposes, Runs, Takes, Timed, frames_of}
+use Rattle.j39_follow.specs.Contests.{likely_named}
 use Rattle.j39_follow.specs.Holders.{HoldsByFrames, IsHolder}
 use Rattle.j39_follow.specs.Who.{IsSameParty}
 use Rattle.j39_follow.specs.declared.address.claim.Claim.{Claim}
 use Rattle.j39_follow.specs.declared.address.contest.Contention.{Contention}
 use Rattle.j39_follow.specs.declared.address.contest.Contest.{Contest}
 use Rattle.j39_follow.specs.inside.Contesting.{IsBegun, IsClaimAt, IsGuess, IsMet, contest_with, is_defended, is_place, remaining_of, running_of, smaller_of}
-use Rattle.j39_follow.specs.inside.Contesting.{opponent_of}
+use Rattle.j39_follow.specs.inside.Contesting.{opponent_of, since_of}
 use Rattle.j39_follow.specs.inside.Hearing.{is_same_party}
 use Rattle.j39_follow.proofs.Addresses.Contending.{defended_so, left_so, one_guess, one_met, place_some, run_so, some_place, run_then, undefended}
 use Rattle.j39_follow.proofs.Addresses.Heard.{party_again, party_same}
@@ -34,47 +35,47 @@ not_below n m e less = false≢true (sym e ∙ lt-ltb n m less)
 module _ (plan : Plan) (before : List Timed) (x : Timed) (k : Claim) (at : IsClaimAt plan before x k) where
   -- ---- whom it meets
 
-  pub met_holder : (kept : Option Contest) (holder : ℕ) → HoldsByFrames (frames_of before) holder k.address
-      → IsMet plan before kept x k (opponent_of holder k.name (is_defended kept k))
-  met_holder kept holder holds = elim (cases_Bool (nat_lt holder k.name || not (is_defended kept k))) [
+  pub met_holder : (old : Contention) (holder : ℕ) → HoldsByFrames (frames_of before) holder k.address
+      → IsMet plan before old x k (opponent_of holder k.name (is_defended old.contest old.since k))
+  met_holder old holder holds = elim (cases_Bool (nat_lt holder k.name || not (is_defended old.contest old.since k))) [
     | inl meets ↦
-        subst (λ (b : Bool). IsMet plan before kept x k (if b then Some holder else None)) (sym meets)
+        subst (λ (b : Bool). IsMet plan before old x k (if b then Some holder else None)) (sym meets)
         (inl (
           holds,
-          elim (or_cases (nat_lt holder k.name) (not (is_defended kept k)) meets) [
+          elim (or_cases (nat_lt holder k.name) (not (is_defended old.contest old.since k)) meets) [
             | inl less ↦ inl (ltb-true holder k.name less)
-            | inr against ↦ inr (undefended plan before x kept k at (not-true (is_defended kept k) against))
+            | inr against ↦ inr (undefended plan before x old k at (Some holder) holds (not-true (is_defended old.contest old.since k) against))
           ],
         ))
     | inr not_met ↦
-        let parts = both_false (nat_lt holder k.name) (not (is_defended kept k)) not_met in
-        subst (λ (b : Bool). IsMet plan before kept x k (if b then Some holder else None)) (sym not_met)
+        let parts = both_false (nat_lt holder k.name) (not (is_defended old.contest old.since k)) not_met in
+        subst (λ (b : Bool). IsMet plan before old x k (if b then Some holder else None)) (sym not_met)
         (λ m meets. elim meets [
           | inl there ↦
               let same : m ≡ holder = same_name (frames_of before) k.address m holder there.0 holds in
               elim there.1 [
                 | inl less ↦ not_below holder k.name parts.0 (subst (λ (n : ℕ). n < k.name) same less)
                 | inr against ↦
-                    elim (cases_Bool (is_defended kept k)) [
-                      | inl defends ↦ against (defended_so plan before x kept k at defends)
-                      | inr without ↦ false≢true (sym parts.1 ∙ not_so (is_defended kept k) without)
+                    elim (cases_Bool (is_defended old.contest old.since k)) [
+                      | inl defends ↦ against (defended_so plan before x old k at (Some holder) holds defends)
+                      | inr without ↦ false≢true (sym parts.1 ∙ not_so (is_defended old.contest old.since k) without)
                     ]
               ]
           | inr guess ↦ guess.0.0 holder holds
         ])
   ]
 
-  pub met_guess : (kept : Option Contest) (guess : Option ℕ) → IsHolder (frames_of before) k.address None → IsGuess plan (frames_of before) k.address guess
-      → IsMet plan before kept x k (smaller_of guess k.name)
-  met_guess kept None none guess = λ m meets. elim meets [
+  pub met_guess : (old : Contention) (guess : Option ℕ) → IsHolder (frames_of before) k.address None → IsGuess plan (frames_of before) k.address guess
+      → IsMet plan before old x k (smaller_of guess k.name)
+  met_guess old None none guess = λ m meets. elim meets [
     | inl there ↦ none m there.0
     | inr other ↦ guess m other.0
   ]
-  met_guess kept (Some g) none guess = elim (cases_Bool (nat_lt g k.name)) [
+  met_guess old (Some g) none guess = elim (cases_Bool (nat_lt g k.name)) [
     | inl less ↦
-        subst (λ (b : Bool). IsMet plan before kept x k (if b then Some g else None)) (sym less) (inr (guess, ltb-true g k.name less))
+        subst (λ (b : Bool). IsMet plan before old x k (if b then Some g else None)) (sym less) (inr (guess, ltb-true g k.name less))
     | inr more ↦
-        subst (λ (b : Bool). IsMet plan before kept x k (if b then Some g else None)) (sym more)
+        subst (λ (b : Bool). IsMet plan before old x k (if b then Some g else None)) (sym more)
         (λ m meets. elim meets [
           | inl there ↦ none m there.0
           | inr other ↦
@@ -90,8 +91,8 @@ module _ (plan : Plan) (before : List Timed) (x : Timed) (k : Claim) (at : IsCla
   claimant_is old c b = sym b.claims.name_is ∙ at.claims.name_is
 
   meets_so : (old : Contention) (c : Contest) (b : Begins plan before old x k.address c)
-      → Opposes plan (frames_of before) old.contest x.time k.address k.name b.opponent
-  meets_so old c b = subst (λ (n : ℕ). Opposes plan (frames_of before) old.contest x.time k.address n b.opponent) (claimant_is old c b) b.opposes
+      → Opposes plan (frames_of before) old x.time k.address k.name b.opponent
+  meets_so old c b = subst (λ (n : ℕ). Opposes plan (frames_of before) old x.time k.address n b.opponent) (claimant_is old c b) b.opposes
 
   pub none_timed : (old : Contention) → k.time ≡ None → BeginsNone plan before old x k.address
   none_timed old none c b = none-some c.since (sym none ∙ at.time ∙ b.since)
@@ -115,11 +116,11 @@ module _ (plan : Plan) (before : List Timed) (x : Timed) (k : Claim) (at : IsCla
       let there = some_there (running_of old.contest k.time) runs in
       b.free there.0 (subst (λ (t : Option ℕ). Runs old.contest t there.0) at.time (run_so old.contest k.time there.0 there.1))
 
-  pub none_met : (old : Contention) → IsMet plan before old.contest x k None → BeginsNone plan before old x k.address
+  pub none_met : (old : Contention) → IsMet plan before old x k None → BeginsNone plan before old x k.address
   none_met old none c b = none b.opponent (meets_so old c b)
 
   pub begun_with : (old : Contention) (since opponent : ℕ) → k.time ≡ Some since → in_pool k.address ≡ true
-      → is_some (running_of old.contest k.time) ≡ false → IsMet plan before old.contest x k (Some opponent)
+      → is_some (running_of old.contest k.time) ≡ false → IsMet plan before old x k (Some opponent)
       → IsBegun plan before old x k.address (contest_with plan old.taken k opponent since)
   begun_with old since opponent timed pool over met = elim (cases_Bool (is_same_party (likely_named plan opponent) k.claimant.party)) [
     | inl same ↦
@@ -131,7 +132,7 @@ module _ (plan : Plan) (before : List Timed) (x : Timed) (k : Claim) (at : IsCla
           taken = if nat_lt k.name opponent then old.taken else None;
         })) same))
         (λ c b.
-        let there : b.opponent ≡ opponent = one_met plan (frames_of before) old.contest x.time k.address k.name b.opponent opponent (meets_so old c b) met in
+        let there : b.opponent ≡ opponent = one_met plan (frames_of before) old x.time k.address k.name b.opponent opponent (meets_so old c b) met in
         b.another (subst (λ (n : ℕ). IsSameParty (likely_named plan b.opponent) (likely_named plan n)) (sym (claimant_is old c b))
         (subst (λ (n : ℕ). IsSameParty (likely_named plan n) (likely_named plan k.name)) (sym there) one)))
     | inr other ↦
@@ -194,22 +195,29 @@ module _ (plan : Plan) (before : List Timed) (x : Timed) (k : Claim) (at : IsCla
     λ holds. out (subst (λ (n : ℕ). HoldsByFrames (frames_of before) n k.address) at.claims.name_is holds),
   )
 
-  pub taken_defended : (old : Contention) → ¬ HoldsByFrames (frames_of before) k.name k.address → is_defended old.contest k ≡ true
-      → IsTakenBehind plan before old x k.address None
-  taken_defended old out defends =
+  pub taken_defended : (old : Contention) (holder : Option ℕ) → IsHolder (frames_of before) k.address holder → ¬ HoldsByFrames (frames_of before) k.name k.address
+      → is_defended old.contest (since_of holder old.since) k ≡ true → IsTakenBehind plan before old x k.address None
+  taken_defended old holder holds out defends =
       inl (
         takes_so out,
-        subst (Defends plan (frames_of before) old.contest x.time k.address) (sym at.claims.name_is)
-            (defended_so plan before x old.contest k at defends),
+        subst (Defends plan (frames_of before) old x.time k.address) (sym at.claims.name_is)
+            (defended_so plan before x old k at holder holds defends),
         refl,
       )
 
-  pub taken_anew : (old : Contention) → ¬ HoldsByFrames (frames_of before) k.name k.address → is_defended old.contest k ≡ false
-      → IsTakenBehind plan before old x k.address k.time
-  taken_anew old out against =
+  pub taken_anew : (old : Contention) (holder : Option ℕ) → IsHolder (frames_of before) k.address holder → ¬ HoldsByFrames (frames_of before) k.name k.address
+      → is_defended old.contest (since_of holder old.since) k ≡ false → IsTakenBehind plan before old x k.address k.time
+  taken_anew old holder holds out against =
       inr (inl (
         takes_so out,
-        (λ d. undefended plan before x old.contest k at against
-            (subst (Defends plan (frames_of before) old.contest x.time k.address) at.claims.name_is d)),
+        (λ d. undefended plan before x old k at holder holds against
+            (subst (Defends plan (frames_of before) old x.time k.address) at.claims.name_is d)),
         at.time,
       ))
+
+  pub since_held : (old : Contention) → HoldsByFrames (frames_of before) k.name k.address → IsHeldSince before old x k.address old.since
+  since_held old holds =
+      inr ((λ takes. takes.1 (subst (λ (n : ℕ). HoldsByFrames (frames_of before) n k.address) (sym at.claims.name_is) holds)), refl)
+
+  pub since_anew : (old : Contention) → ¬ HoldsByFrames (frames_of before) k.name k.address → IsHeldSince before old x k.address k.time
+  since_anew old out = inl (takes_so out, at.time)

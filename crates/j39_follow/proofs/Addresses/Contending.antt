@@ -8,14 +8,15 @@ use Rattle.j39_id.specs.FrameMeaning.{cannot_claim, claims_address, name_in}
 use Rattle.j39_id.specs.declared.frame.Frame.{Frame}
 use Rattle.j39_network.specs.declared.plan.Plan.{Plan}
 use Rattle.j39_follow.specs.Contests.{Begins, BeginsNone, Defends, EndsContest, IsContention, IsContentionBehind, IsContestBehind, IsGuessed, IsTakenBehind}
-use Rattle.j39_follow.specs.Contests.{Leads, Opposes, Runs, Timed, claim_wait, frames_of, likely_named, nothing_contended}
-use Rattle.j39_follow.specs.Holders.{Claims}
+use Rattle.j39_follow.specs.Contests.{IsHeldSince, IsSoon, Leads, Opposes, Runs, Timed, claim_wait, frames_of, likely_named, nothing_contended}
+use Rattle.j39_follow.specs.Holders.{Claims, HoldsByFrames, IsHolder}
 use Rattle.j39_follow.specs.Who.{IsLikeliest, IsSameParty}
 use Rattle.j39_follow.specs.declared.address.claim.Claim.{Claim}
 use Rattle.j39_follow.specs.declared.address.contest.Contention.{Contention}
 use Rattle.j39_follow.specs.declared.address.contest.Contest.{Contest}
 use Rattle.j39_follow.specs.declared.address.who.Who.{Who}
-use Rattle.j39_follow.specs.inside.Contesting.{IsClaimAt, defends_in, is_defended, is_place, is_lasting, remaining_at, remaining_of, running_of}
+use Rattle.j39_follow.specs.inside.Contesting.{IsClaimAt, defends_in, is_defended, is_place, is_lasting, is_soon, remaining_at, remaining_of, running_of}
+use Rattle.j39_follow.specs.inside.Contesting.{since_of}
 use Rattle.j39_follow.specs.inside.Hearing.{is_same_party}
 use Rattle.j39_follow.proofs.Addresses.Heard.{party_again, party_same}
 use Rattle.j39_follow.proofs.Addresses.HolderLaws.{same_name}
@@ -71,30 +72,68 @@ defended_in (Some c) party e = (c, refl, party_same c.defender party e)
 in_defence : (o : Option Contest) (c : Contest) (party : Who) → o ≡ Some c → IsSameParty c.defender party → defends_in o party ≡ true
 in_defence o c party is same = ap (λ (k : Option Contest). defends_in k party) is ∙ party_again c.defender party same
 
-module _ (plan : Plan) (before : List Timed) (x : Timed) (kept : Option Contest) (k : Claim) (at : IsClaimAt plan before x k) where
-  pub defended_so : is_defended kept k ≡ true → Defends plan (frames_of before) kept x.time k.address k.name
-  defended_so e = elim (or_cases (is_place k.claimant.address k.address) (defends_in (running_of kept k.time) k.claimant.party) e) [
-    | inl last ↦ inl (at.claimant.claimed k.address (place_some k.claimant.address k.address last))
+soon_so : (since time : Option ℕ) → is_soon since time ≡ true → IsSoon since time
+soon_so None time e = λ first now is at. absurd (none-some first is)
+soon_so (Some first) None e = λ other now is at. absurd (none-some now at)
+soon_so (Some first) (Some now) e = λ other then is at.
+    let same = same_Some first other is in
+    let here = same_Some now then at in
+    let within = leb-true now (first + claim_wait) e in
+    omega (arith, same, here, within)
+
+soon_then : (since time : Option ℕ) → IsSoon since time → is_soon since time ≡ true
+soon_then None time soon = refl
+soon_then (Some first) None soon = refl
+soon_then (Some first) (Some now) soon = le-leb now (first + claim_wait) (soon first now refl refl)
+
+-- the NAME that holds an address does so since so short a time, if one holds it
+held_soon : (frames : List Frame) (address : ℕ) (holder since time : Option ℕ) → IsHolder frames address holder → is_soon (since_of holder since) time ≡ true
+    → (name : ℕ) → HoldsByFrames frames name address → IsSoon since time
+held_soon frames address None since time none e name holds = absurd (none name holds)
+held_soon frames address (Some holder) since time there e name holds = soon_so since time e
+
+soon_held : (frames : List Frame) (address : ℕ) (holder since time : Option ℕ) → IsHolder frames address holder
+    → ((name : ℕ) → HoldsByFrames frames name address → IsSoon since time) → is_soon (since_of holder since) time ≡ true
+soon_held frames address None since time none soon = refl
+soon_held frames address (Some holder) since time there soon = soon_then since time (soon holder there)
+
+module _ (plan : Plan) (before : List Timed) (x : Timed) (old : Contention) (k : Claim) (at : IsClaimAt plan before x k) (holder : Option ℕ)
+    (holds : IsHolder (frames_of before) k.address holder) where
+  abbrev again : Bool
+  again = is_place k.claimant.address k.address && is_soon (since_of holder old.since) k.time
+
+  pub defended_so : is_defended old.contest (since_of holder old.since) k ≡ true → Defends plan (frames_of before) old x.time k.address k.name
+  defended_so e = elim (or_cases again (defends_in (running_of old.contest k.time) k.claimant.party) e) [
+    | inl last ↦
+        let parts = and_parts (is_place k.claimant.address k.address) (is_soon (since_of holder old.since) k.time) last in
+        inl (
+          at.claimant.claimed k.address (place_some k.claimant.address k.address parts.0),
+          held_soon (frames_of before) k.address holder old.since x.time holds
+              (subst (λ (t : Option ℕ). is_soon (since_of holder old.since) t ≡ true) at.time parts.1),
+        )
     | inr defends ↦
-        let runs = defended_in (running_of kept k.time) k.claimant.party defends in
+        let runs = defended_in (running_of old.contest k.time) k.claimant.party defends in
         inr (
           runs.0,
-          subst (λ (t : Option ℕ). Runs kept t runs.0) at.time (run_so kept k.time runs.0 runs.1),
+          subst (λ (t : Option ℕ). Runs old.contest t runs.0) at.time (run_so old.contest k.time runs.0 runs.1),
           subst (IsSameParty runs.0.defender) at.claimant.party runs.2,
         )
   ]
 
-  pub defended_then : Defends plan (frames_of before) kept x.time k.address k.name → is_defended kept k ≡ true
+  pub defended_then : Defends plan (frames_of before) old x.time k.address k.name → is_defended old.contest (since_of holder old.since) k ≡ true
   defended_then (inl last) =
-      or_left (is_place k.claimant.address k.address) (defends_in (running_of kept k.time) k.claimant.party)
-      (some_place k.claimant.address k.address (at.claimant.claims k.address last))
+      or_left again (defends_in (running_of old.contest k.time) k.claimant.party)
+      (both_true (is_place k.claimant.address k.address) (is_soon (since_of holder old.since) k.time)
+      (some_place k.claimant.address k.address (at.claimant.claims k.address last.0))
+      (subst (λ (t : Option ℕ). is_soon (since_of holder old.since) t ≡ true) (sym at.time)
+      (soon_held (frames_of before) k.address holder old.since x.time holds last.1)))
   defended_then (inr runs) =
-      or_right (is_place k.claimant.address k.address) (defends_in (running_of kept k.time) k.claimant.party)
-      (in_defence (running_of kept k.time) runs.0 k.claimant.party
-      (run_then kept k.time runs.0 (subst (λ (t : Option ℕ). Runs kept t runs.0) (sym at.time) runs.1))
+      or_right again (defends_in (running_of old.contest k.time) k.claimant.party)
+      (in_defence (running_of old.contest k.time) runs.0 k.claimant.party
+      (run_then old.contest k.time runs.0 (subst (λ (t : Option ℕ). Runs old.contest t runs.0) (sym at.time) runs.1))
       (subst (IsSameParty runs.0.defender) (sym at.claimant.party) runs.2))
 
-  pub undefended : is_defended kept k ≡ false → ¬ Defends plan (frames_of before) kept x.time k.address k.name
+  pub undefended : is_defended old.contest (since_of holder old.since) k ≡ false → ¬ Defends plan (frames_of before) old x.time k.address k.name
   undefended e d = false≢true (sym e ∙ defended_then d)
 
 -- ---- whom a claim meets
@@ -110,12 +149,12 @@ same_likeliest plan frames a u v l k =
 pub one_guess : (plan : Plan) (frames : List Frame) (a n m : ℕ) → IsGuessed plan frames a n → IsGuessed plan frames a m → n ≡ m
 one_guess plan frames a n m x y = sym x.3 ∙ same_likeliest plan frames a x.1 y.1 x.2 y.2 ∙ y.3
 
-pub one_met : (plan : Plan) (frames : List Frame) (kept : Option Contest) (time : Option ℕ) (a claimant n m : ℕ)
-    → Opposes plan frames kept time a claimant n → Opposes plan frames kept time a claimant m → n ≡ m
-one_met plan frames kept time a claimant n m (inl x) (inl y) = same_name frames a n m x.0 y.0
-one_met plan frames kept time a claimant n m (inl x) (inr y) = absurd (y.0.0 n x.0)
-one_met plan frames kept time a claimant n m (inr x) (inl y) = absurd (x.0.0 m y.0)
-one_met plan frames kept time a claimant n m (inr x) (inr y) = one_guess plan frames a n m x.0 y.0
+pub one_met : (plan : Plan) (frames : List Frame) (old : Contention) (time : Option ℕ) (a claimant n m : ℕ)
+    → Opposes plan frames old time a claimant n → Opposes plan frames old time a claimant m → n ≡ m
+one_met plan frames old time a claimant n m (inl x) (inl y) = same_name frames a n m x.0 y.0
+one_met plan frames old time a claimant n m (inl x) (inr y) = absurd (y.0.0 n x.0)
+one_met plan frames old time a claimant n m (inr x) (inl y) = absurd (x.0.0 m y.0)
+one_met plan frames old time a claimant n m (inr x) (inr y) = one_guess plan frames a n m x.0 y.0
 
 -- ---- one contention
 
@@ -130,8 +169,8 @@ one_begun : (plan : Plan) (before : List Timed) (old : Contention) (x : Timed) (
     → Begins plan before old x a d → c ≡ d
 one_begun plan before old x a c d p q =
     let claimant : p.claimant ≡ q.claimant = sym p.claims.name_is ∙ q.claims.name_is in
-    let met : p.opponent ≡ q.opponent = one_met plan (frames_of before) old.contest x.time a q.claimant p.opponent q.opponent
-    (subst (λ (n : ℕ). Opposes plan (frames_of before) old.contest x.time a n p.opponent) claimant p.opposes) q.opposes in
+    let met : p.opponent ≡ q.opponent = one_met plan (frames_of before) old x.time a q.claimant p.opponent q.opponent
+    (subst (λ (n : ℕ). Opposes plan (frames_of before) old x.time a n p.opponent) claimant p.opposes) q.opposes in
     same_contest c d
     (p.defender ∙ ap (likely_named plan) met ∙ sym q.defender)
     (same_Some c.since d.since (sym p.since ∙ q.since))
@@ -164,15 +203,23 @@ one_taken_behind plan before old x a t u (inr (inr p)) (inl q) = absurd (p.0 q.0
 one_taken_behind plan before old x a t u (inr (inr p)) (inr (inl q)) = absurd (p.0 q.0)
 one_taken_behind plan before old x a t u (inr (inr p)) (inr (inr q)) = p.1 ∙ sym q.1
 
-same_contention : (g h : Contention) → g.taken ≡ h.taken → g.contest ≡ h.contest → g ≡ h
-same_contention g h first second =
-    let one : g ≡ record g { taken = h.taken } = ap (λ (t : Option ℕ). record g { taken = t }) first in
-    one ∙ ap (λ (c : Option Contest). record h { contest = c }) second
+one_held_since : (before : List Timed) (old : Contention) (x : Timed) (a : ℕ) (t u : Option ℕ) → IsHeldSince before old x a t → IsHeldSince before old x a u → t ≡ u
+one_held_since before old x a t u (inl p) (inl q) = p.1 ∙ sym q.1
+one_held_since before old x a t u (inl p) (inr q) = absurd (q.0 p.0)
+one_held_since before old x a t u (inr p) (inl q) = absurd (p.0 q.0)
+one_held_since before old x a t u (inr p) (inr q) = p.1 ∙ sym q.1
+
+same_contention : (g h : Contention) → g.since ≡ h.since → g.taken ≡ h.taken → g.contest ≡ h.contest → g ≡ h
+same_contention g h first second third =
+    let one : g ≡ record g { since = h.since } = ap (λ (t : Option ℕ). record g { since = t }) first in
+    let two : record g { since = h.since } ≡ record h { contest = g.contest } =
+    ap (λ (t : Option ℕ). record { since = h.since; taken = t; contest = g.contest }) second in
+    one ∙ two ∙ ap (λ (c : Option Contest). record h { contest = c }) third
 
 one_behind : (plan : Plan) (before : List Timed) (old : Contention) (x : Timed) (a : ℕ) (g h : Contention)
     → IsContentionBehind plan before old x a g → IsContentionBehind plan before old x a h → g ≡ h
 one_behind plan before old x a g h p q =
-    same_contention g h (one_taken_behind plan before old x a g.taken h.taken p.taken q.taken)
+    same_contention g h (one_held_since before old x a g.since h.since p.since q.since) (one_taken_behind plan before old x a g.taken h.taken p.taken q.taken)
     (one_contest_behind plan before old x a g.contest h.contest p.contest q.contest)
 
 one_led : (plan : Plan) (a : ℕ) (before : List Timed) (old : Contention) (rest : List Timed) (g h : Contention)
@@ -249,6 +296,7 @@ begins_none plan before old x a none c begins = none begins.claimant begins.clai
 pub silent_behind : (plan : Plan) (before : List Timed) (old : Contention) (x : Timed) (a : ℕ) → TellsNothing x.frame
     → IsContentionBehind plan before old x a old
 silent_behind plan before old x a silent = record {
+  since = inr ((λ takes. silent (name_in x.frame) (claim_tells x.frame (name_in x.frame) a takes.0)), refl);
   taken = inr (inr ((λ takes. silent (name_in x.frame) (claim_tells x.frame (name_in x.frame) a takes.0)), refl));
   contest = kept_so plan before old x a (λ c begins. silent begins.claimant (claim_tells x.frame begins.claimant a begins.claims)) old.contest refl
       (λ c ends. silent ends.0 ends.1);
@@ -259,6 +307,7 @@ pub left_behind : (plan : Plan) (before : List Timed) (old : Contention) (x : Ti
     → (claims_address x.frame || cannot_claim x.frame) ≡ true → ((name : ℕ) → ¬ Claims x.frame name a)
     → IsContentionBehind plan before old x a (remaining_at party old)
 left_behind plan before old x a party named told none = record {
+  since = inr ((λ takes. none (name_in x.frame) takes.0), refl);
   taken = inr (inr ((λ takes. none (name_in x.frame) takes.0), refl));
   contest = left_so plan before old x a (begins_none plan before old x a none) old.contest party refl named told;
 }

@@ -133,15 +133,15 @@ same_hands G p q same before f all address c = record {
 pub same_named : (G : ℕ → Type 0) (p q : Plan) → TellAlike G p q → (name : ℕ) → G name → likely_named p name ≡ likely_named q name
 same_named G p q same name g = ap (λ (o : Option ℕ). option_map_or Likely o (LikelyStranger name)) (same.unit name g)
 
-defends : (G : ℕ → Type 0) (p q : Plan) → TellAlike G p q → (frames : List Frame) (kept : Option Contest) (time : Option ℕ) (address name : ℕ) → G name
-    → Defends p frames kept time address name → Defends q frames kept time address name
-defends G p q same frames kept time address name g (inl last) = inl last
-defends G p q same frames kept time address name g (inr runs) =
+defends : (G : ℕ → Type 0) (p q : Plan) → TellAlike G p q → (frames : List Frame) (old : Contention) (time : Option ℕ) (address name : ℕ) → G name
+    → Defends p frames old time address name → Defends q frames old time address name
+defends G p q same frames old time address name g (inl last) = inl last
+defends G p q same frames old time address name g (inr runs) =
     inr (runs.0, runs.1, subst (λ (w : Who). IsSameParty runs.0.defender w) (same_named G p q same name g) runs.2)
 
-undefended : (G : ℕ → Type 0) (p q : Plan) → TellAlike G p q → (frames : List Frame) (kept : Option Contest) (time : Option ℕ) (address name : ℕ) → G name
-    → ¬ Defends p frames kept time address name → ¬ Defends q frames kept time address name
-undefended G p q same frames kept time address name g none is = none (defends G q p (flip G p q same) frames kept time address name g is)
+undefended : (G : ℕ → Type 0) (p q : Plan) → TellAlike G p q → (frames : List Frame) (old : Contention) (time : Option ℕ) (address name : ℕ) → G name
+    → ¬ Defends p frames old time address name → ¬ Defends q frames old time address name
+undefended G p q same frames old time address name g none is = none (defends G q p (flip G p q same) frames old time address name g is)
 
 -- the NAME of a unit that is guessed, in both plans
 own_party : (p : Plan) (name u : ℕ) → unit_of_name p name ≡ Some u → likely_named p name ≡ Likely u
@@ -175,12 +175,12 @@ module _ (G : ℕ → Type 0) (p q : Plan) (same : TellAlike G p q) (before : Li
         let turned_back = subst (λ (w : Who). IsSameParty w (likely_named q b.claimant)) (sym e) is in
         b.another (subst (λ (w : Who). IsSameParty (likely_named p b.opponent) w) (sym (same_named G p q same b.claimant g)) turned_back)
 
-    go : Opposes p frames old.contest x.time address b.claimant b.opponent → Begins q before old x address c
+    go : Opposes p frames old x.time address b.claimant b.opponent → Begins q before old x address c
     go (inl held) =
         let parties = same_named G p q same b.opponent (holder_meets G frames b.opponent address earlier held.0) in
-        let cause : (b.opponent < b.claimant) ⊎ (¬ Defends q frames old.contest x.time address b.claimant) = elim held.1 [
+        let cause : (b.opponent < b.claimant) ⊎ (¬ Defends q frames old x.time address b.claimant) = elim held.1 [
           | inl smaller ↦ inl smaller
-          | inr none ↦ inr (undefended G p q same frames old.contest x.time address b.claimant g none)
+          | inr none ↦ inr (undefended G p q same frames old x.time address b.claimant g none)
         ] in
         record {
           claimant = b.claimant;
@@ -230,9 +230,9 @@ module _ (G : ℕ → Type 0) (p q : Plan) (same : TellAlike G p q) (before : Li
 
   taken_behind : (taken : Option ℕ) → IsTakenBehind p before old x address taken → IsTakenBehind q before old x address taken
   taken_behind taken (inl t) =
-      inl (t.0, defends G p q same frames old.contest x.time address (name_in x.frame) (claimed_here (name_in x.frame) t.0.0) t.1, t.2)
+      inl (t.0, defends G p q same frames old x.time address (name_in x.frame) (claimed_here (name_in x.frame) t.0.0) t.1, t.2)
   taken_behind taken (inr (inl t)) =
-      inr (inl (t.0, undefended G p q same frames old.contest x.time address (name_in x.frame) (claimed_here (name_in x.frame) t.0.0) t.1, t.2))
+      inr (inl (t.0, undefended G p q same frames old x.time address (name_in x.frame) (claimed_here (name_in x.frame) t.0.0) t.1, t.2))
   taken_behind taken (inr (inr t)) = inr (inr t)
 
 contest_behind : (G : ℕ → Type 0) (p q : Plan) → TellAlike G p q → (before : List Timed) (x : Timed) → TellAll G (frames_of before ++ x.frame ∷ [])
@@ -264,6 +264,7 @@ leads G p q same address before old (x ∷ rest) new all is =
     let here : TellAll G (frames_of before ++ x.frame ∷ []) = subst (TellAll G) (frames_more before x) line in (
       is.0,
       record {
+        since = is.1.since;
         taken = taken_behind G p q same before x here old address is.0.taken is.1.taken;
         contest = contest_behind G p q same before x here old address is.0.contest is.1.contest;
       },

@@ -85,7 +85,7 @@ remaining_of party None = None
 remaining_of party (Some c) = if is_same_party party c.defender then None else Some c
 
 abbrev pub remaining_at : Who → Contention → Contention
-remaining_at party old = record { taken = old.taken; contest = remaining_of party old.contest }
+remaining_at party old = record { since = old.since; taken = old.taken; contest = remaining_of party old.contest }
 
 abbrev pub AreRemaining : List Contention → List Contention → Who → Type 0
 AreRemaining old new party = (address : ℕ) → address < 256 → contention_at new address ≡ remaining_at party (contention_at old address)
@@ -106,8 +106,18 @@ abbrev pub defends_in : Option Contest → Who → Bool
 defends_in None party = false
 defends_in (Some c) party = is_same_party c.defender party
 
-abbrev pub is_defended : Option Contest → Claim → Bool
-is_defended kept k = is_place k.claimant.address k.address || defends_in (running_of kept k.time) k.claimant.party
+-- since when the NAME that holds an address does, if one does
+abbrev pub since_of : Option ℕ → Option ℕ → Option ℕ
+since_of None since = None
+since_of (Some holder) since = since
+
+abbrev pub is_soon : Option ℕ → Option ℕ → Bool
+is_soon (Some first) (Some now) = nat_le now (first + claim_wait)
+is_soon _ _ = true
+
+abbrev pub is_defended : Option Contest → Option ℕ → Claim → Bool
+is_defended kept since k =
+    (is_place k.claimant.address k.address && is_soon since k.time) || defends_in (running_of kept k.time) k.claimant.party
 
 abbrev pub smaller_of : Option ℕ → ℕ → Option ℕ
 smaller_of None claimant = None
@@ -127,9 +137,9 @@ contest_with plan taken k opponent since =
     })
 
 -- the NAME that a claim meets, or that it meets none
-abbrev pub IsMet : Plan → List Timed → Option Contest → Timed → Claim → Option ℕ → Type 0
-IsMet plan before kept x k (Some name) = Opposes plan (frames_of before) kept x.time k.address k.name name
-IsMet plan before kept x k None = (name : ℕ) → ¬ Opposes plan (frames_of before) kept x.time k.address k.name name
+abbrev pub IsMet : Plan → List Timed → Contention → Timed → Claim → Option ℕ → Type 0
+IsMet plan before old x k (Some name) = Opposes plan (frames_of before) old x.time k.address k.name name
+IsMet plan before old x k None = (name : ℕ) → ¬ Opposes plan (frames_of before) old x.time k.address k.name name
 
 -- the contest that a line begins at an address, or that it begins none
 abbrev pub IsBegun : Plan → List Timed → Contention → Timed → ℕ → Option Contest → Type 0

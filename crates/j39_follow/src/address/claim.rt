@@ -1,14 +1,16 @@
 //! A claim of an address, and the contest that it begins.
-ghost use Rattle.std.specs.Prelude.{◌≡◌, ◌<◌, nat_lt, List, Option, Some, None, if◌then◌else◌};
+ghost use Rattle.std.specs.Prelude.{◌≡◌, ◌<◌, ◌&&◌, nat_lt, List, Option, Some, None, if◌then◌else◌};
 ghost use Rattle.j39_network.specs.declared.plan.Plan.{Plan as APlan};
-ghost use Rattle.j39_follow.specs.Contests.{IsContentionBehind, IsContestBehind, IsTakenBehind, Timed, frames_of};
+ghost use Rattle.j39_follow.specs.Contests.{IsContentionBehind, IsContestBehind, IsHeldSince, IsTakenBehind, Timed};
+ghost use Rattle.j39_follow.specs.Contests.{frames_of};
 ghost use Rattle.j39_follow.specs.inside.Contesting.{IsBegun, IsClaimAt, IsMet, contest_with as contest_of, defends_in};
-ghost use Rattle.j39_follow.specs.inside.Contesting.{is_defended, is_place, smaller_of, opponent_of};
+ghost use Rattle.j39_follow.specs.inside.Contesting.{is_defended, is_place, is_soon as comes_soon, smaller_of};
+ghost use Rattle.j39_follow.specs.inside.Contesting.{opponent_of, since_of};
 ghost use Rattle.j39_follow.specs.inside.Recounting.{Knows};
 
 use crate::address::changed_hands::is_same_party;
 use crate::address::claimants::Claimant;
-use crate::address::contest::{Contention, Contest, contest_left, running};
+use crate::address::contest::{Contention, Contest, contest_left, is_soon, running};
 use crate::address::directory::Directory;
 use crate::address::who::{Who, likely_named};
 use j39_id::addresses::is_in_pool;
@@ -33,12 +35,28 @@ fn is_defender(running: Option<Contest>, party: Who) -> bool
     }
 }
 
-// Whether a NAME that claims an address defends it.
-fn defends(kept: Option<Contest>, claim: Claim) -> bool
-    ensures { result ≡ is_defended kept claim }
+// Whether a NAME that claims an address claimed it last, and another one holds it since so short a time.
+fn claims_again(since: Option<u64>, claim: Claim) -> bool
+    ensures { result ≡ (is_place claim.claimant.address claim.address && comes_soon since claim.time) }
 {
-    claim.claimant.address == Some(claim.address)
-        || is_defender(running(kept, claim.time), claim.claimant.party)
+    claim.claimant.address == Some(claim.address) && is_soon(since, claim.time)
+}
+
+// Whether a NAME that claims an address defends it, where it is held since this time.
+fn defends(kept: Option<Contest>, since: Option<u64>, claim: Claim) -> bool
+    ensures { result ≡ is_defended kept since claim }
+{
+    claims_again(since, claim) || is_defender(running(kept, claim.time), claim.claimant.party)
+}
+
+// Since when the NAME that holds an address does, if one does.
+fn since_of(holder: Option<u64>, since: Option<u64>) -> Option<u64>
+    ensures { result ≡ since_of holder since }
+{
+    match holder {
+        Some(_name) => since,
+        None => None,
+    }
 }
 
 // The NAME that is guessed at an address, if it is smaller than the one that claims it.
@@ -63,13 +81,16 @@ fn in_the_way(holder: u64, claimant: u64, is_defence: bool) -> Option<u64>
 }
 
 // The NAME that a claim meets: one that holds the address, or is guessed there.
-fn opponent(plan: &Plan, directory: &Directory, kept: Option<Contest>, claim: Claim) -> Option<u64>
+fn opponent(plan: &Plan, directory: &Directory, old: Contention, claim: Claim) -> Option<u64>
     ensures { (before : List Timed) (x : Timed) → Knows plan.now directory.now (frames_of before)
         → IsClaimAt plan.now before x claim
-        → IsMet plan.now before kept x claim result }
+        → IsMet plan.now before old x claim result }
 {
     match directory.holder(claim.address) {
-        Some(holder) => in_the_way(holder, claim.name, defends(kept, claim)),
+        Some(holder) => {
+            let is_defence = defends(old.contest, old.since, claim);
+            in_the_way(holder, claim.name, is_defence)
+        },
         None => smaller(directory.guessed(plan, claim.address), claim.name),
     }
 }
@@ -110,7 +131,7 @@ fn begun(plan: &Plan, directory: &Directory, old: Contention, claim: Claim) -> O
     if running(old.contest, claim.time).is_some() {
         return None;
     }
-    let Some(opponent) = opponent(plan, directory, old.contest, claim) else {
+    let Some(opponent) = opponent(plan, directory, old, claim) else {
         return None;
     };
     contest_with(plan, old.taken, claim, opponent, since)
@@ -132,11 +153,25 @@ fn taken_behind(directory: &Directory, old: Contention, claim: Claim) -> Option<
         → IsClaimAt plan before x claim
         → IsTakenBehind plan before old x claim.address result }
 {
-    if is_name(directory.holder(claim.address), claim.name) {
+    let holder = directory.holder(claim.address);
+    if is_name(holder, claim.name) {
         return old.taken;
     }
-    if defends(old.contest, claim) {
+    if defends(old.contest, since_of(holder, old.since), claim) {
         None
+    } else {
+        claim.time
+    }
+}
+
+// Since when the address is held, behind a claim of it.
+fn since_behind(directory: &Directory, old: Contention, claim: Claim) -> Option<u64>
+    ensures { (plan : APlan) (before : List Timed) (x : Timed) → Knows plan directory.now (frames_of before)
+        → IsClaimAt plan before x claim
+        → IsHeldSince before old x claim.address result }
+{
+    if is_name(directory.holder(claim.address), claim.name) {
+        old.since
     } else {
         claim.time
     }
@@ -173,5 +208,9 @@ pub(crate) fn contention_behind(
 {
     let taken = taken_behind(directory, old, claim);
     let contest = contest_behind(plan, directory, old, claim);
-    Contention { taken, contest }
+    Contention {
+        since: since_behind(directory, old, claim),
+        taken,
+        contest,
+    }
 }

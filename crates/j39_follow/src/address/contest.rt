@@ -2,7 +2,7 @@
 ghost use Rattle.std.specs.Prelude.{◌≡◌};
 ghost use Rattle.j39_follow.specs.Contests.{nothing_contended};
 ghost use Rattle.j39_follow.specs.inside.Contesting.{defender_in, is_heard as can_be_heard, is_lasting as lasts_at};
-ghost use Rattle.j39_follow.specs.inside.Contesting.{remaining_of, running_of};
+ghost use Rattle.j39_follow.specs.inside.Contesting.{is_soon as comes_soon, remaining_of, running_of};
 
 use crate::address::changed_hands::is_same_party;
 use crate::address::who::Who;
@@ -19,9 +19,11 @@ pub(crate) struct Contest {
     pub taken: Option<u64>,
 }
 
-/// When an address was taken last by a claim, and the contest that is kept there.
+/// Since when an address is held, when it was taken last by a claim that didn't defend it, and the contest that is kept
+/// there.
 #[derive(Clone, Copy)]
 pub(crate) struct Contention {
+    pub since: Option<u64>,
     pub taken: Option<u64>,
     pub contest: Option<Contest>,
 }
@@ -32,6 +34,7 @@ impl Contention {
         ensures { result ≡ nothing_contended }
     {
         Contention {
+            since: None,
             taken: None,
             contest: None,
         }
@@ -60,6 +63,19 @@ pub(crate) fn running(kept: Option<Contest>, time: Option<u64>) -> Option<Contes
     } else {
         None
     }
+}
+
+/// Whether a claim comes no more than 250 ms behind the one by which an address is held, where both times are known.
+pub(crate) fn is_soon(since: Option<u64>, time: Option<u64>) -> bool
+    ensures { result ≡ comes_soon since time }
+{
+    let Some(first) = since else {
+        return true;
+    };
+    let Some(now) = time else {
+        return true;
+    };
+    now <= first || now - first <= CLAIM_WAIT
 }
 
 // Whether one that took the address at a time, if it did, has waited.

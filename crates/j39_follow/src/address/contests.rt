@@ -23,7 +23,7 @@ use std::alloc::{AllocError, Global};
 /// What is known of the contests for each address, and of the NAMEs that claimed any.
 #[derive(Drop)]
 pub(crate) struct Contests {
-    // 16 KB, so it isn't kept on the stack.
+    // 20 KB, so it isn't kept on the stack.
     table: Box<[Contention; ADDRESSES]>,
     claimants: Claimants,
 }
@@ -35,6 +35,7 @@ fn leave_contests(table: &mut [Contention; ADDRESSES], party: Who)
     for address in 0..ADDRESSES {
         let old = table[address];
         table[address] = Contention {
+            since: old.since,
             taken: old.taken,
             contest: contest_left(old.contest, party),
         };

@@ -1,34 +1,35 @@
--- The times of the units' broadcasts as a list, and the delay of a flow by it.
+-- The turns of the units as a list, and the delay of a flow by it.
 use Rattle.std.specs.Prelude.{◌≡◌, ℕ, ◌^◌, ◌<◌, List, length, slice_index_or, Option, None, All}
 use Rattle.std.specs.Option.{ForSome}
 use Rattle.j39_network.specs.declared.plan.timing.Timing.{Timing}
 use Rattle.j39_load.specs.declared.waits.delay.Delay.{Delay}
 use Rattle.j39_load.specs.declared.waits.delay.Delay.TheVariants.{Long, Whole}
+use Rattle.j39_load.specs.declared.waits.turn.Turn.{Turn}
 use Rattle.j39_load.specs.declared.frames.messages.Messages.{Messages}
 use Rattle.j39_load.specs.declared.frames.messages.Messages.TheVariants.{Short, ToAll, ToOne}
 use Rattle.j39_load.specs.AnyQueues.{Buffering}
 use Rattle.j39_load.specs.Asked.{Asked}
-use Rattle.j39_load.specs.Delays.{IsFrameDelay, IsTurnTime, whole_time}
+use Rattle.j39_load.specs.Delays.{IsFrameDelay, IsTurn, whole_time}
 
-abbrev pub IsShortTime : Option ℕ → Type 0
-IsShortTime time = ForSome time (λ bits. bits < 2 ^ 60)
+abbrev pub IsShortTurn : Option Turn → Type 0
+IsShortTurn turn = ForSome turn (λ (t : Turn). (t.time < 2 ^ 60) × (t.announcement < 2 ^ 28) × (t.packet < 2 ^ 28))
 
-abbrev pub AreShortTimes : List (Option ℕ) → Type 0
-AreShortTimes times = All IsShortTime times
+abbrev pub AreShortTurns : List (Option Turn) → Type 0
+AreShortTurns turns = All IsShortTurn turns
 
 -- that of the unit at a place
-abbrev pub time_at : List (Option ℕ) → ℕ → Option ℕ
-time_at times u = slice_index_or times u None
+abbrev pub turn_at : List (Option Turn) → ℕ → Option Turn
+turn_at turns u = slice_index_or turns u None
 
--- these are the times of the units
-pub record AreTurnTimes (timing : Timing) (asked : Asked) (buffering : Buffering) (times : List (Option ℕ)) : Type 0 where
-  pub count : length times ≡ length asked.units
-  pub each : (u : ℕ) → u < length times → IsTurnTime timing asked buffering u (slice_index_or times u None)
+-- these are the turns of the units
+pub record AreTurns (timing : Timing) (asked : Asked) (buffering : Buffering) (turns : List (Option Turn)) : Type 0 where
+  pub count : length turns ≡ length asked.units
+  pub each : (u : ℕ) → u < length turns → IsTurn timing asked buffering u (slice_index_or turns u None)
 
-abbrev pub IsDelayBy : Timing → Buffering → List (Option ℕ) → ℕ → Messages → ℕ → Delay → Type 0
-IsDelayBy timing buffering times flow (Short frames) limit delay = IsFrameDelay timing buffering flow frames limit delay
-IsDelayBy timing buffering times flow (ToOne frames) limit (Long count) = count ≡ frames.stream.frames
-IsDelayBy timing buffering times flow (ToOne frames) limit _ = ⊥
-IsDelayBy timing buffering times flow (ToAll broadcast) limit (Whole whole) =
-    whole ≡ whole_time broadcast (time_at times broadcast.sender)
-IsDelayBy timing buffering times flow (ToAll broadcast) limit _ = ⊥
+abbrev pub IsDelayBy : Timing → Buffering → List (Option Turn) → ℕ → Messages → ℕ → Delay → Type 0
+IsDelayBy timing buffering turns flow (Short frames) limit delay = IsFrameDelay timing buffering flow frames limit delay
+IsDelayBy timing buffering turns flow (ToOne frames) limit (Long count) = count ≡ frames.stream.frames
+IsDelayBy timing buffering turns flow (ToOne frames) limit _ = ⊥
+IsDelayBy timing buffering turns flow (ToAll broadcast) limit (Whole whole) =
+    whole ≡ whole_time broadcast (turn_at turns broadcast.sender)
+IsDelayBy timing buffering turns flow (ToAll broadcast) limit _ = ⊥

@@ -23,7 +23,7 @@ fn is_whole_late(whole: &WholeTime) -> bool
     ensures { result ≡ is_whole_late whole.now }
 {
     match whole.limit {
-        Some(limit) => !is_in_limit(limit, whole.bits),
+        Some(limit) => !is_in_limit(limit, whole.time_of_each()),
         None => false,
     }
 }
@@ -34,7 +34,9 @@ fn finding_at(fault: FlowFault, flow: usize, delay: Option<Delay>) -> Option<Loa
 {
     match (fault, delay) {
         (FlowFault::WithoutPeriod, None) => Some(LoadFinding::NoPeriod(flow)),
-        (FlowFault::Lateness, Some(Delay::Late)) => Some(LoadFinding::LateFlow(flow)),
+        (FlowFault::Lateness, Some(Delay::Late | Delay::Beyond(_))) => Some(LoadFinding::LateFlow(
+            flow,
+        )),
         (FlowFault::Lateness, Some(Delay::Whole(whole))) if is_whole_late(&whole) => {
             Some(LoadFinding::LateFlow(flow))
         }

@@ -1,10 +1,12 @@
 //! What is told of the load of a plan.
 ghost use Rattle.std.specs.Prelude.{◌≡◌, ◌≢◌, ◌⊎◌, [], None, Some, length, IfOk, OnErr};
+ghost use Rattle.j39_load.specs.BusTimes.{timing_of};
 ghost use Rattle.j39_load.specs.LoadAnswers.{IsLoadAnswer};
 ghost use Rattle.j39_load.specs.LoadFindings.{AreLoadFindings, IsFullOfDamage};
 
 use crate::findings::faults::all_findings;
 use crate::findings::load_finding::LoadFinding;
+use crate::live_claims::timing_of;
 use crate::loads::Loads;
 use crate::waits::Delay;
 use j39_network::{Plan, Timing};
@@ -43,11 +45,11 @@ impl LoadAnswer {
 /// What is wrong with what a plan asks of its bus: nothing where nothing is known of this, and no memory is asked for
 /// then. Nor is it of a plan without flows and requests, unless damaged frames alone are too many for the bus.
 pub fn check_load(alloc: Global, plan: &Plan) -> Result<Vec<LoadFinding>, AllocError>
-    ensures findings { IfOk result (λ findings. AreLoadFindings plan.now plan.now.timing findings.items) }
-    ensures memory { OnErr result ((plan.now.timing ≢ None)
-        × ((plan.now.flows.items ≢ []) ⊎ ((plan.now.requests.items ≢ []) ⊎ IsFullOfDamage plan.now.timing))) }
+    ensures findings { IfOk result (λ findings. AreLoadFindings plan.now (timing_of plan.now) findings.items) }
+    ensures memory { OnErr result ((timing_of plan.now ≢ None)
+        × ((plan.now.flows.items ≢ []) ⊎ ((plan.now.requests.items ≢ []) ⊎ IsFullOfDamage (timing_of plan.now)))) }
 {
-    let Some(timing) = plan.timing else {
+    let Some(timing) = timing_of(plan) else {
         return Ok(Vec::new(alloc));
     };
     let answer = LoadAnswer::new(alloc, timing, plan)?;

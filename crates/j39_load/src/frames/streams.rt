@@ -70,6 +70,7 @@ fn most_bytes(group: &GroupPlan) -> u8
 pub(crate) fn single_stream(timing: Timing, group: &GroupPlan, pace: Pace) -> Stream
     ensures stream { result ≡ single_stream timing group.now pace }
     ensures fits { IsStream result }
+    ensures paced { result.period < 2 ^ 31 }
     ensures jitter { result.jitter < 2 ^ 30 }
     ensures short { result.bits ≤ 160 }
     ensures few { result.frames ≤ 512 }

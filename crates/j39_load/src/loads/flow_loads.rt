@@ -5,7 +5,7 @@ ghost use Rattle.std.specs.Option.{option_map};
 ghost use Rattle.j39_load.specs.Loads.{bits_of_ms as bits_in_ms, broadcast_of, flow_load, has_short, load_of_flow};
 ghost use Rattle.j39_load.specs.Loads.{load_of_messages, loads_of, messages_of, packet_frames};
 ghost use Rattle.j39_load.specs.Loads.{single_frames, singles_of, time_limit};
-ghost use Rattle.j39_load.specs.SoundLoads.{AreSound, AreSoundIfAny, AreSoundMessages, IsSoundBroadcast};
+ghost use Rattle.j39_load.specs.SoundLoads.{AreSound, AreSoundIfAny, AreSoundMessages, HaveFitPeriod, IsSoundBroadcast};
 ghost use Rattle.j39_load.specs.SoundLoads.{IsSoundIfKnown, IsSoundLoad};
 ghost use Rattle.j39_load.specs.inside.FewFrames.{HaveFewFrames};
 ghost use Rattle.j39_load.specs.inside.PlannedBuses.{on_bus, stays_in, units_in};
@@ -36,6 +36,7 @@ fn single_frames(bus: &PlannedBus<'_>, flow: &FlowPlan, pace: Pace, group: &Grou
     requires receiver { (v : ℕ) → flow.now.to ≡ One v → v < length (units_in bus.now) }
     ensures frames { result ≡ on_bus single_frames bus.now flow.now pace group.now }
     ensures fits { AreSound result }
+    ensures paced { result.stream.period < 2 ^ 31 }
     ensures few { result.stream.frames ≤ 512 }
 {
     let greatest_ident = group_ident(bus, Extreme::Greatest, group, flow);
@@ -135,6 +136,7 @@ fn messages_of(bus: &PlannedBus<'_>, flow: &FlowPlan, pace: Pace, group: &GroupP
     requires receiver { (v : ℕ) → flow.now.to ≡ One v → v < length (units_in bus.now) }
     ensures messages { result ≡ on_bus messages_of bus.now flow.now pace group.now }
     ensures sound { AreSoundMessages result }
+    ensures paced { HaveFitPeriod result }
     ensures few { HaveFewFrames result }
 {
     let Some(size) = Size::new(group.most) else {

@@ -7,7 +7,9 @@ use crate::waits::whole_time::WholeTime;
 pub enum Delay {
     /// At most so many bits, which are within the flow's limit.
     Within(u32),
-    /// It isn't shown that they are in time.
+    /// At most so many bits, which are within the flow's period, but more than its deadline allows.
+    Beyond(u32),
+    /// It isn't shown that they are within the period.
     Late,
     /// A message to one unit takes so many frames, of which no bound is told.
     Long(u16),

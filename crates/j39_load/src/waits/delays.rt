@@ -1,14 +1,15 @@
 //! How long the frames of the flows of a plan wait.
-ghost use Rattle.std.specs.Prelude.{◌≡◌, ◌≢◌, ◌≤◌, ◌<◌, ◌^◌, ◌+◌, ◌++◌, [], All, length, IfOk, OnOk, OnErr};
+ghost use Rattle.std.specs.Prelude.{◌≡◌, ◌≢◌, ◌≤◌, ◌<◌, ◌^◌, ◌+◌, ◌++◌, [], All, length, IfOk, IfNone, IfSome, OnOk, OnErr, Some};
 ghost use Rattle.std.specs.Option.{ForSome};
 ghost use Rattle.j39_load.specs.AnyQueues.{IsBuffering};
 ghost use Rattle.j39_load.specs.Asked.{frames_asked};
 ghost use Rattle.j39_load.specs.AskedLoads.{asked_in};
 ghost use Rattle.j39_load.specs.Delays.{HasDelay, IsFrameDelay, IsShortDelay, IsWaitIn, IsWaitOf, AreFlowDelays};
-ghost use Rattle.j39_load.specs.Delays.{any_delay, blocking, frames_before, going_before, streams_before, whole_time};
+ghost use Rattle.j39_load.specs.Delays.{HasNoneWithin, IsDelayWithin, any_delay, blocking, frames_before, going_before};
+ghost use Rattle.j39_load.specs.Delays.{judged, keeps_up, streams_before, whole_time};
 ghost use Rattle.j39_load.specs.SoundLoads.{AreSound, FitIfAny, IsSoundBroadcast, IsSoundLoad};
 ghost use Rattle.j39_load.specs.inside.BufferingDelays.{AreFitBufferingDelays, IsShortWait, buffering_of};
-ghost use Rattle.j39_load.specs.inside.TurnTimes.{AreShortTimes, IsDelayBy, IsShortTime, AreTurnTimes, time_at};
+ghost use Rattle.j39_load.specs.inside.TurnTimes.{AreShortTurns, AreTurns, IsDelayBy, IsShortTurn, turn_at};
 ghost use Rattle.j39_timing.specs.Waits.{IsStream};
 
 use crate::frames::{
@@ -17,6 +18,7 @@ use crate::frames::{
 use crate::loads::{FlowLoad, Loads};
 use crate::queues::{BufferingDelays, buffering_delays_of, keep_order};
 use crate::waits::delay::Delay;
+use crate::waits::turn::Turn;
 use crate::waits::twins::may_precede;
 use crate::waits::whole_time::WholeTime;
 use j39_network::Timing;
@@ -150,6 +152,37 @@ pub(crate) fn wait_in(
     wait_of(alloc, timing, buffering_delays, place, frames)
 }
 
+// The delay of frames that wait as long as these streams go before them, where it is at most so many bits.
+fn delay_within(
+    timing: Timing,
+    buffering_delays: &BufferingDelays,
+    flow: usize,
+    frames: &FlowFrames,
+    streams: &[Stream],
+    most: u32,
+) -> Option<u32>
+    requires buffering_delays { AreFitBufferingDelays buffering_delays.now }
+    requires frames { AreSound frames.now }
+    requires streams { streams.now ≡ streams_before timing flow frames.now (buffering_of buffering_delays.now).frames }
+    requires fit { All IsStream streams.now }
+    requires few { length streams.now ≤ 2002 }
+    requires most { most < 2 ^ 31 }
+    ensures some { IfSome result (IsDelayWithin timing (buffering_of buffering_delays.now).frames flow frames.now most) }
+    ensures none { IfNone result (HasNoneWithin timing (buffering_of buffering_delays.now).frames flow frames.now most) }
+    ensures few { IfSome result (λ bits. bits < 2 ^ 31) }
+{
+    let own = frames.stream.jitter + u32::from(frames.stream.bits);
+    if most < own {
+        return None;
+    }
+    let demands = buffering_delays.demands.as_slice();
+    let blocking = blocking(timing, frames.greatest_ident);
+    match least_wait(demands, blocking, streams, most - own) {
+        Some(wait) => Some(wait + own),
+        None => None,
+    }
+}
+
 // The delay of a flow whose messages go in one frame each, of these, with this limit, where its sender keeps order.
 fn short_delay(
     alloc: Global,
@@ -161,25 +194,34 @@ fn short_delay(
 ) -> Result<Delay, AllocError>
     requires buffering_delays { AreFitBufferingDelays buffering_delays.now }
     requires frames { AreSound frames.now }
+    requires paced { frames.now.stream.period < 2 ^ 31 }
     requires limit { limit < 2 ^ 31 }
     ensures { IfOk result (IsShortDelay timing (buffering_of buffering_delays.now).frames flow frames.now limit) }
 {
-    let own = frames.stream.jitter + u32::from(frames.stream.bits);
-    if limit < own {
-        return Ok(Delay::Late);
+    let all = buffering_delays.frames.as_slice();
+    let before = streams_before(alloc, timing, all, flow, frames)?;
+    let streams = before.as_slice();
+    let in_time = delay_within(timing, buffering_delays, flow, frames, streams, limit);
+    if let Some(bits) = in_time {
+        return Ok(Delay::Within(bits));
     }
-    let streams = streams_before(
-        alloc,
-        timing,
-        buffering_delays.frames.as_slice(),
-        flow,
-        frames,
-    )?;
-    let demands = buffering_delays.demands.as_slice();
-    let blocking = blocking(timing, frames.greatest_ident);
-    match least_wait(demands, blocking, streams.as_slice(), limit - own) {
-        Some(wait) => Ok(Delay::Within(wait + own)),
+    let period = frames.stream.period;
+    match delay_within(timing, buffering_delays, flow, frames, streams, period) {
+        Some(bits) => Ok(Delay::Beyond(bits)),
         None => Ok(Delay::Late),
+    }
+}
+
+// That of frames that have one of so many bits, by their limit and their period.
+fn judged(frames: &FlowFrames, limit: u32, bits: u32) -> Delay
+    ensures { result ≡ judged frames.now limit bits }
+{
+    if bits <= limit {
+        Delay::Within(bits)
+    } else if bits <= frames.stream.period {
+        Delay::Beyond(bits)
+    } else {
+        Delay::Late
     }
 }
 
@@ -189,14 +231,12 @@ fn any_delay(frames: &FlowFrames, limit: u32, wait: Option<u32>) -> Delay
     requires wait { IsShortWait wait }
     ensures { result ≡ any_delay frames.now limit wait }
 {
-    let Some(wait) = wait else {
-        return Delay::Late;
-    };
-    let delay = frames.stream.jitter + (wait + u32::from(frames.stream.bits));
-    if delay <= limit {
-        Delay::Within(delay)
-    } else {
-        Delay::Late
+    match wait {
+        Some(wait) => {
+            let bits = frames.stream.jitter + (wait + u32::from(frames.stream.bits));
+            judged(frames, limit, bits)
+        }
+        None => Delay::Late,
     }
 }
 
@@ -211,6 +251,7 @@ fn frame_delay(
 ) -> Result<Delay, AllocError>
     requires buffering_delays { AreFitBufferingDelays buffering_delays.now }
     requires frames { AreSound frames.now }
+    requires paced { frames.now.stream.period < 2 ^ 31 }
     requires limit { limit < 2 ^ 31 }
     ensures { IfOk result (IsFrameDelay timing (buffering_of buffering_delays.now) flow frames.now limit) }
 {
@@ -224,32 +265,53 @@ fn frame_delay(
 }
 
 // How long the broadcasts of a unit take, one of each flow.
-fn time_at(times: &[Option<u64>], unit: usize) -> Option<u64>
-    requires { AreShortTimes times.now }
-    ensures time { result ≡ time_at times.now unit }
-    ensures short { IsShortTime result }
+fn turn_at(turns: &[Option<Turn>], unit: usize) -> Option<Turn>
+    requires { AreShortTurns turns.now }
+    ensures turn { result ≡ turn_at turns.now unit }
+    ensures short { IsShortTurn result }
 {
-    if unit < times.len() {
-        times[unit]
+    if unit < turns.len() {
+        turns[unit]
     } else {
         None
     }
 }
 
-// When the messages of these broadcasts are whole, where those of their unit take so long, one of each flow.
-fn whole_time(broadcast: &Broadcast, time: Option<u64>) -> WholeTime
+// Whether messages are wanted no more often than they can be sent: a turn is over within the period, and what waits is
+// announced before the next one is wanted.
+fn keeps_up(broadcast: &Broadcast, turn: Turn) -> bool
     requires broadcast { IsSoundBroadcast broadcast.now }
-    requires short { IsShortTime time }
-    ensures { result ≡ whole_time broadcast.now time }
+    requires announcement { turn.announcement < 2 ^ 28 }
+    requires packet { turn.packet < 2 ^ 28 }
+    requires time { turn.time < 2 ^ 60 }
+    ensures { result ≡ keeps_up broadcast.now turn }
 {
-    let bits = match time {
-        Some(turn) => Some(u64::from(broadcast.jitter) + turn),
-        None => None,
-    };
-    WholeTime {
-        frames: frames_to_all(broadcast.packets),
-        bits,
-        limit: broadcast.deadline,
+    let apart = u64::from(broadcast.apart);
+    let own = turn.announcement + u64::from(broadcast.packets) * turn.packet;
+    turn.time <= apart && u64::from(broadcast.jitter) + turn.time <= apart + own
+}
+
+// When the messages of these broadcasts are whole, where those of their unit take so long, one of each flow.
+fn whole_time(broadcast: &Broadcast, turn: Option<Turn>) -> WholeTime
+    requires broadcast { IsSoundBroadcast broadcast.now }
+    requires short { IsShortTurn turn }
+    ensures { result ≡ whole_time broadcast.now turn }
+{
+    let frames = frames_to_all(broadcast.packets);
+    let limit = broadcast.deadline;
+    match turn {
+        Some(turn) => WholeTime {
+            frames,
+            bits: Some(u64::from(broadcast.jitter) + turn.time),
+            limit,
+            each: keeps_up(broadcast, turn),
+        },
+        None => WholeTime {
+            frames,
+            bits: None,
+            limit,
+            each: false,
+        },
     }
 }
 
@@ -259,14 +321,14 @@ fn delay_of(
     alloc: Global,
     timing: Timing,
     buffering_delays: &BufferingDelays,
-    times: &[Option<u64>],
+    turns: &[Option<Turn>],
     flow: usize,
     load: &FlowLoad,
 ) -> Result<Delay, AllocError>
     requires buffering_delays { AreFitBufferingDelays buffering_delays.now }
-    requires times { AreShortTimes times.now }
+    requires turns { AreShortTurns turns.now }
     requires load { IsSoundLoad load.now }
-    ensures { IfOk result (IsDelayBy timing (buffering_of buffering_delays.now) times.now flow load.now.messages load.now.limit) }
+    ensures { IfOk result (IsDelayBy timing (buffering_of buffering_delays.now) turns.now flow load.now.messages load.now.limit) }
 {
     match &load.messages {
         Messages::Short(frames) => frame_delay(
@@ -280,7 +342,7 @@ fn delay_of(
         Messages::ToOne(frames) => Ok(Delay::Long(frames.stream.frames)),
         Messages::ToAll(broadcast) => Ok(Delay::Whole(whole_time(
             broadcast,
-            time_at(times, broadcast.sender),
+            turn_at(turns, broadcast.sender),
         ))),
     }
 }
@@ -292,14 +354,14 @@ impl Loads {
         &self,
         alloc: Global,
         buffering_delays: &BufferingDelays,
-        times: &[Option<u64>],
+        turns: &[Option<Turn>],
         flow: usize,
     ) -> Result<Option<Delay>, AllocError>
         requires place { flow < length self.now.flows.items }
         requires buffering_delays { AreFitBufferingDelays buffering_delays.now }
         requires is { IsBuffering self.now.timing (frames_asked (asked_in self.now)) (buffering_of buffering_delays.now) }
-        requires times { AreTurnTimes self.now.timing (asked_in self.now) (buffering_of buffering_delays.now) times.now }
-        requires short { AreShortTimes times.now }
+        requires turns { AreTurns self.now.timing (asked_in self.now) (buffering_of buffering_delays.now) turns.now }
+        requires short { AreShortTurns turns.now }
         ensures { IfOk result (HasDelay self.now.timing (asked_in self.now) flow) }
     {
         match &self.flows[flow] {
@@ -307,7 +369,7 @@ impl Loads {
                 alloc,
                 self.timing,
                 buffering_delays,
-                times,
+                turns,
                 flow,
                 load,
             )?)),
@@ -326,10 +388,10 @@ impl Loads {
         }
         let all = self.all_frames(alloc)?;
         let buffering_delays = buffering_delays_of(alloc, self.timing, all.as_slice())?;
-        let times = self.turn_times(alloc, &buffering_delays)?;
+        let turns = self.turns(alloc, &buffering_delays)?;
         let mut delays = Vec::with_capacity(alloc, self.flows.len())?;
         for flow in 0..self.flows.len() {
-            delays.push_reserved(self.delay(alloc, &buffering_delays, times.as_slice(), flow)?);
+            delays.push_reserved(self.delay(alloc, &buffering_delays, turns.as_slice(), flow)?);
         }
         Ok(delays)
     }

@@ -9,4 +9,19 @@ pub struct WholeTime {
     pub bits: Option<u64>,
     /// Within so long of this release each has to be whole, where a deadline is written.
     pub limit: Option<u32>,
+    /// Whether each message is whole in this time, also where one of its flow is under way as it is wanted: messages
+    /// aren't wanted more often than they can be sent.
+    pub each: bool,
+}
+
+impl WholeTime {
+    ghost use Rattle.std.specs.Prelude.{◌≡◌};
+    ghost use Rattle.j39_load.specs.LoadFindings.{time_of_each};
+
+    /// So long after its release each message is whole, where that is known.
+    pub fn time_of_each(&self) -> Option<u64>
+        ensures { result ≡ time_of_each self.now }
+    {
+        if self.each { self.bits } else { None }
+    }
 }

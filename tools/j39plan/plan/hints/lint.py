@@ -47,7 +47,7 @@ class Lint:
         """All hints, in the order of the file."""
         found = (self.unsent, self.idle, self.fixed_in_pool, self.preferred, self.spns, self.short, self.urgent, self.equal_identities,
                  self.unsendable, self.passed, self.single, self.unordered, self.untaken, self.met_twice, self.unasked,
-                 self.not_live, self.few_claims)
+                 self.not_live)
         return sorted({hint for part in found for hint in part()})
 
     def at(self, place: Place, key: str, text: str) -> Hint:
@@ -220,12 +220,3 @@ class Lint:
         tables, kept = self.tables, self.source.kept
         if self.source.version == 4 and not tables.live and tables.flows and not any(ends.contested(tables, kept, flow) for flow in tables.flows):
             yield self.at((), "version", "live = true adds no finding: then what check promises holds while units claim, and go off in mid-message")
-
-    def few_claims(self) -> Iterator[Hint]:
-        """Of a live plan that the frames of units that claim, which come at any time, are more than it reckons with."""
-        timing, claiming = self.tables.timing, sum(unit.claims for unit in self.tables.units)
-        come = claiming + self.tables.strangers + 1
-        if self.tables.live and timing and timing.unplanned < come:
-            text = f"on a live bus units claim at any time: {come} frames, of {claiming} units"
-            more = f", {self.tables.strangers} strangers" if self.tables.strangers else ""
-            yield self.at(("timing",), "unplanned", f"unplanned = {timing.unplanned}: {text}{more} and a request for claims")

@@ -3,18 +3,19 @@ use Rattle.j39_findings.specs.Findings.{Clean}
 use Rattle.j39_network.specs.declared.plan.Plan.{Plan}
 use Rattle.j39_findings.specs.declared.checking.finding.Finding.TheVariants.{SameName}
 use Rattle.j39_network.specs.declared.plan.timing.Timing.{Timing}
+use Rattle.j39_load.specs.BusTimes.{timing_of}
 use Rattle.j39_load.specs.LoadFindings.{AreLoadFindings}
 use Rattle.j39_world.specs.SoundPlan.{IsSound}
 use Rattle.j39_plan_text.specs.Certified.{IsSoundInTime}
 use Rattle.j39_plan_text.proofs.certificate.clean_plans_are_certified.Goals as goal
 
 -- what is found of the load, where something is known of the bus
-found : (plan : Plan) (timing : Timing) → AreLoadFindings plan plan.timing [] → plan.timing ≡ Some timing → AreLoadFindings plan (Some timing) []
+found : (plan : Plan) (timing : Timing) → AreLoadFindings plan (timing_of plan) [] → timing_of plan ≡ Some timing → AreLoadFindings plan (Some timing) []
 found plan timing none told = subst (λ (t : Option Timing). AreLoadFindings plan t []) told none
 
 pub returns : goal.returns
 returns c = λ checked clean calm.
-    let each : (plan : Plan) → Clean plan → AreLoadFindings plan plan.timing [] → IsSound plan → IsSoundInTime plan = λ plan clean none sound.
+    let each : (plan : Plan) → Clean plan → AreLoadFindings plan (timing_of plan) [] → IsSound plan → IsSoundInTime plan = λ plan clean none sound.
     record {
       sound = sound;
       in_time = λ timing told. c.delays_are_bounds.ensures.checked plan timing (found plan timing none told);

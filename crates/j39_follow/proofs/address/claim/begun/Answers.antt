@@ -18,7 +18,7 @@ returns-then-is_some c = λ before x knows at.
 pub returns-in_default-opponent : goal.returns-in_default-opponent
 returns-in_default-opponent c = λ before x knows at.
     none_met c.args.plan.now before x c.args.claim at c.args.old
-    (subst (IsMet c.args.plan.now before c.args.old.contest x c.args.claim) c.in_default-opponent.is (c.opponent.ensures before x knows at))
+    (subst (IsMet c.args.plan.now before c.args.old x c.args.claim) c.in_default-opponent.is (c.opponent.ensures before x knows at))
 
 pub returns : goal.returns
 returns c = λ before x knows at.
@@ -26,4 +26,4 @@ returns c = λ before x knows at.
     (begun_with c.args.plan.now before x c.args.claim at c.args.old c.in-Some.since c.in-Some-opponent.opponent c.in-Some.is
     (sym c.is_in_pool.ensures ∙ c.if-not-is_in_pool.false)
     (sym (ap is_some c.running.ensures) ∙ sym c.is_some.ensures ∙ c.if-is_some.false)
-    (subst (IsMet c.args.plan.now before c.args.old.contest x c.args.claim) c.in-Some-opponent.is (c.opponent.ensures before x knows at)))
+    (subst (IsMet c.args.plan.now before c.args.old x c.args.claim) c.in-Some-opponent.is (c.opponent.ensures before x knows at)))

@@ -15,7 +15,7 @@ loop-address-preserved c =
     let rest = c.loop-address.table in
     let k = c.loop-address.address in
     let old = contention_at rest k in
-    let new : Contention = record { taken = old.taken; contest = c.contest_left.result } in
+    let new : Contention = record { since = old.since; taken = old.taken; contest = c.contest_left.result } in
     let before = c.loop-address.invariant in
     let room : k < length rest = (let count = before.0 in let test = c.loop-address-test.true in omega (arith, count, test)) in
     let untouched : old ≡ contention_at table k = before.2 k (omega arith) in

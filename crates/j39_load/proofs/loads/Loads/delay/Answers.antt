@@ -15,7 +15,7 @@ returns-in_ok-delay_of-in-Some c =
       (
         load,
         slice_get-get_or self.flows.items c.args.flow c.index.result.now c.requires.place ∙ ap Some (sym c.index.ensures ∙ c.in-Some.is),
-        delay_by self.timing (asked_in self) (buffering_of c.args.buffering_delays.now) c.args.times.now c.requires.times c.args.flow
+        delay_by self.timing (asked_in self) (buffering_of c.args.buffering_delays.now) c.args.turns.now c.requires.turns c.args.flow
             load.messages load.limit delay c.in_ok-delay_of-in-Some.ensures,
       ),
     )
