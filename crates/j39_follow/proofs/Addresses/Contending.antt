@@ -75,9 +75,9 @@ in_defence o c party is same = ap (λ (k : Option Contest). defends_in k party) 
 soon_so : (since time : Option ℕ) → is_soon since time ≡ true → IsSoon since time
 soon_so None time e = λ first now is at. absurd (none-some first is)
 soon_so (Some first) None e = λ other now is at. absurd (none-some now at)
-soon_so (Some first) (Some now) e = λ other then is at.
+soon_so (Some first) (Some now) e = λ other later is at.
     let same = same_Some first other is in
-    let here = same_Some now then at in
+    let here = same_Some now later at in
     let within = leb-true now (first + claim_wait) e in
     omega (arith, same, here, within)
 
