@@ -340,10 +340,8 @@ def delay_row(delay: Delay, flow: Flow, group: Group, link: str, bitrate: int, i
     taken = f"{100 * 1000 * bits_of(group) / (flow.period * bitrate):.1f} %" if flow.period and delay.frames == 1 else "–"
     if not delay.frames:
         cells = ["no period", "–", "–"]
-    elif delay.within is None and delay.limit is None:
-        cells = [f"no bound: {delay.frames} frames a message", "–", "–"]
-    elif delay.within is None and delay.limit is not None:
-        cells = late_cells(delay.late, delay.limit)
+    elif delay.within is None:
+        cells = [f"no bound: {delay.frames} frames a message", "–", "–"] if delay.limit is None else late_cells(delay.late, delay.limit)
     elif delay.limit is None:
         cells = [f"{in_milliseconds(delay.within)}, the whole message", "–", "–"]
     else:
