@@ -46,7 +46,7 @@ def seconds_of(text: str) -> float:
 def words_of(words: list[str] | None) -> argparse.Namespace:
     """The words of the command line."""
     parser = program.parser(__doc__)
-    parser.epilog = "example: %(prog)s --plan plan.toml --unit ENGINE drive.log > engine.log"
+    parser.epilog = "example: %(prog)s --unit 0 --around 1289 drive.log > part.log"
     parser.add_argument("logs", metavar="LOG", nargs="+", help="names of files as candump -L writes them, in the order of the drive")
     parser.add_argument("--begin", type=time_of, metavar="TIME", help="from this time on, in s, as 1764230400.5, or +12.5 from the log's begin on")
     parser.add_argument("--end", type=time_of, metavar="TIME", help="up to this time")

@@ -47,7 +47,7 @@ def period(text: str) -> int:
 def words_of(words: list[str] | None) -> argparse.Namespace:
     """The words of the command line."""
     parser = program.parser(__doc__)
-    parser.epilog = "example: %(prog)s plan.toml --without ENGINE --interface socketcan --channel can0 --log bench.log"
+    parser.epilog = "example: %(prog)s plan.toml --interface socketcan --channel can0"
     program.plan_word(parser)
     parser.add_argument("--without", metavar="UNIT", action="append", default=[], help="a unit that isn't played, as it is on the bench itself; may be given several times")
     parser.add_argument("--interface", required=True, help="an interface of python-can: socketcan, pcan, vector, ixxat, kvaser, virtual, udp_multicast and others")
