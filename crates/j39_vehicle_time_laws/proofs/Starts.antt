@@ -1,5 +1,5 @@
 -- Frames of a flow of which a delay is told begin within its wait from when they are queued, as far as their bus is seen.
-use Rattle.std.proofs.Common.{◌≡◌, ℕ, ◌+◌, ◌≤◌, Bool, true, false, leb, if◌then◌else◌, List, ◌++◌, get_or, All, IfSome, Option, Some, None, refl, sym, subst}
+use Rattle.std.proofs.Common.{◌≡◌, ℕ, ◌+◌, ◌≤◌, Bool, true, false, List, ◌++◌, get_or, All, IfSome, Option, Some, None, refl, sym, subst}
 use Rattle.std.proofs.Common.{inl, arith}
 use Rattle.std.specs.Bool.{MatchBool}
 use Rattle.std.specs.List.{slice_get}

@@ -9,7 +9,7 @@ returns-then-shows_times c =
     let told = c.in_ok-answer.ensures.answer in
     let shown : shows_times c.in_ok-findings.findings.items ≡ true =
     ap shows_times (sym c.deref.ensures.value) ∙ (sym c.shows_times.ensures ∙ c.if-shows_times.true) in
-    loads_told c.args.plan.now c.in-Some.timing c.in-Some.is answer told c.in_ok-findings.findings.items c.in_ok-findings.ensures.list
+    loads_told c.args.plan.now c.in-Some.timing (sym c.in-Some.ensures) answer told c.in_ok-findings.findings.items c.in_ok-findings.ensures.list
     c.write_untold.new.text c.verdict_of.result shown
     (rw (
       c.in_ok-write_loads.ensures,
@@ -25,6 +25,6 @@ pub returns : goal.returns
 returns c =
     let hidden : shows_times c.in_ok-findings.findings.items ≡ false =
     ap shows_times (sym c.deref.ensures.value) ∙ (sym c.shows_times.ensures ∙ c.if-shows_times.false) in
-    as_checked c.args.plan.now c.in-Some.timing c.in-Some.is c.in_ok-answer.answer c.in_ok-answer.ensures.answer c.in_ok-findings.findings.items
+    as_checked c.args.plan.now c.in-Some.timing (sym c.in-Some.ensures) c.in_ok-answer.answer c.in_ok-answer.ensures.answer c.in_ok-findings.findings.items
     c.in_ok-findings.ensures.list c.write_findings.new.text hidden
     (rw (c.new-text.ensures, c.deref-2.ensures.value, c.as_slice-others.ensures.value) at c.in_ok-write_findings.ensures)
