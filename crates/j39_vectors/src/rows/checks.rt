@@ -113,7 +113,7 @@ pub const LOAD_OF_AN_OLD_NEED: Row = Row {
     input: "",
     text: "flow 1 EEC1 A all within 3044 of 10000 us
 flow 2 VI A all frames 4 whole within 611376 of 620000 us
-need 1 B EEC1 old of 22000 us
+need 1 B EEC1 old 23044 of 22000 us
 load 18550 of 250000
 ",
     verdict: Verdict::Findings,
