@@ -362,7 +362,7 @@ class Where(InFolder):
             ("f10_flow_to_self", "25: F10 FlowToSelf 1  (TSC1 from ENGINE to ENGINE: key to: the sender itself)"),
             ("f11_flow_repeated", "37: F11 FlowRepeated 1 3  (EEC1 from ENGINE to all: the same as at line 27)"),
             ("f16_no_period", "31: F16 NoPeriod 2  (ET1 from ENGINE to all: key period: "),
-            ("f18_late_flow", "35: F18 LateFlow 2  (ET1 from ENGINE to all: key period: "),
+            ("f18_late_flow", "36: F18 LateFlow 2  (ET1 from ENGINE to all: key deadline: within 2 ms there isn't room"),
         ):
             plan = example(f"findings/{name}.toml")
             self.assertTrue(run("where.py", plan)[1].startswith(f"{plan}:{found}"), name)
@@ -374,8 +374,7 @@ class Where(InFolder):
         flow = '[[flow]]\ngroup = "G"\nfrom = "A"\nto = "all"\n'
         none = "14: F16 NoPeriod 1  (G from A to all: key period: it isn't there, and a plan with timing asks for it)"
         self.assertEqual(self.answer(head + group + flow), (1, [none, "findings 1"]))
-        late = ("18: F18 LateFlow 1  (G from A to all: key period: within the deadline, or the period, there isn't room for all that may go before it: "
-                "load shows the delays)")
+        late = "18: F18 LateFlow 1  (G from A to all: key period: within 1 ms there isn't room for all that may go before it; a deadline may be longer)"
         self.assertEqual(self.answer(f"{head}{group}{flow}period = 1\n"), (1, [late, "findings 1"]))
         both = f"{head}{group}{flow}period = 1\n{flow.replace('all', 'B')}period = 1\n".replace(
             "[[group]]", '[[unit]]\nlabel = "B"\naddress = 1\nname = { identity = 2 }\n[[group]]').replace("61444", "256")
@@ -425,7 +424,7 @@ class Where(InFolder):
         need = '[[need]]\nunit = "B"\ngroup = "G"\nwithin = 21\n'
         for flows, hint in (
             (flow.format("A") + "pause = 20\n", "flow 1 has a pause of 20 ms and its delay, which load shows"),
-            (flow.format("A") + "pause = 21\n" + flow.format("C"), "flow 1 has a pause of 21 ms alone; flow 2 has no pause"),
+            (flow.format("A") + "pause = 21\n" + flow.format("C"), "flow 1 has a pause of 21 ms, already as long as that; flow 2 has no pause"),
             (flow.format("B") + "pause = 10\n" + flow.format("C"), "flow 2 has no pause"),
         ):
             at = (plan + flows).count("\n") + 4
@@ -476,12 +475,12 @@ class Where(InFolder):
         self.assertEqual(self.answer(plan + flow + need + request), (1, [old, "findings 1"]))
 
     def test_long_messages_that_are_late(self) -> None:
-        """They are looked at by their deadline, those of one frame by their period."""
+        """Both are looked at by their deadline: whether they are whole within it, and whether there is room for what may go before."""
         plan = 'version = 3\n' + UNIT.format("A", 0, 1) + '[[group]]\nlabel = "G"\npgn = 61444\npriority = 3\nlength = 8\n'
         flow = '[[flow]]\ngroup = "G"\nfrom = "A"\nto = "all"\nperiod = 10\ndeadline = 5\n'
         lines = plan.count("\n")
         late = "G from A to all: key deadline: its long messages aren't shown to be whole within it"
-        for most, at, hint in (("", lines + 5, "G from A to all: key period: within the deadline, or"), ("most = 9\n", lines + 7, late)):
+        for most, at, hint in (("", lines + 6, "G from A to all: key deadline: within 5 ms there isn't room"), ("most = 9\n", lines + 7, late)):
             line, told = answer_places.finding(Source(plan + most + flow), "F18 LateFlow 1")
             self.assertEqual((line, there(told)[:len(hint)]), (at, hint))
 

@@ -224,14 +224,15 @@ def said_by_reader(statement: Statement, line: int, said: str) -> Told:
 
 def missing_comma(statement: Statement) -> Told | None:
     """A line of an inline table over several lines that lacks a comma at its end."""
-    first, above = statement.line(statement.start), ""
+    first, above, depth = statement.line(statement.start), "", 0
     at = first
     for number, line in enumerate(statement.text[statement.start:statement.end].split("\n"), first):
         code = ON_ONE_LINE.sub("''", line).partition("#")[0].strip()
-        if above and PAIR.match(code) and not above.endswith((",", "{", "[")):
+        if depth > 0 and PAIR.match(code) and not above.endswith((",", "{", "[")):
             return at, "a comma is missing at the end of this line"
         if code:
             at, above = number, code
+        depth += code.count("{") - code.count("}")
     return None
 
 
