@@ -20,9 +20,9 @@ from j39plan import program
 from tests.support import TOOLS, TOP, InFolder, run, text_of, there
 
 PACKAGE = os.path.join(TOOLS, "package")
-COMMANDS = ["show", "check", "addresses", "load", "run", "read", "follow", "frame", "vehicle", "help"]
+COMMANDS = ["show", "variant", "check", "addresses", "load", "run", "read", "follow", "frame", "vehicle", "help"]
 INSTALLED = ["where", "answer", "startup", "dbc2plan", "plan2dbc", "join", "forwards", "compare", "against", "fleet", "report", "signals", "plot", "tolog",
-             "check-plans"]
+             "check-plans", "variant"]
 PAGE = text_of(os.path.join(TOP, "docs", "TOOLS.md"))
 
 # Whose package it is in these tests.

@@ -23,7 +23,7 @@ pub struct NameFields {
 }
 
 /// A field of a NAME.
-#[derive(Clone, Copy, PartialEq, Eq)]
+#[derive(Clone, Copy, Debug, PartialEq, Eq)]
 pub enum NameField {
     Identity,
     Manufacturer,

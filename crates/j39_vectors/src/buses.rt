@@ -55,7 +55,9 @@ fn ends(
     outcome: Option<Outcome>,
     counts: (usize, usize),
 ) -> Result<(), Fail> {
-    let plan = read_plan(alloc, CHECK_OF_A_PLAN.plan.as_bytes())?;
+    let plan = read_plan(alloc, CHECK_OF_A_PLAN.plan.as_bytes())
+        .ok()
+        .ok_or("no plan")?;
     assert!(rt; plan.units.len() == 2);
     let choosers = choosers_of(alloc, &plan)?;
     let mut bus = Bus::new(alloc, &plan, choosers)?;
@@ -195,7 +197,9 @@ fn packets(alloc: Global) -> Result<Vec<Step>, AllocError> {
 #[test]
 fn one_unit_sends_to_127(rt: HostRuntime) -> Result<(), Fail> {
     let alloc = rt.alloc();
-    let plan = read_plan(alloc, large_plan(alloc, 128)?.as_bytes())?;
+    let plan = read_plan(alloc, large_plan(alloc, 128)?.as_bytes())
+        .ok()
+        .ok_or("no plan")?;
     let choosers = choosers_of(alloc, &plan)?;
     let mut bus = Bus::new(alloc, &plan, choosers)?;
     assert!(rt; bus.run(claims(alloc)?.as_slice()) == Ok(()));

@@ -60,7 +60,7 @@ fn ran(
     choosers: Vec<Box<dyn Choose>>,
     schedule: &str,
 ) -> Result<(Verdict, Vec<u8>), Fail> {
-    let plan = read_plan(alloc, MOVING.as_bytes())?;
+    let plan = read_plan(alloc, MOVING.as_bytes()).ok().ok_or("no plan")?;
     let input = schedule.as_bytes().to_vec(alloc)?;
     let mut source = Pieces::new(alloc, input, 0, 4096, Stop::Never)?;
     let mut sink = Pieces::new(alloc, Vec::new(alloc), ROOM, 4096, Stop::Never)?;

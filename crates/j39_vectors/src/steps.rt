@@ -35,7 +35,9 @@ name = { identity = 2 }
 #[test]
 fn each_step_has_its_line(rt: HostRuntime) -> Result<(), Fail> {
     let alloc = rt.alloc();
-    let plan = read_plan(alloc, CHECK_OF_A_PLAN.plan.as_bytes())?;
+    let plan = read_plan(alloc, CHECK_OF_A_PLAN.plan.as_bytes())
+        .ok()
+        .ok_or("no plan")?;
     let steps = vec![in alloc;
         Step::Up(0),
         Step::Down(0),
@@ -58,7 +60,9 @@ fn each_step_has_its_line(rt: HostRuntime) -> Result<(), Fail> {
 
 #[test]
 fn units_are_found_by_their_labels(rt: HostRuntime) -> Result<(), Fail> {
-    let plan = read_plan(rt.alloc(), ALIKE.as_bytes())?;
+    let plan = read_plan(rt.alloc(), ALIKE.as_bytes())
+        .ok()
+        .ok_or("no plan")?;
     let units = Units::new(rt.alloc(), &plan)?;
     for (label, place) in [
         ("Aa", Some(0)),

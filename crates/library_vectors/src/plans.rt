@@ -145,7 +145,7 @@ repeated = true
 
 #[test]
 fn records_that_end_inside_a_message_are_counted(rt: HostRuntime) -> Result<(), Fail> {
-    let plan = read_plan(rt.alloc(), RECORDS)?;
+    let plan = read_plan(rt.alloc(), RECORDS).ok().ok_or("no plan")?;
     let [group] = plan.groups.as_slice() else {
         return Err("not one group").map_err(Fail::from);
     };
@@ -166,7 +166,7 @@ fn records_that_end_inside_a_message_are_counted(rt: HostRuntime) -> Result<(), 
 
 #[test]
 fn a_network_is_read_whole(rt: HostRuntime) -> Result<(), Fail> {
-    let plan = read_plan(rt.alloc(), NETWORK)?;
+    let plan = read_plan(rt.alloc(), NETWORK).ok().ok_or("no plan")?;
     let ([first, second], [group]) = (plan.units.as_slice(), plan.groups.as_slice()) else {
         return Err("not two units and a group").map_err(Fail::from);
     };
@@ -292,7 +292,7 @@ fn are_requests(rt: &impl Abort, requests: &[RequestPlan]) {
 
 #[test]
 fn what_version_4_knows_is_read_whole(rt: HostRuntime) -> Result<(), Fail> {
-    let plan = read_plan(rt.alloc(), NEEDED)?;
+    let plan = read_plan(rt.alloc(), NEEDED).ok().ok_or("no plan")?;
     let timing = Timing {
         bitrate: Bitrate::Mbit1,
         unplanned: 1,
@@ -357,7 +357,10 @@ fn what_version_4_knows_is_read_whole(rt: HostRuntime) -> Result<(), Fail> {
 #[test]
 fn a_clean_plan_is_checked(rt: HostRuntime) -> Result<(), Fail> {
     let file = b"version = 1\n[[unit]]\nlabel = \"A\"\naddress = 0\nname = { identity = 1 }\n";
-    match checked(rt.alloc(), read_plan(rt.alloc(), file)?) {
+    match checked(
+        rt.alloc(),
+        read_plan(rt.alloc(), file).ok().ok_or("no plan")?,
+    ) {
         Ok(checked) => assert!(rt; checked.plan().units.len() == 1),
         Err(_) => Err("it is refused")?,
     }
@@ -366,7 +369,11 @@ fn a_clean_plan_is_checked(rt: HostRuntime) -> Result<(), Fail> {
 
 #[test]
 fn a_plan_with_findings_is_handed_back(rt: HostRuntime) -> Result<(), Fail> {
-    let refused = checked(rt.alloc(), read_plan(rt.alloc(), SHARED)?).err();
+    let refused = checked(
+        rt.alloc(),
+        read_plan(rt.alloc(), SHARED).ok().ok_or("no plan")?,
+    )
+    .err();
     let Refused { plan, cause } = refused.ok_or("it is not refused")?;
     assert!(rt; plan.units.len() == 3);
     let RefusedCause::Findings(findings) = cause else {
@@ -385,7 +392,7 @@ fn a_plan_with_findings_is_handed_back(rt: HostRuntime) -> Result<(), Fail> {
 #[test]
 fn a_conflict_is_shown_by_four_steps(rt: HostRuntime) -> Result<(), Fail> {
     let alloc = rt.alloc();
-    let plan = read_plan(alloc, SHARED)?;
+    let plan = read_plan(alloc, SHARED).ok().ok_or("no plan")?;
     let steps = bad_run(alloc, &plan, &Finding::SameFixedAddress(0, 1))?;
     let expected = [Step::Up(1), Step::Up(0), Step::Give(0, 1), Step::Give(1, 0)];
     assert!(rt; steps.ok_or("there is no run")?.as_slice() == expected.as_slice());
