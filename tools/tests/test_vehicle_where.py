@@ -343,7 +343,7 @@ class Forms(OfVehicles):
             with open(report, encoding="utf-8") as file:
                 entries = json.load(file)
             places = [(os.path.basename(one["location"]["path"]), one["location"]["lines"]["begin"], one["check_name"]) for one in entries]
-            self.assertEqual(sorted(places), [("b.toml", 28, "LateFlow"), ("v.toml", 21, "NeedTooOld")])
+            self.assertEqual(sorted(places), [("b.toml", 30, "LateFlow"), ("v.toml", 21, "NeedTooOld")])
 
     def test_hints(self) -> None:
         """Those of each plan, but for units that the vehicle names."""
