@@ -128,8 +128,9 @@ class Objects(InFolder):
         load = load_of(text)
         self.assertEqual(there(load).taken, (640, 250000))
         self.assertEqual(there(load).delays, [Delay(1, 640, 10000, 1), Delay(2, None, 10000, 1), Delay(3, None, None, 4), Delay(4, 605760, None, 4),
-                                       Delay(5, 605760, 606000, 4), Delay(6, None, 605000, 4)])
-        self.assertEqual(there(load).ages, [Age(1, 20640, 21000), Age(2, None, 20000)])
+                                       Delay(5, 605760, 606000, 4), Delay(6, None, 605000, 4), Delay(7, None, 10000, 1, 12000),
+                                       Delay(8, None, 605000, 4, 605760)])
+        self.assertEqual(there(load).ages, [Age(1, 20640, 21000), Age(2, None, 20000), Age(3, None, 21000, 21280)])
         self.assertEqual((load_of("refused plan NoTiming\n"), there(load_of("F16 NoPeriod 1\nfindings 1\n")).taken), (None, None))
         self.assertEqual(stands("unit A stays 3\nunit B may move from 128\nstay 1 of 2\n"), {"A": (True, 3), "B": (False, 128)})
         self.assertEqual(stands(program.call(["addresses", example("findings/f02_same_fixed_address.toml")])[1]), {})
