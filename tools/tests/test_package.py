@@ -329,21 +329,33 @@ class Completions(InFolder):
         """The file is that of each tool, whose options are those of its help."""
         with open(os.path.join(PACKAGE, "completions", "_j39plan"), encoding="utf-8") as file:
             self.assertEqual(file.readline().split(), ["#compdef", "j39plan", *(f"j39plan-{tool}" for tool in INSTALLED)])
-        with ThreadPoolExecutor() as pool:
+        with ThreadPoolExecutor(4) as pool:
             offered = dict(zip(INSTALLED, pool.map(self.complete_zsh, [f"j39plan-{tool} --" for tool in INSTALLED])))
         for tool, text in offered.items():
             shown = set(re.findall(r"--[a-z][a-z-]*", "\n".join(lines_of(self.path(f"j39plan-{tool}"), "--help"))))
             self.assertEqual(set(re.findall(r"^\s*(--[a-z][a-z-]*) +-- ", text, re.MULTILINE)), shown, tool)
 
     def complete_zsh(self, typed: str) -> str:
-        """What zsh offers behind what was typed: only on a terminal, so it has one here."""
+        """What zsh offers behind what was typed: only on a terminal, so it has one here. On a busy machine it is given more time."""
+        for seconds in (4, 12, 36):
+            with contextlib.suppress(subprocess.TimeoutExpired):
+                offered = self.complete_zsh_within(typed, seconds)
+                if " -- " in offered:
+                    return offered
+        self.fail(f"zsh offers nothing behind {typed}")
+
+    def complete_zsh_within(self, typed: str, seconds: int) -> str:
+        """What zsh offers by so many seconds."""
         script = (
             "zmodload zsh/zpty; zpty shell zsh -f -i; "
             f"zpty -w shell 'fpath=({PACKAGE}/completions $fpath); autoload -Uz compinit; compinit -u -D; PS1=; cd {TOOLS}'; "
-            f"zpty -w -n shell $'{typed}\\t\\t'; sleep 4; zpty -w -n shell $'\\C-u'; zpty -w shell exit; sleep 0.5; "
+            f"zpty -w -n shell $'{typed}\\t\\t'; sleep {seconds}; zpty -w -n shell $'\\C-u'; zpty -w shell exit; sleep 0.5; "
             "while zpty -r shell line; do print -r -- $line; done"
         )
-        return "\n".join(lines_of("zsh", "-f", "-c", script, env={**self.environment(), "TERM": "dumb"}))
+        environment = {**self.environment(), "TERM": "dumb"}
+        ran = subprocess.run(["zsh", "-f", "-c", script], env=environment, stdin=subprocess.DEVNULL, capture_output=True, text=True,
+                             timeout=3 * seconds + 10, check=True)
+        return ran.stdout
 
     def environment(self) -> dict[str, str]:
         """An environment in which the tools are commands."""
