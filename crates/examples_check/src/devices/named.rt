@@ -32,7 +32,7 @@ const UNREADABLE_LINE: [&str; 6] = [
 ];
 
 // Words behind `refused line N` where the step is refused.
-const REFUSED_STEP: [&str; 13] = [
+const REFUSED_STEP: [&str; 14] = [
     "NoSuchFlow",
     "NotStarted",
     "AlreadyStarted",
@@ -46,6 +46,7 @@ const REFUSED_STEP: [&str; 13] = [
     "NothingToSend",
     "NoSession",
     "CannotRest",
+    "TooManyFrames",
 ];
 
 // The first words of lines of check, and of lines of read.
@@ -105,8 +106,8 @@ fn refused(line: &str) -> Option<Verdict> {
 fn is_too_much(line: &str) -> bool {
     let number = |place| word(line, place).parse::<u64>().unwrap_or(0);
     match word(line, 0) {
-        "flow" => line.contains(" late of "),
-        "need" => line.contains(" old of "),
+        "flow" => line.contains(" late "),
+        "need" => line.contains(" old "),
         "load" => number(1) > number(3),
         _ => false,
     }
