@@ -6,7 +6,7 @@ Each of so many plans (300) has some units whose controllers keep no order, and 
 their data alone, of which any may go first. It is played on a bus of its own, by none of the program's
 definitions: arbitration bit for bit comes down to the smallest identifier, and such a unit offers what came first, what came last, what is
 least urgent, or any frame. Four plans of ten have multi-packet broadcasts, seldom wanted and with gaps of 10 ms: each unit has one under way
-as the others come, and one of each flow waits. What is queued keeps the premises of the times (docs/TIMING.md), mostly all at once. ANSWERS is
+as the others come, and one of each flow waits. What is queued keeps the premises of the times (docs/guide/TIMING.md), mostly all at once. ANSWERS is
 a file with what `load` writes of each plan behind a line `== NAME`; else ./j39plan is asked. The status is 1 where a frame is later than told.
 """
 from __future__ import annotations

@@ -16,7 +16,7 @@ from typing import NoReturn
 
 from j39plan.left_out import Notes
 
-# Exit statuses (docs/TOOLS.md has all of them); those below 5 are the program's own.
+# Exit statuses (docs/guide/TOOLS.md has all of them); those below 5 are the program's own.
 UNREADABLE, MEMORY, DEVICE, TOO_LONG, MISSING, FAULT = 2, 3, 4, 5, 69, 70
 
 # The most bytes that the program takes as a plan or a schedule.

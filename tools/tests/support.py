@@ -94,8 +94,8 @@ def vehicles() -> list[str]:
 
 
 def shown_refusals() -> list[tuple[str, str]]:
-    """The plan files that docs/PLAN.md shows as refused, each with its answer."""
-    page = text_of(os.path.join(TOP, "docs", "PLAN.md"))
+    """The plan files that docs/guide/PLAN.md shows as refused, each with its answer."""
+    page = text_of(os.path.join(TOP, "docs", "guide", "PLAN.md"))
     return re.findall(r"```toml\n([^`]*)```\n```text\n(refused [^`]*)```", page)
 
 

@@ -120,7 +120,7 @@ class CheckPlans(InFolder):
         self.assertRegex(text, r"(?m)^- id: j39plan-check-plans$")
         self.assertRegex(text, r"(?m)^  entry: env CHECK=j39plan-where j39plan-check-plans$")
         self.assertRegex(text, r"(?m)^  language: system$")
-        self.assertRegex(text_of(os.path.join(TOP, "docs", "TOOLS.md")), r"(?m)^ +- id: j39plan-check-plans$")
+        self.assertRegex(text_of(os.path.join(TOP, "docs", "guide", "TOOLS.md")), r"(?m)^ +- id: j39plan-check-plans$")
         if shutil.which("pre-commit"):
             ended = subprocess.run(["pre-commit", "validate-manifest", os.path.join(TOP, ".pre-commit-hooks.yaml")],
                                    capture_output=True, text=True, check=False, env={**os.environ, "HOME": self.folder})

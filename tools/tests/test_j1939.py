@@ -10,7 +10,7 @@ from j39plan.plan import schema
 from tests.support import InFolder, TOP, text_of, there
 
 GROUP = '[[group]]\nlabel = "G{0}"\npgn = {0}\npriority = 6\nlength = 8\n'
-PAGE, FINDINGS = (text_of(os.path.join(TOP, "docs", name)) for name in ("PLAN.md", "FINDINGS.md"))
+PAGE, FINDINGS = (text_of(os.path.join(TOP, "docs", "guide", name)) for name in ("PLAN.md", "FINDINGS.md"))
 
 
 class Numbers(InFolder):

@@ -1,4 +1,4 @@
-"""The rows of docs/PROOFS.md that name laws have the premises of these laws."""
+"""The rows of docs/internals/PROOFS.md that name laws have the premises of these laws."""
 
 import os
 import re

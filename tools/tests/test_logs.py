@@ -1,4 +1,4 @@
-"""The routes from logs of other tools to `read`, as docs/LOGS.md shows them."""
+"""The routes from logs of other tools to `read`, as docs/guide/LOGS.md shows them."""
 
 import os
 import re
@@ -18,7 +18,7 @@ LOG = example("tractor_and_implement.start.log")
 # The log without its bad line.
 LINES = [line for line in text_of(LOG).splitlines() if not line.endswith(" R")]
 
-PAGE = text_of(os.path.join(TOP, "docs", "LOGS.md"))
+PAGE = text_of(os.path.join(TOP, "docs", "guide", "LOGS.md"))
 
 # Its sentences, wherever their lines break.
 PROSE = " ".join(PAGE.split())
@@ -83,7 +83,7 @@ class Logs(ShownLines):
 
 
 class NotShown(InFolder):
-    """What docs/LOGS.md says that `read` doesn't show."""
+    """What docs/guide/LOGS.md says that `read` doesn't show."""
 
     GROUP = 'version = 1\n[[group]]\nlabel = "G"\npgn = {}\npriority = 6\nlength = {}\n'
     SIGNAL = '[[group.signal]]\nlabel = "S"\nbyte = 1\nbits = 8\nkind = "raw"\n'

@@ -19,7 +19,7 @@ from tests.support import TOOLS, TOP, InFolder, example, run, text_of, there, wi
 from typing import Any
 
 PLAN, LOG = example("tractor_and_implement.toml"), example("tractor_and_implement.start.log")
-PAGE = text_of(os.path.join(TOP, "docs", "TOOLS.md"))
+PAGE = text_of(os.path.join(TOP, "docs", "guide", "TOOLS.md"))
 
 
 class Module(InFolder):

@@ -23,7 +23,7 @@ PACKAGE = os.path.join(TOOLS, "package")
 COMMANDS = ["show", "check", "addresses", "load", "run", "read", "follow", "frame", "vehicle", "help"]
 INSTALLED = ["where", "answer", "startup", "dbc2plan", "log2plan", "plan2dbc", "join", "forwards", "compare", "mend", "against", "fleet", "table", "report", "signals", "codes", "plot", "tolog",
              "cut", "restbus", "check-plans"]
-PAGE = text_of(os.path.join(TOP, "docs", "TOOLS.md"))
+PAGE = text_of(os.path.join(TOP, "docs", "guide", "TOOLS.md"))
 
 # Whose package it is in these tests.
 MAINTAINER = "A & B / C <maintainer@lists.test.org>"
@@ -133,7 +133,7 @@ class Built(InFolder):
                                  ["(32160, 250000) False"], folder)
 
     def does_the_jobs_of_the_page(self, environment: dict[str, str]) -> None:
-        """What docs/TOOLS.md has jobs of CI do, on a plan that has to be mended."""
+        """What docs/guide/TOOLS.md has jobs of CI do, on a plan that has to be mended."""
         os.makedirs(self.path("plans"), exist_ok=True)
         plan = self.write("plans/first.toml", "version = 5\n")
         jobs = re.findall(r"CHECK=.* j39plan-check-plans plans/\*\.toml", PAGE)

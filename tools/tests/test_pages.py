@@ -1,5 +1,5 @@
 """What the pages claim: each command that they show writes what is shown, each file that they show is that file, each name of
-docs/PROOFS.md is there, each link leads somewhere, and the README stays short."""
+docs/internals/PROOFS.md is there, each link leads somewhere, and the README stays short."""
 
 import glob
 import importlib.util
@@ -14,7 +14,7 @@ from typing import Any
 from j39plan import program
 from tests.support import TOP, InFolder, example, text_of
 
-PAGES = ["README.md", "CONTRIBUTING.md", "SECURITY.md", "CHANGELOG.md", *(f"docs/{name}" for name in sorted(os.listdir(os.path.join(TOP, "docs"))) if name.endswith(".md"))]
+PAGES = ["README.md", "CONTRIBUTING.md", "SECURITY.md", "CHANGELOG.md", *sorted(glob.glob("docs/*/*.md", root_dir=TOP))]
 
 # A command that can be run here: the program or a tool, at the beginning or behind another command.
 COMMAND = re.compile(r"(?:^|[\n;|] ?)(?:\./j39plan|tools/(?!package)[\w.-]+)(?: |$)")
@@ -68,8 +68,8 @@ class Shown(InFolder):
         return ended.stdout.replace(self.folder + "/", "/tmp/")
 
     def test_commands_write_what_is_shown(self) -> None:
-        least = {"README.md": 7, "docs/PROMISES.md": 3, "docs/PLAN.md": 3, "docs/TIMING.md": 8, "docs/SIMULATOR.md": 11, "docs/LOGS.md": 9,
-                 "docs/TOOLS.md": 11, "docs/VEHICLES.md": 1, "docs/EXAMPLES.md": 2}
+        least = {"README.md": 7, "docs/guide/PROMISES.md": 3, "docs/guide/PLAN.md": 3, "docs/guide/TIMING.md": 8, "docs/guide/SIMULATOR.md": 11, "docs/guide/LOGS.md": 9,
+                 "docs/guide/TOOLS.md": 11, "docs/guide/VEHICLES.md": 1, "docs/guide/EXAMPLES.md": 2}
         for name in PAGES:
             commands = [(command, shown) for command, shown in blocks(page(name)) if COMMAND.search(command)]
             self.assertGreaterEqual(len(commands), least.get(name, 0), name)
@@ -80,20 +80,20 @@ class Shown(InFolder):
                     self.assertEqual(self.output(command), shown + "\n")
 
     def test_plans_are_answered_as_shown(self) -> None:
-        pages = page("docs/PLAN.md") + page("docs/TIMING.md")
+        pages = page("docs/guide/PLAN.md") + page("docs/guide/TIMING.md")
         shown = re.findall(r"```toml\n([^`]*)```\n(?:(?!```).)*```text\n([^`]*)```", pages, re.DOTALL)
         self.assertGreaterEqual(len(shown), 14)
         for plan, answer in shown:
             self.assertEqual(program.call(["check", self.write("plan.toml", plan)])[1], answer, plan)
 
     def test_examples_are_answered_as_shown(self) -> None:
-        shown = re.findall(r"`examples/(findings/\w+\.toml)`[^\n]*:\n\n```text\n(.*?)```", page("docs/FINDINGS.md"), re.DOTALL)
+        shown = re.findall(r"`examples/(findings/\w+\.toml)`[^\n]*:\n\n```text\n(.*?)```", page("docs/guide/FINDINGS.md"), re.DOTALL)
         self.assertGreaterEqual(len(shown), 11)
         for plan, answer in shown:
             self.assertEqual(program.call(["check", example(plan)])[1], answer, plan)
 
     def test_files_are_as_shown(self) -> None:
-        for name, least in (("README.md", 1), ("docs/SIMULATOR.md", 4), ("docs/VEHICLES.md", 1)):
+        for name, least in (("README.md", 1), ("docs/guide/SIMULATOR.md", 4), ("docs/guide/VEHICLES.md", 1)):
             shown = re.findall(FILE, page(name))
             self.assertGreaterEqual(len(shown), least)
             for file, text in shown:
@@ -143,12 +143,12 @@ class Form(unittest.TestCase):
 
     def test_decisions_are_short(self) -> None:
         """Each is an item of at most 60 words: what was chosen, in place of what, and why."""
-        items = [" ".join(it.split()) for it in re.split(r"\n(?=- |\n)", page("docs/DECISIONS.md")) if it.startswith("- ")]
+        items = [" ".join(it.split()) for it in re.split(r"\n(?=- |\n)", page("docs/internals/DECISIONS.md")) if it.startswith("- ")]
         self.assertGreaterEqual(len(items), 120)
         self.assertEqual([item for item in items if len(item.split()) > 61], [])
 
     def test_what_was_tried_and_left_has_a_line_each(self) -> None:
-        section = page("docs/DECISIONS.md").split("## Tried and left\n")[1].split("\n## ")[0].strip()
+        section = page("docs/internals/DECISIONS.md").split("## Tried and left\n")[1].split("\n## ")[0].strip()
         self.assertEqual([line for line in section.splitlines() if not re.match(r"- `j39_\w+`: .*\.$", line)], [])
 
 
@@ -174,7 +174,7 @@ class Names(InFolder):
                     self.assertIn(heading, anchors(page(target)), f"{name}: {link}")
 
     def test_what_is_called_proved_is_there(self) -> None:
-        """A row of docs/PROOFS.md: names, at most 40 words with clauses in brackets, and the files that have the names' contracts."""
+        """A row of docs/internals/PROOFS.md: names, at most 40 words with clauses in brackets, and the files that have the names' contracts."""
         sections = proved_sections()
         self.assertGreaterEqual(len(sections), 10)
         self.assertGreaterEqual(sum(len(rows_of(body)) for _, body in sections), 150)
@@ -183,7 +183,7 @@ class Names(InFolder):
             promised = promises(source)
             for names, proved, links in rows_of(body):
                 self.assertLessEqual(len(words_of(proved).split()), 40, names)
-                linked = "\n".join(public(text_of(os.path.join(TOP, "docs", link))) for link in re.findall(r"\]\(([^)]*)\)", links))
+                linked = "\n".join(public(text_of(os.path.join(TOP, "docs", "internals", link))) for link in re.findall(r"\]\(([^)]*)\)", links))
                 for name in re.findall(r"`([\w:]+)`", names):
                     pattern = rf"pub (?:fn|struct|enum|trait|type) {name.split('::')[-1]}\b"
                     self.assertTrue(re.search(pattern, linked), f"{heading}: {name}")
@@ -192,7 +192,7 @@ class Names(InFolder):
                         self.assertIn(clause, promised, heading)
 
     def test_each_law_is_called_proved(self) -> None:
-        """The section of a library in docs/PROOFS.md names each law that it hands out: a public function with an empty body."""
+        """The section of a library in docs/internals/PROOFS.md names each law that it hands out: a public function with an empty body."""
         sections = proved_sections()
         named = {(crate, name) for crates, body in sections for crate in crates for name in re.findall(r"`(\w+)`", body)}
         laws = {(crate, law) for crate in os.listdir(os.path.join(TOP, "crates")) for law in laws_of(crate)}
@@ -200,8 +200,8 @@ class Names(InFolder):
         self.assertEqual(sorted(laws - named), [])
 
     def test_each_module_of_definitions_has_its_place(self) -> None:
-        """The table of rules in docs/ARCHITECTURE.md has each module of specs/, and no other; specs/inside/ are for proofs."""
-        table = page("docs/ARCHITECTURE.md").split("## Where each rule lives")[1]
+        """The table of rules in docs/internals/ARCHITECTURE.md has each module of specs/, and no other; specs/inside/ are for proofs."""
+        table = page("docs/internals/ARCHITECTURE.md").split("## Where each rule lives")[1]
         rows = re.findall(r"\n\| [^|]* \| `(j39_\w+)` \| ([^|]*) \|", table)
         shown = {(crate, module) for crate, cell in rows for module in re.findall(r"`(\w+)`", cell)}
         files = glob.glob(os.path.join(TOP, "crates", "*", "specs", "*.antt"))
@@ -261,23 +261,23 @@ class Names(InFolder):
         })
 
     def test_each_module_of_the_tools_is_named(self) -> None:
-        """The table of docs/ARCHITECTURE.md has each module of tools/j39plan/ once, and no other."""
-        section = page("docs/ARCHITECTURE.md").split("## The tools\n")[1].split("\n## ")[0]
+        """The table of docs/internals/ARCHITECTURE.md has each module of tools/j39plan/ once, and no other."""
+        section = page("docs/internals/ARCHITECTURE.md").split("## The tools\n")[1].split("\n## ")[0]
         named = [folder + name for folder, cell in re.findall(r"\n\| (?:`(\w[\w/]*/)`: )?(`.*?) \|", section) for name in re.findall(r"`(\w+)`", cell)]
         modules = glob.glob("**/[!_]*.py", root_dir=os.path.join(TOP, "tools", "j39plan"), recursive=True)
         self.assertEqual(sorted(named), sorted(name[:-3] for name in modules))
 
     def test_files_to_change_are_there(self) -> None:
-        """The lists of docs/ARCHITECTURE.md on what is added where name files and folders that are there."""
-        names = re.findall(r"`([\w.-]+(?:/[\w.-]*)*)`", page("docs/ARCHITECTURE.md").split("## To add a step")[1])
+        """The lists of docs/internals/ARCHITECTURE.md on what is added where name files and folders that are there."""
+        names = re.findall(r"`([\w.-]+(?:/[\w.-]*)*)`", page("docs/internals/ARCHITECTURE.md").split("## To add a step")[1])
         files = [name for name in names if "/" in name]
         self.assertGreaterEqual(len(files), 40)
         for name in files:
             self.assertTrue(any(os.path.exists(os.path.join(TOP, below, name)) for below in ("crates", "")), name)
 
     def test_files_to_change_are_all_that_have_a_case(self) -> None:
-        """The lists of docs/ARCHITECTURE.md on what is added name each source that has a case of the step or finding that they show."""
-        text = page("docs/ARCHITECTURE.md")
+        """The lists of docs/internals/ARCHITECTURE.md on what is added name each source that has a case of the step or finding that they show."""
+        text = page("docs/internals/ARCHITECTURE.md")
         for heading, word in (("To add a step", "Down"), ("To add a finding", "KeptAddress")):
             section = text.split(f"## {heading}\n")[1].split("\n## ")[0]
             self.assertIn(f"`git grep -w {word} -- crates`", section)
@@ -299,8 +299,8 @@ class Names(InFolder):
                 self.assertEqual(sorted(it for it in shown - OTHERS if it not in ends), [])
 
     def test_each_example_is_named(self) -> None:
-        """The table of docs/EXAMPLES.md has each plan of examples/, and no other."""
-        named = re.findall(r"^\| `(\w+\.toml)` \|", page("docs/EXAMPLES.md"), re.MULTILINE)
+        """The table of docs/guide/EXAMPLES.md has each plan of examples/, and no other."""
+        named = re.findall(r"^\| `(\w+\.toml)` \|", page("docs/guide/EXAMPLES.md"), re.MULTILINE)
         plans = glob.glob("*.toml", root_dir=os.path.join(TOP, "examples"))
         self.assertEqual(sorted(named), sorted(plans))
 
@@ -341,8 +341,8 @@ def homes_of_types(top: str) -> dict[str, list[str]]:
 
 
 def proved_sections() -> list[tuple[list[str], str]]:
-    """The sections of docs/PROOFS.md on what is proved, each as its crates and its text."""
-    sections = re.findall(r"\n## ((?:`j39_\w+`(?:, )?)+):.*?\n(.*?)(?=\n## )", page("docs/PROOFS.md"), re.DOTALL)
+    """The sections of docs/internals/PROOFS.md on what is proved, each as its crates and its text."""
+    sections = re.findall(r"\n## ((?:`j39_\w+`(?:, )?)+):.*?\n(.*?)(?=\n## )", page("docs/internals/PROOFS.md"), re.DOTALL)
     return [(re.findall(r"j39_\w+", heading), body) for heading, body in sections]
 
 

@@ -325,10 +325,10 @@ class RoundTrip(WithPlans):
 @unittest.skipUnless(shutil.which("tshark"), "tshark isn't there: apt-get install tshark")
 class Wireshark(InFolder):
     def test_the_way_of_the_page(self) -> None:
-        """What docs/TOOLS.md has for Wireshark shows the raw numbers of a log's signals."""
+        """What docs/guide/TOOLS.md has for Wireshark shows the raw numbers of a log's signals."""
         plan, lines = example("tractor_and_implement.toml"), text_of(example("tractor_and_implement.start.log")).splitlines(keepends=True)
         log = self.write("drive.log", "".join(lines[:-1]))  # the last one is bad
-        block = there(re.search(r"```sh\n(tools/plan2dbc\.py .*?)```", text_of(os.path.join(TOP, "docs", "TOOLS.md")), re.DOTALL)).group(1)
+        block = there(re.search(r"```sh\n(tools/plan2dbc\.py .*?)```", text_of(os.path.join(TOP, "docs", "guide", "TOOLS.md")), re.DOTALL)).group(1)
         for shown, meant in (("tools/", TOOLS + "/"), (" plan.toml", f" {plan}"), (" drive.log", f" {log}"), ("python3 -m", f"{sys.executable} -m")):
             self.assertIn(shown, block)
             block = block.replace(shown, meant)

@@ -96,7 +96,7 @@ class End(InFolder):
             self.assertEqual(run(tool, f01, *more)[0], 1, tool)
 
     def test_the_page_has_each_status(self) -> None:
-        page = text_of(os.path.join(TOOLS, "..", "docs", "TOOLS.md")).split("## Exit statuses\n")[1].split("\n## ")[0]
+        page = text_of(os.path.join(TOOLS, "..", "docs", "guide", "TOOLS.md")).split("## Exit statuses\n")[1].split("\n## ")[0]
         shown = [line.split("|")[1].strip() for line in page.splitlines() if line.startswith("| ") and line[2].isdigit()]
         self.assertEqual(shown, ["0", "1", "2", "3", "4", "5", "69", "70"])
 

@@ -1,4 +1,4 @@
-"""What docs/TOOLS.md says that a DBC keeps on its way to a plan and back, as canmatrix reads both."""
+"""What docs/guide/TOOLS.md says that a DBC keeps on its way to a plan and back, as canmatrix reads both."""
 
 import os
 import re
@@ -15,7 +15,7 @@ FILES = [example("vehicle.dbc"), *(example(f"suppliers/{name}.dbc") for name in 
 
 
 def in_ascii(unit: str | None) -> str:
-    """A unit of measurement as docs/TOOLS.md says that it comes back."""
+    """A unit of measurement as docs/guide/TOOLS.md says that it comes back."""
     return (unit or "").replace("°", "deg")
 
 

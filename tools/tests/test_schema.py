@@ -1,4 +1,4 @@
-"""The JSON schema of a plan file says what docs/PLAN.md and the program say."""
+"""The JSON schema of a plan file says what docs/guide/PLAN.md and the program say."""
 
 import glob
 import json
@@ -66,8 +66,8 @@ def rules(table: str | None) -> Any:
 
 
 def page_rows() -> Iterator[tuple[Any, ...]]:
-    """The rows of the tables of keys in docs/PLAN.md: table, key, type and range, default, the first version where it isn't 1, meaning."""
-    page = text_of(os.path.join(TOP, "docs", "PLAN.md"))
+    """The rows of the tables of keys in docs/guide/PLAN.md: table, key, type and range, default, the first version where it isn't 1, meaning."""
+    page = text_of(os.path.join(TOP, "docs", "guide", "PLAN.md"))
     page = page[page.index("\n## Tables and keys"):page.index("\n## Byte order: bytes and bits")]
     for heading, body in re.findall(r"\n### (.*?)\n(.*?)(?=\n### |\Z)", page, re.DOTALL):
         has_since = "| Since |" in body

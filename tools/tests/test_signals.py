@@ -207,8 +207,8 @@ class Signals(InFolder):
 
     @needs("pandas", "python3-pandas")
     def test_the_lines_of_the_page_on_pandas(self) -> None:
-        """What docs/TOOLS.md shows runs on the table that it names, and has the columns that it asks for."""
-        page = text_of(os.path.join(os.path.dirname(TOOLS), "docs", "TOOLS.md"))
+        """What docs/guide/TOOLS.md shows runs on the table that it names, and has the columns that it asks for."""
+        page = text_of(os.path.join(os.path.dirname(TOOLS), "docs", "guide", "TOOLS.md"))
         lines = there(re.search(r"```python\n(import pandas\n.*?)```", page, re.DOTALL)).group(1)
         self.write("drive.csv", run("signals.py", "--wide", PLAN, LOG)[1])
         ended = subprocess.run([sys.executable, "-c", lines + "print(len(speed), speed.iloc[0], len(joined))"], cwd=self.folder, capture_output=True,

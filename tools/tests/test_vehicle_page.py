@@ -1,4 +1,4 @@
-"""The tables of docs/VEHICLES.md say what the schema of vehicle files and the grammar of answers say."""
+"""The tables of docs/guide/VEHICLES.md say what the schema of vehicle files and the grammar of answers say."""
 
 import os
 import re
@@ -15,7 +15,7 @@ TABLES = ("", "bus", "gateway", "forward", "signal", "need")
 
 def page() -> str:
     """The page's text."""
-    return text_of(os.path.join(TOP, "docs", "VEHICLES.md"))
+    return text_of(os.path.join(TOP, "docs", "guide", "VEHICLES.md"))
 
 
 def required(table: str) -> list[str]:
@@ -73,7 +73,7 @@ class Findings(unittest.TestCase):
     def test_each_finding_has_its_row(self) -> None:
         """With as many words as its line has."""
         for name in ("VEHICLES.md", "FINDINGS.md"):
-            text = text_of(os.path.join(TOP, "docs", name))
+            text = text_of(os.path.join(TOP, "docs", "guide", name))
             shown = [line.split() for line in re.findall(r"`(G\d+ \w+ [\w ]+)`", text)]
             known = [line.split() for line in answer_grammar.FINDINGS]
             self.assertEqual([(line[:2], len(line)) for line in shown], [(line[:2], len(line)) for line in known], name)

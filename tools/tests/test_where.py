@@ -834,8 +834,8 @@ class Where(InFolder):
         self.assertEqual((ended.returncode, ended.stdout, ended.stderr), (69, "", said))
 
     def test_the_pattern_for_editors(self) -> None:
-        """What docs/TOOLS.md gives VS Code finds file, line and text of each answer with a place, and no other."""
-        task = json.loads(there(re.search(r"```json\n(.*?)```", text_of(os.path.join(TOP, "docs", "TOOLS.md")), re.DOTALL)).group(1))
+        """What docs/guide/TOOLS.md gives VS Code finds file, line and text of each answer with a place, and no other."""
+        task = json.loads(there(re.search(r"```json\n(.*?)```", text_of(os.path.join(TOP, "docs", "guide", "TOOLS.md")), re.DOTALL)).group(1))
         pattern = task["tasks"][0]["problemMatcher"]["pattern"]["regexp"]
         plan = example("findings/several.toml")
         *findings, count = run("where.py", plan)[1].splitlines()

@@ -22,7 +22,7 @@ from j39plan.plan.text import Labels, Table, as_label
 if TYPE_CHECKING:
     import canmatrix
 
-# The most of each that a plan has; how wide a signal of it is that isn't left out, and its unit of measurement (docs/PLAN.md).
+# The most of each that a plan has; how wide a signal of it is that isn't left out, and its unit of measurement (docs/guide/PLAN.md).
 SIGNALS, TEXTS, BYTES, NAMES = most_of("group", "signal"), most_of("group", "text"), most_of("group", "length"), most_of("signal", "values")
 BITS, UNIT, NUMBERS = 32, 32, range(most_of("signal", "spn") + 1)
 

@@ -3,7 +3,7 @@
 import re
 from typing import NamedTuple
 
-# The findings with their parts: of labels and `#` of numbers, as docs/PLAN.md has them.
+# The findings with their parts: of labels and `#` of numbers, as docs/guide/PLAN.md has them.
 FINDINGS = (
     "F1 SameName unit other", "F2 SameFixedAddress unit other #address", "F3 TooFewAddresses #units", "F4 BadPgn group #pgn",
     "F5 SamePgn group other #pgn", "F6 SignalWidth group signal #bits", "F7 SignalOutside group signal #end", "F8 SignalOverlap group signal other",

@@ -63,7 +63,7 @@ class Left(NamedTuple):
 
 
 class Contest(NamedTuple):
-    """A contest at an address (docs/LOGS.md): whose the NAME is that was there before, and when it began."""
+    """A contest at an address (docs/guide/LOGS.md): whose the NAME is that was there before, and when it began."""
 
     defender: Key
     at: int
