@@ -1,7 +1,7 @@
 -- How old what a unit needs is at most, where it is received: the time for which a flow that brings it is silent at most, and the delay of
 -- this flow together.
-use Rattle.std.specs.Prelude.{ℕ, ◌+◌, min, nat_le, Bool, false, not, ◌&&◌, if◌then◌else◌, List, [], ◌∷◌, slice_index_or, Option, Some, None}
-use Rattle.std.specs.Option.{option_map_or}
+use Rattle.std.specs.Prelude.{ℕ, ◌+◌, min, nat_le, nat_lt, Bool, false, not, ◌&&◌, ◌==◌, if◌then◌else◌, List, [], ◌∷◌, count_by, slice_index_or, Option, Some, None}
+use Rattle.std.specs.Option.{option_and_then, option_map_or}
 use Rattle.j39_findings.specs.Found.{is_unmet}
 use Rattle.j39_network.specs.Serving.{meets}
 use Rattle.j39_network.specs.declared.plan.flow_plan.FlowPlan.{FlowPlan}
@@ -40,6 +40,33 @@ least (x ∷ xs) = smaller_known (Some x) (least xs)
 -- how old what a unit needs is at most: by that of the flows that meet the need of which it is youngest
 abbrev pub least_age : Timing → List RequestPlan → List FlowPlan → List (Option Delay) → NeedPlan → Option ℕ
 least_age timing requests flows delays need = least (lines_of_each (ages_for timing requests delays need) 0 flows)
+
+-- the one that is known, and it is this
+abbrev pub is_age : ℕ → Option ℕ → Bool
+is_age age known = option_map_or (λ n. n == age) known false
+
+-- the place of a flow, where it meets the need and brings what is so old
+abbrev pub place_of_age : Timing → List RequestPlan → List (Option Delay) → NeedPlan → ℕ → ℕ → FlowPlan → List ℕ
+place_of_age timing requests delays need age place flow =
+    if is_age age (least (ages_for timing requests delays need place flow)) then place ∷ [] else []
+
+-- the first of these
+abbrev pub first_of : List ℕ → Option ℕ
+first_of [] = None
+first_of (x ∷ xs) = Some x
+
+-- the place of the first of the flows that bring what is so old
+abbrev pub first_of_age : Timing → List RequestPlan → List FlowPlan → List (Option Delay) → NeedPlan → ℕ → Option ℕ
+first_of_age timing requests flows delays need age = first_of (lines_of_each (place_of_age timing requests delays need age) 0 flows)
+
+-- the flow of which what is needed is youngest, the first one where there are several, by its place
+abbrev pub youngest_flow : Timing → List RequestPlan → List FlowPlan → List (Option Delay) → NeedPlan → Option ℕ
+youngest_flow timing requests flows delays need =
+    option_and_then (first_of_age timing requests flows delays need) (least_age timing requests flows delays need)
+
+-- several flows meet the need
+abbrev pub has_several : List RequestPlan → List FlowPlan → NeedPlan → Bool
+has_several requests flows need = nat_lt 1 (count_by (meets requests need) flows)
 
 -- a time is known, and within so many bits
 abbrev pub is_in_limit : ℕ → Option ℕ → Bool

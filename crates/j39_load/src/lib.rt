@@ -10,7 +10,7 @@ mod loads;
 mod queues;
 mod waits;
 
-pub use findings::{LoadAnswer, LoadFinding, check_load, least_age};
+pub use findings::{LoadAnswer, LoadFinding, check_load, has_several, least_age, youngest_flow};
 pub use frames::{Broadcast, FlowFrames, Messages, bits_of_ms, bits_of_second};
 pub use laws::{
     broadcasts_that_keep_a_plan, delays_are_bounds, frames_that_keep_a_plan,

@@ -35,7 +35,7 @@ use Rattle.j39_text.specs.Labels.{signals_of, text_end, text_label, texts_of, un
 use Rattle.j39_plan_text.specs.CheckText.{findings_text, ok_line}
 use Rattle.j39_plan_text.specs.FindingLines.{finding_line, finding_lines, finding_part, finding_report, finding_text, run_lines, signal_text, address_of_unit_text}
 use Rattle.j39_plan_text.specs.FindingLines.{address_of_units_text, group_number_text, signal_number_text, signals_text}
-use Rattle.j39_plan_text.specs.LoadLines.{flow_line, flow_text, known_age_text, loads_text, need_line, receiver_text}
+use Rattle.j39_plan_text.specs.LoadLines.{age_flow_text, flow_line, flow_text, known_age_text, loads_text, need_line, receiver_text}
 use Rattle.j39_plan_text.specs.LoadText.{untold_lines, untold_text}
 
 -- the lines of each are those of two ways of telling that tell the same
@@ -257,7 +257,7 @@ module _ (plan vehicle : Plan) (is : IsVehicleOf plan vehicle) where
 
   age_same : (timing : Timing) (delays : List (Option Delay)) (need : NeedPlan) (limit : ℕ)
       → known_age_text vehicle timing delays need limit ≡ known_age_text plan timing delays need limit
-  unfolding known_age_text
+  unfolding known_age_text age_flow_text
   age_same timing delays need limit = rw (is.requests, is.flows) refl
 
   need_line_same : (timing : Timing) (delays : List (Option Delay)) (place : ℕ) (need : NeedPlan)

@@ -15,7 +15,7 @@ use Rattle.j39_load.specs.declared.waits.whole_time.WholeTime.{WholeTime}
 use Rattle.j39_load.specs.declared.loads.flow_load.FlowLoad.{FlowLoad}
 use Rattle.j39_load.specs.declared.findings.load_finding.LoadFinding.{LoadFinding}
 use Rattle.j39_load.specs.declared.findings.load_finding.LoadFinding.TheVariants.{NoPeriod, Overload, LateFlow, NeedTooOld}
-use Rattle.j39_load.specs.Ages.{least_age}
+use Rattle.j39_load.specs.Ages.{has_several, least_age, youngest_flow}
 use Rattle.j39_load.specs.Asked.{Asked, total_load}
 use Rattle.j39_load.specs.LoadFindings.{load_finding_number, time_of_each}
 use Rattle.j39_load.specs.Loads.{bits_of_ms, bits_of_second}
@@ -103,11 +103,18 @@ flow_line plan bitrate loads delays place flow = flow_text plan place flow
 unfoldable pub age_text : Bitrate → ℕ → Option ℕ → List ℕ
 age_text bitrate limit age = limited_text (codes " age ") (codes " old ") bitrate limit age
 
+-- which flow's age it is, where several meet the need
+unfoldable pub age_flow_text : Plan → Timing → List (Option Delay) → NeedPlan → List ℕ
+age_flow_text plan timing delays need =
+    if has_several plan.requests.items plan.flows.items need
+    then option_map_or (place_field (codes " flow ")) (youngest_flow timing plan.requests.items plan.flows.items delays need) [] else []
+
 -- the age of what is needed, or that no flow meets the need
 unfoldable pub known_age_text : Plan → Timing → List (Option Delay) → NeedPlan → ℕ → List ℕ
 known_age_text plan timing delays need limit =
     if is_unmet plan.requests.items plan.flows.items need then time_text (codes " unmet of ") timing.bitrate limit
     else age_text timing.bitrate limit (least_age timing plan.requests.items plan.flows.items delays need)
+        ++ age_flow_text plan timing delays need
 
 -- a need and its age, where it asks for one
 unfoldable pub need_line : Plan → Timing → List (Option Delay) → ℕ → NeedPlan → List ℕ

@@ -1,6 +1,6 @@
 //! The lines of what a plan asks of its bus.
 ghost use Rattle.std.specs.Prelude.{◌≡◌, ◌+◌, ◌*◌, ◌++◌, ◌<◌, ◌^◌, length, OnOk};
-ghost use Rattle.j39_plan_text.specs.LoadLines.{age_text, delay_text, flow_line, flow_text};
+ghost use Rattle.j39_plan_text.specs.LoadLines.{age_flow_text, age_text, delay_text, flow_line, flow_text};
 ghost use Rattle.j39_plan_text.specs.LoadLines.{known_age_text, known_delay_text, limited_text};
 ghost use Rattle.j39_plan_text.specs.LoadLines.{load_finding_line, load_finding_lines, load_finding_part};
 ghost use Rattle.j39_plan_text.specs.LoadLines.{load_finding_text, load_line, loads_text};
@@ -12,7 +12,8 @@ ghost use Rattle.j39_load.specs.SentFrames.{bit_time};
 
 use crate::finding_lines::is_between;
 use j39_load::{
-    Delay, FlowLoad, LoadFinding, Loads, WholeTime, bits_of_ms, bits_of_second, least_age,
+    Delay, FlowLoad, LoadFinding, Loads, WholeTime, bits_of_ms, bits_of_second, has_several,
+    least_age, youngest_flow,
 };
 use j39_network::{Bitrate, FlowPlan, NeedPlan, Plan, Timing, To, is_met};
 use j39_text::{TextBuffer, group_label, unit_label, write_need};
@@ -274,6 +275,27 @@ fn write_age(
     write_limited(text, " age ", " old ", bitrate, limit, age)
 }
 
+// Which flow's age it is, where several meet the need.
+#[tactic(auto, unfolding(crate::specs::LoadLines::age_flow_text))]
+fn write_age_flow(
+    text: &mut TextBuffer,
+    plan: &Plan,
+    timing: Timing,
+    delays: &[Option<Delay>],
+    need: &NeedPlan,
+) -> Result<(), AllocError>
+    requires { length delays.now ≡ length plan.now.flows.items }
+    ensures { OnOk result (text.new ≡ text.old ++ age_flow_text plan.now timing delays.now need.now) }
+{
+    if !has_several(&plan.requests, &plan.flows, need) {
+        return Ok(());
+    }
+    match youngest_flow(timing, &plan.requests, &plan.flows, delays, need) {
+        Some(flow) => text.place(" flow ", flow),
+        None => Ok(()),
+    }
+}
+
 // The age of what is needed, or that no flow meets the need.
 #[tactic(auto, unfolding(crate::specs::LoadLines::known_age_text))]
 fn write_known_age(
@@ -291,7 +313,8 @@ fn write_known_age(
         return write_time(text, " unmet of ", timing.bitrate, u64::from(limit));
     }
     let age = least_age(timing, &plan.requests, &plan.flows, delays, need);
-    write_age(text, timing.bitrate, limit, age)
+    write_age(text, timing.bitrate, limit, age)?;
+    write_age_flow(text, plan, timing, delays, need)
 }
 
 // A need and its age, where it asks for one.

@@ -1,5 +1,5 @@
 -- The lines of needs.
-use Rattle.std.specs.Prelude.{ℕ, zero, suc, List, [], ◌∷◌, ◌++◌, codes, length, Option, Some, None}
+use Rattle.std.specs.Prelude.{ℕ, zero, suc, nat_lt, if◌then◌else◌, List, [], ◌∷◌, ◌++◌, codes, length, Option, Some, None}
 use Rattle.std.specs.Option.{option_map_or}
 use Rattle.j39_network.specs.declared.plan.flow_plan.FlowPlan.{FlowPlan}
 use Rattle.j39_text.specs.Texts.{field, place_field}
@@ -12,7 +12,7 @@ use Rattle.j39_vehicle_findings.specs.declared.point.FlowAt.{FlowAt}
 use Rattle.j39_vehicle_findings.specs.declared.point.Point.{Point}
 use Rattle.j39_vehicle_times.specs.declared.bus_delays.Delays.{Delays}
 use Rattle.j39_vehicle_times.specs.declared.needs.NeedFlow.{NeedFlow}
-use Rattle.j39_vehicle_times.specs.FoundTimes.{flow_of_need}
+use Rattle.j39_vehicle_times.specs.FoundTimes.{flow_of_need, need_flow_count}
 use Rattle.j39_vehicle_times.specs.Times.{flow_at, us_of_ms}
 use Rattle.j39_vehicle_text.specs.VehicleLabels.{group_label_at, signal_label_at, unit_text_at}
 
@@ -77,12 +77,17 @@ need_age_text (Some age) within = field (codes " age ") age ++ (limit_text withi
 need_age_text None (Some ms) = codes " old" ++ (limit_text (Some ms) ++ codes " us")
 need_age_text None None = []
 
+-- which flow's age it is, where several meet the need
+unfoldable pub age_flow_text : Vehicle → VehicleNeed → ℕ → Option ℕ → List ℕ
+age_flow_text v d flow (Some age) = if nat_lt 1 (need_flow_count v d) then place_field (codes " flow ") flow else []
+age_flow_text v d flow None = []
+
 -- ---- the line
 
--- of the flow that meets the need what its origin sends, by which forwards, and how old it is
+-- of the flow that meets the need what its origin sends, by which forwards, how old it is, and which flow it is, where several meet the need
 unfoldable pub told_text : Vehicle → VehicleNeed → NeedFlow → List ℕ
 told_text v d told = let p = point_on d.unit.bus told.flow d.signal in
-    origin_text v p ++ (told_way_text (way_back v p) ++ need_age_text told.age d.within)
+    origin_text v p ++ (told_way_text (way_back v p) ++ (need_age_text told.age d.within ++ age_flow_text v d told.flow told.age))
 
 unfoldable pub met_text : Vehicle → VehicleNeed → Option NeedFlow → List ℕ
 met_text v d (Some told) = told_text v d told

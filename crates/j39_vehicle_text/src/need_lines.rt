@@ -2,7 +2,7 @@
 ghost use Rattle.std.specs.Prelude.{◌≡◌, ◌++◌, Some, None, OnOk};
 ghost use Rattle.j39_load.specs.LineLists.{lines_of_each};
 ghost use Rattle.j39_vehicle_times.specs.declared.needs.NeedFlow.{NeedFlow as ToldFlows};
-ghost use Rattle.j39_vehicle_text.specs.NeedLines.{content_text, group_of_flow, limit_text, meant_text, met_text};
+ghost use Rattle.j39_vehicle_text.specs.NeedLines.{age_flow_text, content_text, group_of_flow, limit_text, meant_text, met_text};
 ghost use Rattle.j39_vehicle_text.specs.NeedLines.{need_age_text, origin_content, origin_text, told_text};
 ghost use Rattle.j39_vehicle_text.specs.NeedLines.{vehicle_need_line, vehicle_need_lines, vehicle_need_text};
 
@@ -11,7 +11,7 @@ use crate::ways::write_way;
 use j39_text::TextBuffer;
 use j39_vehicle::{GroupAt, Vehicle, VehicleNeed};
 use j39_vehicle_findings::{FlowAt, Point, Routes, flows_on};
-use j39_vehicle_times::{Delays, NeedFlow, flow_of_need, us_of_ms};
+use j39_vehicle_times::{Delays, NeedFlow, flow_of_need, need_flow_count, us_of_ms};
 use std::alloc::{AllocError, Global};
 
 // The signal that is meant, if one is.
@@ -155,6 +155,22 @@ fn write_age(text: &mut TextBuffer, age: Option<u64>, within: Option<u16>) -> Re
     }
 }
 
+// Which flow's age it is, where several meet the need.
+#[tactic(auto, unfolding(crate::specs::NeedLines::age_flow_text))]
+fn write_age_flow(
+    text: &mut TextBuffer,
+    routes: &Routes<'_>,
+    need: &VehicleNeed,
+    told: NeedFlow,
+) -> Result<(), AllocError>
+    ensures { OnOk result (text.new ≡ text.old ++ age_flow_text routes.now.vehicle.now need.now told.flow told.age) }
+{
+    match told.age {
+        Some(_) if 1 < need_flow_count(routes, need) => text.place(" flow ", told.flow),
+        _ => Ok(()),
+    }
+}
+
 // Of the flow that meets the need what its origin sends, by which forwards, and how old it is.
 #[tactic(auto, unfolding(crate::specs::NeedLines::told_text))]
 fn write_told(
@@ -174,7 +190,8 @@ fn write_told(
     let start = Point { at, signal };
     write_origin(text, routes, start)?;
     write_way(alloc, text, routes, start)?;
-    write_age(text, told.age, need.within)
+    write_age(text, told.age, need.within)?;
+    write_age_flow(text, routes, need, told)
 }
 
 // The same, or that no flow meets it.

@@ -1,5 +1,5 @@
 -- The findings of times as a list: a test for each statement, and the list of all that pass; and of the flows of a need the one that is told.
-use Rattle.std.specs.Prelude.{ℕ, List, [], ◌∷◌, ◌++◌, Bool, true, false, not, ◌&&◌, ◌||◌, nat_lt, nat_le, if◌then◌else◌, Option, Some, None}
+use Rattle.std.specs.Prelude.{ℕ, List, [], ◌∷◌, ◌++◌, length, Bool, true, false, not, ◌&&◌, ◌||◌, nat_lt, nat_le, if◌then◌else◌, Option, Some, None}
 use Rattle.std.specs.List.{slice_get}
 use Rattle.std.specs.Option.{option_and_then, option_map, option_map_or}
 use Rattle.j39_search.specs.ListPlaces.{each, found_if, in_each}
@@ -116,6 +116,14 @@ youngest (x ∷ xs) = joined (Some x) (youngest xs)
 
 abbrev pub flow_of_need : Vehicle → Delays → VehicleNeed → Option NeedFlow
 flow_of_need v delays d = youngest (in_each (need_flows_at v delays d) 0 (flows_of_need v d))
+
+-- the place of a flow, where it is one of the need's
+abbrev pub need_places_at : Vehicle → VehicleNeed → ℕ → FlowPlan → List ℕ
+need_places_at v d f flow = found_if (is_need_flow v d f flow) f
+
+-- how many flows bring what is needed
+abbrev pub need_flow_count : Vehicle → VehicleNeed → ℕ
+need_flow_count v d = length (in_each (need_places_at v d) 0 (flows_of_need v d))
 
 abbrev pub is_older : Vehicle → Delays → VehicleNeed → ℕ → Bool
 is_older v delays d ms = option_map_or (λ (told : NeedFlow). not (is_known_within (us_of_ms ms) told.age)) (flow_of_need v delays d) false

@@ -2,7 +2,7 @@
 ghost use Rattle.std.specs.Prelude.{◌≡◌, Some};
 ghost use Rattle.j39_search.specs.ListPlaces.{in_each};
 ghost use Rattle.j39_vehicle_times.specs.FoundTimes.{flow_of_need, is_need_too_old, is_older, is_younger, joined, need_flow_at};
-ghost use Rattle.j39_vehicle_times.specs.FoundTimes.{need_flows_at, younger_of, youngest};
+ghost use Rattle.j39_vehicle_times.specs.FoundTimes.{need_flow_count, need_flows_at, younger_of, youngest};
 
 use crate::ages::age;
 use crate::bus_delays::Delays;
@@ -113,6 +113,20 @@ pub fn flow_of_need(routes: &Routes<'_>, delays: &Delays, need: &VehicleNeed) ->
         need,
         flows_on(&routes.vehicle.buses, need.unit.bus),
     )
+}
+
+/// How many flows bring the need's unit what it needs, from the unit that is named.
+pub fn need_flow_count(routes: &Routes<'_>, need: &VehicleNeed) -> usize
+    ensures { result ≡ need_flow_count routes.now.vehicle.now need.now }
+{
+    let flows = flows_on(&routes.vehicle.buses, need.unit.bus);
+    let mut count = 0;
+    for (place, flow) in flows.iter().enumerate() {
+        if routes.is_need_flow(need, place, flow) {
+            count += 1;
+        }
+    }
+    count
 }
 
 // Whether flows bring it, and what none of them brings is shown to be at most so old.

@@ -52,7 +52,8 @@ LINES = {
         " frames {#frames} late of {#limit} us", " frames {#frames} late {#late} of {#limit} us")],
     "need": [form_of("need {#need} {unit} {group}" + signal + rest)
              for signal in ("", " {signal}")
-             for rest in (" age {#age} of {#limit} us", " old of {#limit} us", " old {#old} of {#limit} us", " unmet of {#limit} us")],
+             for rest in (" age {#age} of {#limit} us", " age {#age} of {#limit} us flow {#flow}", " old of {#limit} us",
+                          " old {#old} of {#limit} us", " old {#old} of {#limit} us flow {#flow}", " unmet of {#limit} us")],
     "load": [form_of("load {#load} of {#bitrate}")],
 }
 

@@ -41,12 +41,13 @@ class Delay(NamedTuple):
 
 class Age(NamedTuple):
     """A need by its number, and by `load` how old what it asks for is at most, None where it isn't shown to be as young as it has to be; how
-    old it may be; and where it may be older how old, where that is known. Times are in us."""
+    old it may be; where it may be older how old, where that is known; and where several flows meet it whose age that is. Times are in us."""
 
     need: int
     age: int | None
     limit: int
     old: int | None = None
+    flow: int | None = None
 
 
 class Load(NamedTuple):
@@ -81,7 +82,7 @@ def delay_of(line: Line) -> Delay:
 
 def age_of(line: Line) -> Age:
     """What `load` tells of a need."""
-    return Age(line.number("need"), line.number_if_any("age"), line.number("limit"), line.number_if_any("old"))
+    return Age(line.number("need"), line.number_if_any("age"), line.number("limit"), line.number_if_any("old"), line.number_if_any("flow"))
 
 
 def load_of(answer: str) -> Load | None:

@@ -236,9 +236,10 @@ def needed(tables: Tables, flow: Flow) -> str:
 
 def age_cell(age: Age) -> str:
     """How old what is needed is, where that is known."""
+    by = f" by flow {age.flow}" if age.flow is not None else ""
     if age.age is not None:
-        return in_milliseconds(age.age)
-    return "<strong>not shown to be so young</strong>" if age.old is None else f"<strong>{in_milliseconds(age.old)}, too old</strong>"
+        return in_milliseconds(age.age) + by
+    return "<strong>not shown to be so young</strong>" if age.old is None else f"<strong>{in_milliseconds(age.old)}{by}, too old</strong>"
 
 
 def need_section(tables: Tables, load: Load | None) -> str:

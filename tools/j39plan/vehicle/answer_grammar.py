@@ -28,7 +28,8 @@ LINES = {
     "refused": answer_grammar.LINES["refused"],
     "forward": [form_of(FORWARD + rest) for rest in ("", " queued within {#within} of {#limit} us", " late of {#limit} us")],
     "need": [form_of(NEED + rest) for rest in (
-        " unmet", COMES, COMES + " age {#age} us", COMES + " age {#age} of {#limit} us", COMES + " old of {#limit} us")],
+        " unmet", COMES, COMES + " old of {#limit} us",
+        *(COMES + " age {#age}" + limit + " us" + flow for limit in ("", " of {#limit}") for flow in ("", " flow {#flow}")))],
 }
 
 

@@ -129,10 +129,12 @@ class Page:
 
 def age_of(line: Line) -> str:
     """How old what a need gets is, in words where that isn't known."""
-    age = line.number_if_any("age")
+    age, flow = line.number_if_any("age"), line.number_if_any("flow")
     if "sent_group" not in line.parts:
         return "<strong>not met</strong>"
-    return "<strong>not shown</strong>" if age is None and "limit" in line.parts else "–" if age is None else in_milliseconds(age)
+    if age is None:
+        return "<strong>not shown</strong>" if "limit" in line.parts else "–"
+    return in_milliseconds(age) + (f" by flow {flow}" if flow is not None else "")
 
 
 def vehicle_page(title: str, vehicle: Vehicle, parts: list[InFile], plans: dict[str, dict[str, str]], version: str) -> str:

@@ -1,7 +1,7 @@
 //! How old what units need is at most.
 ghost use Rattle.std.specs.Prelude.{◌≡◌, ◌≢◌, ◌∷◌, ◌++◌, [], length, ◌<◌, IfSome, IfNone, OnOk, OnErr};
 ghost use Rattle.j39_load.specs.Ages.{ages_for, ages_of, is_in_limit, is_too_old, least, least_age, old_needs, oldness};
-ghost use Rattle.j39_load.specs.Ages.{smaller_known};
+ghost use Rattle.j39_load.specs.Ages.{first_of, first_of_age, has_several, place_of_age, smaller_known, youngest_flow};
 
 use crate::findings::load_finding::LoadFinding;
 use crate::frames::bits_of_ms;
@@ -73,6 +73,73 @@ pub fn least_age(
         least = smaller(least, age_for(timing, requests, delays, need, place, flow));
     }
     least
+}
+
+// The place of a flow, where it meets the need and brings what is so old.
+fn place_of_age(
+    timing: Timing,
+    requests: &[RequestPlan],
+    delays: &[Option<Delay>],
+    need: &NeedPlan,
+    age: u64,
+    place: usize,
+    flow: &FlowPlan,
+) -> Option<usize>
+    requires { place < length delays.now }
+    ensures { result ≡ first_of (place_of_age timing requests.now delays.now need.now age place flow.now) }
+{
+    match age_for(timing, requests, delays, need, place, flow) {
+        Some(known) if known == age => Some(place),
+        _ => None,
+    }
+}
+
+// The place of the first of the flows that bring what is so old.
+fn first_of_age(
+    timing: Timing,
+    requests: &[RequestPlan],
+    flows: &[FlowPlan],
+    delays: &[Option<Delay>],
+    need: &NeedPlan,
+    age: u64,
+) -> Option<usize>
+    requires { length delays.now ≡ length flows.now }
+    ensures { result ≡ first_of_age timing requests.now flows.now delays.now need.now age }
+{
+    let mut first = None;
+    for (place, flow) in flows.iter().enumerate() {
+        first = first.or(place_of_age(timing, requests, delays, need, age, place, flow));
+    }
+    first
+}
+
+/// The place of the flow of which what a unit needs is youngest, the first one where there are several, by these delays
+/// of the flows: none where of no flow that brings it an age is known.
+pub fn youngest_flow(
+    timing: Timing,
+    requests: &[RequestPlan],
+    flows: &[FlowPlan],
+    delays: &[Option<Delay>],
+    need: &NeedPlan,
+) -> Option<usize>
+    requires { length delays.now ≡ length flows.now }
+    ensures { result ≡ youngest_flow timing requests.now flows.now delays.now need.now }
+{
+    match least_age(timing, requests, flows, delays, need) {
+        Some(age) => first_of_age(timing, requests, flows, delays, need, age),
+        None => None,
+    }
+}
+
+/// Whether several flows meet a need.
+pub fn has_several(requests: &[RequestPlan], flows: &[FlowPlan], need: &NeedPlan) -> bool
+    ensures { result ≡ has_several requests.now flows.now need.now }
+{
+    let meeting = flows
+        .iter()
+        .filter(|flow| meets(requests, need, flow))
+        .count();
+    1 < meeting
 }
 
 /// Whether a time is known, and within so many bits.

@@ -46,7 +46,7 @@ class Lint:
     def hints(self) -> list[Hint]:
         """All hints, in the order of the file."""
         found = (self.unsent, self.idle, self.fixed_in_pool, self.preferred, self.spns, self.short, self.urgent, self.equal_identities,
-                 self.unsendable, self.passed, self.single, self.unordered, self.untaken, self.met_twice, self.unasked,
+                 self.unsendable, self.passed, self.single, self.unordered, self.untaken, self.met_twice, self.met_late, self.unasked,
                  self.not_live)
         return sorted({hint for part in found for hint in part()})
 
@@ -208,6 +208,14 @@ class Lint:
             if len(senders) > 1:
                 text = f"{' and '.join(senders)} meet it; from says which one is meant"
                 yield self.at(need.place, "group", f"need {need.place[-1]}, {needs.named(need)}: {text}")
+
+    def met_late(self) -> Iterator[Hint]:
+        """Flows that meet a need with an age too, and bring what is older: the need's unit has to take the other one."""
+        for need in self.tables.needs:
+            meeting = [flow for flow in self.tables.flows if need.is_met_by(flow)]
+            old = [(flow, why) for flow in meeting if need.within and (why := needs.surely_old(flow, need.within))]
+            for flow, why in old if len(old) < len(meeting) else ():
+                yield self.of_flow(flow, "group", f"it meets need {need.place[-1]} within {need.within} ms too, and {why}")
 
     def unasked(self) -> Iterator[Hint]:
         """Flows that are sent only as answers, and that no request of the plan asks for: tools may ask too."""

@@ -39,11 +39,14 @@ def old(tables: Tables, need: Need) -> str:
 
 def why_old(flow: Flow, within: int) -> str:
     """Why what a flow brings isn't shown to be so young."""
+    return surely_old(flow, within) or f"has a pause of {flow.pause} ms and its delay, which load shows"
+
+
+def surely_old(flow: Flow, within: int) -> str:
+    """Why what a flow brings isn't so young, whatever its delay is; empty where that isn't so."""
     if flow.on_request:
         return "is sent only as an answer"
     if flow.pause is None or flow.period is None:
         lost = [key for key, number in (("period", flow.period), ("pause", flow.pause)) if number is None]
         return f"has no {' and no '.join(lost)}"
-    if flow.pause >= within:
-        return f"has a pause of {flow.pause} ms, already as long as that"
-    return f"has a pause of {flow.pause} ms and its delay, which load shows"
+    return f"has a pause of {flow.pause} ms, already as long as that" if flow.pause >= within else ""
