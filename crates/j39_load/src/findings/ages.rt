@@ -95,6 +95,7 @@ fn place_of_age(
 }
 
 // The place of the first of the flows that bring what is so old.
+#[tactic(auto, unfolding(crate::specs::LineLists::lines_of_each))]
 fn first_of_age(
     timing: Timing,
     requests: &[RequestPlan],
