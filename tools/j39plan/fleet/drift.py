@@ -14,8 +14,11 @@ from j39plan.plan.tables import Tables
 # A flow has a usual distance from so many messages on.
 FEW = 4
 
-# The key of the numbers of a signal.
+# The least and the greatest value of a signal.
 Range = tuple[float, float]
+
+# Deviations that are told as flows and senders.
+TOLD = frozenset(("never-sent", "absent"))
 
 
 class Difference(NamedTuple):
@@ -35,7 +38,7 @@ class Difference(NamedTuple):
         if value is None or value == []:
             return "-"
         if isinstance(value, tuple):
-            text = f"{value[0]:.12g}..{value[1]:.12g}"
+            text = "..".join(dict.fromkeys(f"{end:.12g}" for end in value))
         elif isinstance(value, list):
             text = ", ".join(map(str, value))
         else:
@@ -83,7 +86,7 @@ class Drift:
         """What isn't as planned in one drive alone, by how often; of those whom the plan doesn't have as senders."""
         times: list[dict[tuple[str, str], int]] = [{(one.kind, one.what): one.times for one in drive["deviations"]} for drive in (self._before, self._after)]
         for key in dict.fromkeys((*times[0], *times[1])):
-            if (key in times[0]) != (key in times[1]):
+            if (key in times[0]) != (key in times[1]) and key[0] not in TOLD:
                 kind = "sender" if key[0] == "stranger" else key[0]
                 yield Difference(kind, key[1], *(counted(known.get(key)) for known in times))
 
@@ -105,9 +108,10 @@ class Drift:
                 yield Difference("load", what, float(round(before)), float(round(after)), "bit/s")
 
     def _signals(self) -> Iterator[Difference]:
-        """Between which values signals were, and their states."""
+        """Between which values signals were, and their states, of groups that both drives have."""
+        came = [{row["group"] for row in whole_of(drive)["flows"] if row["count"]} for drive in (self._before, self._after)]
         for group in self._tables.groups:
-            for signal in group.signals:
+            for signal in group.signals if group.label in came[0] & came[1] else ():
                 spreads = [drive["signals"].get(f"{group.label}.{signal.label}") for drive in (self._before, self._after)]
                 ranges, what = [range_of(spread) for spread in spreads], f"{group.label}.{signal.label}"
                 if self._is_other(*ranges):
