@@ -75,15 +75,21 @@ class Assignment:
         return flows
 
     def _assigned(self, hopeless: set[int]) -> Priorities | None:
-        """Audsley's assignment; None where some group is in time with no priority that is left."""
+        """Audsley's assignment; None where some group is in time with no priority that is left. Where no group gets one, none gets the next either, since the
+        same would go before it; but with the most urgent one its own identifier counts among the others."""
         priorities: Priorities = {}
+        is_stuck = False
         for level in LEVELS:
+            if is_stuck and level != LEVELS[-1]:
+                continue
+            before = len(priorities)
             order = sorted((label for label in self._groups if label not in priorities),
                            key=lambda label: (-self._groups[label].priority, -self._groups[label].pgn))
             for label in order:
                 late = self._tried({**priorities, label: level}, LEVELS[-1])
                 if late is not None and not late & (self._of(label) | self._flows(priorities, level)) - hopeless:
                     priorities[label] = level
+            is_stuck = len(priorities) == before
         return priorities if len(priorities) == len(self._groups) else None
 
     def _flows(self, priorities: Priorities, level: int) -> set[int]:
