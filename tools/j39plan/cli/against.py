@@ -10,6 +10,7 @@ import json
 import math
 import sys
 from collections.abc import Iterator
+from itertools import chain
 from typing import Any
 
 from j39plan import program
@@ -149,9 +150,7 @@ def summary_of(log: Log, meter: Meter, comparison: Comparison, is_whole: bool) -
 
 def compare_all(reader: Reader, _: Comparison, lines: Iterator[str]) -> None:
     """Compares what `follow` writes of a log."""
-    take = reader.take
-    for line in lines:
-        take(line, lines)
+    reader.take(lines)
 
 
 def compare_live(reader: Reader, comparison: Comparison, lines: Iterator[str]) -> None:
@@ -160,7 +159,7 @@ def compare_live(reader: Reader, comparison: Comparison, lines: Iterator[str]) -
         for line in lines:
             watch.came()
             with watch.lock:
-                reader.take(line, lines)
+                reader.take(chain((line,), lines), 1)
 
 
 def compared(given: argparse.Namespace) -> int:
