@@ -3,6 +3,7 @@
 from __future__ import annotations
 
 import contextlib
+import importlib
 import io
 import json
 import os
@@ -15,7 +16,8 @@ from typing import IO, TYPE_CHECKING, Any, NamedTuple
 from j39plan import program
 from j39plan.fleet import drives
 from j39plan.fleet.drives import Deviation, Drive
-from j39plan.log import clock, message_lines, readings, reports
+from j39plan.log import message_lines, readings, reports
+from j39plan.log.data_frames import data_frame
 from j39plan.log.reports import Acknowledgement, Claim, Frame, Request, Who
 from j39plan.plan import answers
 from j39plan.plan.answers import Age, Delay, Finding, Load, Stand
@@ -39,9 +41,6 @@ __all__ = [
     "Need", "Notice", "Plan", "Reading", "Readings", "Refused", "Request", "Signal", "Stand", "Text", "Unit", "Vehicle", "VehicleFinding",
     "VehicleNeed", "Who", "deviations", "drive", "follow", "frame", "read_plan", "read_vehicle", "signals",
 ]
-
-# The columns of a data frame that have few different texts.
-WORDS = ("from", "to", "group", "signal", "state", "unit", "detail")
 
 
 class Notice(UserWarning):
@@ -262,17 +261,9 @@ def frame(plan: Plan, log: str | os.PathLike[str], names: str | Iterable[str] = 
     """The signals of a log as a table of pandas, whose index is the time, in UTC: the columns of `j39plan-signals --csv`, texts as categories,
     addresses and lines as integers. It takes a tenth of the memory of `pandas.DataFrame(signals(..))`. Raises as `signals` does, and
     `ImportError` where pandas is missing."""
-    import pandas
-
-    types = {word: "category" for word in ("time", *WORDS)} | {"source": "UInt8", "destination": "UInt8", "line": "int64", "value": "float64"}
+    importlib.import_module("pandas")  # before the log is read
     with _table(plan, log, names, "--csv") as rows:
-        table = pandas.read_csv(rows, dtype=types, keep_default_na=False, na_values=[""])
-    for word in WORDS:
-        table[word] = table[word].cat.reorder_categories(sorted(table[word].cat.categories))
-    times = table.pop("time").cat
-    moments = [clock.nanoseconds(f"({time})") for time in times.categories]
-    table.index = pandas.DatetimeIndex(pandas.to_datetime(moments, unit="ns", utc=True).take(times.codes), name="time")
-    return table
+        return data_frame(rows)
 
 
 @contextlib.contextmanager

@@ -12,7 +12,7 @@ import sys
 import tempfile
 import traceback
 from collections.abc import Callable, Iterable, Iterator, Sequence
-from typing import NoReturn
+from typing import IO, NoReturn
 
 from j39plan.left_out import Notes
 
@@ -259,8 +259,9 @@ def command(main: Callable[[list[str] | None], int]) -> Callable[..., int]:
     return run
 
 
-def started(tool: str, words: Sequence[str]) -> subprocess.Popen[bytes]:
-    """Another tool of this package, run with these words in a process of its own, whose output is read by pipes."""
+def started(tool: str, words: Sequence[str], errors: IO[bytes] | int = subprocess.PIPE, source: int | None = subprocess.DEVNULL) -> subprocess.Popen[bytes]:
+    """Another tool of this package, run with these words in a process of its own, whose output is read by a pipe, and standard error too unless
+    it goes to a file; it reads nothing, or, of None, what this one would."""
     path = os.pathsep.join(filter(None, (os.path.dirname(PACKAGE), os.environ.get("PYTHONPATH"))))
-    return subprocess.Popen([sys.executable, "-P", "-m", f"j39plan.cli.{tool}", *words], stdin=subprocess.DEVNULL, stdout=subprocess.PIPE,
-                            stderr=subprocess.PIPE, env={**os.environ, "PYTHONPATH": path})
+    return subprocess.Popen([sys.executable, "-P", "-m", f"j39plan.cli.{tool}", *words], stdin=source, stdout=subprocess.PIPE,
+                            stderr=errors, env={**os.environ, "PYTHONPATH": path})

@@ -88,6 +88,39 @@ class Clocks(InFolder):
             self.assertLess(abs(row["later_at_end"] - row["later"] - drift * 6), 1e-3)
             self.assertLess(abs(row["later"] - later), 1e-3)
 
+    def test_merged(self) -> None:
+        """Both as one: each frame of the bus once, in the order of times, whoever of the two has it, also where one bus sends a frame again and again."""
+        for later, drift in ((5.25, 0.0), (-70.5, 1e-4)):
+            first, second, _ = self.logs(later, drift)
+            whole, chance = text_of(first).splitlines(), random.Random(8)
+            kept = [line for number, line in enumerate(whole) if number < 60 or chance.random() < 0.8]
+            self.write("first.log", "".join(f"{line}\n" for line in kept))
+            common = {line.split()[2] for line in kept} & {line.split()[2] for line in text_of(second).splitlines()}
+            status, answer, said = run("cut.py", "--clock", first, second, "--merge", "--json")
+            self.assertEqual(status, 0, said)
+            known = {*(line.split()[2] for line in kept), *(line.split()[2] for line in text_of(second).splitlines())}
+            frames = [line.split()[2] for line in answer.splitlines()]
+            self.assertEqual(sorted(frames), sorted(line.split()[2] for line in whole if line.split()[2] in known))
+            times = [float(line[1:18]) for line in answer.splitlines()]
+            self.assertEqual(times, sorted(times))
+            row = json.loads(said)
+            self.assertGreaterEqual(row["both"], len(common))
+            self.assertEqual((row["lines"], row["lines"] + row["both"]), (len(frames), len(kept) + text_of(second).count("\n")))
+
+    def test_a_frame_that_comes_again(self) -> None:
+        """The same frame each 10 ms, of which each log lacks one: all of them, once."""
+        unique = ["(1.0) can0 18FEEE00#01\n", "(2.0) can0 18FEEE00#02\n", "(3.0) can0 18FEEE00#03\n"]
+        same = [f"({1.5 + number / 100:.6f}) can0 18FEEF00#AA\n" for number in range(8)]
+        first = self.write("first.log", "".join([unique[0], *same[:3], *same[4:], *unique[1:]]))
+        second = self.write("second.log", "".join([unique[0], *same[:5], *same[6:], *unique[1:]]))
+        status, answer, said = run("cut.py", "--clock", first, "--merge", second)
+        self.assertEqual((status, answer.splitlines(keepends=True)[1:9]), (0, same))
+        self.assertTrue(said.endswith("cut: 11 lines, of which both logs have 9\n"), said)
+
+    def test_what_is_not_merged(self) -> None:
+        self.assertEqual(run("cut.py", "--merge", LOG)[0], 2)
+        self.assertEqual(run("cut.py", "--merge", "--clock", LOG, LOG, "--unit", "0")[0], 2)
+
     def test_nothing_in_common(self) -> None:
         other = self.write("other.log", "(1.0) can0 18FEEE00#0000000000000000\n")
         self.assertEqual(run("cut.py", "--clock", other, LOG)[0], 2)

@@ -163,14 +163,29 @@ class Buses(Deviations):
         self.assertEqual(self.said, f"against: {self.path('drive.log')}:21: time goes back by 490 ms\n")
 
     def test_how_long_a_log_is_of_which_the_clock_was_set(self) -> None:
-        """On from 1970 on, or back by 4.9 s: the steps aren't in the duration, nor in the mean of 160 bits a frame."""
-        for log, duration in ((lines_of(*brakes(1, 3), *brakes(1764230400, 1764230402)), 3.8), (lines_of(*brakes(10, 13)) + lines_of(*brakes(8, 10)), 4.8)):
+        """On from 1970 on, or back by 4.9 s, or by 0.49 s: the steps aren't in the duration, nor in the mean of 160 bits a frame."""
+        for log, duration in ((lines_of(*brakes(1, 3), *brakes(1764230400, 1764230402)), 3.8), (lines_of(*brakes(10, 13)) + lines_of(*brakes(8, 10)), 4.8),
+                              (lines_of(*brakes(1, 3)) + lines_of(*brakes(2.41, 4)), 3.4)):
             words = self.write("plan.toml", PLAN), self.write("drive.log", log)
             whole = json.loads(run("against.py", "--json", *words)[1].splitlines()[-1])
             self.assertEqual((whole["duration"], round(whole["mean"], 6), whole["worst"]), (duration, round(160 * log.count("\n") / duration, 6), 1600))
             row = json.loads(run("fleet.py", "--json", *words)[1])["logs"][0]
             self.assertEqual((row["duration"], row["mean"]), (duration, whole["mean"]))
             self.assertIn(f" {duration} s ", run("fleet.py", *words)[1].splitlines()[1])
+
+    def test_a_line_out_of_order(self) -> None:
+        """A single line that is early or late by half a second is no clock that was set: the log lasts from its first line to its last."""
+        early, late = (lines_of(*brakes(1, 2)) + lines_of((at, EBC1)) + lines_of(*brakes(2, 4)) for at in (2.5, 1.4))
+        for log in (early, late):
+            words = self.write("plan.toml", PLAN), self.write("drive.log", log)
+            self.assertEqual(json.loads(run("against.py", "--json", *words)[1].splitlines()[-1])["duration"], 2.9)
+
+    def test_the_worst_second_of_a_clock_that_was_set(self) -> None:
+        """Back by 600 ms within a second: the second begins anew there, so that no second has more than the 90 frames that came in it."""
+        log = [lines_of(*((begin + number / 100, EBC1) for number in range(count))) for begin, count in ((10, 90), (10.3, 70), (11, 80))]
+        words = self.write("plan.toml", PLAN), self.write("drive.log", "".join(log))
+        whole = json.loads(run("against.py", "--json", *words)[1].splitlines()[-1])
+        self.assertEqual((whole["worst"], whole["worst_second"], whole["duration"]), (90 * 160, 10, 0.89 + 0.69 + 0.8))
 
     def test_error_frames_of_the_interface(self) -> None:
         """In plans without timing too; what follows is no unit's silence, until the log's end neither."""

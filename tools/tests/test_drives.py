@@ -53,6 +53,19 @@ class Moves(Deviations):
         self.assertEqual([line for line in self.told(*begin, (1.9, there), plan=plan) if "not sent" in line], [])
         self.assertEqual([line for line in self.told(*begin, (1.911, there), plan=plan) if "not sent" in line], [f"L:5: {text.format(201)}"])
 
+    def test_a_commanded_address(self) -> None:
+        """SPRAYER commands BRAKES, which is fixed, to 20, where it claims that and where it doesn't; the move is told once, and no silence."""
+        moved, there = BRAKES.replace("EEFF0B", "EEFF14"), EBC1[:6] + "14" + EBC1[8:]
+        command = ["1CECFF8C#20090002FFD8FE00", "1CEBFF8C#01" + BRAKES.partition("#")[2][:14], "1CEBFF8C#02" + BRAKES[-2:] + "14FFFFFFFFFF"]
+        begin = [(0.5, SPRAYER), (0.6, HITCH), (0.7, BRAKES), *brakes(1, 2), *zip((1.81, 1.87, 1.92), command)]
+        text, line = "SPRAYER commands BRAKES to address 20, which it", 16
+        after = [(1.95, moved), *[(2 + number / 10, there) for number in range(20)]]
+        self.assertEqual(self.told(*begin, *after, words=()), [f"L:{line}: {text} claims"])
+        self.assertEqual(self.told(*begin, *brakes(2, 4), words=()), [f"L:{line}: {text} doesn't claim within 1250 ms"])
+        self.assertEqual(self.told(*begin, *brakes(2, 3), words=()), [f"L:{line}: {text} doesn't claim in the log"])
+        lost = [frame for frame in begin if frame[1] != command[1]]  # without its first packet it is none
+        self.assertNotIn("commands", "".join(self.told(*lost, *brakes(2, 4), words=())))
+
     def test_a_flow_to_a_unit_that_is_not_plugged_in(self) -> None:
         """EBC1 to HITCH begins where HITCH is heard: 10 s behind the first claim of BRAKES."""
         plan = PLAN.replace('group = "EBC1"\nfrom = "BRAKES"\nto = "all"', 'group = "EBC1"\nfrom = "BRAKES"\nto = "HITCH"')

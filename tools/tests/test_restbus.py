@@ -289,6 +289,64 @@ class Carried(InFolder):
         self.assertEqual(self.values().signal("TEMPERATURE")[1].value(40), Fraction(0))
 
 
+# So long is waited for the first frame of another process, in seconds.
+PATIENCE = 60
+
+
+class Seat:
+    """SEAT at 130, on a bus of python-can, by its frames alone."""
+
+    NAME = name(77, 400, 60, True)
+
+    def __init__(self, channel: str) -> None:
+        import can
+
+        self._can, self._bus = can, can.Bus(interface="udp_multicast", channel=channel, port=43113)
+        self.whole: list[bytes] = []  # the messages that came whole
+        self.claimed: set[int] = set()
+        self.defended = self.refused = 0
+        self._is_contested = False
+        self._size, self._parts = 0, dict[int, bytes]()
+
+    def _send(self, identifier: int, *data: int) -> None:
+        self._bus.send(self._can.Message(arbitration_id=identifier, data=bytes(data), is_extended_id=True))
+
+    def plays(self, seconds: float) -> None:
+        """Once somebody is there, claims, asks all for their claims, then contests ENGINE's address, and asks it for what it hasn't; and takes what it is
+        sent."""
+        self._bus.recv(PATIENCE)
+        begin, todo = time.monotonic(), [
+            (1.0, 0x18EEFF82, self.NAME), (1.3, 0x18EAFF82, b"\x00\xee\x00"), (4.0, 0x18EEFF00, name(9, 311, 0, True)), (5.0, 0x18EA0082, b"\xdd\xfe\x00")]
+        while time.monotonic() < begin + seconds:
+            if todo and time.monotonic() > begin + todo[0][0]:
+                _, identifier, data = todo.pop(0)
+                self._is_contested = self._is_contested or identifier == 0x18EEFF00
+                self._send(identifier, *data)
+            if (message := self._bus.recv(0.02)) is not None:
+                self._hears(message.arbitration_id, bytes(message.data))
+        self._bus.shutdown()
+
+    def _hears(self, identifier: int, data: bytes) -> None:
+        group, source = identifier >> 8 & 0x1FFFF, identifier & 0xFF
+        if group == 0xEEFF and source != 130:
+            self.claimed.add(source)
+            self.defended += self._is_contested and (source, data) == (0, name(1, 310, 0, False))
+        elif group == 0xE8FF and source == 0 and data == bytes((1, 255, 255, 255, 130, 0xDD, 0xFE, 0)):
+            self.refused += 1
+        elif group == 0xEC82 and source == 249 and data[0] == 16:  # a request to send: two packets at a time
+            self._size, self._parts = data[1] | data[2] << 8, {}
+            self._send(0x1CECF982, 17, 2, 1, 255, 255, *data[5:])
+        elif group == 0xEB82 and source == 249 and self._size:
+            self._parts[data[0]] = data[1:]
+            came, count = len(self._parts), -(-self._size // 7)
+            if came == count:
+                self.whole.append(b"".join(self._parts[number] for number in range(1, count + 1))[:self._size])
+                self._send(0x1CECF982, 19, self._size & 255, self._size >> 8, count, 255, 0x00, 0xDC, 0)
+                self._size = 0
+            elif came % 2 == 0:
+                self._send(0x1CECF982, 17, min(2, count - came), came + 1, 255, 255, 0x00, 0xDC, 0)
+
+
 @needs("can", "python3-can")
 class OnBuses(InFolder):
     def test_virtual(self) -> None:
@@ -320,6 +378,33 @@ class OnBuses(InFolder):
         self.assertTrue(one["answered"] >= 1 and two["flows"][0]["sent"] >= 1, (one, two))
         self.assertEqual((one["long"]["given_up"], two["long"]["given_up"]), (0, 0))
         self.assertEqual(run("against.py", "--jitter", "80", plan, self.path("one.log"))[1], "deviations 0\n")
+
+    def test_another_program(self) -> None:
+        """SEAT is played by frames that are written here byte by byte after SAE J1939-21 and -81, over python-can alone: the units claim and defend, send to it
+        in sessions of two packets, answer its requests or refuse them; the log of the bus has no deviation but the claim by which ENGINE is contested."""
+        plan, channel = self.write("plan.toml", PLAN), "239.74.163.40"
+        words = [sys.executable, os.path.join(TOOLS, "restbus.py"), plan, "--interface", "udp_multicast", "--channel", channel, "--without", "SEAT", "--json", "--log", self.path("bench.log")]
+        played = subprocess.Popen(words, env={**os.environ, "J39PLAN": program.path()}, stdout=subprocess.PIPE, stderr=subprocess.PIPE, text=True)
+        try:
+            seat = Seat(channel)
+            seat.plays(8.0)
+        except OSError:
+            self.skipTest("this machine has no multicast")
+        finally:
+            played.send_signal(signal.SIGINT)
+            answer, said = played.communicate(timeout=60)
+        if "udp" in said and played.returncode == 4:
+            self.skipTest("this machine has no multicast")
+        self.assertEqual(played.returncode, 0, said)
+        self.assertGreaterEqual(len(seat.whole), 2)
+        self.assertEqual(set(seat.whole), {b"\xff" * 30})
+        self.assertEqual((seat.defended, seat.refused, seat.claimed >= {0, 249}), (1, 1, True))
+        row = json.loads(answer)
+        self.assertEqual((row["long"]["given_up"], row["flows"][2]["sent"]), (0, len(seat.whole)))
+        lines = run("against.py", "--jitter", "80", plan, self.path("bench.log"))[1].splitlines()
+        self.assertEqual([line.partition(") ")[2] for line in lines[:-1]], [
+            "NAME 8000000026E00009 (identity 9, manufacturer 311, function 0) claims address 0: no unit has it",
+            "request for PGN 65245 by SEAT to ENGINE, which the plan doesn't have: is refused"])
 
     def test_what_is_refused(self) -> None:
         plan = self.write("plan.toml", PLAN)

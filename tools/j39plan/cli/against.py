@@ -10,6 +10,7 @@ import json
 import math
 import sys
 from collections.abc import Iterator
+from itertools import chain
 from typing import Any
 
 from j39plan import program
@@ -134,24 +135,22 @@ def say_what_is_left(given: argparse.Namespace, distances: Distances) -> None:
         program.say(f"{count} distances are passed over, since a message may wait so long on the bus by 'load': of flow {flows}")
 
 
-def summary_of(log: Log, meter: Meter, comparison: Comparison) -> dict[str, Any]:
+def summary_of(log: Log, meter: Meter, comparison: Comparison, is_whole: bool) -> dict[str, Any]:
     """What the whole log has, for JSON: when it begins and ends, and how long it is, in seconds, the bits of its frames, how many distances were passed
-    over, when each unit was heard, and the requests that the plan doesn't have."""
+    over, when each unit was heard, and the requests that the plan doesn't have; on request the distances of each flow."""
     begin, end = ends_of(log)
     duration = None if begin is None or end is None else max(end - begin + comparison.clock.shift, 0)
     meter.end()
     first, last, seconds = (None if time is None else time / SECOND for time in (begin, end, duration))
     row = {"begin": first, "end": last, "duration": seconds, "mean": meter.mean(duration), "worst": meter.worst or None, "worst_second": meter.worst_second,
            "explained": sum(comparison.distances.explained.values()), "units": units_of(comparison, log.place),
-           "requests": requests_of(comparison, log.place)}
+           "requests": requests_of(comparison, log.place), "flows": list(comparison.distances.measured()) if is_whole else None}
     return {key: value for key, value in row.items() if value is not None}
 
 
 def compare_all(reader: Reader, _: Comparison, lines: Iterator[str]) -> None:
     """Compares what `follow` writes of a log."""
-    take = reader.take
-    for line in lines:
-        take(line, lines)
+    reader.take(lines)
 
 
 def compare_live(reader: Reader, comparison: Comparison, lines: Iterator[str]) -> None:
@@ -160,7 +159,7 @@ def compare_live(reader: Reader, comparison: Comparison, lines: Iterator[str]) -
         for line in lines:
             watch.came()
             with watch.lock:
-                reader.take(line, lines)
+                reader.take(chain((line,), lines), 1)
 
 
 def compared(given: argparse.Namespace) -> int:
@@ -191,7 +190,7 @@ def compared(given: argparse.Namespace) -> int:
     if wants_requirements(given):
         requirements = Requirements(comparison, found.all(), given.unit)
         return requirements.put(given, lambda place: place_text(place, given.plan, log.place), lambda one: row_of(one, log.place))
-    return output.whole(found, summary_of(log, meter, comparison) if meter else {})
+    return output.whole(found, summary_of(log, meter, comparison, given.table) if meter else {})
 
 
 def of_vehicle(given: argparse.Namespace, vehicle: Vehicle) -> int:

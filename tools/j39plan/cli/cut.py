@@ -1,4 +1,4 @@
-"""Writes a part of a log: of some time, around a line, of some units or groups; or a log by the clock of another logger.
+"""Writes a part of a log: of some time, around a line, of some units or groups; or a log by the clock of another logger, or both as one.
 
 The lines stay as they are. Units are told by their claims: each line of `follow --all` is kept that is from or to one of them. Long messages
 are kept with their announcements, packets and answers.
@@ -13,6 +13,7 @@ from collections.abc import Iterable, Iterator
 from j39plan import program
 from j39plan.log.clock import SECOND, nanoseconds
 from j39plan.log.cutting.clocks import Shift, in_ms, lines_of, shift_of, shifted
+from j39plan.log.cutting.merging import Merged
 from j39plan.log.cutting.selection import Chosen, Selection, Window, around
 from j39plan.log.files import Log, interface_option
 from j39plan.log.reports import Counts
@@ -56,6 +57,7 @@ def words_of(words: list[str] | None) -> argparse.Namespace:
     parser.add_argument("--unit", action="append", default=[], metavar="UNIT", help="what this unit sends and gets: a label, a NAME of 16 hex digits, or an address")
     parser.add_argument("--group", action="append", default=[], metavar="GROUP", help="this group, by its label or PGN")
     parser.add_argument("--clock", metavar="LOG", help="with the times of the clock by which this log was recorded, on the same bus")
+    parser.add_argument("--merge", action="store_true", help="with --clock: both logs as one, in the order of times; a frame that both have stands there once")
     parser.add_argument("--json", action="store_true", help="how many lines were kept, and the clocks, as one JSON object on standard error")
     interface_option(parser)
     return parser.parse_args(words)
@@ -120,8 +122,15 @@ def in_time(log: Log, window: Window) -> Iterator[bytes]:
             yield line
 
 
+def is_part(given: argparse.Namespace) -> bool:
+    """Whether a part of a log is asked for."""
+    return bool(given.unit or given.group or given.begin or given.end) or given.around is not None or given.interface is not None
+
+
 def shift_by(given: argparse.Namespace) -> Shift | None:
     """How the times are to be shifted, if they are."""
+    if given.merge and (given.clock is None or is_part(given)):
+        raise program.Refused(program.UNREADABLE, "--merge: it takes --clock, and whole logs; cut what it writes")
     if given.clock is None:
         return None
     with Log([given.clock]) as first, Log(given.logs) as second:
@@ -131,17 +140,17 @@ def shift_by(given: argparse.Namespace) -> Shift | None:
     return shift
 
 
-def say(given: argparse.Namespace, count: int, shift: Shift | None) -> None:
-    """Says how many lines were kept, and what was found of the clocks."""
+def say(given: argparse.Namespace, count: int, shift: Shift | None, both: int) -> None:
+    """Says how many lines were kept, how many of these both logs have where they are merged, and what was found of the clocks."""
     if given.json:
         clocks = {} if shift is None else {"later": shift.begin.later / SECOND, "later_at_end": shift.end.later / SECOND, "frames": shift.frames,
                                            "spread": shift.spread / SECOND}
-        print(json.dumps({"lines": count, **clocks}), file=sys.stderr)
+        print(json.dumps({"lines": count, **clocks, **({"both": both} if given.merge else {})}), file=sys.stderr)
         return
     if shift:
         program.say(f"the clock is {in_ms(shift.begin.later)} later at the begin and {in_ms(shift.end.later)} at the end, by {shift.frames} frames; "
                     f"they are {in_ms(shift.spread)} apart at most")
-    program.say(f"{count} lines")
+    program.say(f"{count} lines" + (f", of which both logs have {both}" if given.merge else ""))
 
 
 def written(lines: Iterable[bytes], shift: Shift | None) -> int:
@@ -156,15 +165,32 @@ def written(lines: Iterable[bytes], shift: Shift | None) -> int:
     return count
 
 
+def merged(given: argparse.Namespace, shift: Shift) -> tuple[int, int]:
+    """Writes both logs as one; how many lines, and how many of these both have."""
+    merging = Merged(shift.spread)
+    with Log([given.clock]) as first, Log(given.logs) as second:
+        count = written(merging.lines(lines_of(first), (shifted(line, shift) for line in lines_of(second))), None)
+    return count, merging.both
+
+
+def cut_out(given: argparse.Namespace, shift: Shift | None) -> int:
+    """Writes what is asked for of a log; how many lines."""
+    window = window_of(given)
+    with Log(given.logs, given.interface) as log:
+        is_chosen = given.unit or given.group or given.interface is not None
+        return written(selected(given, log, window) if is_chosen else in_time(log, window), shift)
+
+
 @program.command
 def main(words: list[str] | None = None) -> int:
     """Writes the lines; 0, or 2 where nothing can be made of what is asked."""
     given = words_of(words)
-    window, shift = window_of(given), shift_by(given)
-    with Log(given.logs, given.interface) as log:
-        is_chosen = given.unit or given.group or given.interface is not None
-        count = written(selected(given, log, window) if is_chosen else in_time(log, window), shift)
-    say(given, count, shift)
+    shift, both = shift_by(given), 0
+    if given.merge and shift:
+        count, both = merged(given, shift)
+    else:
+        count = cut_out(given, shift)
+    say(given, count, shift, both)
     return 0
 
 

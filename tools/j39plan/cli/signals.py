@@ -9,6 +9,7 @@ import io
 import json
 import re
 import sys
+import tempfile
 from collections.abc import Callable, Iterable, Iterator, Sequence
 from functools import lru_cache
 from itertools import chain
@@ -17,6 +18,7 @@ from typing import Any, Generic
 from j39plan import program
 from j39plan.j1939 import GLOBAL_ADDRESS
 from j39plan.log.clock import Clock
+from j39plan.log.data_frames import WRITERS, data_frame, ending_of
 from j39plan.log.files import Log, drive_words, interface_option
 from j39plan.log.readings import CODE, Choice, Column, Made, Reading, Told, Wanted, parted
 from j39plan.log.reports import FROM, GROUP, LINE, TIME, TO, Counts, Said, Who, said_of, tables_of, who_of
@@ -234,15 +236,38 @@ def words_of(words: list[str] | None) -> argparse.Namespace:
     forms.add_argument("--csv", dest="form", action="store_const", const=Plain, help="a row a signal (the default)")
     forms.add_argument("--json", dest="form", action="store_const", const=Lines, help="a JSON object a signal, each on a line")
     forms.add_argument("--wide", dest="form", action="store_const", const=Wide, help="a row a message, two columns a signal, three where its values have names")
+    forms.add_argument("-o", "--output", metavar="FILE", help="as a file whose name ends in .parquet (a row a signal) or .mf4 (the values alone)")
     interface_option(parser)
     parser.set_defaults(form=Plain)
     return parser.parse_intermixed_args(words)
+
+
+def write_file(given: argparse.Namespace) -> int:
+    """Writes the table as a file, by the library that does that, which reads what another process of this tool writes; its exit status."""
+    ending = ending_of(given.output)
+    if ending not in WRITERS:
+        raise program.Refused(program.UNREADABLE, f"-o {given.output}: its name is to end in {' or '.join(WRITERS)}")
+    need, write = WRITERS[ending]
+    need()
+    options = [] if given.interface is None else ["--interface", given.interface]
+    with opened(given.plan) as plan, tempfile.TemporaryFile() as said, \
+            program.started("signals", ["--csv", *options, "--", plan, given.log, *given.names], said, None) as process:
+        assert process.stdout is not None
+        head = process.stdout.peek(1)  # type: ignore[attr-defined]
+        if head:
+            write(data_frame(process.stdout), given.output)
+        status = process.wait()
+        said.seek(0)
+        sys.stderr.write(said.read().decode(errors="replace"))
+    return status
 
 
 @program.command
 def main(words: list[str] | None = None) -> int:
     """Writes the table."""
     given, counts, clock = words_of(words), Counts(), Clock()
+    if given.output:
+        return write_file(given)
     with opened(given.plan) as plan:
         tables = tables_of(plan)
         names, logs = parted(tables, given.names, given.log)

@@ -14,15 +14,20 @@ import subprocess
 import sys
 from collections.abc import Iterator
 from functools import lru_cache
+from itertools import islice
 from typing import Any, NamedTuple, TypedDict
 
 from j39plan import program
 from j39plan.fleet.signals import Code, Signals, Spread
 from j39plan.log.clock import DAY, SECOND, nanoseconds
 from j39plan.log.files import OneInterface, is_packed, whole
-from j39plan.log.reports import Writer, as_it_comes, identity_of, who_of
+from j39plan.log.reports import Lines, Writer, as_it_comes, identity_of, who_of
 from j39plan.log.serial_numbers import by_kind
 from j39plan.plan.tables import Tables
+
+# What so many beginnings of lines mean is kept.
+KEPT = 4096
+
 
 class Deviation(NamedTuple):
     """What `against` tells: the line, None where it has none; the text; how often it was met; its kind; what is the same of it in all logs; the
@@ -134,50 +139,79 @@ class Silences:
         return {flow: Silence(longest / SECOND, line) for flow, (longest, line) in sorted(self._longest.items())}
 
 
+class Plain(NamedTuple):
+    """A message by its line without number, time and data: its group, who sends it, the number of its flow, 0 where it has none; and the lines that
+    came below such messages, with how often each came."""
+
+    group: str
+    sender: str
+    flow: int
+    known: dict[bytes, list[int]]
+
+
 class Followed:
     """What `follow` says of a log, taken together."""
 
     def __init__(self, tables: Tables) -> None:
-        self._flows = len(tables.flows)
+        self._flows, self._below = len(tables.flows), Lines(tables).below
         self._signals, self._silences = Signals(tables), Silences()
         self._numbers = {unit.label: unit.identity for unit in tables.units}
         self._claims: dict[str, Claimed] = {}
-        self._group, self._sender, self._line = "", "", 0
-        self._at: int | None = None
+        self._plain: dict[bytes, Plain] = {}
+        self._head, self._base = b"?", 0  # what a time begins with up to its microseconds, and what that is in nanoseconds
         self.counts: dict[str, int] = {}
         self.sent: dict[int, int] = {}
 
     def take(self, lines: Iterator[bytes]) -> None:
         """Takes the lines of `follow`."""
-        known: dict[bytes, list[int]] = {}
+        count, below, get = self._signals.count, self._below, self._plain.get
         for line in lines:
-            if line[:2] == b"  ":
-                counted = known.get(line)
+            if not line[:1].isdigit():
+                self._end(line.decode().split())
+                continue
+            number, time, rest = line.split(b" ", 2)
+            at = self._time(time)
+            head, _, data = rest.rpartition(b" ")
+            plain = get(head)
+            if plain is None:
+                if not rest.startswith(b"group "):
+                    if rest.startswith((b"claim ", b"cannot ")):
+                        self._claim(line.decode().split())
+                    continue
+                plain = self._keep(head)
+            group, sender, flow, known = plain
+            at_line = int(number)
+            if flow:
+                self._silences.sent(flow, at_line)
+            for signal in islice(lines, below(group, len(data) - 1)):
+                counted = known.get(signal)
                 if counted is not None:
                     counted[0] += 1
                 else:
-                    self._signals.count(known, self._group, self._sender, line, self._line, self._at)
-            elif line[:1].isdigit():
-                known = self._report(line.decode())
-            else:
-                self._end(line.decode().split())
+                    count(known, group, sender, signal, at_line, at)
 
-    def _report(self, line: str) -> dict[bytes, list[int]]:
-        """A report; of a message the lines that came below those of its group, of another one none."""
-        words = line.split(" ", 3)
-        self._line = int(words[0])
-        at = self._at = nanoseconds(words[1])
-        if at is not None:
-            self._silences.see(at)
-        if words[2] == "group":
-            self._group, _, sender, _, _, is_flow, number, *_ = words[3].split(" ", 7)
-            self._sender = who_of(sender).shown
-            if is_flow == "flow":
-                self._silences.sent(int(number), self._line)
-            return self._signals.sent(is_flow == "flow", self._group)
-        if words[2] in ("claim", "cannot"):
-            self._claim(line.split())
-        return {}
+    def _time(self, time: bytes) -> int | None:
+        """The time of a report, None where it has none."""
+        if time[:-7] == self._head:
+            at = self._base + int(time[-7:-1]) * 1000
+        else:
+            told = nanoseconds(time.decode())
+            if told is None:
+                return None
+            at = told
+            if time[-8:-7] == b".":
+                self._head, self._base = time[:-7], at - int(time[-7:-1]) * 1000
+        self._silences.see(at)
+        return at
+
+    def _keep(self, head: bytes) -> Plain:
+        """What the words of a message mean."""
+        _, group, _, sender, _, _, is_flow, number, *_ = head.decode().split(" ")
+        flow = int(number) if is_flow == "flow" else 0
+        plain = Plain(group, who_of(sender).shown, flow, self._signals.sent(bool(flow), group))
+        if len(self._plain) < KEPT:
+            self._plain[head] = plain
+        return plain
 
     def _claim(self, words: list[str]) -> None:
         name, _, address = words[3].partition("@")

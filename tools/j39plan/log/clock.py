@@ -70,10 +70,13 @@ def in_words(duration: int) -> str:
 
 
 class Clock:
-    """The clock of a log, line by line: by how much a time is to be put on so that the clock never was set."""
+    """The clock of a log, line by line: by how much a time is to be put on so that the clock never was set. What goes back by a second or less
+    is a clock that was set too, but for a single line that is out of order: time jumps by as much right before or behind it."""
 
     def __init__(self) -> None:
         self.shift, self.last = 0, 0
+        self._before = 0  # the time before the last one
+        self._most, self._back_to, self._taken = DAY, 0, 0  # a jump by more is looked at; where time went back to last, and what was put on for that
         self.is_set = self.is_back = False  # at the line that was seen last: whether the clock was set, and whether time goes back
         self.has_times = False
         self.first_line = self.back = self.on = 0
@@ -91,12 +94,16 @@ class Clock:
             at = told
             if time[-8:-7] == ".":
                 self._head, self._base = time[:-7], at - int(time[-7:-1]) * 1000
-        step, self.last = at - self.last, at
+        last = self.last
+        step, self.last = at - last, at
         self.is_set = self.is_back = False
         if not self.has_times:
             self.has_times = True
-        elif step < -ORDER or step > DAY:
-            self._set(line, step)
+            self._before = at
+            return at
+        if step < -ORDER or step > self._most:
+            self._jumps(line, step, last)
+        self._before = last
         return at
 
     def goes_on(self, time: str) -> bool:
@@ -110,11 +117,22 @@ class Clock:
         self._end = head + NINES[len(head) - len(time):] if time[-8:-7] == "." else ""
         return False
 
-    def _set(self, line: int, step: int) -> None:
+    def _jumps(self, line: int, step: int, last: int) -> None:
+        """Time goes back, or on by much; where it goes on by as much as it went back in the line before, that one was out of order."""
+        if last == self._back_to and self._taken and step >= self._taken:
+            self.shift -= self._taken
+        self._most, self._taken = DAY, 0
+        if step < -ORDER or step > DAY:
+            self._set(line, step, last)
+
+    def _set(self, line: int, step: int, last: int) -> None:
         """The clock was set, or what came is out of order."""
         self.is_set, self.is_back = step > DAY or -step > BACK, step < 0
         if self.is_set:
             self.shift -= step
+        elif last - self._before < -step:
+            self.shift -= step
+            self._most, self._back_to, self._taken = -step - 1, last + step, -step
         self.back, self.on = self.back + (step < 0), self.on + (step > 0)
         if not self._said:
             self.first_line = line

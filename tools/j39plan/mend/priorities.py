@@ -75,16 +75,24 @@ class Assignment:
         return flows
 
     def _assigned(self, hopeless: set[int]) -> Priorities | None:
-        """Audsley's assignment; None where some group is in time with no priority that is left."""
+        """Audsley's assignment; None where some group is in time with no priority that is left. Where no group is in time behind all others, be it right
+        behind the most urgent priority, only that one is left for all."""
         priorities: Priorities = {}
-        for level in LEVELS:
-            order = sorted((label for label in self._groups if label not in priorities),
-                           key=lambda label: (-self._groups[label].priority, -self._groups[label].pgn))
-            for label in order:
-                late = self._tried({**priorities, label: level}, LEVELS[-1])
-                if late is not None and not late & (self._of(label) | self._flows(priorities, level)) - hopeless:
+        is_lost = not any(self._is_in_time({}, label, LEVELS[-2], hopeless) for label in self._left(priorities))
+        for level in LEVELS[-1:] if is_lost else LEVELS:
+            for label in self._left(priorities):
+                if self._is_in_time(priorities, label, level, hopeless):
                     priorities[label] = level
         return priorities if len(priorities) == len(self._groups) else None
+
+    def _left(self, priorities: Priorities) -> list[str]:
+        """The groups that have no priority yet, the least urgent one first."""
+        return sorted((label for label in self._groups if label not in priorities), key=lambda label: (-self._groups[label].priority, -self._groups[label].pgn))
+
+    def _is_in_time(self, priorities: Priorities, label: str, level: int, hopeless: set[int]) -> bool:
+        """Whether a group is in time with a priority, and those that have the same, where all that have none yet are the most urgent."""
+        late = self._tried({**priorities, label: level}, LEVELS[-1])
+        return late is not None and not late & (self._of(label) | self._flows(priorities, level)) - hopeless
 
     def _flows(self, priorities: Priorities, level: int) -> set[int]:
         """The flows of the groups that have a priority."""

@@ -62,10 +62,10 @@ _j39plan_tool() {
     _j39plan_files "$word" log
   elif [ "$tool" = j39plan-tolog ]; then
     _j39plan_files "$word" asc blf trc mf4 csv
-  elif [[ $tool =~ ^j39plan-(against|fleet|signals|codes|plot)$ ]] && [ "$COMP_CWORD" -gt 1 ]; then
+  elif [[ $tool =~ ^j39plan-(against|drift|fleet|signals|codes|plot)$ ]] && [ "$COMP_CWORD" -gt 1 ]; then
     _j39plan_files "$word" log
   else
     _j39plan_files "$word" toml
   fi
 }
-complete -F _j39plan_tool j39plan-where j39plan-answer j39plan-startup j39plan-dbc2plan j39plan-log2plan j39plan-plan2dbc j39plan-join j39plan-forwards j39plan-compare j39plan-mend j39plan-against j39plan-fleet j39plan-table j39plan-report j39plan-signals j39plan-codes j39plan-plot j39plan-tolog j39plan-cut j39plan-restbus j39plan-check-plans
+complete -F _j39plan_tool j39plan-where j39plan-answer j39plan-startup j39plan-dbc2plan j39plan-log2plan j39plan-plan2dbc j39plan-join j39plan-forwards j39plan-compare j39plan-mend j39plan-against j39plan-drift j39plan-fleet j39plan-table j39plan-report j39plan-signals j39plan-codes j39plan-plot j39plan-tolog j39plan-cut j39plan-restbus j39plan-check-plans

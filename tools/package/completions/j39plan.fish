@@ -18,7 +18,7 @@ complete -c j39plan -n '__fish_seen_subcommand_from follow' -l all -d 'show each
 complete -c j39plan -n '__fish_seen_subcommand_from help' -a 'show check addresses load run read follow frame vehicle'
 
 # The tools.
-for tool in where answer startup dbc2plan log2plan plan2dbc join forwards compare mend against fleet table report signals codes plot tolog cut restbus check-plans
+for tool in where answer startup dbc2plan log2plan plan2dbc join forwards compare mend against drift fleet table report signals codes plot tolog cut restbus check-plans
     complete -c j39plan-$tool -l help -s h -d 'print the help'
     complete -c j39plan-$tool -l version -d 'print the version'
 end
@@ -58,6 +58,7 @@ complete -c j39plan-cut -l plan -r -F -d 'the plan that has the labels'
 complete -c j39plan-cut -l unit -x -d 'what this unit sends and gets'
 complete -c j39plan-cut -l group -x -d 'this group'
 complete -c j39plan-cut -l clock -r -F -d 'with the times of the clock of this log'
+complete -c j39plan-cut -l merge -d 'both logs as one, by one clock'
 complete -c j39plan-cut -l interface -x -d 'the interface that is read of a log of several'
 complete -c j39plan-cut -l json -d 'what was kept as a JSON object on standard error'
 complete -c j39plan-restbus -l without -x -d 'a unit that is on the bench itself'
@@ -101,6 +102,9 @@ complete -c j39plan-against -l live -d 'each deviation as soon as it is met'
 complete -c j39plan-against -l bus -x -d 'the interface that is a bus of the vehicle, as can0=P'
 complete -c j39plan-against -l json -d 'as JSON objects, each on a line'
 complete -c j39plan-against -l table -d 'a table of the flows first'
+complete -c j39plan-drift -l share -x -d 'by how much numbers may differ, as 10%'
+complete -c j39plan-drift -l interface -x -d 'the interface that is read, as can1'
+complete -c j39plan-drift -l json -d 'as a JSON object'
 complete -c j39plan-fleet -l jitter -x -d 'by how much messages may come nearer than their period'
 complete -c j39plan-fleet -l silence -x -d 'after how many periods a flow is silent'
 complete -c j39plan-fleet -l events -x -d 'a flow that is sent when something happens'
@@ -113,6 +117,7 @@ complete -c j39plan-signals -l interface -x -d 'the interface that is read, as c
 complete -c j39plan-signals -l csv -d 'a row a signal'
 complete -c j39plan-signals -l json -d 'a JSON object a signal'
 complete -c j39plan-signals -l wide -d 'a row a message, two columns a signal'
+complete -c j39plan-signals -l output -s o -r -F -d 'the name of a file of Parquet or MF4'
 complete -c j39plan-table -l csv -d 'as rows with commas'
 complete -c j39plan-table -l json -d 'as a JSON object'
 complete -c j39plan-table -l xlsx -r -F -d 'write a workbook'

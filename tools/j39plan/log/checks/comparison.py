@@ -4,10 +4,11 @@ import math
 from typing import NamedTuple
 
 from j39plan.j1939 import (
-    ACKNOWLEDGEMENT, ADDRESS_CLAIMED, DATA_TRANSFER, CONNECTION_MANAGEMENT, FRAME_BYTES, GLOBAL_ADDRESS, NAME_FIELDS, NULL_ADDRESS, OTHER_SERVICES,
-    PROPRIETARY, REQUEST, SERVICES, destination_in, identifier_of,
+    ACKNOWLEDGEMENT, ADDRESS_CLAIMED, DATA_TRANSFER, CONNECTION_MANAGEMENT, FRAME_BYTES, GLOBAL_ADDRESS, NULL_ADDRESS, OTHER_SERVICES, PROPRIETARY,
+    REQUEST, SERVICES, destination_in, identifier_of,
 )
 from j39plan.log.checks.claims import Claims
+from j39plan.log.checks.commanded import Commanded
 from j39plan.log.checks.damage import Damage
 from j39plan.log.checks.deviations import Found
 from j39plan.log.checks.distances import Distances, Heard, Rule, Tolerance, Way
@@ -19,6 +20,7 @@ from j39plan.log.checks.queued import Begun, Queued
 from j39plan.log.checks.requests import Asked
 from j39plan.log.checks.transfers import WHOLE, Announcement, Cause, Pair, Route, Transfers, announcement_in, is_managing, pair_of, pgn_of
 from j39plan.log.checks.unplanned import Bounds, Unplanned
+from j39plan.log.checks.wording import fields_of, lengths_of
 from j39plan.log.clock import MILLISECOND, SECOND, Clock
 from j39plan.log.reports import Acknowledgement, Claim, Frame, Message, Report, Request, Who
 from j39plan.log.serial_numbers import Renumbered
@@ -51,18 +53,6 @@ class Settings(NamedTuple):
     others: list[Renumbered] = []
 
 
-def lengths_of(group: Group) -> str:
-    """The lengths of a group's messages as a text."""
-    return str(group.length) if group.length == group.most else f"{group.length} to {group.most}"
-
-
-def fields_of(name: str) -> str:
-    """The fields of a NAME that tell what it is."""
-    number = int(name, 16)
-    return ", ".join(f"{key} {number >> first & (1 << width) - 1}" for key, first, width in NAME_FIELDS
-                     if key in ("manufacturer", "function", "identity"))
-
-
 class Comparison:
     """What was met in a log that isn't as the plan has it."""
 
@@ -79,7 +69,7 @@ class Comparison:
         self.numbers = Numbers(settings.others, found)
         heard = Heard(self.hands.first, self.hands.free)
         self.distances = Distances(tables.flows, settings.tolerance, settings.rule, bounds.waits, heard, found)
-        self.claims, self.queued = Claims(tables.units, self.hands, found), Queued()
+        self.claims, self.queued, self.commanded = Claims(tables.units, self.hands, found), Queued(), Commanded(tables.units, found)
         self.asked, self.damage = Asked(tables, settings.tolerance, bounds.requests, found), Damage(tables.timing, found)
         self.transfers, self.unplanned = Transfers(tables.timing, found), Unplanned(tables, bounds.flows, found)
         labels = {pgn: groups[0].label for pgn, groups in self.groups.items() if len(groups) == 1}
@@ -103,6 +93,7 @@ class Comparison:
         if who.label:
             self.claims.claimed(line, at, who.label)
         gives_back = who.address is None and self.hands.holds(who, identity)
+        is_commanded = self.commanded.is_obeyed(self.hands.name_of(who, identity), who.address)
         for address in self.hands.claim(line, at, who, identity):
             for begun in self._begun.values():
                 if address in (begun.pair[0][2], begun.pair[1][2]) and not begun.between:
@@ -116,7 +107,7 @@ class Comparison:
             return  # nobody has taken the address that it held
         elif who.address is None:
             self.found.tell("address", f"{unit.label} {claims}", line, at, unit=unit.label)
-        elif who.address != unit.address and not unit.may_choose:
+        elif who.address != unit.address and not unit.may_choose and not is_commanded:
             self.found.tell("address", f"{unit.label} {claims}, planned is {unit.address}", line, at, unit=unit.label)
 
     def names_itself(self, at: int | None, who: Who) -> None:
@@ -258,8 +249,10 @@ class Comparison:
             self.sender(line, at, sender, frame.pgn)
         else:
             self.hands.sends(line, at, sender)
-        if frame.pgn == DATA_TRANSFER and frame.to.address is None and sender.label and at is not None:
-            self.queued.packet(sender.label, at)
+        if frame.pgn == DATA_TRANSFER:
+            self.commanded.packet(line, at, frame)
+            if frame.to.address is None and sender.label and at is not None:
+                self.queued.packet(sender.label, at)
         is_planned = self.transfers.came(line, at, frame)
         if frame.pgn == CONNECTION_MANAGEMENT and frame.data[0] == WHOLE:
             self.acknowledged(pair_of(frame.to, sender))
@@ -324,6 +317,7 @@ class Comparison:
         """A long message is announced."""
         sender, to = frame.sender, frame.to
         pair = pair_of(sender, to)
+        self.commanded.announced(frame, announced)
         if announced.is_sound:
             self.end(self._begun.pop(pair, None))
         group = self.group_of(announced.pgn, announced.length, sender, to)
@@ -400,7 +394,7 @@ class Comparison:
             self.hands.stood_still(line, at, at - last)
             self.anew(line, at)
         self._at, self._line = at, line
-        if self._is_watched or self.transfers.waits or self.transfers.refused or self.claims.open or self.hands.ignition.gap:
+        if self._is_watched or self.transfers.waits or self.transfers.refused or self.claims.open or self.hands.ignition.gap or self.commanded.open:
             self.goes_by(at)
 
     def watches(self) -> None:
@@ -432,6 +426,8 @@ class Comparison:
             self.claims.goes_by(at)
         if self.hands.ignition.gap:
             self.hands.ignition.goes_by(at)
+        if self.commanded.open:
+            self.commanded.goes_by(at)
 
     def is_due(self, at: int) -> None:
         """Tells what is due now, if that is told as soon as it is."""
@@ -478,6 +474,7 @@ class Comparison:
         for begun in self._begun.values():
             self.end(begun)
         self.claims.end(last)
+        self.commanded.end()
         self.hands.end(last)
         self.distances.end(None if self.damage.is_off else last)
         self.transfers.end(last)

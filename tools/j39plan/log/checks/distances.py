@@ -6,7 +6,7 @@ import math
 import re
 from collections.abc import Callable, Iterator, Mapping
 from dataclasses import dataclass
-from typing import NamedTuple
+from typing import Any, NamedTuple
 
 from j39plan.log.checks.deviations import Found
 from j39plan.log.checks.rows import CLOCKS, Row
@@ -327,12 +327,19 @@ class Distances:
         """The flows of which no distance is too small, by what is passed over."""
         return [track.number for track in self._tracks if track.limits and track.limits.least <= 0]
 
-    def table(self) -> Iterator[tuple[str, ...]]:
-        """A row for each flow: its period, how often it was sent, the least, usual and greatest distance, all in ms."""
+    def measured(self) -> Iterator[dict[str, Any]]:
+        """A row for each flow: its period, how often it was sent, and the least, usual and greatest distance, all in ms, where there is one."""
         for track in self._tracks:
             usual, flow = sorted((self._usual or {}).get(track.number, {}).items()), track.flow
-            told = [f"{step * STEP / MILLISECOND:.2f}" for step in (usual[0][0], median(usual), usual[-1][0])] if usual else ["-"] * 3
-            yield str(track.number), flow.group, flow.sender, flow.to, str(flow.period or "-"), str(track.count), *told
+            steps = zip(("least", "median", "greatest"), (usual[0][0], median(usual), usual[-1][0]) if usual else ())
+            yield {"flow": track.number, "group": flow.group, "from": flow.sender, "to": flow.to, "period": flow.period, "count": track.count,
+                   **{key: step * STEP / MILLISECOND for key, step in steps}}
+
+    def table(self) -> Iterator[tuple[str, ...]]:
+        """The same in words."""
+        for row in self.measured():
+            told = [f"{row[key]:.2f}" if key in row else "-" for key in ("least", "median", "greatest")]
+            yield str(row["flow"]), row["group"], row["from"], row["to"], str(row["period"] or "-"), str(row["count"]), *told
 
 
 def median(usual: list[tuple[int, int]]) -> int:

@@ -217,6 +217,10 @@ class Hands:
             self._claimed[box] = at
         return tuple(changed)
 
+    def name_of(self, who: Who, identity: int | None) -> str | None:
+        """The NAME of a box that claims."""
+        return self._with_name(who, identity).name
+
     def _with_name(self, who: Who, identity: int | None) -> Who:
         """Somebody that claims, with the NAME of its box."""
         unit = self._units.get(who.label or "")

@@ -2,6 +2,8 @@
 
 from __future__ import annotations
 
+from j39plan.log.clock import ORDER, nanoseconds
+
 # The bits of a frame by the bytes that it has, in the spelling of a log: `#` and two digits a byte.
 BITS = {1 + 2 * length: 80 + 10 * length for length in range(9)}
 
@@ -14,11 +16,20 @@ class Meter:
         self.worst_second: int | None = None
         self._interface, self._start, self._inside = b"", b"\n", 0  # no line begins so
         self._way = b" "  # what stands before an identifier
+        self._last = b""  # the line before
 
     def take(self, line: bytes, end: int, digits: int) -> None:
         """A line by where its identifier begins, and how many characters its data has."""
         if line.startswith(self._start) and line.startswith(self._way, end - len(self._way)) or self._turns(line[:end]):
+            if line < self._last and self._goes_back(line):
+                self._close()
+            self._last = line
             self._inside += BITS.get(digits, 0)
+
+    def _goes_back(self, line: bytes) -> bool:
+        """Whether the clock was set back within a second, so that this one began anew."""
+        at, last = (nanoseconds(one.partition(b" ")[0].decode(errors="replace")) for one in (line, self._last))
+        return line.startswith(self._start) and self._last.startswith(self._start) and at is not None and last is not None and at < last - ORDER
 
     def _turns(self, head: bytes) -> bool:
         """Another second begins, or another interface speaks: whether it is the one that is read."""

@@ -31,7 +31,7 @@ class Plain(NamedTuple):
 
 
 class Reader:
-    """Takes the lines of `follow` for a comparison."""
+    """Takes the lines of `follow` for a comparison: of most of them what is kept, without a report."""
 
     def __init__(self, comparison: Comparison, feed: Feed, tables: Tables, counts: Counts) -> None:
         self._comparison, self._feed, self._counts = comparison, feed, counts
@@ -39,17 +39,32 @@ class Reader:
         self._unheard, self._beside = feed.noted
         self._plain: dict[str, Plain] = {}
 
-    def take(self, line: str, lines: Iterator[str]) -> None:
-        """A line, and those below it."""
-        words = line.split(" ", 2)
-        head, _, data = words[-1].rpartition(" ")
-        plain = self._plain.get(head)
-        if plain is not None and len(data) <= DIGITS and not self._unheard and not self._beside:
-            self._take_plain(int(words[0]), words[1], plain)
-        elif line[0].isdigit():
-            self._report(line, lines, head)
-        else:
-            self._counts.take(line)
+    def take(self, lines: Iterator[str], most: int | None = None) -> None:
+        """Takes the lines, so many of them at most."""
+        comparison, plain_of, unheard, beside = self._comparison, self._plain.get, self._unheard, self._beside
+        hands, asked, others = comparison.hands, comparison.asked, comparison.others
+        see, looks_at_time, sends = comparison.clock.see, comparison.looks_at_time, comparison.sends
+        for line in islice(lines, most):
+            words = line.split(" ", 2)
+            head, _, data = words[-1].rpartition(" ")
+            plain = plain_of(head)
+            if plain is not None and len(data) <= DIGITS and not unheard and not beside:
+                flow, pgn, sender, to, key, box, address = plain
+                number = int(words[0])
+                at = see(number, words[1])
+                if at is not None:
+                    looks_at_time(number, at)
+                if hands.is_settled:
+                    hands.is_heard(number, at, key, box, address)
+                else:
+                    hands.sends(number, at, sender)
+                if asked.open or others.open:
+                    comparison.answers(number, at, sender, to, pgn)
+                sends(flow, number, at)
+            elif line[0].isdigit():
+                self._report(line, lines, head)
+            else:
+                self._counts.take(line)
 
     def _report(self, line: str, lines: Iterator[str], head: str) -> None:
         """A report."""
@@ -71,18 +86,3 @@ class Reader:
         if message.flow and sender.label and message.priority is None and self._comparison.hands.is_named(sender):
             pgn = self._comparison.planned[message.group].pgn
             self._plain[head] = Plain(message.flow, pgn, sender, to, *self._comparison.hands.source_of(sender), sender.address)
-
-    def _take_plain(self, line: int, time: str, plain: Plain) -> None:
-        """Such a message, as `report` takes it."""
-        comparison = self._comparison
-        at = comparison.clock.see(line, time)
-        if at is not None:
-            comparison.looks_at_time(line, at)
-        flow, pgn, sender, to, key, box, address = plain
-        if comparison.hands.is_settled:
-            comparison.hands.is_heard(line, at, key, box, address)
-        else:
-            comparison.hands.sends(line, at, sender)
-        if comparison.asked.open or comparison.others.open:
-            comparison.answers(line, at, sender, to, pgn)
-        comparison.sends(flow, line, at)

@@ -44,14 +44,20 @@ def lines_of(log: Log) -> Iterator[bytes]:
         is_begun = not piece.endswith(b"\n")
 
 
+def frame_in(line: bytes) -> bytes | None:
+    """The frame of a line that has a time or an interface before it, without a direction behind it."""
+    words = line.split()
+    if words[-1:] in ([b"R"], [b"T"]):
+        words.pop()
+    return words[-1] if len(words) > 1 and b"#" in words[-1] else None
+
+
 def times_in(log: Log) -> dict[bytes, int | None]:
     """When each frame came, in nanoseconds; None where it came more than once."""
     found: dict[bytes, int | None] = {}
     for line in lines_of(log):
-        words = line.split()
-        at = nanoseconds(words[0].decode("ascii", "replace")) if len(words) > 1 else None
-        frame = words[-2] if words[-1:] in ([b"R"], [b"T"]) and len(words) > 2 else words[-1] if words else b""
-        if at is not None and b"#" in frame:
+        at, frame = nanoseconds((line.split(maxsplit=1) or [b""])[0].decode("ascii", "replace")), frame_in(line)
+        if at is not None and frame is not None:
             found[frame] = None if frame in found else at
     return found
 
