@@ -18,6 +18,7 @@ mod show;
 mod show_lines;
 mod stays_lines;
 mod stays_report;
+mod variant;
 
 pub use addresses::addresses_text;
 pub use certificate::clean_plans_are_certified;
@@ -29,7 +30,8 @@ pub use laws::{
 pub use live_identifiers::live_flows_have_different_identifiers;
 pub use load::load_text;
 pub use load_lines::write_load;
-pub use plan_file::{plan_text, write_refusal};
+pub use plan_file::{line_text, refuse_choices, write_choices_refused, write_refusal};
 pub use plan_findings::PlanFindings;
 pub use plan_report::write_check;
 pub use show::show_text;
+pub use variant::variant_text;
