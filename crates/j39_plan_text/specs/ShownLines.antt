@@ -1,5 +1,5 @@
 -- The text that the show command writes for a plan file.
-use Rattle.std.specs.Prelude.{◌≡◌, ℕ, List, ◌++◌}
+use Rattle.std.specs.Prelude.{◌≡◌, ℕ, List, [], ◌++◌}
 use Rattle.j39_variants.specs.declared.line.ProductLine.{ProductLine}
 use Rattle.j39_plan_text.specs.ChoiceLines.{choices_lines}
 use Rattle.j39_plan_text.specs.PlanText.{IsReportedText}
@@ -28,3 +28,7 @@ IsShowText = IsReportedText IsShowReport
 abbrev pub HasOneShowReport : ProductLine → Type 0
 HasOneShowReport line = (text other : List ℕ) (verdict another : Verdict)
     → IsShowReport line text verdict → IsShowReport line other another → (text ≡ other) × (verdict ≡ another)
+
+-- of a plan without choices its values alone are written
+abbrev pub ShowsOnePlan : ProductLine → Type 0
+ShowsOnePlan line = line.choices.items ≡ [] → line_text line ≡ show_text line.plan

@@ -8,7 +8,7 @@ use Rattle.j39_variants.specs.declared.line.ProductLine.{ProductLine}
 use Rattle.j39_variants.specs.ChoiceTables.{choice_labels}
 use Rattle.j39_variants.specs.ListTables.{named_in}
 use Rattle.j39_variants.specs.VariantPlans.{IsVariantPlan}
-use Rattle.j39_variants.specs.Variants.{IsTaking, NoneTakes}
+use Rattle.j39_variants.specs.Variants.{IsFirstTaking, NoneTakes}
 use Rattle.j39_plan_text.specs.PlanText.{IsReportedText}
 use Rattle.j39_plan_text.specs.ShowText.{show_text}
 use Rattle.j39_stream.specs.declared.verdict.Verdict.{Verdict}
@@ -35,12 +35,12 @@ pub record AreWanted (words : List (List ℕ)) (line : ProductLine) (wanted : Li
   pub names : AllZip (NamesOf line.choices.items) words wanted
   pub apart : has_two wanted ≡ false
 
--- the values of the plan of a possible variant that takes them
+-- the values of the plan of the first possible variant that takes them
 pub record IsShownVariant (words : List (List ℕ)) (line : ProductLine) (text : List ℕ) : Type 0 where
   pub wanted : List Alternative
   pub are_wanted : AreWanted words line wanted
   pub variant : List ℕ
-  pub is_taking : IsTaking line wanted variant
+  pub is_first : IsFirstTaking line wanted variant
   pub plan : Plan
   pub is_plan : IsVariantPlan line variant plan
   pub shown : text ≡ show_text plan

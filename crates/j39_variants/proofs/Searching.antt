@@ -11,7 +11,7 @@ use Rattle.std.proofs.lemmas.List.{length-append}
 use Rattle.j39_variants.specs.declared.line.Alternative.{Alternative}
 use Rattle.j39_variants.specs.declared.line.Choice.{Choice}
 use Rattle.j39_variants.specs.declared.line.ProductLine.{ProductLine}
-use Rattle.j39_variants.specs.Variants.{FitChoices, IsTaking, IsVariant, NoneTakes, is_allowed, is_in, is_possible, size_at, takes_alternative, takes_all}
+use Rattle.j39_variants.specs.Variants.{FitChoices, IsEarlier, IsFirstBehind, IsFirstTaking, IsTaking, IsVariant, NoneTakes, is_allowed, is_in, is_possible, size_at, takes_alternative, takes_all}
 
 -- ---- what is taken stays taken behind more places
 
@@ -166,3 +166,76 @@ none_behind line wanted taken few none (place ∷ rest) is =
 pub found_taking : (line : ProductLine) (wanted : List Alternative) (taken : List ℕ) → FitChoices line.choices.items taken → length taken ≡ length line.choices.items
     → is_possible line.nevers.items taken ≡ true → takes_all taken wanted ≡ true → IsTaking line wanted taken
 found_taking line wanted taken fits all possible these = record { is_variant = record { fits = fits; of_each = all }; possible = possible; takes_these = these }
+
+-- ---- the first one
+
+not_before_itself : (v : List ℕ) → IsEarlier v v → ⊥
+not_before_itself [] earlier = earlier
+not_before_itself (p ∷ v) earlier = elim earlier [
+  | inl less ↦ omega (arith, less)
+  | inr more ↦ not_before_itself v more.1
+]
+
+-- all places are taken
+pub first_taken : (line : ProductLine) (wanted : List Alternative) (taken : List ℕ) → length taken ≡ length line.choices.items → IsTaking line wanted taken
+    → IsFirstBehind line wanted taken taken
+first_taken line wanted taken all is = record {
+  is_taking = is;
+  begins = ([], sym (append_nothing taken [] refl));
+  first = λ rest other earlier.
+    let same : taken ++ rest ≡ taken = append_nothing taken rest (no_more taken rest (length line.choices.items) all other.is_variant.of_each) in
+    not_before_itself taken (subst (λ v. IsEarlier v taken) same earlier);
+}
+
+earlier_behind : (taken v w : List ℕ) → IsEarlier (taken ++ v) (taken ++ w) → IsEarlier v w
+earlier_behind [] v w earlier = earlier
+earlier_behind (p ∷ taken) v w earlier = elim earlier [
+  | inl less ↦ absurd (omega (arith, less))
+  | inr more ↦ earlier_behind taken v w more.1
+]
+
+first_place : (p q : ℕ) (v w : List ℕ) → IsEarlier (p ∷ v) (q ∷ w) → p ≤ q
+first_place p q v w earlier = elim earlier [
+  | inl less ↦ omega (arith, less)
+  | inr more ↦ let e = more.0 in omega (arith, e)
+]
+
+none_earlier : (line : ProductLine) (wanted : List Alternative) (taken longer variant : List ℕ) (place : ℕ) (more : List ℕ)
+    → longer ≡ taken ++ place ∷ [] → variant ≡ taken ++ place ∷ more → length taken < length line.choices.items
+    → ((p : ℕ) → p < place → NoneTakes line wanted (taken ++ p ∷ [])) → IsFirstBehind line wanted longer variant
+    → (rest : List ℕ) → IsTaking line wanted (taken ++ rest) → IsEarlier (taken ++ rest) variant → ⊥
+none_earlier line wanted taken longer variant place more long here few none found [] is earlier =
+    let e = length-append taken [] in
+    let all = is.is_variant.of_each in
+    omega (arith, e, all, few)
+none_earlier line wanted taken longer variant place more long here few none found (q ∷ rest) is earlier =
+    let at : IsEarlier (q ∷ rest) (place ∷ more) =
+        earlier_behind taken (q ∷ rest) (place ∷ more) (subst (λ v. IsEarlier (taken ++ q ∷ rest) v) here earlier) in
+    elim (eq-or-lt_of_le (first_place q place rest more at)) [
+      | inl same ↦
+          let join : taken ++ q ∷ rest ≡ longer ++ rest =
+              ap (λ p. taken ++ p ∷ rest) same ∙ sym (ap (λ xs. xs ++ rest) long ∙ append_assoc taken (place ∷ []) rest) in
+          let P : List ℕ → Type 0 = λ v. IsTaking line wanted v in
+          let Q : List ℕ → Type 0 = λ v. IsEarlier v variant in
+          found.first rest (subst P join is) (subst Q join earlier)
+      | inr less ↦
+          let P : List ℕ → Type 0 = λ v. IsTaking line wanted v in
+          none q less rest (subst P (sym (append_assoc taken (q ∷ []) rest)) is)
+    ]
+
+-- the first one of those that begin with one more place is the first one, where none begins with an earlier place there
+pub first_longer : (line : ProductLine) (wanted : List Alternative) (taken longer variant : List ℕ) (place : ℕ) → longer ≡ taken ++ place ∷ []
+    → length taken < length line.choices.items → ((p : ℕ) → p < place → NoneTakes line wanted (taken ++ p ∷ []))
+    → IsFirstBehind line wanted longer variant → IsFirstBehind line wanted taken variant
+first_longer line wanted taken longer variant place long few none found =
+    let (more, begins) = found.begins in
+    let here : variant ≡ taken ++ place ∷ more = begins ∙ ap (λ xs. xs ++ more) long ∙ append_assoc taken (place ∷ []) more in
+    record {
+      is_taking = found.is_taking;
+      begins = (place ∷ more, here);
+      first = λ rest is earlier. none_earlier line wanted taken longer variant place more long here few none found rest is earlier;
+    }
+
+-- of those that begin with no place
+pub first_of_all : (line : ProductLine) (wanted : List Alternative) (variant : List ℕ) → IsFirstBehind line wanted [] variant → IsFirstTaking line wanted variant
+first_of_all line wanted variant found = record { is_taking = found.is_taking; first = λ other is earlier. found.first other is earlier }

@@ -1,6 +1,6 @@
 -- Variants, and the boxes that lists stand for.
 use Rattle.std.specs.declared.alloc.Global.{Global}
-use Rattle.std.specs.Prelude.{◌≡◌, ℕ, ◌<◌, ◌==◌, List, ◌++◌, Bool, true, false, ◌&&◌, ◌||◌, not, length, slice_index, Vec}
+use Rattle.std.specs.Prelude.{◌≡◌, ◌⊎◌, ℕ, ◌<◌, ◌==◌, List, [], ◌∷◌, ◌++◌, Bool, true, false, ◌&&◌, ◌||◌, not, length, slice_index, Vec}
 use Rattle.std.specs.List.{list_all, list_any, slice_get}
 use Rattle.std.specs.Option.{option_map_or}
 use Rattle.j39_variants.specs.declared.line.Alternative.{Alternative}
@@ -50,3 +50,20 @@ pub record IsTaking (line : ProductLine) (wanted : List Alternative) (variant : 
 -- there is none that begins with these places
 abbrev pub NoneTakes : ProductLine → List Alternative → List ℕ → Type 0
 NoneTakes line wanted taken = (rest : List ℕ) → ¬ IsTaking line wanted (taken ++ rest)
+
+-- Of two variants that one is earlier which takes the earlier alternative in the first choice in which they differ.
+abbrev pub IsEarlier : List ℕ → List ℕ → Type 0
+IsEarlier [] w = ⊥
+IsEarlier (p ∷ v) [] = ⊥
+IsEarlier (p ∷ v) (q ∷ w) = (p < q) ⊎ ((p ≡ q) × IsEarlier v w)
+
+-- the first possible variant that takes them, of those that begin with these places
+pub record IsFirstBehind (line : ProductLine) (wanted : List Alternative) (taken variant : List ℕ) : Type 0 where
+  pub is_taking : IsTaking line wanted variant
+  pub begins : (rest : List ℕ) × (variant ≡ taken ++ rest)
+  pub first : (rest : List ℕ) → IsTaking line wanted (taken ++ rest) → ¬ IsEarlier (taken ++ rest) variant
+
+-- the first possible variant that takes them: no earlier one is possible and does
+pub record IsFirstTaking (line : ProductLine) (wanted : List Alternative) (variant : List ℕ) : Type 0 where
+  pub is_taking : IsTaking line wanted variant
+  pub first : (other : List ℕ) → IsTaking line wanted other → ¬ IsEarlier other variant

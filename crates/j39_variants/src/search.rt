@@ -1,7 +1,7 @@
 //! The first possible variant that takes some alternatives.
 ghost use Rattle.std.specs.Prelude.{◌≡◌, ◌<◌, ◌≤◌, ◌++◌, ◌∷◌, [], ◌||◌, ◌==◌, ℕ, not, IfOk, MatchOption, length, slice_index};
 ghost use Rattle.std.specs.List.{list_all};
-ghost use Rattle.j39_variants.specs.Variants.{FitChoices, IsTaking, NoneTakes, is_allowed, size_at, takes_all};
+ghost use Rattle.j39_variants.specs.Variants.{FitChoices, IsFirstBehind, IsFirstTaking, NoneTakes, is_allowed, size_at, takes_all};
 
 use crate::variant::{is_possible, takes_alternative};
 use crate::{Alternative, ProductLine};
@@ -50,7 +50,8 @@ fn behind(
 ) -> Result<Option<Vec<usize>>, AllocError>
     requires fits { FitChoices line.now.choices.items taken.now }
     requires few { length taken.now ≤ length line.now.choices.items }
-    ensures { IfOk result (λ found. MatchOption found (NoneTakes line.now wanted.now taken.now) (λ v. IsTaking line.now wanted.now v.items)) }
+    ensures { IfOk result (λ found. MatchOption found (NoneTakes line.now wanted.now taken.now)
+        (λ v. IsFirstBehind line.now wanted.now taken.now v.items)) }
 {
     if !is_possible(&line.nevers, taken) {
         return Ok(None);
@@ -72,13 +73,14 @@ fn behind(
     Ok(None)
 }
 
-/// The first possible variant that takes each of some alternatives.
+/// The first possible variant that takes each of some alternatives, as the places of those that it takes, choice by
+/// choice.
 pub fn first_possible(
     alloc: Global,
     line: &ProductLine,
     wanted: &[Alternative],
 ) -> Result<Option<Vec<usize>>, AllocError>
-    ensures { IfOk result (λ found. MatchOption found (NoneTakes line.now wanted.now []) (λ v. IsTaking line.now wanted.now v.items)) }
+    ensures { IfOk result (λ found. MatchOption found (NoneTakes line.now wanted.now []) (λ v. IsFirstTaking line.now wanted.now v.items)) }
 {
     behind(alloc, line, wanted, &[])
 }

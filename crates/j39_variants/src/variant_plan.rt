@@ -1,5 +1,6 @@
 //! The plan of a variant.
 ghost use Rattle.std.specs.Prelude.{◌≡◌, IfOk};
+ghost use Rattle.std.specs.List.{filter_map};
 ghost use Rattle.j39_variants.specs.VariantPlans.{IsVariantPlan, flag_at, flags, picked, place_at, places};
 ghost use Rattle.j39_variants.specs.VariantPlans.{moved_flow, moved_from, moved_need, moved_request, moved_receivers};
 
@@ -153,38 +154,80 @@ fn moved_request(
     Some(moved)
 }
 
+// The flows of a variant, by the places of its units and groups.
+fn flows(
+    alloc: Global,
+    line: &ProductLine,
+    variant: &[usize],
+    units: &[Option<usize>],
+    groups: &[Option<usize>],
+) -> Result<Vec<FlowPlan>, AllocError>
+    ensures { IfOk result (λ v. v.items ≡ filter_map (moved_flow units.now groups.now) (picked (flags variant.now line.now.lists.flows.items) line.now.plan.flows.items)) }
+{
+    let are_there = flags(alloc, variant, &line.lists.flows)?;
+    let there = picked(alloc, &are_there, &line.plan.flows)?;
+    there
+        .iter()
+        .filter_map(|flow| moved_flow(units, groups, flow))
+        .collect(alloc)
+}
+
+fn needs(
+    alloc: Global,
+    line: &ProductLine,
+    variant: &[usize],
+    units: &[Option<usize>],
+    groups: &[Option<usize>],
+) -> Result<Vec<NeedPlan>, AllocError>
+    ensures { IfOk result (λ v. v.items ≡ filter_map (moved_need units.now groups.now) (picked (flags variant.now line.now.lists.needs.items) line.now.plan.needs.items)) }
+{
+    let are_asked_for = flags(alloc, variant, &line.lists.needs)?;
+    let there = picked(alloc, &are_asked_for, &line.plan.needs)?;
+    there
+        .iter()
+        .filter_map(|need| moved_need(units, groups, need))
+        .collect(alloc)
+}
+
+fn requests(
+    alloc: Global,
+    line: &ProductLine,
+    variant: &[usize],
+    units: &[Option<usize>],
+    groups: &[Option<usize>],
+) -> Result<Vec<RequestPlan>, AllocError>
+    ensures { IfOk result (λ v. v.items ≡ filter_map (moved_request units.now groups.now) (picked (flags variant.now line.now.lists.requests.items) line.now.plan.requests.items)) }
+{
+    let are_there = flags(alloc, variant, &line.lists.requests)?;
+    let there = picked(alloc, &are_there, &line.plan.requests)?;
+    there
+        .iter()
+        .filter_map(|request| moved_request(units, groups, request))
+        .collect(alloc)
+}
+
 /// The plan of a variant, which takes the alternatives of these places, choice by choice.
 pub fn plan_of(alloc: Global, line: &ProductLine, variant: &[usize]) -> Result<Plan, AllocError>
     ensures { IfOk result (IsVariantPlan line.now variant.now) }
 {
-    let unit_flags = flags(alloc, variant, &line.lists.units)?;
-    let group_flags = flags(alloc, variant, &line.lists.groups)?;
-    let units = places(alloc, &unit_flags)?;
-    let groups = places(alloc, &group_flags)?;
-    let flow_flags = flags(alloc, variant, &line.lists.flows)?;
-    let need_flags = flags(alloc, variant, &line.lists.needs)?;
-    let request_flags = flags(alloc, variant, &line.lists.requests)?;
-    let flows = picked(alloc, &flow_flags, &line.plan.flows)?;
-    let needs = picked(alloc, &need_flags, &line.plan.needs)?;
-    let requests = picked(alloc, &request_flags, &line.plan.requests)?;
+    let units_there = flags(alloc, variant, &line.lists.units)?;
+    let groups_there = flags(alloc, variant, &line.lists.groups)?;
+    let unit_places = places(alloc, &units_there)?;
+    let group_places = places(alloc, &groups_there)?;
+    let units = picked(alloc, &units_there, &line.plan.units)?;
+    let groups = copies(alloc, &groups_there, &line.plan.groups)?;
+    let flows = flows(alloc, line, variant, &unit_places, &group_places)?;
+    let needs = needs(alloc, line, variant, &unit_places, &group_places)?;
+    let requests = requests(alloc, line, variant, &unit_places, &group_places)?;
     Ok(Plan {
         keep_free: line.plan.keep_free.copy(),
         strangers: line.plan.strangers,
         live: line.plan.live,
         timing: line.plan.timing,
-        units: picked(alloc, &unit_flags, &line.plan.units)?,
-        groups: copies(alloc, &group_flags, &line.plan.groups)?,
-        flows: flows
-            .iter()
-            .filter_map(|flow| moved_flow(&units, &groups, flow))
-            .collect(alloc)?,
-        needs: needs
-            .iter()
-            .filter_map(|need| moved_need(&units, &groups, need))
-            .collect(alloc)?,
-        requests: requests
-            .iter()
-            .filter_map(|request| moved_request(&units, &groups, request))
-            .collect(alloc)?,
+        units,
+        groups,
+        flows,
+        needs,
+        requests,
     })
 }
