@@ -20,6 +20,8 @@ COMMANDS = (
     ["check", "tractor_and_implement.toml"],
     ["check", "findings/several.toml"],
     ["addresses", "three_at_one_address.toml"],
+    ["show", "line.toml"],
+    ["variant", "line.toml", "DETROIT", "RETARDER"],
     ["load", "axle.toml"],
     ["show", "axle.toml"],
     ["run", "transfers.toml", "transfers.directed_lost.schedule"],

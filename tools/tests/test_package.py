@@ -20,8 +20,8 @@ from j39plan import program
 from tests.support import TOOLS, TOP, InFolder, run, text_of, there
 
 PACKAGE = os.path.join(TOOLS, "package")
-COMMANDS = ["show", "check", "addresses", "load", "run", "read", "follow", "frame", "vehicle", "help"]
-INSTALLED = ["where", "answer", "startup", "dbc2plan", "log2plan", "plan2dbc", "join", "forwards", "compare", "mend", "against", "drift", "fleet", "table", "report", "signals", "codes", "plot", "tolog",
+COMMANDS = ["show", "variant", "check", "addresses", "load", "run", "read", "follow", "frame", "vehicle", "help"]
+INSTALLED = ["where", "answer", "startup", "dbc2plan", "log2plan", "plan2dbc", "join", "forwards", "compare", "variant", "mend", "against", "drift", "fleet", "table", "report", "signals", "codes", "plot", "tolog",
              "cut", "restbus", "check-plans"]
 PAGE = text_of(os.path.join(TOP, "docs", "guide", "TOOLS.md"))
 

@@ -18,13 +18,14 @@ SCHEMA = json.loads(text_of(os.path.join(TOOLS, "j39plan", "plan.schema.json")))
 # What the page's headings call the tables.
 TABLES = {"Top": None, "`[timing]`": "timing", "`timing.errors`": "errors", "`[[unit]]`": "unit", "`unit.name`": "name", "`[[group]]`": "group",
           "`group.when`": "when", "`[[group.signal]]`": "signal", "`[[group.text]]`": "text", "`[[flow]]`": "flow", "`[[need]]`": "need",
-          "`[[request]]`": "request"}
+          "`[[request]]`": "request", "`[[choice]]`": "choice", "`[[never]]`": "never"}
 
 # Refusals that a schema can't say.
 UNSAID = ("Text", "Repeated", "UnknownLabel")
 UNSAID_CASES = ("most_below_length", "most_float", "per_3", "broadcast_gap_most_below_gap", "broadcast_gap_most_below_gap_by_default",
                 "jitter_of_the_period", "jitter_before_pause", "pause_below_the_period", "values_256_of_8_bits", "values_4_of_2_bits",
-                "values_above_32_bits", "values_above_32_bits_of_64", "when_value_256_of_8_bits")
+                "values_above_32_bits", "values_above_32_bits_of_64", "when_value_256_of_8_bits", "choices_of_65", "never_but_of_two_choices",
+                "never_but_of_the_same_choice", "never_but_all")
 
 # Keys whose range is another one beside some other key.
 FITTED = (("timing", "broadcast_gap_most"), ("flow", "jitter"), ("flow", "pause"), ("when", "value"))

@@ -8,8 +8,8 @@ use Rattle.j39_app.specs.Answers.{IsAnswerOfTwo, IsOfBytes, IsOfSome}
 use Rattle.j39_app.specs.Faults.{Ends}
 use Rattle.j39_app.specs.Known.{AreFrontOf, AreLeft, AreOf, AreOfPlan, MayBeTooLong}
 use Rattle.j39_app.proofs.WholeInputs.{some_same, whole_file}
-use Rattle.j39_plan_text.specs.PlanText.{Describes, IsPlanText, IsRefusedText}
-use Rattle.j39_network.specs.declared.plan.Plan.{Plan}
+use Rattle.j39_plan_text.specs.PlanText.{Describes, IsLineText, IsRefusedText}
+use Rattle.j39_variants.specs.declared.line.ProductLine.{ProductLine}
 use Rattle.j39_stream.specs.CommandEnds.{AnswersInPieces, AnswersWhole, PutsText}
 use Rattle.j39_stream.specs.Streams.{HasFailed, PassesLimits, SinkState, SourceState}
 use Rattle.j39_stream.specs.declared.fault.Fault.{Fault}
@@ -164,11 +164,37 @@ module _ {W : Type 0} {IsText : List ℕ → List ℕ → Verdict → Type 0} {m
     device = λ e. elim (answers.device e) [ inl of ↦ inl (breaks of) | inr to ↦ inr to ];
   }
 
+-- what ends so ends as another one that writes such texts
+pub ends_weaker : {V W : Type 0} {IsText Was : List ℕ → V → Type 0} {IsPart WasPart : List ℕ → Type 0} {AtOnce IsTooLong WasTooLong IsBroken : Type 0}
+    {state : W → SinkState} {told ended : W} (weaker : (text : List ℕ) (answer : V) → IsText text answer → Was text answer) (parts : (text : List ℕ) → IsPart text → WasPart text)
+    (longer : IsTooLong → WasTooLong) (r : Result V Fault) → Ends IsText IsPart AtOnce IsTooLong IsBroken state told ended r → Ends Was WasPart AtOnce WasTooLong IsBroken state told ended r
+ends_weaker weaker parts longer (Ok answer) ends =
+    let (text, is, put) = ends.written in
+    record {
+      written = (text, weaker text answer is, put);
+      calm = ends.calm;
+      cut = tt;
+      at_once = ends.at_once;
+      long = λ e. longer (ends.long e);
+      device = ends.device;
+    }
+ends_weaker weaker parts longer (Err fault) ends = record {
+  written = tt;
+  calm = tt;
+  cut = elim ends.cut [
+    | inl same ↦ inl same
+    | inr (text, is, part) ↦ inr (text, parts text is, part)
+  ];
+  at_once = ends.at_once;
+  long = λ e. longer (ends.long e);
+  device = ends.device;
+}
+
 -- ---- an order of two files
 
 -- the first one describes a plan, and the other one is read by it
 module _ {W : Type 0} {FirstLong Long FirstBroken Broken : Type 0} {state : W → SinkState} {told ended : W}
-    (IsTextFor IsFrontFor : Plan → Option (List ℕ) → List ℕ → Verdict → Type 0) (first second : Option (List ℕ)) (found : Plan) (bytes : List ℕ) (of : AreOf first bytes)
+    (IsTextFor IsFrontFor : ProductLine → Option (List ℕ) → List ℕ → Verdict → Type 0) (first second : Option (List ℕ)) (found : ProductLine) (bytes : List ℕ) (of : AreOf first bytes)
     (described : Describes bytes found) where
   by_plan : (r : Result Verdict Fault) → Ends (IsTextFor found second) (IsOfSome (IsFrontFor found second)) ⊥ Long Broken state told ended r
       → Ends (IsAnswerOfTwo IsTextFor first second) (IsOfSome (IsAnswerOfTwo IsFrontFor first second)) ⊥ (FirstLong ⊎ (AreOfPlan first × Long))
@@ -196,8 +222,8 @@ module _ {W : Type 0} {FirstLong Long FirstBroken Broken : Type 0} {state : W �
   }
 
 module _ {W : Type 0} {AtOnce FirstLong Long FirstBroken Broken : Type 0} {state : W → SinkState} {told middle : W}
-    (IsTextFor IsFrontFor : Plan → Option (List ℕ) → List ℕ → Verdict → Type 0) (first second : Option (List ℕ)) (plan : Result (Option Plan) Fault)
-    (read : Ends (IsOfBytes IsPlanText first) (λ text. (bytes : List ℕ) × AreOf first bytes × IsRefusedText bytes text) AtOnce FirstLong FirstBroken
+    (IsTextFor IsFrontFor : ProductLine → Option (List ℕ) → List ℕ → Verdict → Type 0) (first second : Option (List ℕ)) (plan : Result (Option ProductLine) Fault)
+    (read : Ends (IsOfBytes IsLineText first) (λ text. (bytes : List ℕ) × AreOf first bytes × IsRefusedText bytes text) AtOnce FirstLong FirstBroken
     state told middle plan) where
   -- the plan's can't be read
   pub no_plan : (fault : Fault) (r : Result Verdict Fault) → plan ≡ Err fault → IsErrOf r fault
@@ -234,7 +260,7 @@ module _ {W : Type 0} {AtOnce FirstLong Long FirstBroken Broken : Type 0} {state
       }
 
   -- the other file is read by the plan
-  pub plan_known : {ended : W} (found : Plan) (r : Result Verdict Fault) → plan ≡ Ok (Some found) → middle ≡ told
+  pub plan_known : {ended : W} (found : ProductLine) (r : Result Verdict Fault) → plan ≡ Ok (Some found) → middle ≡ told
       → Ends (IsTextFor found second) (IsOfSome (IsFrontFor found second)) ⊥ Long Broken state middle ended r
       → Ends (IsAnswerOfTwo IsTextFor first second) (IsOfSome (IsAnswerOfTwo IsFrontFor first second)) ⊥ (FirstLong ⊎ (AreOfPlan first × Long))
       (FirstBroken ⊎ (AreOfPlan first × Broken)) state told ended r

@@ -1,13 +1,15 @@
 -- What is written for what a command line orders.
-use Rattle.std.specs.Prelude.{◌≡◌, ◌⊎◌, ℕ, Bool, List, Option, string_bytes, length}
+use Rattle.std.specs.Prelude.{◌≡◌, ◌⊎◌, ℕ, Bool, List, Option, string_bytes, length, map}
 use Rattle.j39_app.specs.Known.{AreFrontOf, AreOf, Names}
 use Rattle.j39_app.specs.VehicleAnswers.{IsAnswerOfVehicle}
 use Rattle.j39_plan_text.specs.AddressesText.{IsAddressesText}
 use Rattle.j39_plan_text.specs.LoadText.{IsLoadText}
 use Rattle.j39_plan_text.specs.CheckText.{IsCheckText}
-use Rattle.j39_plan_text.specs.ShowText.{IsShowText}
+use Rattle.j39_plan_text.specs.ShownLines.{IsShowText}
+use Rattle.j39_plan_text.specs.VariantText.{IsVariantText}
+use Rattle.j39_variants.specs.declared.line.ProductLine.{ProductLine}
 use Rattle.j39_text.specs.FrameText.{IsFrameText, IsInputText}
-use Rattle.j39_plan_text.specs.PlanText.{Describes, IsRefusedText}
+use Rattle.j39_plan_text.specs.PlanText.{Describes, IsOfOnePlan, IsRefusedText}
 use Rattle.j39_follow.specs.FollowText.{IsFollowText}
 use Rattle.j39_log.specs.ReadText.{IsReadText}
 use Rattle.j39_run.specs.RunText.{IsRunText}
@@ -15,7 +17,7 @@ use Rattle.j39_network.specs.declared.plan.Plan.{Plan}
 use Rattle.j39_stream.specs.declared.verdict.Verdict.{Verdict}
 use Rattle.j39_stream.specs.declared.verdict.Verdict.TheVariants.{Done, Unreadable}
 use Rattle.j39_command_line.specs.declared.orders.Order.{Order}
-use Rattle.j39_command_line.specs.declared.orders.Order.TheVariants.{Input, Frame, Show, Check, Addresses, Load, Run, Read, Follow, Vehicle, Help}
+use Rattle.j39_command_line.specs.declared.orders.Order.TheVariants.{Input, Frame, Show, Variant, Check, Addresses, Load, Run, Read, Follow, Vehicle, Help}
 
 -- for the bytes of a file, or of an input
 abbrev pub IsOfBytes : {V : Type 0} → (List ℕ → List ℕ → V → Type 0) → Option (List ℕ) → List ℕ → V → Type 0
@@ -29,12 +31,16 @@ IsOfSome {V} IsText text = (answer : V) × IsText text answer
 abbrev pub IsRefusedOf : Option (List ℕ) → List ℕ → Type 0
 IsRefusedOf known text = (bytes : List ℕ) × AreOf known bytes × IsRefusedText bytes text
 
--- what is written for the files of two names, the first a plan's: why it describes no plan, or what is written for the plan that it
--- describes and for the other file
-abbrev pub IsAnswerOfTwo : (Plan → Option (List ℕ) → List ℕ → Verdict → Type 0) → Option (List ℕ) → Option (List ℕ) → List ℕ → Verdict → Type 0
+-- what is written for the files of two names, the first a plan's: why it describes no plan, or what is written for the line of vehicles
+-- that it describes and for the other file
+abbrev pub IsAnswerOfTwo : (ProductLine → Option (List ℕ) → List ℕ → Verdict → Type 0) → Option (List ℕ) → Option (List ℕ) → List ℕ → Verdict → Type 0
 IsAnswerOfTwo IsTextFor first second text verdict =
     ((bytes : List ℕ) × AreOf first bytes × IsRefusedText bytes text × (verdict ≡ Unreadable))
-    ⊎ ((bytes : List ℕ) × (plan : Plan) × AreOf first bytes × Describes bytes plan × IsTextFor plan second text verdict)
+    ⊎ ((bytes : List ℕ) × (line : ProductLine) × AreOf first bytes × Describes bytes line × IsTextFor line second text verdict)
+
+-- for the one plan of a line of vehicles and another file, of which nothing is read where there are several plans
+abbrev pub IsForOnePlan : (Plan → Option (List ℕ) → List ℕ → Verdict → Type 0) → ProductLine → Option (List ℕ) → List ℕ → Verdict → Type 0
+IsForOnePlan IsTextFor line known = IsOfOnePlan (λ plan. IsTextFor plan known) line
 
 -- for a schedule; a bus has a chooser for each unit of its plan
 abbrev pub IsRunOf : Plan → Option (List ℕ) → List ℕ → Verdict → Type 0
@@ -55,15 +61,17 @@ abbrev pub IsAnswer : Names → Option (List ℕ) → Order → List ℕ → Ver
 IsAnswer files input Input text verdict = IsOfBytes IsInputText input text verdict
 IsAnswer files input (Frame line) text verdict = IsFrameText (string_bytes line) text verdict
 IsAnswer files input (Show plan) text verdict = IsOfBytes IsShowText (files (string_bytes plan)) text verdict
+IsAnswer files input (Variant plan labels) text verdict =
+    IsOfBytes (IsVariantText (map string_bytes labels.items)) (files (string_bytes plan)) text verdict
 IsAnswer files input (Check plan) text verdict = IsOfBytes IsCheckText (files (string_bytes plan)) text verdict
 IsAnswer files input (Addresses plan) text verdict = IsOfBytes IsAddressesText (files (string_bytes plan)) text verdict
 IsAnswer files input (Load plan) text verdict = IsOfBytes IsLoadText (files (string_bytes plan)) text verdict
 IsAnswer files input (Run plan schedule) text verdict =
-    IsAnswerOfTwo IsRunOf (files (string_bytes plan)) (files (string_bytes schedule)) text verdict
+    IsAnswerOfTwo (IsForOnePlan IsRunOf) (files (string_bytes plan)) (files (string_bytes schedule)) text verdict
 IsAnswer files input (Read plan log) text verdict =
-    IsAnswerOfTwo IsReadOf (files (string_bytes plan)) (files (string_bytes log)) text verdict
+    IsAnswerOfTwo (IsForOnePlan IsReadOf) (files (string_bytes plan)) (files (string_bytes log)) text verdict
 IsAnswer files input (Follow plan log all_frames) text verdict =
-    IsAnswerOfTwo (IsFollowOf all_frames) (files (string_bytes plan)) (files (string_bytes log)) text verdict
+    IsAnswerOfTwo (IsForOnePlan (IsFollowOf all_frames)) (files (string_bytes plan)) (files (string_bytes log)) text verdict
 IsAnswer files input (Vehicle vehicle) text verdict = IsAnswerOfVehicle files (string_bytes vehicle) text verdict
 IsAnswer files input (Help shown) text verdict = (text ≡ string_bytes shown) × (verdict ≡ Done)
 
@@ -84,9 +92,9 @@ IsFollowFrontOf all_frames plan known text verdict =
 -- the text of an order, or of one whose schedule or log begins like this one's
 abbrev pub IsFrontAnswer : Names → Option (List ℕ) → Order → List ℕ → Verdict → Type 0
 IsFrontAnswer files input (Run plan schedule) text verdict =
-    IsAnswerOfTwo IsRunFrontOf (files (string_bytes plan)) (files (string_bytes schedule)) text verdict
+    IsAnswerOfTwo (IsForOnePlan IsRunFrontOf) (files (string_bytes plan)) (files (string_bytes schedule)) text verdict
 IsFrontAnswer files input (Read plan log) text verdict =
-    IsAnswerOfTwo IsReadFrontOf (files (string_bytes plan)) (files (string_bytes log)) text verdict
+    IsAnswerOfTwo (IsForOnePlan IsReadFrontOf) (files (string_bytes plan)) (files (string_bytes log)) text verdict
 IsFrontAnswer files input (Follow plan log all_frames) text verdict =
-    IsAnswerOfTwo (IsFollowFrontOf all_frames) (files (string_bytes plan)) (files (string_bytes log)) text verdict
+    IsAnswerOfTwo (IsForOnePlan (IsFollowFrontOf all_frames)) (files (string_bytes plan)) (files (string_bytes log)) text verdict
 IsFrontAnswer files input order text verdict = IsAnswer files input order text verdict

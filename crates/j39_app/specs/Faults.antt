@@ -13,11 +13,12 @@ use Rattle.j39_stream.specs.declared.fault.Fault.TheVariants.{Device, TooLong}
 use Rattle.j39_stream.specs.declared.limits.Limits.{Limits}
 use Rattle.j39_stream.specs.declared.verdict.Verdict.{Verdict}
 use Rattle.j39_network.specs.declared.plan.Plan.{Plan}
+use Rattle.j39_variants.specs.declared.line.ProductLine.{ProductLine}
 use Rattle.j39_vehicle.specs.declared.file.VehicleFile.{VehicleFile}
 use Rattle.j39_vehicle.specs.declared.file.bus_table.BusTable.{BusTable}
 use Rattle.j39_vehicle.specs.declared.vehicle.bus_plan.BusPlan.{BusPlan}
 use Rattle.j39_command_line.specs.declared.orders.Order.{Order}
-use Rattle.j39_command_line.specs.declared.orders.Order.TheVariants.{Input, Frame, Show, Check, Addresses, Load, Run, Read, Follow, Vehicle, Help}
+use Rattle.j39_command_line.specs.declared.orders.Order.TheVariants.{Input, Frame, Show, Variant, Check, Addresses, Load, Run, Read, Follow, Vehicle, Help}
 
 -- the file of a name can't be opened, or a call of it failed once it was open
 abbrev pub HasFileFailed : {File : Type 0} → (List ℕ → Type 0) → Names → (File → SourceState) → List ℕ → Type 0
@@ -34,6 +35,7 @@ abbrev pub IsOfRead : Type 0 → (Limits → List ℕ → Type 0) → Names → 
 IsOfRead OfInput IsOf files Input = OfInput
 IsOfRead OfInput IsOf files (Frame line) = ⊥
 IsOfRead OfInput IsOf files (Show plan) = IsOf plan_limits (string_bytes plan)
+IsOfRead OfInput IsOf files (Variant plan labels) = IsOf plan_limits (string_bytes plan)
 IsOfRead OfInput IsOf files (Check plan) = IsOf plan_limits (string_bytes plan)
 IsOfRead OfInput IsOf files (Addresses plan) = IsOf plan_limits (string_bytes plan)
 IsOfRead OfInput IsOf files (Load plan) = IsOf plan_limits (string_bytes plan)
@@ -74,7 +76,7 @@ EndsByFile IsText IsPart AtOnce limits stays_shut files state_of name state told
     result
 
 -- of what reads the file of a plan, and then another one by the plan, of which less may have come where a part of the text stands written
-abbrev pub EndsByTwo : {File W : Type 0} → (Plan → Option (List ℕ) → List ℕ → Verdict → Type 0) → (Plan → Option (List ℕ) → List ℕ → Verdict → Type 0)
+abbrev pub EndsByTwo : {File W : Type 0} → (ProductLine → Option (List ℕ) → List ℕ → Verdict → Type 0) → (ProductLine → Option (List ℕ) → List ℕ → Verdict → Type 0)
     → Limits → (List ℕ → Type 0) → Names → (File → SourceState) → List ℕ → List ℕ → (W → SinkState) → W → W → Result Verdict Fault → Type 0
 EndsByTwo IsText IsFront limits stays_shut files state_of plan other state told ended result =
     Ends (IsAnswerOfTwo IsText (files plan) (files other)) (IsOfSome (IsAnswerOfTwo IsFront (files plan) (files other))) ⊥

@@ -1,6 +1,6 @@
 -- What is known of the bytes of a file, or of an input, and bytes that come out of it.
 use Rattle.std.specs.Prelude.{◌≡◌, ◌⊎◌, ◌<◌, ◌≤◌, ℕ, List, ◌++◌, length, Option, Some}
-use Rattle.j39_network.specs.declared.plan.Plan.{Plan}
+use Rattle.j39_variants.specs.declared.line.ProductLine.{ProductLine}
 use Rattle.j39_plan_text.specs.PlanText.{Describes}
 use Rattle.j39_stream.specs.declared.limits.Limits.{Limits}
 
@@ -26,4 +26,4 @@ MayBeTooLong limits known = (all : List ℕ) → known ≡ Some all → (limits.
 
 -- they describe a plan
 abbrev pub AreOfPlan : Option (List ℕ) → Type 0
-AreOfPlan known = (bytes : List ℕ) × (plan : Plan) × AreOf known bytes × Describes bytes plan
+AreOfPlan known = (bytes : List ℕ) × (line : ProductLine) × AreOf known bytes × Describes bytes line

@@ -2,7 +2,7 @@
 use Rattle.std.specs.Prelude.{◌≡◌, ◌⊎◌, ℕ, List, [], ◌∷◌, ◌++◌, Option, Some, None, string_bytes}
 use Rattle.std.specs.List.{AllZip}
 use Rattle.j39_app.specs.Known.{AreOf, Names}
-use Rattle.j39_plan_text.specs.PlanText.{Describes}
+use Rattle.j39_plan_text.specs.PlanText.{DescribesOnePlan}
 use Rattle.j39_network.specs.declared.plan.Plan.{Plan}
 use Rattle.j39_stream.specs.declared.verdict.Verdict.{Verdict}
 use Rattle.j39_stream.specs.declared.verdict.Verdict.TheVariants.{Unreadable}
@@ -27,7 +27,7 @@ IsOfBus IsOf vehicle table = (name : List ℕ) × IsPlanFile vehicle (string_byt
 -- a bus has the label of its table, and the plan that the bytes of its file describe
 pub record IsPlanOfBus (files : Names) (vehicle : List ℕ) (table : BusTable) (bus : BusPlan) : Type 0 where
   pub label : bus.label ≡ table.label
-  pub described : IsOfBus (λ name. (bytes : List ℕ) × AreOf (files name) bytes × Describes bytes bus.plan) vehicle table
+  pub described : IsOfBus (λ name. (bytes : List ℕ) × AreOf (files name) bytes × DescribesOnePlan bytes bus.plan) vehicle table
 
 -- it is so of the file of a bus, where those of all buses before it describe plans
 pub record IsOfSomeBus (files : Names) (vehicle : List ℕ) (IsOf : BusTable → List ℕ → Type 0) (tables : List BusTable) : Type 0 where

@@ -1,16 +1,17 @@
 //! What is written for an order.
-ghost use Rattle.std.specs.Prelude.{◌≡◌, IfOk, IsErrOf, OnOk, OnSome};
+ghost use Rattle.std.specs.Prelude.{◌≡◌, IfOk, IsErrOf, OnOk, OnSome, map, string_bytes};
 ghost use Rattle.j39_app.specs.Answers.{IsAnswer, IsAnswerOfTwo, IsFollowFrontOf, IsFollowOf, IsFrontAnswer, IsOfBytes};
 ghost use Rattle.j39_app.specs.Answers.{IsReadFrontOf};
-ghost use Rattle.j39_app.specs.Answers.{IsOfSome, IsReadOf, IsRefusedOf, IsRunFrontOf, IsRunOf};
+ghost use Rattle.j39_app.specs.Answers.{IsForOnePlan, IsOfSome, IsReadOf, IsRefusedOf, IsRunFrontOf, IsRunOf};
 ghost use Rattle.j39_app.specs.Faults.{AsksForMemory, Ends, EndsByFile, EndsByTwo, HasFileFailed, IsOfRead};
 ghost use Rattle.j39_app.specs.Faults.{PutsAtOnce};
 ghost use Rattle.j39_app.specs.Known.{MayBeTooLong};
 ghost use Rattle.j39_plan_text.specs.AddressesText.{IsAddressesText};
 ghost use Rattle.j39_plan_text.specs.LoadText.{IsLoadText};
 ghost use Rattle.j39_plan_text.specs.CheckText.{IsCheckText};
-ghost use Rattle.j39_plan_text.specs.PlanText.{IsPlanText};
-ghost use Rattle.j39_plan_text.specs.ShowText.{IsShowText};
+ghost use Rattle.j39_plan_text.specs.PlanText.{IsLineText, RefusesChoices};
+ghost use Rattle.j39_plan_text.specs.ShownLines.{IsShowText};
+ghost use Rattle.j39_plan_text.specs.VariantText.{IsVariantText};
 ghost use Rattle.j39_stream.specs.CommandEnds.{AnswersWhole, IsOfAny};
 ghost use Rattle.j39_stream.specs.Streams.{HasFailed, log_limits, plan_limits};
 ghost use Rattle.j39_text.specs.FrameText.{IsInputText};
@@ -18,9 +19,11 @@ ghost use Rattle.j39_text.specs.FrameText.{IsInputText};
 use crate::answering_vehicles::vehicle_files;
 use crate::{
     Fault, Folder, Order, Sink, Source, Verdict, addresses_text, check_text, follow_text,
-    frame_text, input_text, load_text, plan_text, put_all, read_text, run_planned, show_text,
+    frame_text, input_text, line_text, load_text, put_all, read_text, refuse_choices, run_planned,
+    show_text, variant_text,
 };
 use j39_network::Plan;
+use j39_variants::ProductLine;
 use std::alloc::Global;
 
 // Each command holds its buffers and tables in a frame of its own, since that of `answer` lies on the stack below all
@@ -36,18 +39,32 @@ fn input_by<S: Source, W: Sink>(
     input_text(alloc, input, sink)
 }
 
-// The plan of a file. Where the file describes none, writes why, and gives none.
-fn plan_of<F: Folder, W: Sink>(
+// The line of vehicles of a plan file. Where the file describes none, writes why, and gives none.
+fn line_of<F: Folder, W: Sink>(
     alloc: Global,
     files: &F,
     name: &str,
     sink: &mut W,
-) -> Result<Option<Plan>, Fault>
-    ensures ends { EndsByFile (IsOfBytes IsPlanText) IsRefusedOf (Unit {0}) plan_limits
+) -> Result<Option<ProductLine>, Fault>
+    ensures ends { EndsByFile (IsOfBytes IsLineText) IsRefusedOf (Unit {0}) plan_limits
         (F.stays_shut files.now) (F.bytes_of files.now) F.File.state name.now W.state sink.old sink.new result }
-    ensures writes_nothing { IfOk result (λ plan. OnSome plan (sink.new ≡ sink.old)) }
+    ensures writes_nothing { IfOk result (λ line. OnSome line (sink.new ≡ sink.old)) }
 {
-    plan_text(alloc, &mut files.open(name)?, sink)
+    line_text(alloc, &mut files.open(name)?, sink)
+}
+
+// Writes that a plan has choices, once the other file is open.
+fn refuse_opened<F: Folder, W: Sink>(
+    alloc: Global,
+    files: &F,
+    name: &str,
+    sink: &mut W,
+) -> Result<Verdict, Fault>
+    ensures { Ends RefusesChoices (IsOfSome RefusesChoices) ⊥ ⊥ (HasFileFailed (F.stays_shut files.now) (F.bytes_of files.now) F.File.state name.now)
+        W.state sink.old sink.new result }
+{
+    let _opened = files.open(name)?;
+    refuse_choices(alloc, sink)
 }
 
 #[inline(never)]
@@ -61,6 +78,21 @@ fn show_file<F: Folder, W: Sink>(
         (F.stays_shut files.now) (F.bytes_of files.now) F.File.state plan.now W.state sink.old sink.new result }
 {
     show_text(alloc, &mut files.open(plan)?, sink)
+}
+
+#[inline(never)]
+fn variant_file<F: Folder, W: Sink>(
+    alloc: Global,
+    files: &F,
+    plan: &str,
+    labels: &[String],
+    sink: &mut W,
+) -> Result<Verdict, Fault>
+    ensures { let words = map string_bytes labels.now in
+        EndsByFile (IsOfBytes (IsVariantText words)) (λ known. IsOfSome (IsOfBytes (IsVariantText words) known)) (Unit {0}) plan_limits
+        (F.stays_shut files.now) (F.bytes_of files.now) F.File.state plan.now W.state sink.old sink.new result }
+{
+    variant_text(alloc, labels, &mut files.open(plan)?, sink)
 }
 
 #[inline(never)]
@@ -145,6 +177,61 @@ fn follow_by<F: Folder, W: Sink>(
     follow_text(alloc, plan, all_frames, &mut files.open(log)?, sink)
 }
 
+// Writes what happens on the bus of a plan by a schedule, or that the plan has choices.
+fn run_line<F: Folder, W: Sink>(
+    alloc: Global,
+    files: &F,
+    line: &ProductLine,
+    schedule: &str,
+    sink: &mut W,
+) -> Result<Verdict, Fault>
+    ensures { EndsByFile (IsForOnePlan IsRunOf line.now) (λ known. IsOfSome (IsForOnePlan IsRunFrontOf line.now known)) ⊥ plan_limits
+        (F.stays_shut files.now) (F.bytes_of files.now) F.File.state schedule.now W.state sink.old sink.new result }
+{
+    if line.has_choices() {
+        refuse_opened(alloc, files, schedule, sink)
+    } else {
+        run_by(alloc, files, &line.plan, schedule, sink)
+    }
+}
+
+// Writes what a log says of the groups of a plan, or that the plan has choices.
+fn read_line<F: Folder, W: Sink>(
+    alloc: Global,
+    files: &F,
+    line: &ProductLine,
+    log: &str,
+    sink: &mut W,
+) -> Result<Verdict, Fault>
+    ensures { EndsByFile (IsForOnePlan IsReadOf line.now) (λ known. IsOfSome (IsForOnePlan IsReadFrontOf line.now known)) ⊥ log_limits
+        (F.stays_shut files.now) (F.bytes_of files.now) F.File.state log.now W.state sink.old sink.new result }
+{
+    if line.has_choices() {
+        refuse_opened(alloc, files, log, sink)
+    } else {
+        read_by(alloc, files, &line.plan, log, sink)
+    }
+}
+
+// Writes who sent what in a log, or that the plan has choices.
+fn follow_line<F: Folder, W: Sink>(
+    alloc: Global,
+    files: &F,
+    line: &ProductLine,
+    log: &str,
+    all_frames: bool,
+    sink: &mut W,
+) -> Result<Verdict, Fault>
+    ensures { EndsByFile (IsForOnePlan (IsFollowOf all_frames) line.now) (λ known. IsOfSome (IsForOnePlan (IsFollowFrontOf all_frames) line.now known)) ⊥ log_limits
+        (F.stays_shut files.now) (F.bytes_of files.now) F.File.state log.now W.state sink.old sink.new result }
+{
+    if line.has_choices() {
+        refuse_opened(alloc, files, log, sink)
+    } else {
+        follow_by(alloc, files, &line.plan, log, all_frames, sink)
+    }
+}
+
 // Writes what happens on the bus of a plan by a schedule, whose file is opened once the plan was read.
 fn run_files<F: Folder, W: Sink>(
     alloc: Global,
@@ -153,11 +240,11 @@ fn run_files<F: Folder, W: Sink>(
     schedule: &str,
     sink: &mut W,
 ) -> Result<Verdict, Fault>
-    ensures { EndsByTwo IsRunOf IsRunFrontOf plan_limits
+    ensures { EndsByTwo (IsForOnePlan IsRunOf) (IsForOnePlan IsRunFrontOf) plan_limits
         (F.stays_shut files.now) (F.bytes_of files.now) F.File.state plan.now schedule.now W.state sink.old sink.new result }
 {
-    match plan_of(alloc, files, plan, sink)? {
-        Some(plan) => run_by(alloc, files, &plan, schedule, sink),
+    match line_of(alloc, files, plan, sink)? {
+        Some(line) => run_line(alloc, files, &line, schedule, sink),
         None => Ok(Verdict::Unreadable),
     }
 }
@@ -170,11 +257,11 @@ fn read_files<F: Folder, W: Sink>(
     log: &str,
     sink: &mut W,
 ) -> Result<Verdict, Fault>
-    ensures { EndsByTwo IsReadOf IsReadFrontOf log_limits
+    ensures { EndsByTwo (IsForOnePlan IsReadOf) (IsForOnePlan IsReadFrontOf) log_limits
         (F.stays_shut files.now) (F.bytes_of files.now) F.File.state plan.now log.now W.state sink.old sink.new result }
 {
-    match plan_of(alloc, files, plan, sink)? {
-        Some(plan) => read_by(alloc, files, &plan, log, sink),
+    match line_of(alloc, files, plan, sink)? {
+        Some(line) => read_line(alloc, files, &line, log, sink),
         None => Ok(Verdict::Unreadable),
     }
 }
@@ -188,11 +275,11 @@ fn follow_files<F: Folder, W: Sink>(
     all_frames: bool,
     sink: &mut W,
 ) -> Result<Verdict, Fault>
-    ensures { EndsByTwo (IsFollowOf all_frames) (IsFollowFrontOf all_frames) log_limits
+    ensures { EndsByTwo (IsForOnePlan (IsFollowOf all_frames)) (IsForOnePlan (IsFollowFrontOf all_frames)) log_limits
         (F.stays_shut files.now) (F.bytes_of files.now) F.File.state plan.now log.now W.state sink.old sink.new result }
 {
-    match plan_of(alloc, files, plan, sink)? {
-        Some(plan) => follow_by(alloc, files, &plan, log, all_frames, sink),
+    match line_of(alloc, files, plan, sink)? {
+        Some(line) => follow_line(alloc, files, &line, log, all_frames, sink),
         None => Ok(Verdict::Unreadable),
     }
 }
@@ -220,6 +307,7 @@ pub fn answer<F: Folder, S: Source, W: Sink>(
         Order::Input => input_by(alloc, input, sink),
         Order::Frame(line) => frame_text(alloc, line.as_bytes(), sink),
         Order::Show(plan) => show_file(alloc, files, plan, sink),
+        Order::Variant(plan, labels) => variant_file(alloc, files, plan, labels, sink),
         Order::Check(plan) => check_file(alloc, files, plan, sink),
         Order::Addresses(plan) => addresses_file(alloc, files, plan, sink),
         Order::Load(plan) => load_file(alloc, files, plan, sink),

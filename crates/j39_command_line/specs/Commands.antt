@@ -1,7 +1,7 @@
 -- The command line: a subcommand for each word, with the values that it takes.
 use Rattle.std.specs.Prelude.{true, codes, Some}
 use Rattle.clap.specs.Simple.{on_top}
-use Rattle.clap.specs.declared.builder.action.ArgAction.TheVariants.{SetTrue}
+use Rattle.clap.specs.declared.builder.action.ArgAction.TheVariants.{Append, SetTrue}
 use Rattle.clap.specs.Words.{App, Rule, Text, new_app, new_rule, with_rule, with_subcommand}
 
 -- a value that has to be given
@@ -12,6 +12,10 @@ value_rule name = record (new_rule name) { required = true }
 abbrev pub flag_rule : Text → Rule
 flag_rule name = record (new_rule name) { long = Some name; action = Some SetTrue }
 
+-- values of which none has to be given
+abbrev pub any_values_rule : Text → Rule
+any_values_rule name = record (new_rule name) { action = Some Append }
+
 -- a subcommand that takes one value
 abbrev pub one_value : Text → Text → App
 one_value name value = with_rule (new_app name) (value_rule value)
@@ -19,6 +23,10 @@ one_value name value = with_rule (new_app name) (value_rule value)
 -- a subcommand that takes two values
 abbrev pub two_values : Text → Text → Text → App
 two_values name value other = with_rule (one_value name value) (value_rule other)
+
+-- one that takes a value, and any number of others
+abbrev pub value_and_values : Text → Text → Text → App
+value_and_values name value others = with_rule (one_value name value) (any_values_rule others)
 
 -- one that takes two values, and may have a flag
 abbrev pub two_values_and_flag : Text → Text → Text → Text → App
@@ -38,8 +46,10 @@ commands =
     (with_subcommand
     (with_subcommand
     (with_subcommand
+    (with_subcommand
     (with_subcommand program (one_value (codes "frame") (codes "LINE")).top)
     (one_value (codes "show") (codes "PLAN")).top)
+    (value_and_values (codes "variant") (codes "PLAN") (codes "LABEL")).top)
     (one_value (codes "check") (codes "PLAN")).top)
     (one_value (codes "addresses") (codes "PLAN")).top)
     (one_value (codes "load") (codes "PLAN")).top)

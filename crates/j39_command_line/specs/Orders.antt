@@ -1,15 +1,19 @@
 -- What a command line orders.
-use Rattle.std.specs.Prelude.{◌≡◌, ◌⊎◌, Bool, true, false, List, None, Option, Some, codes, string_bytes, [], ◌∷◌}
-use Rattle.clap.specs.Words.{IsAmong, Kinds, Row, Text, fault_of, first_of, one_of, subcommand_of}
+use Rattle.std.specs.Prelude.{◌≡◌, ◌⊎◌, Bool, true, false, List, None, Option, Some, codes, string_bytes, [], ◌∷◌, map, unwrap_or}
+use Rattle.clap.specs.Words.{IsAmong, Kinds, Row, Text, all_of, fault_of, first_of, one_of, subcommand_of}
 use Rattle.j39_command_line.specs.Commands.{commands}
 use Rattle.clap.specs.declared.error.kind.ErrorKind.{ErrorKind}
 use Rattle.clap.specs.declared.error.kind.ErrorKind.TheVariants as kind
 use Rattle.j39_command_line.specs.declared.orders.Order.{Order}
-use Rattle.j39_command_line.specs.declared.orders.Order.TheVariants.{Input, Frame, Show, Check, Addresses, Load, Run, Read, Follow, Vehicle, Help}
+use Rattle.j39_command_line.specs.declared.orders.Order.TheVariants.{Input, Frame, Show, Variant, Check, Addresses, Load, Run, Read, Follow, Vehicle, Help}
 
 -- the subcommand that was met has this name, and the value by this name is the text
 abbrev pub HasValue : Option (Text × List Row) → Text → Text → Text → Type 0
 HasValue met name value text = (rows : List Row) × (met ≡ Some (name, rows)) × (first_of value rows ≡ Some text)
+
+-- the subcommand that was met has this name, and the values by this name are the texts, of which there may be none
+abbrev pub HasValues : Option (Text × List Row) → Text → Text → List Text → Type 0
+HasValues met name value texts = (rows : List Row) × (met ≡ Some (name, rows)) × (unwrap_or (all_of value rows) [] ≡ texts)
 
 -- the subcommand that was met has this name, and of the flag by this name it says whether it is given
 abbrev pub HasFlag : Option (Text × List Row) → Text → Text → Bool → Type 0
@@ -21,6 +25,8 @@ HasFlag met name flag given =
 abbrev pub Orders : Option (Text × List Row) → Order → Type 0
 Orders met (Frame line) = HasValue met (codes "frame") (codes "LINE") (string_bytes line)
 Orders met (Show plan) = HasValue met (codes "show") (codes "PLAN") (string_bytes plan)
+Orders met (Variant plan labels) =
+    HasValue met (codes "variant") (codes "PLAN") (string_bytes plan) × HasValues met (codes "variant") (codes "LABEL") (map string_bytes labels.items)
 Orders met (Check plan) = HasValue met (codes "check") (codes "PLAN") (string_bytes plan)
 Orders met (Addresses plan) = HasValue met (codes "addresses") (codes "PLAN") (string_bytes plan)
 Orders met (Load plan) = HasValue met (codes "load") (codes "PLAN") (string_bytes plan)
@@ -40,6 +46,7 @@ IsHelp (Help text) = Unit {0}
 IsHelp Input = ⊥
 IsHelp (Frame line) = ⊥
 IsHelp (Show plan) = ⊥
+IsHelp (Variant plan labels) = ⊥
 IsHelp (Check plan) = ⊥
 IsHelp (Addresses plan) = ⊥
 IsHelp (Load plan) = ⊥

@@ -1,6 +1,6 @@
 //! The words of the command line, read.
-ghost use Rattle.std.specs.Prelude.{◌≡◌, ◌≢◌, Err, None, true, false, [], IfOk, Some, codes, map, string_bytes};
-ghost use Rattle.clap.specs.Words.{first_of, found_of, kind_of, one_of, rows_of, subcommand_of, subcommand_rows_of};
+ghost use Rattle.std.specs.Prelude.{◌≡◌, ◌≢◌, Err, None, true, false, [], IfOk, Some, codes, map, string_bytes, unwrap_or};
+ghost use Rattle.clap.specs.Words.{all_of, first_of, found_of, kind_of, one_of, rows_of, subcommand_of, subcommand_rows_of};
 ghost use Rattle.j39_command_line.specs.Commands.{commands};
 ghost use Rattle.j39_command_line.specs.Orders.{IsOrdered, AreRefused, AsksHelp, IsHelp, Orders, OrdersNothing, asks_for_text};
 ghost use Rattle.j39_command_line.specs.declared.orders.WordsFault.TheVariants.{Bad, Memory};
@@ -10,7 +10,7 @@ use crate::commands::commands;
 use crate::orders::{Order, WordsFault};
 use clap::error::ErrorKind;
 use clap::{ArgMatches, Error};
-use std::alloc::Global;
+use std::alloc::{AllocError, Global};
 
 // The value that a command asks for by this name.
 fn value(alloc: Global, values: &ArgMatches, name: &str) -> Result<String, WordsFault>
@@ -21,6 +21,27 @@ fn value(alloc: Global, values: &ArgMatches, name: &str) -> Result<String, Words
         Some(text) => Ok(String::from_str(alloc, text)?),
         None => Err(WordsFault::Bad),
     }
+}
+
+// The values that a command takes by this name, of which there may be none.
+fn given(alloc: Global, values: &ArgMatches, name: &str) -> Result<Vec<String>, WordsFault>
+    ensures given { IfOk result (λ v. map string_bytes v.items ≡ unwrap_or (all_of name.now (rows_of (found_of values.now))) []) }
+    ensures known { result ≡ Err Bad → ⊥ }
+{
+    match values.get_raw(name) {
+        Some(texts) => Ok(owned(alloc, texts)?),
+        None => Ok(Vec::new(alloc)),
+    }
+}
+
+fn owned(alloc: Global, texts: &[&str]) -> Result<Vec<String>, AllocError>
+    ensures { IfOk result (λ v. map string_bytes v.items ≡ map (λ t. t.now) texts.now) }
+{
+    let mut words = Vec::new(alloc);
+    for text in texts {
+        words.push(String::from_str(alloc, text)?)?;
+    }
+    Ok(words)
 }
 
 // Whether a flag of a command is given.
@@ -43,6 +64,7 @@ fn of_plan(alloc: Global, name: &str, values: &ArgMatches) -> Result<Order, Word
     let plan = value(alloc, values, "PLAN")?;
     match name {
         "show" => Ok(Order::Show(plan)),
+        "variant" => Ok(Order::Variant(plan, given(alloc, values, "LABEL")?)),
         "check" => Ok(Order::Check(plan)),
         "addresses" => Ok(Order::Addresses(plan)),
         "load" => Ok(Order::Load(plan)),

@@ -3,7 +3,7 @@ ghost use Rattle.std.specs.Prelude.{◌≡◌, false, IfOk, IsOkAnd, codes};
 ghost use Rattle.clap.specs.Words.{app_of, rule_of, with_subcommand};
 ghost use Rattle.clap.specs.declared.builder.command.Command.TheViews.{out-Command as fields_of};
 ghost use Rattle.j39_command_line.specs.Commands.{commands, flag_rule, one_value, program, two_values, two_values_and_flag};
-ghost use Rattle.j39_command_line.specs.Commands.{value_rule};
+ghost use Rattle.j39_command_line.specs.Commands.{value_and_values, value_rule, any_values_rule};
 
 use clap::{Arg, ArgAction, Command};
 use std::alloc::{AllocError, Global};
@@ -40,6 +40,14 @@ fn value<'a>(alloc: Global, name: &'a str, help: &'a str) -> Arg<'a>
     ensures local { result.global ≡ false }
 {
     Arg::new(alloc, name).required(true).help(help)
+}
+
+// Values of which none has to be given.
+fn values<'a>(alloc: Global, name: &'a str, help: &'a str) -> Arg<'a>
+    ensures rule { rule_of result ≡ any_values_rule name.entry.now }
+    ensures local { result.global ≡ false }
+{
+    Arg::new(alloc, name).action(ArgAction::Append).help(help)
 }
 
 // A flag that may be given, by two hyphens and its name.
@@ -83,6 +91,24 @@ fn two_values<'a>(
     ensures local { IfOk result (λ c. (fields_of c).has_globals ≡ false) }
 {
     one_value(alloc, name, about, first, first_help)?.arg(value(alloc, second, second_help))
+}
+
+fn variant<'a>(alloc: Global) -> Result<Command<'a>, AllocError>
+    ensures app { IfOk result (λ c. app_of c ≡ value_and_values (codes "variant") (codes "PLAN") (codes "LABEL")) }
+    ensures local { IfOk result (λ c. (fields_of c).has_globals ≡ false) }
+{
+    one_value(
+        alloc,
+        "variant",
+        "Shows each value of the plan of the first variant that is built and takes the alternatives of these labels",
+        "PLAN",
+        "The name of a plan file",
+    )?
+    .arg(values(
+        alloc,
+        "LABEL",
+        "The label of an alternative of a choice of the plan, at most one of each choice",
+    ))
 }
 
 fn follow<'a>(alloc: Global) -> Result<Command<'a>, AllocError>
@@ -171,8 +197,9 @@ pub(super) fn commands<'a>(alloc: Global) -> Result<Command<'a>, AllocError>
         "PLAN",
         "The name of a plan file",
     );
+    let variants = with(shows, variant(alloc));
     let checks = with_one(
-        shows,
+        variants,
         alloc,
         "check",
         "Shows what is wrong with the plan of the file PLAN",

@@ -14,6 +14,9 @@ pub enum Order {
     Frame(String),
     /// `show PLAN`: the values of the plan of the file of this name.
     Show(String),
+    /// `variant PLAN LABEL ..`: the values of the plan of a variant that takes the alternatives of these labels, of the
+    /// plan of the file of this name.
+    Variant(String, Vec<String>),
     /// `check PLAN`: what is wrong with the plan of the file of this name.
     Check(String),
     /// `addresses PLAN`: which units of the plan of the file of this name hold their planned addresses whatever happens.

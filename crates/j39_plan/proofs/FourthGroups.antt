@@ -127,15 +127,15 @@ abbrev older_group_keys : List Key
 older_group_keys = key.Label ∷ key.Pgn ∷ key.Priority ∷ key.Length ∷ key.Private ∷ key.Most ∷ key.Every ∷ key.Signal ∷ key.Text ∷ []
 
 abbrev later_group_keys : List Key
-later_group_keys = key.Label ∷ key.Pgn ∷ key.Priority ∷ key.Length ∷ key.Private ∷ key.Most ∷ key.Every ∷ key.When ∷ key.Signal ∷ key.Text ∷ []
+later_group_keys = key.Label ∷ key.Pgn ∷ key.Priority ∷ key.Length ∷ key.Private ∷ key.Most ∷ key.Every ∷ key.When ∷ key.Signal ∷ key.Text ∷ key.With ∷ []
 
-group_words : (l : List ℕ) → IsNone (key.When ∷ []) l → is_key_word word_of later_group_keys l ≡ is_key_word word_of older_group_keys l
-group_words l none = rw (none 0 key.When (omega arith))
+group_words : (l : List ℕ) → IsNone (key.When ∷ key.With ∷ []) l → is_key_word word_of later_group_keys l ≡ is_key_word word_of older_group_keys l
+group_words l none = rw (none 0 key.When (omega arith), none 1 key.With (omega arith))
 
 group_keys_alike : (g : ℕ) (ms : Members) → IsThirdGroup ms → Alike (group_keys_faults Fourth g ms) (group_keys_faults Third g ms)
 group_keys_alike g ms third =
     let at : Table = at.Group g in
-    alike_both _ _ _ _ (alike_unknown at _ _ ms ms (only_same later_group_keys older_group_keys (key.When ∷ []) group_words ms third.keys))
+    alike_both _ _ _ _ (alike_unknown at _ _ ms ms (only_same later_group_keys older_group_keys (key.When ∷ key.With ∷ []) group_words ms third.keys))
     (rw (when_unfaulted at ms third, when_is ms third) refl)
 
 pub group_alike : (g : ℕ) (seen : List (List ℕ)) (d : Data) → IsThirdGroup (inside d) → Alike (group_faults Fourth g seen d) (group_faults Third g seen d)

@@ -13,7 +13,7 @@ use Rattle.j39_plan.specs.Schema.{has_key, given_number}
 use Rattle.j39_toml.specs.Rules.{natural, standing, number_of, flag_of, table_found, number_found, integer_in, truth}
 use Rattle.j39_plan.specs.ValueCauses.{is_bitrate, bitrate_of_bus}
 use Rattle.j39_toml.specs.TableFaults.{standing_cause, key_faults, is_key_word}
-use Rattle.j39_plan.specs.Since.{versioned_faults}
+use Rattle.j39_plan.specs.Since.{versioned_faults, faults_beside, with_key}
 use Rattle.j39_toml.specs.InOrder.{inside}
 use Rattle.j39_plan.specs.FlowTables.{period_rule, given_period, jitter_rule, jitter_most, jitter_of, pause_rule, on_request_rule, on_request_of, flow_rules}
 use Rattle.j39_plan.specs.FlowTables.{flow_table_faults, flow_faults}
@@ -45,10 +45,11 @@ abbrev older_keys : Key → List Key
 older_keys period = key.Group ∷ key.From ∷ key.To ∷ period ∷ key.Deadline ∷ []
 
 abbrev later_keys : Key → List Key
-later_keys period = key.Group ∷ key.From ∷ key.To ∷ period ∷ key.Deadline ∷ key.Jitter ∷ key.Pause ∷ key.OnRequest ∷ []
+later_keys period = key.Group ∷ key.From ∷ key.To ∷ period ∷ key.Deadline ∷ key.Jitter ∷ key.Pause ∷ key.OnRequest ∷ key.With ∷ []
 
 flow_words : (period : Key) (l : List ℕ) → IsNone fourth_flow_keys l → is_key_word word_of (later_keys period) l ≡ is_key_word word_of (older_keys period) l
-flow_words period l none = rw (none 0 key.Jitter (omega arith), none 1 key.Pause (omega arith), none 2 key.OnRequest (omega arith))
+flow_words period l none =
+    rw (none 0 key.Jitter (omega arith), none 1 key.Pause (omega arith), none 2 key.OnRequest (omega arith), none 3 key.With (omega arith))
 
 jitter_unfaulted : (at : Table) (ms : Members) (period : Option ℕ) → get_member (word_of key.Jitter) ms ≡ None → key_faults at ms (jitter_rule period) ≡ []
 unfolding key_faults integer_in
@@ -63,7 +64,7 @@ unfolding key_faults truth
 on_request_unfaulted at ms none = rw none
 
 flow_keys_alike : (at : Table) (ms : Members) → IsThirdFlow ms
-    → Alike (versioned_faults at Fourth (flow_rules Fourth ms) ms) (versioned_faults at Third (flow_rules Third ms) ms)
+    → Alike (faults_beside with_key at Fourth (flow_rules Fourth ms) ms) (faults_beside with_key at Third (flow_rules Third ms) ms)
 flow_keys_alike at ms lacks =
     let period = (period_rule Third ms).key in
     rw (no_jitter_key ms lacks)

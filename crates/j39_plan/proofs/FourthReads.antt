@@ -37,7 +37,8 @@ use Rattle.j39_plan.proofs.SameParts.{SameBus, SamePlan, unit_both, flow_both, t
 
 -- the keys of the top table in both versions
 abbrev fourth_keys : List Key
-fourth_keys = key.Version ∷ key.KeepFree ∷ key.Strangers ∷ key.Live ∷ key.Timing ∷ key.Unit ∷ key.Group ∷ key.Flow ∷ key.Need ∷ key.Request ∷ []
+fourth_keys = key.Version ∷ key.KeepFree ∷ key.Strangers ∷ key.Live ∷ key.Timing ∷ key.Unit ∷ key.Group ∷ key.Flow ∷ key.Need ∷ key.Request
+    ∷ key.Choice ∷ key.Never ∷ []
 
 abbrev third_keys : List Key
 third_keys = key.Version ∷ key.KeepFree ∷ key.Timing ∷ key.Unit ∷ key.Group ∷ key.Flow ∷ []
@@ -45,7 +46,15 @@ third_keys = key.Version ∷ key.KeepFree ∷ key.Timing ∷ key.Unit ∷ key.Gr
 top_words : (l : List ℕ) → IsNone fourth_top_keys l
     → is_key_word word_of fourth_keys l
     ≡ is_key_word word_of third_keys l
-top_words l none = rw (none 0 key.Strangers (omega arith), none 1 key.Live (omega arith), none 2 key.Need (omega arith), none 3 key.Request (omega arith))
+top_words l none =
+    rw (
+      none 0 key.Strangers (omega arith),
+      none 1 key.Live (omega arith),
+      none 2 key.Need (omega arith),
+      none 3 key.Request (omega arith),
+      none 4 key.Choice (omega arith),
+      none 5 key.Never (omega arith),
+    )
 
 known_alike : (n : ℕ) (tree : Members) → Lacks fourth_top_keys tree
     → has_only word_of fourth_keys tree

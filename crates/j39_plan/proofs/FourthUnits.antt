@@ -15,7 +15,7 @@ use Rattle.j39_plan.specs.Words.{word_of}
 use Rattle.j39_toml.specs.Rules.{flag_of, number_of, text_of, truth, text_where}
 use Rattle.j39_plan.specs.Schema.{has_key, table_of}
 use Rattle.j39_toml.specs.TableFaults.{key_faults, table_only_faults, is_key_word}
-use Rattle.j39_plan.specs.Since.{versioned_faults}
+use Rattle.j39_plan.specs.Since.{faults_beside, with_key}
 use Rattle.j39_toml.specs.InOrder.{inside}
 use Rattle.j39_plan.specs.LabelsSeen.{repeated_faults}
 use Rattle.j39_plan.specs.UnitTables.{any_identity_of, lacks_identity, name_faults, name_fields_of, name_of, name_rule}
@@ -35,10 +35,10 @@ abbrev older_keys : List Key
 older_keys = key.Label ∷ key.Address ∷ key.Chooser ∷ key.Window ∷ key.Name ∷ []
 
 abbrev later_keys : List Key
-later_keys = key.Label ∷ key.Address ∷ key.Chooser ∷ key.Window ∷ key.Queue ∷ key.Name ∷ key.Claims ∷ []
+later_keys = key.Label ∷ key.Address ∷ key.Chooser ∷ key.Window ∷ key.Queue ∷ key.Name ∷ key.Claims ∷ key.With ∷ []
 
-unit_words : (l : List ℕ) → IsNone (key.Queue ∷ key.Claims ∷ []) l → is_key_word word_of later_keys l ≡ is_key_word word_of older_keys l
-unit_words l none = rw (none 0 key.Queue (omega arith), none 1 key.Claims (omega arith))
+unit_words : (l : List ℕ) → IsNone (key.Queue ∷ key.Claims ∷ key.With ∷ []) l → is_key_word word_of later_keys l ≡ is_key_word word_of older_keys l
+unit_words l none = rw (none 0 key.Queue (omega arith), none 1 key.Claims (omega arith), none 2 key.With (omega arith))
 
 claims_unfaulted : (at : Table) (ms : Members) → IsThirdUnit ms → key_faults at ms claims_rule ≡ []
 unfolding key_faults truth
@@ -48,9 +48,9 @@ queue_unfaulted : (at : Table) (ms : Members) → IsThirdUnit ms → key_faults 
 unfolding key_faults text_where
 queue_unfaulted at ms lacks = rw (no_queue ms lacks)
 
-unit_keys_alike : (at : Table) (ms : Members) → IsThirdUnit ms → Alike (versioned_faults at Fourth unit_rules ms) (versioned_faults at Third unit_rules ms)
+unit_keys_alike : (at : Table) (ms : Members) → IsThirdUnit ms → Alike (faults_beside with_key at Fourth unit_rules ms) (faults_beside with_key at Third unit_rules ms)
 unit_keys_alike at ms lacks =
-    alike_both _ _ _ _ (alike_unknown at _ _ ms ms (only_same later_keys older_keys (key.Queue ∷ key.Claims ∷ []) unit_words ms lacks.keys))
+    alike_both _ _ _ _ (alike_unknown at _ _ ms ms (only_same later_keys older_keys (key.Queue ∷ key.Claims ∷ key.With ∷ []) unit_words ms lacks.keys))
     (rw (queue_unfaulted at ms lacks, claims_unfaulted at ms lacks) refl)
 
 claims_is : (ms : Members) → IsThirdUnit ms → claims_of Fourth ms ≡ true

@@ -17,7 +17,7 @@ use Rattle.j39_plan.specs.Words.{word_of}
 use Rattle.j39_plan.specs.Schema.{number, has_key, tables_of}
 use Rattle.j39_toml.specs.Rules.{natural, standing, number_of, flag_of, number_found, array_found, truth, integer_in, array_up_to}
 use Rattle.j39_toml.specs.TableFaults.{fault, standing_cause, key_faults, table_only_faults, is_key_word}
-use Rattle.j39_plan.specs.Since.{known_faults, versioned_faults}
+use Rattle.j39_plan.specs.Since.{known_faults, faults_beside, with_key}
 use Rattle.j39_toml.specs.InOrder.{inside}
 use Rattle.j39_plan.specs.LabelsSeen.{label_in, label_rule, repeated_faults}
 use Rattle.j39_plan.specs.SignalTables.{signal_faults, IsMeaningOf, IsSignalOf}
@@ -202,7 +202,7 @@ unfolding key_faults
 deadline_unfaulted at ms lacks = rw (lacked key.Deadline ms (no_deadline ms lacks))
 
 flow_keys_alike : (at : Table) (ms : Members) → IsSecondFlow ms
-    → Alike (versioned_faults at Third (flow_rules Third ms) ms) (versioned_faults at Second (flow_rules Second ms) ms)
+    → Alike (faults_beside with_key at Third (flow_rules Third ms) ms) (faults_beside with_key at Second (flow_rules Second ms) ms)
 flow_keys_alike at ms lacks =
     rw (no_deadline ms lacks)
     (alike_both _ _ _ _ (alike_unknown at _ _ ms ms (only_same later_flow_keys first_flow_keys (key.Period ∷ key.Deadline ∷ []) flow_words ms lacks))

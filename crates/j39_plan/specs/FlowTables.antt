@@ -20,7 +20,7 @@ use Rattle.j39_plan.specs.Schema.{PlanRule, has_key, text, number, optional, fla
 use Rattle.j39_toml.specs.Rules.{rule_of, natural_in, number_of, flag_of}
 use Rattle.j39_plan.specs.Words.{word_of}
 use Rattle.j39_toml.specs.TableFaults.{table_only_faults, fault}
-use Rattle.j39_plan.specs.Since.{Since, since, is_known, known, rules_of, versioned_faults}
+use Rattle.j39_plan.specs.Since.{Since, since, is_known, known, rules_of, faults_beside, with_key}
 use Rattle.j39_plan.specs.declared.reading.version.Version.{Version}
 use Rattle.j39_plan.specs.declared.reading.version.Version.TheVariants.{First, Third, Fourth}
 use Rattle.j39_toml.specs.InOrder.{inside}
@@ -156,7 +156,7 @@ receiver_faults at units None = []
 receiver_faults at units (Some t) = unknown_label at key.To (receivers units t)
 
 unfoldable pub flow_table_faults : Version → List (List ℕ) → List (List ℕ) → ℕ → Members → List PlanFault
-flow_table_faults version groups units i ms = versioned_faults (at.Flow i) version (flow_rules version ms) ms
+flow_table_faults version groups units i ms = faults_beside with_key (at.Flow i) version (flow_rules version ms) ms
     ++ (place_faults (at.Flow i) key.Group groups (found_text group_rule ms)
     ++ (place_faults (at.Flow i) key.From units (found_text from_rule ms)
     ++ receiver_faults (at.Flow i) units (found_text to_rule ms)))

@@ -16,7 +16,7 @@ use Rattle.j39_toml.specs.Rules.{number_of, flag_of, text_of}
 use Rattle.j39_toml.specs.TableFaults.{table_only_faults, unknown_faults}
 use Rattle.j39_toml.specs.InOrder.{inside, each_faults, labels_of, Each}
 use Rattle.j39_plan.specs.LabelsSeen.{repeated_faults, label_in, label_rule}
-use Rattle.j39_plan.specs.Since.{Since, since, is_known, known, rules_of, keys_of, known_keys, known_faults}
+use Rattle.j39_plan.specs.Since.{Since, since, is_known, known, rules_of, keys_of, known_keys, known_faults, with_key}
 use Rattle.j39_plan.specs.declared.reading.version.Version.{Version}
 use Rattle.j39_plan.specs.declared.reading.version.Version.TheVariants.{First, Third, Fourth}
 use Rattle.j39_plan.specs.SelectorTables.{DescribesWhen, when_faults, when_rule, when_table}
@@ -135,7 +135,7 @@ texts_faults version g ms = each_faults (text_faults (signal_labels ms) g) label
 -- of its keys: the table of the selector is read whole behind the key, and before the arrays
 abbrev pub group_keys_faults : Version → ℕ → Members → List PlanFault
 group_keys_faults version g ms =
-    unknown_faults word_of (at.Group g) (known_keys version (keys_of (group_rules ms))) ms
+    unknown_faults word_of (at.Group g) (known_keys version (keys_of (group_rules ms) ++ with_key)) ms
     ++ (known_faults (at.Group g) version ms (first_rules ms)
     ++ (when_faults version g ms ++ known_faults (at.Group g) version ms inner_rules))
 

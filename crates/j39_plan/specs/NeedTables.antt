@@ -11,7 +11,8 @@ use Rattle.j39_plan.specs.declared.reading.place.Table.TheVariants as at
 use Rattle.j39_plan.specs.PlanErrors.{PlanFault}
 use Rattle.j39_plan.specs.declared.reading.text_kind.TextKind.TheVariants as texts
 use Rattle.j39_plan.specs.Schema.{PlanRule, text, optional, optional_text, found_text, given_number}
-use Rattle.j39_toml.specs.TableFaults.{table_faults, table_only_faults}
+use Rattle.j39_plan.specs.declared.reading.key.Key.{Key}
+use Rattle.j39_toml.specs.TableFaults.{keys_faults, table_only_faults, unknown_faults}
 use Rattle.j39_toml.specs.InOrder.{inside}
 use Rattle.j39_plan.specs.GroupTables.{signal_labels}
 use Rattle.j39_plan.specs.FlowTables.{place_of, place_faults}
@@ -34,6 +35,10 @@ within_rule = optional key.Within 1 65535
 
 abbrev pub need_rules : List PlanRule
 need_rules = need_unit_rule ∷ need_group_rule ∷ need_signal_rule ∷ need_from_rule ∷ within_rule ∷ []
+
+-- the keys of a need, the alternatives with which it is asked for too
+abbrev pub need_keys : List Key
+need_keys = key.Unit ∷ key.Group ∷ key.Signal ∷ key.From ∷ key.Within ∷ key.With ∷ []
 
 -- the labels of the signals of each group
 unfoldable pub signals_of_groups : Items → List (List (List ℕ))
@@ -67,7 +72,7 @@ IsNeedOf groups signals units d need = DescribesNeed groups signals units (insid
 
 -- behind the faults of the keys, texts that name no unit, no group, no signal of this group and no unit
 unfoldable pub need_table_faults : List (List ℕ) → List (List (List ℕ)) → List (List ℕ) → ℕ → Members → List PlanFault
-need_table_faults groups signals units i ms = table_faults word_of (at.Need i) need_rules ms
+need_table_faults groups signals units i ms = (unknown_faults word_of (at.Need i) need_keys ms ++ keys_faults (at.Need i) ms need_rules)
     ++ (place_faults (at.Need i) key.Unit units (found_text need_unit_rule ms)
     ++ (place_faults (at.Need i) key.Group groups (found_text need_group_rule ms)
     ++ (place_faults (at.Need i) key.Signal (signals_at signals (named_group groups ms)) (found_text need_signal_rule ms)

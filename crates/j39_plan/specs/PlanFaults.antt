@@ -5,6 +5,7 @@ use Rattle.toml.specs.Data.{Data, Items, no_items, Members}
 use Rattle.j39_id.specs.Addresses.{pool_size}
 use Rattle.j39_id.specs.Limits.{unit_limit}
 use Rattle.j39_network.specs.PlanLimits.{flow_limit, group_limit, need_limit, request_limit}
+use Rattle.j39_plan.specs.declared.reading.key.Key.{Key}
 use Rattle.j39_plan.specs.declared.reading.key.Key.TheVariants as key
 use Rattle.j39_plan.specs.declared.reading.place.Table.TheVariants as at
 use Rattle.j39_plan.specs.PlanErrors.{PlanFault}
@@ -96,6 +97,10 @@ array_rules =
 abbrev pub top_rules : List Since
 top_rules = head_rules ++ (bus_rules ++ array_rules)
 
+-- the keys of choices and of what isn't built, at which is looked behind all else of a file
+abbrev pub choice_keys : List (Key × Version)
+choice_keys = (key.Choice, Fourth) ∷ (key.Never, Fourth) ∷ []
+
 -- before the fourth version the arrays are those of units, groups and flows
 abbrev pub OlderArrays : Type 0
 OlderArrays = (version : Version) → is_known Fourth version ≡ false → rules_of (known version array_rules) ≡ units_rule ∷ groups_rule ∷ flows_rule ∷ []
@@ -166,7 +171,7 @@ requests_faults tree = each_faults (λ i seen. request_faults (group_labels tree
 -- a key that no rule names, and what stands at the version and at the addresses to keep free
 abbrev pub head_faults : Members → List PlanFault
 head_faults tree =
-    unknown_faults word_of at.Top (known_keys (version_of tree) (keys_of top_rules)) tree ++ known_faults at.Top (version_of tree) tree head_rules
+    unknown_faults word_of at.Top (known_keys (version_of tree) (keys_of top_rules ++ choice_keys)) tree ++ known_faults at.Top (version_of tree) tree head_rules
 
 -- what stands at the key of strangers
 abbrev pub strangers_faults : Members → List PlanFault

@@ -9,7 +9,8 @@ use Rattle.j39_plan.specs.declared.reading.place.Table.TheVariants as at
 use Rattle.j39_plan.specs.PlanErrors.{PlanFault}
 use Rattle.j39_plan.specs.declared.reading.text_kind.TextKind.TheVariants as texts
 use Rattle.j39_plan.specs.Schema.{PlanRule, text, optional, found_text, given_number}
-use Rattle.j39_toml.specs.TableFaults.{table_faults, table_only_faults}
+use Rattle.j39_plan.specs.declared.reading.key.Key.{Key}
+use Rattle.j39_toml.specs.TableFaults.{keys_faults, table_only_faults, unknown_faults}
 use Rattle.j39_toml.specs.InOrder.{inside}
 use Rattle.j39_plan.specs.FlowTables.{place_of, receivers, place_faults, receiver_faults}
 
@@ -32,6 +33,10 @@ request_period_rule = optional key.Period 1 65535
 abbrev pub request_rules : List PlanRule
 request_rules = asked_group_rule ∷ asker_rule ∷ asked_rule ∷ request_period_rule ∷ []
 
+-- the keys of a request, the alternatives with which it is there too
+abbrev pub request_keys : List Key
+request_keys = key.Group ∷ key.From ∷ key.To ∷ key.Period ∷ key.With ∷ []
+
 -- the request that a table tells, by the labels of the groups and of the units
 pub record DescribesRequest (groups units : List (List ℕ)) (ms : Members) (r : RequestPlan) : Type 0 where
   pub has_group : option_and_then (place_of groups) (found_text asked_group_rule ms) ≡ Some r.group
@@ -44,7 +49,7 @@ IsRequestOf groups units d r = DescribesRequest groups units (inside d) r
 
 -- behind the faults of the keys, texts that name no group, no unit that asks, and nobody to ask
 unfoldable pub request_table_faults : List (List ℕ) → List (List ℕ) → ℕ → Members → List PlanFault
-request_table_faults groups units i ms = table_faults word_of (at.Request i) request_rules ms
+request_table_faults groups units i ms = (unknown_faults word_of (at.Request i) request_keys ms ++ keys_faults (at.Request i) ms request_rules)
     ++ (place_faults (at.Request i) key.Group groups (found_text asked_group_rule ms)
     ++ (place_faults (at.Request i) key.From units (found_text asker_rule ms)
     ++ receiver_faults (at.Request i) units (found_text asked_rule ms)))

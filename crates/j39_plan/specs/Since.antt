@@ -5,6 +5,7 @@ use Rattle.std.specs.Str.{bytes_eq}
 use Rattle.toml.specs.Data.{Members}
 use Rattle.j39_plan.specs.PlanErrors.{PlanFault}
 use Rattle.j39_plan.specs.declared.reading.key.Key.{Key}
+use Rattle.j39_plan.specs.declared.reading.key.Key.TheVariants as key
 use Rattle.j39_plan.specs.declared.reading.place.Table.{Table}
 use Rattle.j39_plan.specs.declared.reading.version.Version.{Version}
 use Rattle.j39_plan.specs.declared.reading.version.Version.TheVariants.{First, Second, Third, Fourth}
@@ -64,6 +65,15 @@ abbrev pub known_faults : Table → Version → Members → List Since → List 
 known_faults at version ms [] = []
 known_faults at version ms (s ∷ rules) = since_faults at version ms s ++ known_faults at version ms rules
 
--- a key that the version doesn't know, and then the faults of each key in the order of the rules
+-- a key that the version doesn't know, of those of the rules and of some others, and then the faults of each key in the order of the rules
+abbrev pub faults_beside : List (Key × Version) → Table → Version → List Since → Members → List PlanFault
+faults_beside others at version rules ms =
+    unknown_faults word_of at (known_keys version (keys_of rules ++ others)) ms ++ known_faults at version ms rules
+
+-- where no others are known
 abbrev pub versioned_faults : Table → Version → List Since → Members → List PlanFault
 versioned_faults at version rules ms = unknown_faults word_of at (known_keys version (keys_of rules)) ms ++ known_faults at version ms rules
+
+-- the alternatives with which something is there are looked at behind all else of a file
+abbrev pub with_key : List (Key × Version)
+with_key = (key.With, Fourth) ∷ []

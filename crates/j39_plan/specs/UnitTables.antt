@@ -22,7 +22,7 @@ use Rattle.j39_toml.specs.TableFaults.{table_faults, table_only_faults, fault}
 use Rattle.j39_toml.specs.InOrder.{inside}
 use Rattle.j39_plan.specs.LabelsSeen.{repeated_faults}
 use Rattle.j39_plan.specs.Words.{word_of}
-use Rattle.j39_plan.specs.Since.{Since, since, is_known, known, rules_of, versioned_faults}
+use Rattle.j39_plan.specs.Since.{Since, since, is_known, known, rules_of, faults_beside, with_key}
 use Rattle.j39_plan.specs.declared.reading.version.Version.{Version}
 use Rattle.j39_plan.specs.declared.reading.version.Version.TheVariants.{First, Fourth}
 
@@ -166,7 +166,7 @@ unfoldable pub silent_faults : ℕ → Bool → ℕ → List PlanFault
 silent_faults i claims name = if not claims && is_arbitrary name then fault Range (at.Unit i) (Some key.Claims) ∷ [] else []
 
 unfoldable pub unit_table_faults : Version → ℕ → Members → List PlanFault
-unit_table_faults version i ms = versioned_faults (at.Unit i) version unit_rules ms
+unit_table_faults version i ms = faults_beside with_key (at.Unit i) version unit_rules ms
     ++ (option_map_or (name_faults version i) (table_of name_rule ms) []
     ++ silent_faults i (claims_of version ms) (name_of version ms))
 

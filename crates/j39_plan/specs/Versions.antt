@@ -49,7 +49,7 @@ pub record IsThirdBus (ms : Members) : Type 0 where
 
 -- nor in the table of a unit, whose NAME has an identity number
 pub record IsThirdUnit (ms : Members) : Type 0 where
-  pub keys : Lacks (key.Queue ∷ key.Claims ∷ []) ms
+  pub keys : Lacks (key.Queue ∷ key.Claims ∷ key.With ∷ []) ms
   pub number : IfSome (table_of name_rule ms) (λ inner. has_key key.Identity inner ≡ true)
 
 -- nor in that of a signal
@@ -58,18 +58,18 @@ IsThirdSignal = Lacks (key.Optional ∷ key.Spn ∷ key.Values ∷ [])
 
 -- nor in that of a group
 pub record IsThirdGroup (ms : Members) : Type 0 where
-  pub keys : Lacks (key.When ∷ []) ms
+  pub keys : Lacks (key.When ∷ key.With ∷ []) ms
   pub signals : EachTable IsThirdSignal (tables_of signal_rule ms)
 
 -- nor in the table of a flow
 abbrev pub fourth_flow_keys : List Key
-fourth_flow_keys = key.Jitter ∷ key.Pause ∷ key.OnRequest ∷ []
+fourth_flow_keys = key.Jitter ∷ key.Pause ∷ key.OnRequest ∷ key.With ∷ []
 
 abbrev pub IsThirdFlow : Members → Type 0
 IsThirdFlow = Lacks fourth_flow_keys
 
 abbrev pub fourth_top_keys : List Key
-fourth_top_keys = key.Strangers ∷ key.Live ∷ key.Need ∷ key.Request ∷ []
+fourth_top_keys = key.Strangers ∷ key.Live ∷ key.Need ∷ key.Request ∷ key.Choice ∷ key.Never ∷ []
 
 -- nor in a plan
 pub record IsThirdPlan (tree : Members) : Type 0 where

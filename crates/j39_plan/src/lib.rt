@@ -11,4 +11,7 @@ pub use j39_network::{
 pub use laws::{
     a_file_describes_one_plan, older_versions_know_what_they_knew, plans_without_later_keys,
 };
-pub use reading::{Cause, FileError, Key, PlanError, PlanFault, Table, Version, read_plan};
+pub use reading::{
+    Cause, FileError, Key, LaterArrays, PlanError, PlanFault, Table, TopTable, Version, read_plan,
+    read_top, top,
+};

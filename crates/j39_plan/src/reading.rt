@@ -43,12 +43,14 @@ pub use place::Table;
 pub use plan_error::{PlanError, PlanFault};
 use requests::RequestReader;
 use std::alloc::Global;
-use top_table::top;
+pub use later_arrays::LaterArrays;
+pub use top_table::{TopTable, top};
 use units::UnitReader;
 pub use version::Version;
 
+/// The plan that a tree describes, or its first fault.
 #[tactic(auto, using(j39_toml::proofs::FirstFaults::faults_after))]
-fn read_top(alloc: Global, members: &toml::Table) -> Result<Plan, PlanError>
+pub fn read_top(alloc: Global, members: &toml::Table) -> Result<Plan, PlanError>
     ensures { GivesGrowing (PlanGrows (table_view members.now)) result (faults (table_view members.now)) (DescribesPlan (table_view members.now)) }
 {
     let version = version_of(members);

@@ -1,6 +1,7 @@
 pub mod FindingLists
 pub mod LiveIdentifiers
 pub mod LoadReports
+pub mod OnePlans
 pub mod OneText
 pub mod Reported
 pub mod StaysTexts

@@ -8,9 +8,9 @@ use Rattle.j39_network.specs.declared.plan.Plan.{Plan}
 use Rattle.j39_network.specs.declared.plan.unit_plan.UnitPlan.{UnitPlan}
 use Rattle.j39_plan.specs.PlanErrors.{PlanFault, PlanError}
 use Rattle.j39_toml.specs.declared.file_error.FileError.TheVariants as errors
-use Rattle.j39_plan.specs.Described.{Reads}
+use Rattle.j39_variants.specs.declared.line.ProductLine.{ProductLine}
+use Rattle.j39_variants.specs.DescribedLines.{ReadsProductLine, product_line_faults}
 use Rattle.j39_toml.specs.FileTrees.{tree_of}
-use Rattle.j39_plan.specs.PlanFaults.{faults}
 use Rattle.j39_toml.specs.Outcome.{first}
 use Rattle.j39_network.specs.declared.plan.timing.Timing.{Timing}
 use Rattle.j39_findings.specs.Found.{found}
@@ -27,7 +27,7 @@ use Rattle.j39_plan_text.specs.PlanText.{Describes, IsRefusalLine, fault_line}
 use Rattle.j39_stream.specs.declared.verdict.Verdict.TheVariants.{Done, Findings, Refused, Unreadable}
 use Rattle.j39_plan_text.specs.CheckText.{HasOneRefusal, HasOneReport, IsNotRefused, IsReport, findings_text}
 use Rattle.j39_plan_text.specs.LoadLines.{loads_text}
-use Rattle.j39_plan_text.specs.ShowText.{HasOneShowReport}
+use Rattle.j39_plan_text.specs.ShownLines.{HasOneShowReport}
 use Rattle.j39_plan_text.specs.LoadText.{HasOneLoadReport, IsLoadReport, WritesLoads, load_verdict, shows_times, untold_text}
 use Rattle.j39_stream.specs.declared.verdict.Verdict.{Verdict}
 
@@ -62,13 +62,13 @@ one_fault faults_of s t f g same is another = same_Some _ _ (sym is ∙ (ap (λ 
 
 -- two refusals of one file are one
 refused_once : (bytes : List ℕ) (e d : PlanError) (text other : List ℕ)
-    → Reads (Err e) (tree_of bytes) → IsRefusalLine e text → Reads (Err d) (tree_of bytes) → IsRefusalLine d other → text ≡ other
+    → ReadsProductLine (Err e) (tree_of bytes) → IsRefusalLine e text → ReadsProductLine (Err d) (tree_of bytes) → IsRefusalLine d other → text ≡ other
 refused_once bytes errors.Text errors.Text text other read line again another = line ∙ sym another
 refused_once bytes errors.Text (errors.Fault g) text other read line again another = cc (read, again.1)
 refused_once bytes (errors.Fault f) errors.Text text other read line again another = cc (read.1, again)
 refused_once bytes (errors.Fault f) (errors.Fault g) text other read line again another =
     let same : read.0 ≡ again.0 = same_Some _ _ (sym read.1 ∙ again.1) in
-    let fault : f ≡ g = one_fault faults read.0 again.0 f g same read.2 again.2 in
+    let fault : f ≡ g = one_fault product_line_faults read.0 again.0 f g same read.2 again.2 in
     line ∙ ap fault_line fault ∙ sym another
 refused_once bytes errors.Memory d text other read line again another = absurd line
 refused_once bytes errors.Text errors.Memory text other read line again another = absurd another
@@ -84,16 +84,16 @@ none_refused faults_of s t f same clean told =
     let none : first [] ≡ Some f = subst (λ (fs : List PlanFault). first fs ≡ Some f) here told in
     cc none
 
-described_only : (bytes : List ℕ) (plan : Plan) (e : PlanError) (text : List ℕ)
-    → Describes bytes plan → Reads (Err e) (tree_of bytes) → IsRefusalLine e text → ⊥
-described_only bytes plan errors.Text text described read line = cc (described.1, read)
-described_only bytes plan (errors.Fault f) text described read line =
+described_only : (bytes : List ℕ) (line : ProductLine) (e : PlanError) (text : List ℕ)
+    → Describes bytes line → ReadsProductLine (Err e) (tree_of bytes) → IsRefusalLine e text → ⊥
+described_only bytes told errors.Text text described read line = cc (described.1, read)
+described_only bytes told (errors.Fault f) text described read line =
     let same : described.0 ≡ read.0 = same_Some _ _ (sym described.1 ∙ read.1) in
-    none_refused faults described.0 read.0 f same described.2.0 read.2
-described_only bytes plan errors.Memory text described read line = line
+    none_refused product_line_faults described.0 read.0 f same described.2.0 read.2
+described_only bytes told errors.Memory text described read line = line
 
 pub not_refused : (bytes : List ℕ) → IsNotRefused bytes
-not_refused bytes plan text described refused = described_only bytes plan refused.0 text described refused.1 refused.2
+not_refused bytes told text described refused = described_only bytes told refused.0 text described refused.1 refused.2
 
 -- ---- addresses
 
@@ -165,11 +165,11 @@ one_load_report plan text other verdict another = one_load_answer plan (timing_o
 
 -- ---- show
 
-pub one_show_report : (plan : Plan) → HasOneShowReport plan
-one_show_report plan text other Done Done is another = (is ∙ sym another, refl)
-one_show_report plan text other Done Findings is another = absurd another
-one_show_report plan text other Done Refused is another = absurd another
-one_show_report plan text other Done Unreadable is another = absurd another
-one_show_report plan text other Findings another_verdict is another = absurd is
-one_show_report plan text other Refused another_verdict is another = absurd is
-one_show_report plan text other Unreadable another_verdict is another = absurd is
+pub one_show_report : (line : ProductLine) → HasOneShowReport line
+one_show_report line text other Done Done is another = (is ∙ sym another, refl)
+one_show_report line text other Done Findings is another = absurd another
+one_show_report line text other Done Refused is another = absurd another
+one_show_report line text other Done Unreadable is another = absurd another
+one_show_report line text other Findings another_verdict is another = absurd is
+one_show_report line text other Refused another_verdict is another = absurd is
+one_show_report line text other Unreadable another_verdict is another = absurd is

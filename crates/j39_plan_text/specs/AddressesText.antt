@@ -12,7 +12,7 @@ use Rattle.j39_world.specs.SoundPlan.{Always, AlwaysBeside}
 use Rattle.j39_network.specs.Staying.{StaysBeside}
 use Rattle.j39_world.specs.HeldAddresses.{HoldsPlanned}
 use Rattle.j39_plan_text.specs.CheckText.{IsReport}
-use Rattle.j39_plan_text.specs.PlanText.{IsReportedText}
+use Rattle.j39_plan_text.specs.PlanText.{IsOfOnePlan, IsReportedText}
 use Rattle.j39_text.specs.Texts.{field}
 use Rattle.j39_stream.specs.declared.verdict.Verdict.{Verdict}
 use Rattle.j39_stream.specs.declared.verdict.Verdict.TheVariants.{Done, Findings, Refused, Unreadable}
@@ -65,7 +65,7 @@ IsAddressesReport plan text Unreadable = ⊥
 
 -- what is written for a file
 abbrev pub IsAddressesText : List ℕ → List ℕ → Verdict → Type 0
-IsAddressesText = IsReportedText IsAddressesReport
+IsAddressesText = IsReportedText (IsOfOnePlan IsAddressesReport)
 
 -- ---- laws
 

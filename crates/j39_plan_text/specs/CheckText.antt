@@ -1,6 +1,7 @@
 -- The text that the check command writes for a plan file.
 use Rattle.std.specs.Prelude.{◌≡◌, ℕ, ◌+◌, List, [], ◌∷◌, ◌++◌, codes, length}
 use Rattle.j39_network.specs.declared.plan.Plan.{Plan}
+use Rattle.j39_variants.specs.declared.line.ProductLine.{ProductLine}
 use Rattle.j39_findings.specs.declared.checking.finding.Finding.{Finding}
 use Rattle.j39_findings.specs.Findings.{Clean}
 use Rattle.j39_findings.specs.Found.{found}
@@ -10,7 +11,7 @@ use Rattle.j39_load.specs.LoadFindings.{AreLoadFindings}
 use Rattle.j39_plan_text.specs.Certified.{IsCertified}
 use Rattle.j39_plan_text.specs.FindingLines.{finding_lines}
 use Rattle.j39_plan_text.specs.LoadLines.{load_finding_lines}
-use Rattle.j39_plan_text.specs.PlanText.{Describes, IsRefusedText, IsReportedText}
+use Rattle.j39_plan_text.specs.PlanText.{Describes, IsOfOnePlan, IsRefusedText, IsReportedText}
 use Rattle.j39_text.specs.Texts.{field}
 use Rattle.j39_stream.specs.declared.verdict.Verdict.{Verdict}
 use Rattle.j39_stream.specs.declared.verdict.Verdict.TheVariants.{Done, Findings, Refused, Unreadable}
@@ -41,7 +42,7 @@ IsReport plan text Unreadable = ⊥
 
 -- what is written for a file
 abbrev pub IsCheckText : List ℕ → List ℕ → Verdict → Type 0
-IsCheckText = IsReportedText IsReport
+IsCheckText = IsReportedText (IsOfOnePlan IsReport)
 
 -- ---- laws
 
@@ -54,6 +55,6 @@ HasOneReport plan = (text other : List ℕ) (verdict another : Verdict)
 abbrev pub HasOneRefusal : List ℕ → Type 0
 HasOneRefusal bytes = (text other : List ℕ) → IsRefusedText bytes text → IsRefusedText bytes other → text ≡ other
 
--- a file that describes a plan isn't refused
+-- a file that describes a line of vehicles isn't refused
 abbrev pub IsNotRefused : List ℕ → Type 0
-IsNotRefused bytes = (plan : Plan) (text : List ℕ) → Describes bytes plan → ¬ IsRefusedText bytes text
+IsNotRefused bytes = (line : ProductLine) (text : List ℕ) → Describes bytes line → ¬ IsRefusedText bytes text

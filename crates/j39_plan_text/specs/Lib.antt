@@ -6,5 +6,8 @@ pub mod FoundInPlan
 pub mod LoadLines
 pub mod LoadText
 pub mod PlanText
+pub mod ChoiceLines
 pub mod ShowText
+pub mod ShownLines
 pub mod VehicleReports
+pub mod VariantText

@@ -16,7 +16,7 @@ use Rattle.j39_load.specs.LoadFindings.{AsksOfBus, all_findings, load_finding_nu
 use Rattle.j39_plan_text.specs.CheckText.{IsReport}
 use Rattle.j39_plan_text.specs.FindingLines.{finding_lines, is_between}
 use Rattle.j39_plan_text.specs.LoadLines.{load_finding_lines, loads_text}
-use Rattle.j39_plan_text.specs.PlanText.{IsReportedText}
+use Rattle.j39_plan_text.specs.PlanText.{IsOfOnePlan, IsReportedText}
 use Rattle.j39_stream.specs.declared.verdict.Verdict.{Verdict}
 use Rattle.j39_stream.specs.declared.verdict.Verdict.TheVariants.{Done, Findings, Refused}
 use Rattle.j39_text.specs.Texts.{field}
@@ -72,7 +72,7 @@ IsLoadReport plan (Some timing) text verdict = (stays : UnitPlan → Bool) × (d
 
 -- what is written for a file
 abbrev pub IsLoadText : List ℕ → List ℕ → Verdict → Type 0
-IsLoadText = IsReportedText (λ plan text verdict. IsLoadReport plan (timing_of plan) text verdict)
+IsLoadText = IsReportedText (IsOfOnePlan (λ plan. IsLoadReport plan (timing_of plan)))
 
 -- ---- laws
 

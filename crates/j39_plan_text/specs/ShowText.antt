@@ -39,7 +39,7 @@ use Rattle.j39_plan.specs.declared.reading.place.Table.TheVariants as at
 use Rattle.j39_text.specs.Labels.{group_label, signal_label, unit_label}
 use Rattle.j39_stream.specs.declared.verdict.Verdict.{Verdict}
 use Rattle.j39_stream.specs.declared.verdict.Verdict.TheVariants.{Done, Findings, Refused, Unreadable}
-use Rattle.j39_plan_text.specs.PlanText.{IsReportedText, table_text}
+use Rattle.j39_plan_text.specs.PlanText.{table_text}
 use Rattle.j39_load.specs.Loads.{bits_of_second}
 
 -- ---- a value
@@ -250,21 +250,3 @@ show_text plan =
     top_lines plan ++ (lines_of_each unit_value_lines 0 plan.units.items ++ (lines_of_each group_lines 0 plan.groups.items
     ++ (lines_of_each (flow_lines plan) 0 plan.flows.items ++ (lines_of_each (need_lines plan) 0 plan.needs.items
     ++ lines_of_each (request_lines plan) 0 plan.requests.items))))
-
--- what is written for a plan, whatever is wrong with it
-abbrev pub IsShowReport : Plan → List ℕ → Verdict → Type 0
-IsShowReport plan text Done = text ≡ show_text plan
-IsShowReport plan text Findings = ⊥
-IsShowReport plan text Refused = ⊥
-IsShowReport plan text Unreadable = ⊥
-
--- what is written for a file
-abbrev pub IsShowText : List ℕ → List ℕ → Verdict → Type 0
-IsShowText = IsReportedText IsShowReport
-
--- ---- laws
-
--- a plan has one report of its values
-abbrev pub HasOneShowReport : Plan → Type 0
-HasOneShowReport plan = (text other : List ℕ) (verdict another : Verdict)
-    → IsShowReport plan text verdict → IsShowReport plan other another → (text ≡ other) × (verdict ≡ another)

@@ -3,23 +3,28 @@ ghost use Rattle.j39_plan_text.specs.AddressesText.{IsAddressesText};
 ghost use Rattle.j39_stream.specs.CommandEnds.{AnswersWhole, IsOfAny};
 ghost use Rattle.j39_stream.specs.Streams.{plan_limits};
 
-use crate::report_text::{PlanReport, report_text};
+use crate::plan_file::choices_refused;
+use crate::report_text::{LineReport, report_text};
 use crate::stays_report::stays_report;
-use j39_network::Plan;
 use j39_stream::{Fault, Sink, Source, Verdict};
 use j39_text::TextBuffer;
+use j39_variants::ProductLine;
 use std::alloc::{AllocError, Global};
 
 // What is reported of the addresses of a plan.
 struct AddressesReport;
 
-impl PlanReport for AddressesReport {
+impl LineReport for AddressesReport {
     ghost use Rattle.j39_plan_text.specs.AddressesText.{IsAddressesReport};
+    ghost use Rattle.j39_plan_text.specs.PlanText.{IsOfOnePlan};
 
-    ghost says = { IsAddressesReport };
+    ghost says = { λ _. IsOfOnePlan IsAddressesReport };
 
-    fn report(&self, alloc: Global, plan: Plan) -> Result<(TextBuffer, Verdict), AllocError> {
-        stays_report(alloc, &plan)
+    fn report(&self, alloc: Global, line: ProductLine) -> Result<(TextBuffer, Verdict), AllocError> {
+        if line.has_choices() {
+            return Ok((choices_refused(alloc)?, Verdict::Refused));
+        }
+        stays_report(alloc, &line.plan)
     }
 }
 

@@ -4,22 +4,27 @@ ghost use Rattle.j39_stream.specs.CommandEnds.{AnswersWhole, IsOfAny};
 ghost use Rattle.j39_stream.specs.Streams.{plan_limits};
 
 use crate::plan_report::report;
-use crate::report_text::{PlanReport, report_text};
-use j39_network::Plan;
+use crate::plan_file::choices_refused;
+use crate::report_text::{LineReport, report_text};
 use j39_stream::{Fault, Sink, Source, Verdict};
 use j39_text::TextBuffer;
+use j39_variants::ProductLine;
 use std::alloc::{AllocError, Global};
 
 // What is reported of everything that is wrong with a plan.
 struct CheckReport;
 
-impl PlanReport for CheckReport {
+impl LineReport for CheckReport {
     ghost use Rattle.j39_plan_text.specs.CheckText.{IsReport};
+    ghost use Rattle.j39_plan_text.specs.PlanText.{IsOfOnePlan};
 
-    ghost says = { IsReport };
+    ghost says = { λ _. IsOfOnePlan IsReport };
 
-    fn report(&self, alloc: Global, plan: Plan) -> Result<(TextBuffer, Verdict), AllocError> {
-        report(alloc, &plan)
+    fn report(&self, alloc: Global, line: ProductLine) -> Result<(TextBuffer, Verdict), AllocError> {
+        if line.has_choices() {
+            return Ok((choices_refused(alloc)?, Verdict::Refused));
+        }
+        report(alloc, &line.plan)
     }
 }
 

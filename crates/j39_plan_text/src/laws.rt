@@ -6,7 +6,8 @@ ghost use Rattle.j39_network.specs.declared.plan.Plan.{Plan};
 ghost use Rattle.j39_plan_text.specs.AddressesText.{HasOneAddressesReport};
 ghost use Rattle.j39_plan_text.specs.CheckText.{HasOneRefusal, HasOneReport, IsNotRefused};
 ghost use Rattle.j39_plan_text.specs.LoadText.{HasOneLoadReport};
-ghost use Rattle.j39_plan_text.specs.ShowText.{HasOneShowReport};
+ghost use Rattle.j39_plan_text.specs.ShownLines.{HasOneShowReport, ShowsOnePlan};
+ghost use Rattle.j39_variants.specs.declared.line.ProductLine.{ProductLine};
 ghost use Rattle.j39_plan_text.specs.FindingLines.{RunReadsBack, RunShowsConflict};
 ghost use Rattle.j39_plan_text.specs.VehicleReports.{AreReportedAlike};
 
@@ -32,7 +33,12 @@ pub fn load_has_one_text()
 
 /// A plan has one text of show, with one verdict.
 pub fn show_has_one_text()
-    ensures { (plan : Plan) → HasOneShowReport plan }
+    ensures { (line : ProductLine) → HasOneShowReport line }
+{}
+
+/// Of a plan without choices show writes the values of its one plan alone.
+pub fn plans_without_choices_are_shown_alone()
+    ensures { (line : ProductLine) → ShowsOnePlan line }
 {}
 
 /// The lines that are written below a finding are a schedule of the run that shows its conflict, and there are none

@@ -18,18 +18,20 @@ mod show;
 mod show_lines;
 mod stays_lines;
 mod stays_report;
+mod variant;
 
 pub use addresses::addresses_text;
 pub use certificate::clean_plans_are_certified;
 pub use check::check_text;
 pub use laws::{
-    addresses_have_one_text, check_has_one_text, load_has_one_text, serial_numbers_change_no_text,
-    show_has_one_text, written_runs_read_back, written_runs_show_the_conflict,
+    addresses_have_one_text, check_has_one_text, load_has_one_text, plans_without_choices_are_shown_alone,
+    serial_numbers_change_no_text, show_has_one_text, written_runs_read_back, written_runs_show_the_conflict,
 };
 pub use live_identifiers::live_flows_have_different_identifiers;
 pub use load::load_text;
 pub use load_lines::write_load;
-pub use plan_file::{plan_text, write_refusal};
+pub use plan_file::{line_text, refuse_choices, write_choices_refused, write_refusal};
 pub use plan_findings::PlanFindings;
 pub use plan_report::write_check;
 pub use show::show_text;
+pub use variant::variant_text;

@@ -4,23 +4,28 @@ ghost use Rattle.j39_stream.specs.CommandEnds.{AnswersWhole, IsOfAny};
 ghost use Rattle.j39_stream.specs.Streams.{plan_limits};
 
 use crate::load_report::load_report;
-use crate::report_text::{PlanReport, report_text};
-use j39_network::Plan;
+use crate::plan_file::choices_refused;
+use crate::report_text::{LineReport, report_text};
 use j39_stream::{Fault, Sink, Source, Verdict};
 use j39_text::TextBuffer;
+use j39_variants::ProductLine;
 use std::alloc::{AllocError, Global};
 
 // What is reported of the load of a plan.
 struct LoadReport;
 
-impl PlanReport for LoadReport {
+impl LineReport for LoadReport {
     ghost use Rattle.j39_load.specs.BusTimes.{timing_of};
     ghost use Rattle.j39_plan_text.specs.LoadText.{IsLoadReport};
+    ghost use Rattle.j39_plan_text.specs.PlanText.{IsOfOnePlan};
 
-    ghost says = { λ plan. IsLoadReport plan (timing_of plan) };
+    ghost says = { λ _. IsOfOnePlan (λ plan. IsLoadReport plan (timing_of plan)) };
 
-    fn report(&self, alloc: Global, plan: Plan) -> Result<(TextBuffer, Verdict), AllocError> {
-        load_report(alloc, &plan)
+    fn report(&self, alloc: Global, line: ProductLine) -> Result<(TextBuffer, Verdict), AllocError> {
+        if line.has_choices() {
+            return Ok((choices_refused(alloc)?, Verdict::Refused));
+        }
+        load_report(alloc, &line.plan)
     }
 }
 

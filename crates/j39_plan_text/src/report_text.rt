@@ -3,51 +3,51 @@ ghost use Rattle.j39_plan_text.specs.PlanText.{IsReportedText};
 ghost use Rattle.j39_stream.specs.CommandEnds.{AnswersWhole, IsOfAny, PutsText};
 ghost use Rattle.j39_stream.specs.Streams.{plan_limits};
 
-use crate::plan_file::plan_text;
-use j39_network::Plan;
+use crate::plan_file::line_text;
 use j39_stream::{Fault, Sink, Source, Verdict, put_all};
 use j39_text::TextBuffer;
+use j39_variants::ProductLine;
 use std::alloc::{AllocError, Global};
 
-/// What is reported of a plan.
-pub(crate) trait PlanReport {
+/// What is reported of a line of vehicles.
+pub(crate) trait LineReport {
     ghost use Rattle.std.specs.Prelude.{ℕ, List, IfOk};
-    ghost use Rattle.j39_network.specs.declared.plan.Plan.{Plan as APlan};
+    ghost use Rattle.j39_variants.specs.declared.line.ProductLine.{ProductLine as ALine};
     ghost use Rattle.j39_stream.specs.declared.verdict.Verdict.{Verdict as AVerdict};
 
-    /// This is written for a plan, with this verdict.
-    ghost says: { APlan → List ℕ → AVerdict → Type 0 };
+    /// This is written for it, with this verdict.
+    ghost says: { Self → ALine → List ℕ → AVerdict → Type 0 };
 
-    fn report(&self, alloc: Global, plan: Plan) -> Result<(TextBuffer, Verdict), AllocError>
-        ensures { IfOk result (λ report. says plan report.0 report.1) };
+    fn report(&self, alloc: Global, line: ProductLine) -> Result<(TextBuffer, Verdict), AllocError>
+        ensures { IfOk result (λ report. says self.now line report.0 report.1) };
 }
 
-// Writes the report of a plan.
-fn put_report<R: PlanReport, W: Sink>(
+// Writes the report of a line of vehicles.
+fn put_report<R: LineReport, W: Sink>(
     alloc: Global,
     report: &R,
-    plan: Plan,
+    line: ProductLine,
     sink: &mut W,
 ) -> Result<Verdict, Fault>
-    ensures { PutsText (R.says plan) W.state sink.old sink.new result }
+    ensures { PutsText (R.says report.now line) W.state sink.old sink.new result }
 {
-    let (text, verdict) = report.report(alloc, plan)?;
+    let (text, verdict) = report.report(alloc, line)?;
     put_all(sink, text.as_slice())?;
     Ok(verdict)
 }
 
-/// Writes the report of the plan that a file describes, or why the file describes none.
-pub(crate) fn report_text<R: PlanReport, S: Source, W: Sink>(
+/// Writes the report of the line of vehicles that a file describes, or why the file describes none.
+pub(crate) fn report_text<R: LineReport, S: Source, W: Sink>(
     alloc: Global,
     report: &R,
     source: &mut S,
     sink: &mut W,
 ) -> Result<Verdict, Fault>
-    ensures { AnswersWhole (IsReportedText R.says) (IsOfAny (IsReportedText R.says)) plan_limits (S.state source.old) (S.state source.new)
+    ensures { AnswersWhole (IsReportedText (R.says report.now)) (IsOfAny (IsReportedText (R.says report.now))) plan_limits (S.state source.old) (S.state source.new)
         W.state sink.old sink.new result }
 {
-    match plan_text(alloc, source, sink)? {
-        Some(plan) => put_report(alloc, report, plan, sink),
+    match line_text(alloc, source, sink)? {
+        Some(line) => put_report(alloc, report, line, sink),
         None => Ok(Verdict::Unreadable),
     }
 }

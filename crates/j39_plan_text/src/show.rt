@@ -1,26 +1,26 @@
 //! What the show command writes.
-ghost use Rattle.j39_plan_text.specs.ShowText.{IsShowText};
+ghost use Rattle.j39_plan_text.specs.ShownLines.{IsShowText};
 ghost use Rattle.j39_stream.specs.CommandEnds.{AnswersWhole, IsOfAny};
 ghost use Rattle.j39_stream.specs.Streams.{plan_limits};
 
-use crate::report_text::{PlanReport, report_text};
-use crate::show_lines::write_plan;
-use j39_network::Plan;
+use crate::report_text::{LineReport, report_text};
+use crate::show_lines::write_line;
 use j39_stream::{Fault, Sink, Source, Verdict};
 use j39_text::TextBuffer;
+use j39_variants::ProductLine;
 use std::alloc::{AllocError, Global};
 
 // What is shown of a plan.
 struct ShowReport;
 
-impl PlanReport for ShowReport {
-    ghost use Rattle.j39_plan_text.specs.ShowText.{IsShowReport};
+impl LineReport for ShowReport {
+    ghost use Rattle.j39_plan_text.specs.ShownLines.{IsShowReport};
 
-    ghost says = { IsShowReport };
+    ghost says = { λ _. IsShowReport };
 
-    fn report(&self, alloc: Global, plan: Plan) -> Result<(TextBuffer, Verdict), AllocError> {
+    fn report(&self, alloc: Global, line: ProductLine) -> Result<(TextBuffer, Verdict), AllocError> {
         let mut text = TextBuffer::new(alloc);
-        write_plan(&mut text, &plan)?;
+        write_line(&mut text, &line)?;
         Ok((text, Verdict::Done))
     }
 }

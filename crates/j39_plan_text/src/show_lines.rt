@@ -1,13 +1,17 @@
 //! The lines of the values of a plan.
 ghost use Rattle.std.specs.Prelude.{◌≡◌, ◌<◌, ◌++◌, OnOk};
 ghost use Rattle.j39_plan_text.specs.ShowText.{error_lines, kept_line, kept_lines, known_timing_lines};
+ghost use Rattle.j39_plan_text.specs.ShownLines.{line_text};
 ghost use Rattle.j39_plan_text.specs.ShowText.{show_text, timing_lines, top_lines};
 
+mod choices;
+mod each;
 mod flows;
 mod groups;
 mod units;
 mod values;
 
+use choices::write_choices;
 use flows::{write_flows, write_needs, write_requests};
 use groups::write_groups;
 use j39_claim::AddressSet;
@@ -16,6 +20,7 @@ use j39_load::bits_of_second;
 use j39_network::{ErrorRate, Plan, Timing};
 use j39_plan::{Key, Table};
 use j39_text::TextBuffer;
+use j39_variants::ProductLine;
 use std::alloc::AllocError;
 use units::write_units;
 use values::{write_number, write_truth};
@@ -119,4 +124,13 @@ pub(super) fn write_plan(text: &mut TextBuffer, plan: &Plan) -> Result<(), Alloc
     write_flows(text, plan)?;
     write_needs(text, plan)?;
     write_requests(text, plan)
+}
+
+/// Writes each value of a plan, and its choices.
+#[tactic(auto, unfolding(crate::specs::ShownLines::line_text))]
+pub(super) fn write_line(text: &mut TextBuffer, line: &ProductLine) -> Result<(), AllocError>
+    ensures { OnOk result (text.new ≡ text.old ++ line_text line.now) }
+{
+    write_plan(text, &line.plan)?;
+    write_choices(text, line)
 }

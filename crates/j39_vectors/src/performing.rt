@@ -2,7 +2,8 @@
 use crate::Command;
 use j39_app::{
     Fault, Sink, Source, Verdict, addresses_text, bus_plan, check_text, follow_text, input_text,
-    load_text, plan_text, read_text, run_planned, show_text, vehicle_file, vehicle_text,
+    line_text, load_text, read_text, refuse_choices, run_planned, show_text,
+    vehicle_file, vehicle_text,
 };
 use j39_id::Label;
 use j39_network::Plan;
@@ -56,13 +57,16 @@ pub fn perform<P: Source, S: Source, W: Sink>(
         Command::Vehicle => return perform_vehicle(alloc, plan, input, sink),
         Command::Run | Command::Read | Command::Follow | Command::FollowAll => {}
     }
-    let Some(plan) = plan_text(alloc, plan, sink)? else {
+    let Some(line) = line_text(alloc, plan, sink)? else {
         return Ok(Verdict::Unreadable);
     };
+    if line.has_choices() {
+        return refuse_choices(alloc, sink);
+    }
     match command {
-        Command::Run => run_planned(alloc, &plan, input, sink),
-        Command::Follow => follow_text(alloc, &plan, false, input, sink),
-        Command::FollowAll => follow_text(alloc, &plan, true, input, sink),
-        _ => read_text(alloc, &plan, input, sink),
+        Command::Run => run_planned(alloc, &line.plan, input, sink),
+        Command::Follow => follow_text(alloc, &line.plan, false, input, sink),
+        Command::FollowAll => follow_text(alloc, &line.plan, true, input, sink),
+        _ => read_text(alloc, &line.plan, input, sink),
     }
 }

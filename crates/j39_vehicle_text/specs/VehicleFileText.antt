@@ -1,5 +1,5 @@
 -- What is written of a vehicle file alone: nothing of one that says what a vehicle has, else why it is refused; and of the plan of a bus.
-use Rattle.std.specs.Prelude.{◌≡◌, ℕ, List, [], ◌∷◌, ◌++◌, codes, Option, Some, None, Ok, Err}
+use Rattle.std.specs.Prelude.{◌≡◌, ◌⊎◌, ◌≢◌, ℕ, List, [], ◌∷◌, ◌++◌, codes, Option, Some, None, Ok, Err}
 use Rattle.j39_network.specs.declared.plan.Plan.{Plan}
 use Rattle.j39_toml.specs.CauseWords.{cause_word}
 use Rattle.j39_vehicle.specs.declared.file.VehicleFile.{VehicleFile}
@@ -12,7 +12,8 @@ use Rattle.j39_vehicle.specs.Described.{Reads}
 use Rattle.j39_vehicle.specs.Words.{word_of}
 use Rattle.j39_toml.specs.FileTrees.{tree_of}
 use Rattle.j39_plan.specs.PlanErrors.{PlanError}
-use Rattle.j39_plan_text.specs.PlanText.{Describes, IsRefusalLine, IsRefusedText}
+use Rattle.j39_variants.specs.declared.line.ProductLine.{ProductLine}
+use Rattle.j39_plan_text.specs.PlanText.{Describes, DescribesOnePlan, IsRefusalLine, IsRefusedText, choices_line}
 use Rattle.j39_text.specs.Texts.{place_field}
 
 -- a table of the file
@@ -69,11 +70,23 @@ IsBusRefusal label error text = (line : List ℕ) × IsRefusalLine error line ×
 abbrev pub RefusesBus : List ℕ → PlanError → List ℕ → Option Plan → Type 0
 RefusesBus label error text plan = IsBusRefusal label error text × (plan ≡ None)
 
+-- the bus, and that its plan has choices
+unfoldable pub bus_choices : List ℕ → List ℕ
+bus_choices label = bus_line label ++ choices_line
+
+abbrev pub RefusesBusChoices : List ℕ → List ℕ → Option Plan → Type 0
+RefusesBusChoices label text plan = (text ≡ bus_choices label) × (plan ≡ None)
+
+-- the bytes describe a line of vehicles of several variants
+abbrev pub HasChoices : List ℕ → Type 0
+HasChoices bytes = (line : ProductLine) × Describes bytes line × (line.choices.items ≢ [])
+
 -- the bytes describe no plan: the bus, and why
 abbrev pub IsRefusedBus : List ℕ → List ℕ → List ℕ → Type 0
-IsRefusedBus label bytes text = (line : List ℕ) × IsRefusedText bytes line × (text ≡ bus_line label ++ line)
+IsRefusedBus label bytes text =
+    ((line : List ℕ) × IsRefusedText bytes line × (text ≡ bus_line label ++ line)) ⊎ (HasChoices bytes × (text ≡ bus_choices label))
 
 -- what is written of the plan of a bus, with it, where it isn't refused
 abbrev pub IsBusPlanText : List ℕ → List ℕ → List ℕ → Option Plan → Type 0
-IsBusPlanText label bytes text (Some plan) = Describes bytes plan × (text ≡ [])
+IsBusPlanText label bytes text (Some plan) = DescribesOnePlan bytes plan × (text ≡ [])
 IsBusPlanText label bytes text None = IsRefusedBus label bytes text

@@ -14,17 +14,17 @@ _j39plan() {
   COMPREPLY=()
   [ "${COMP_WORDS[1]} ${COMP_WORDS[2]}" = 'follow --all' ] && place=$((place - 1))
   if [ "$COMP_CWORD" -eq 1 ]; then
-    mapfile -t COMPREPLY < <(compgen -W 'show check addresses load run read follow frame vehicle help --help --version' -- "$word")
+    mapfile -t COMPREPLY < <(compgen -W 'show variant check addresses load run read follow frame vehicle help --help --version' -- "$word")
   elif [ "${COMP_WORDS[1]} $COMP_CWORD" = 'follow 2' ] && [[ $word == -* ]]; then
     COMPREPLY=(--all)
-  elif [[ ${COMP_WORDS[1]} =~ ^(show|check|addresses|load|run|read|follow|vehicle)$ ]]; then
+  elif [[ ${COMP_WORDS[1]} =~ ^(show|variant|check|addresses|load|run|read|follow|vehicle)$ ]]; then
     case "$place ${COMP_WORDS[1]}" in
       '3 run') _j39plan_files "$word" schedule ;;
       '3 read' | '3 follow') _j39plan_files "$word" log ;;
       *) _j39plan_files "$word" toml ;;
     esac
   elif [ "${COMP_WORDS[1]}" = help ]; then
-    mapfile -t COMPREPLY < <(compgen -W 'show check addresses load run read follow frame vehicle' -- "$word")
+    mapfile -t COMPREPLY < <(compgen -W 'show variant check addresses load run read follow frame vehicle' -- "$word")
   fi
 }
 complete -F _j39plan j39plan
@@ -68,4 +68,4 @@ _j39plan_tool() {
     _j39plan_files "$word" toml
   fi
 }
-complete -F _j39plan_tool j39plan-where j39plan-answer j39plan-startup j39plan-dbc2plan j39plan-log2plan j39plan-plan2dbc j39plan-join j39plan-forwards j39plan-compare j39plan-mend j39plan-against j39plan-drift j39plan-fleet j39plan-table j39plan-report j39plan-signals j39plan-codes j39plan-plot j39plan-tolog j39plan-cut j39plan-restbus j39plan-check-plans
+complete -F _j39plan_tool j39plan-where j39plan-answer j39plan-startup j39plan-dbc2plan j39plan-log2plan j39plan-plan2dbc j39plan-join j39plan-forwards j39plan-compare j39plan-variant j39plan-mend j39plan-against j39plan-drift j39plan-fleet j39plan-table j39plan-report j39plan-signals j39plan-codes j39plan-plot j39plan-tolog j39plan-cut j39plan-restbus j39plan-check-plans

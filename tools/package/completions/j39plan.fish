@@ -2,6 +2,7 @@
 
 complete -c j39plan -f
 complete -c j39plan -n __fish_use_subcommand -a show -d 'show each value of a plan'
+complete -c j39plan -n __fish_use_subcommand -a variant -d 'show the plan of one vehicle of a line'
 complete -c j39plan -n __fish_use_subcommand -a check -d 'show what is wrong with a plan'
 complete -c j39plan -n __fish_use_subcommand -a addresses -d 'show which units stay at their planned addresses'
 complete -c j39plan -n __fish_use_subcommand -a load -d 'show how long frames wait and how full the bus is'
@@ -13,12 +14,12 @@ complete -c j39plan -n __fish_use_subcommand -a vehicle -d 'show what is wrong w
 complete -c j39plan -n __fish_use_subcommand -a help -d 'print the help of a command'
 complete -c j39plan -n __fish_use_subcommand -l help -s h -d 'print the help'
 complete -c j39plan -n __fish_use_subcommand -l version -s V -d 'print the version'
-complete -c j39plan -n '__fish_seen_subcommand_from show check addresses load run read follow vehicle' -F
+complete -c j39plan -n '__fish_seen_subcommand_from show variant check addresses load run read follow vehicle' -F
 complete -c j39plan -n '__fish_seen_subcommand_from follow' -l all -d 'show each frame of which there is no other line, too'
-complete -c j39plan -n '__fish_seen_subcommand_from help' -a 'show check addresses load run read follow frame vehicle'
+complete -c j39plan -n '__fish_seen_subcommand_from help' -a 'show variant check addresses load run read follow frame vehicle'
 
 # The tools.
-for tool in where answer startup dbc2plan log2plan plan2dbc join forwards compare mend against drift fleet table report signals codes plot tolog cut restbus check-plans
+for tool in where answer startup dbc2plan log2plan plan2dbc join forwards compare variant mend against drift fleet table report signals codes plot tolog cut restbus check-plans
     complete -c j39plan-$tool -l help -s h -d 'print the help'
     complete -c j39plan-$tool -l version -d 'print the version'
 end

@@ -1,7 +1,8 @@
 //! Schedules and logs that come some bytes at a time.
 
 use j39_app::{
-    Fault, Pieces, Sink, Source, Stop, Verdict, follow_text, plan_text, read_text, run_planned,
+    Fault, Pieces, Sink, Source, Stop, Verdict, follow_text, line_text, read_text, refuse_choices,
+    run_planned,
 };
 use std::alloc::{AllocError, Global};
 
@@ -16,14 +17,17 @@ fn perform<S: Source, W: Sink>(
     input: &mut S,
     sink: &mut W,
 ) -> Result<Verdict, Fault> {
-    let Some(plan) = plan_text(alloc, plan, sink)? else {
+    let Some(line) = line_text(alloc, plan, sink)? else {
         return Ok(Verdict::Unreadable);
     };
+    if line.has_choices() {
+        return refuse_choices(alloc, sink);
+    }
     match command {
-        "run" => run_planned(alloc, &plan, input, sink),
-        "read" => read_text(alloc, &plan, input, sink),
-        "follow" => follow_text(alloc, &plan, false, input, sink),
-        _ => follow_text(alloc, &plan, true, input, sink),
+        "run" => run_planned(alloc, &line.plan, input, sink),
+        "read" => read_text(alloc, &line.plan, input, sink),
+        "follow" => follow_text(alloc, &line.plan, false, input, sink),
+        _ => follow_text(alloc, &line.plan, true, input, sink),
     }
 }
 

@@ -20,7 +20,7 @@ use toml::Value;
 // The most milliseconds of a period, a deadline, a jitter and a pause.
 const MS_MOST: u32 = 65_535;
 
-const KEYS: [(Key, Version); 8] = [
+const KEYS: [(Key, Version); 9] = [
     (Key::Group, Version::First),
     (Key::From, Version::First),
     (Key::To, Version::First),
@@ -29,6 +29,7 @@ const KEYS: [(Key, Version); 8] = [
     (Key::Jitter, Version::Fourth),
     (Key::Pause, Version::Fourth),
     (Key::OnRequest, Version::Fourth),
+    (Key::With, Version::Fourth),
 ];
 
 /// The place of the item that a text names.

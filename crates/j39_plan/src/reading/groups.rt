@@ -28,7 +28,7 @@ use j39_toml::{ReadElement, given_number, read_each, table_of};
 use std::alloc::{AllocError, Global};
 use toml::Value;
 
-const KEYS: [(Key, Version); 10] = [
+const KEYS: [(Key, Version); 11] = [
     (Key::Label, Version::First),
     (Key::Pgn, Version::First),
     (Key::Priority, Version::First),
@@ -39,6 +39,7 @@ const KEYS: [(Key, Version); 10] = [
     (Key::When, Version::Fourth),
     (Key::Signal, Version::First),
     (Key::Text, Version::Third),
+    (Key::With, Version::Fourth),
 ];
 
 // What stands behind the length: whether the number is a maker's own, the length of the longest messages, how far apart

@@ -25,7 +25,7 @@ use j39_id::addresses::{POOL_FIRST, POOL_LAST, POOL_SIZE};
 use j39_toml::{refused, value_at};
 use toml::Value;
 
-const KEYS: [(Key, Version); 10] = [
+const KEYS: [(Key, Version); 12] = [
     (Key::Version, Version::First),
     (Key::KeepFree, Version::Second),
     (Key::Strangers, Version::Fourth),
@@ -36,6 +36,8 @@ const KEYS: [(Key, Version); 10] = [
     (Key::Flow, Version::First),
     (Key::Need, Version::Fourth),
     (Key::Request, Version::Fourth),
+    (Key::Choice, Version::Fourth),
+    (Key::Never, Version::Fourth),
 ];
 
 /// The address that an element tells that stands behind those with the addresses seen.

@@ -70,6 +70,11 @@ pub enum Key {
     Pause,
     OnRequest,
     Within,
+    Choice,
+    Never,
+    With,
+    Of,
+    But,
 }
 
 impl Key {
@@ -144,6 +149,11 @@ impl Key {
             Key::Pause => "pause",
             Key::OnRequest => "on_request",
             Key::Within => "within",
+            Key::Choice => "choice",
+            Key::Never => "never",
+            Key::With => "with",
+            Key::Of => "of",
+            Key::But => "but",
         }
     }
 }

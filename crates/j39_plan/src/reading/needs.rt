@@ -16,7 +16,14 @@ use j39_toml::{ReadElement, given_number, given_text, only, required_text, table
 use std::alloc::Global;
 use toml::Value;
 
-const NEED_KEYS: [Key; 5] = [Key::Unit, Key::Group, Key::Signal, Key::From, Key::Within];
+const NEED_KEYS: [Key; 6] = [
+    Key::Unit,
+    Key::Group,
+    Key::Signal,
+    Key::From,
+    Key::Within,
+    Key::With,
+];
 
 // The place of the item that a text names, where there is a text.
 #[tactic(auto, unfolding(crate::specs::FlowTables::place_faults))]

@@ -20,4 +20,8 @@ pub enum Table {
     Flow(usize),
     Need(usize),
     Request(usize),
+    /// Alternatives of which each vehicle has one.
+    Choice(usize),
+    /// Alternatives that no vehicle has together.
+    Never(usize),
 }

@@ -12,7 +12,7 @@ use j39_toml::{ReadElement, given_number, only, required_text, table_of};
 use std::alloc::Global;
 use toml::Value;
 
-const REQUEST_KEYS: [Key; 4] = [Key::Group, Key::From, Key::To, Key::Period];
+const REQUEST_KEYS: [Key; 5] = [Key::Group, Key::From, Key::To, Key::Period, Key::With];
 
 /// The reader of requests of units for groups.
 #[derive(Clone, Copy)]

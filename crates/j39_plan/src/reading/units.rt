@@ -23,7 +23,7 @@ use j39_toml::{ReadElement, refused, table_of};
 use std::alloc::Global;
 use toml::Value;
 
-const KEYS: [(Key, Version); 7] = [
+const KEYS: [(Key, Version); 8] = [
     (Key::Label, Version::First),
     (Key::Address, Version::First),
     (Key::Chooser, Version::First),
@@ -31,6 +31,7 @@ const KEYS: [(Key, Version); 7] = [
     (Key::Queue, Version::Fourth),
     (Key::Name, Version::First),
     (Key::Claims, Version::Fourth),
+    (Key::With, Version::Fourth),
 ];
 
 fn address(members: &toml::Table, table: Table) -> Result<Address, PlanError>

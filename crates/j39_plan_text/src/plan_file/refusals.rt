@@ -1,8 +1,10 @@
 //! Why a plan file is refused.
 ghost use Rattle.std.specs.Prelude.{◌≡◌, ◌++◌, ℕ, List, OnOk, IfOk};
-ghost use Rattle.j39_plan_text.specs.PlanText.{IsRefusalLine, fault_line, key_text, table_text};
+ghost use Rattle.j39_plan_text.specs.PlanText.{IsRefusalLine, RefusesChoices, choices_line, fault_line, key_text, table_text};
+ghost use Rattle.j39_stream.specs.CommandEnds.{PutsText};
 
 use j39_plan::{FileError, Key, PlanError, PlanFault, Table};
+use j39_stream::{Fault, Sink, Verdict, put_all};
 use j39_text::TextBuffer;
 use std::alloc::{AllocError, Global};
 
@@ -36,6 +38,8 @@ pub(crate) fn write_table(text: &mut TextBuffer, table: Table) -> Result<(), All
         Table::Flow(flow) => text.place("flow ", flow),
         Table::Need(need) => text.place("need ", need),
         Table::Request(request) => text.place("request ", request),
+        Table::Choice(choice) => text.place("choice ", choice),
+        Table::Never(never) => text.place("never ", never),
     }
 }
 
@@ -82,4 +86,30 @@ pub(super) fn refusal(alloc: Global, error: &PlanError) -> Result<TextBuffer, Al
     let mut text = TextBuffer::new(alloc);
     write_refusal(&mut text, error)?;
     Ok(text)
+}
+
+/// Writes that a plan has choices, where one plan is wanted.
+#[tactic(auto, unfolding(crate::specs::PlanText::choices_line))]
+pub fn write_choices_refused(text: &mut TextBuffer) -> Result<(), AllocError>
+    ensures { OnOk result (text.new ≡ text.old ++ choices_line) }
+{
+    text.word("refused plan Choices\n")
+}
+
+/// The line that says that a plan has choices.
+pub(crate) fn choices_refused(alloc: Global) -> Result<TextBuffer, AllocError>
+    ensures { IfOk result (λ text. text ≡ choices_line) }
+{
+    let mut text = TextBuffer::new(alloc);
+    write_choices_refused(&mut text)?;
+    Ok(text)
+}
+
+/// Writes the line that says that a plan has choices.
+pub fn refuse_choices<W: Sink>(alloc: Global, sink: &mut W) -> Result<Verdict, Fault>
+    ensures { PutsText RefusesChoices W.state sink.old sink.new result }
+{
+    let text = choices_refused(alloc)?;
+    put_all(sink, text.as_slice())?;
+    Ok(Verdict::Refused)
 }

@@ -14,6 +14,9 @@ returns-in-Frame-clause-ends g c =
 pub returns-in-Show-clause-ends : goal.returns-in-Show-clause-ends
 returns-in-Show-clause-ends g c = rw c.in-Show.is (rw c.deref.ensures at c.show_file.ensures)
 
+pub returns-in-Variant-clause-ends : goal.returns-in-Variant-clause-ends
+returns-in-Variant-clause-ends g c = rw c.in-Variant.is (rw (c.deref-in-Variant.ensures, c.deref-in-Variant-2.ensures.value) at c.variant_file.ensures)
+
 pub returns-in-Check-clause-ends : goal.returns-in-Check-clause-ends
 returns-in-Check-clause-ends g c = rw c.in-Check.is (rw c.deref-in-Check.ensures at c.check_file.ensures)
 

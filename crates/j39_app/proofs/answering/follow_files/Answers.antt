@@ -1,16 +1,16 @@
 use Rattle.std.proofs.Common.{rules, ◌≡◌}
-use Rattle.j39_app.specs.Answers.{IsFollowFrontOf, IsFollowOf}
+use Rattle.j39_app.specs.Answers.{IsForOnePlan, IsFollowFrontOf, IsFollowOf}
 use Rattle.j39_app.proofs.Ending.{no_plan, plan_known, plan_refused}
 use Rattle.j39_app.proofs.answering.follow_files.Goals as goal
 
-pub returns-in_err-plan : goal.returns-in_err-plan
-returns-in_err-plan g c =
-    no_plan (IsFollowOf c.args.all_frames) (IsFollowFrontOf c.args.all_frames) _ _ c.plan_of.result c.plan_of.ensures.ends _ _ c.in_err-plan.was (search rules)
+pub returns-in_err-line : goal.returns-in_err-line
+returns-in_err-line g c =
+    no_plan (IsForOnePlan (IsFollowOf c.args.all_frames)) (IsForOnePlan (IsFollowFrontOf c.args.all_frames)) _ _ c.line_of.result c.line_of.ensures.ends _ _ c.in_err-line.was (search rules)
 
 pub returns-in-Some : goal.returns-in-Some
 returns-in-Some g c =
-    let same : c.plan_of.new.sink ≡ c.args.sink.now = rw c.in-Some.is at c.in_ok-plan.ensures.writes_nothing in
-    plan_known (IsFollowOf c.args.all_frames) (IsFollowFrontOf c.args.all_frames) _ _ c.plan_of.result c.plan_of.ensures.ends c.in-Some.plan c.follow_by.result (search rules) same c.follow_by.ensures
+    let same : c.line_of.new.sink ≡ c.args.sink.now = rw c.in-Some.is at c.in_ok-line.ensures.writes_nothing in
+    plan_known (IsForOnePlan (IsFollowOf c.args.all_frames)) (IsForOnePlan (IsFollowFrontOf c.args.all_frames)) _ _ c.line_of.result c.line_of.ensures.ends c.in-Some.line c.follow_line.result (search rules) same c.follow_line.ensures
 
 pub returns-in-None : goal.returns-in-None
-returns-in-None g c = plan_refused (IsFollowOf c.args.all_frames) (IsFollowFrontOf c.args.all_frames) _ _ c.plan_of.result c.plan_of.ensures.ends (search rules)
+returns-in-None g c = plan_refused (IsForOnePlan (IsFollowOf c.args.all_frames)) (IsForOnePlan (IsFollowFrontOf c.args.all_frames)) _ _ c.line_of.result c.line_of.ensures.ends (search rules)

@@ -1,0 +1,6 @@
+pub mod Derived
+pub mod Lines
+pub mod NamedChoices
+pub mod Picking
+pub mod Places
+pub mod Searching

@@ -1,0 +1,7 @@
+use Rattle.std.proofs.Common.{take}
+use Rattle.std.specs.List.{AllZip}
+use Rattle.j39_variants.specs.VariantPlans.{IsCopyOfMeaning}
+use Rattle.j39_variants.proofs.variant_plan.copies.meanings.Given as goal
+
+abbrev pub invariant-loop-told : goal.invariant-loop-told
+invariant-loop-told l = AllZip IsCopyOfMeaning (take l.told-index l.meanings) l.copies.items

@@ -1,0 +1,6 @@
+pub mod ChoiceTables
+pub mod DescribedLines
+pub mod ListTables
+pub mod NeverTables
+pub mod VariantPlans
+pub mod Variants

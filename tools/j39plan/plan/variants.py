@@ -1,0 +1,99 @@
+"""Plans of lines of vehicles: their choices, as `show` answers them, and the text of the plan of one variant."""
+
+import re
+from collections.abc import Iterator, Sequence
+
+from j39plan.plan.cut import HEADER
+from j39plan.plan.toml_places import Places
+
+# A line of `show` on choices.
+NAMED = re.compile(r"(choice|never|unit|group|flow|need|request) (\d+) (?:of|with) (\w+)$", re.MULTILINE)
+
+# A line of `show` on what a table names, and the labels of units and groups.
+NAMES = re.compile(r"(unit|group) (\d+) (label) (\w+)$|(flow|need|request) (\d+) (group|from|to|unit) (\w+)$", re.MULTILINE)
+
+# A key `with`, with what stands on its last line behind it.
+WITH = re.compile(r"""^[ \t]*(?:with|"with"|'with')[ \t]*=[ \t]*\[(?:[^]"'#]|"[^"\n]*"|'[^'\n]*'|#[^\n]*)*\][ \t]*(?:#[^\n]*)?\n?""", re.MULTILINE)
+
+# Comments on lines of their own right above something.
+ABOVE = re.compile(r"(?:^[ \t]*#[^\n]*\n)+\Z", re.MULTILINE)
+
+
+class Line:
+    """The choices of a plan, by what `show` answers, and what is there with which alternatives. A table's number counts from 1."""
+
+    def __init__(self, shown: str) -> None:
+        self.named: dict[tuple[str, int], list[str]] = {}
+        for table, number, label in NAMED.findall(shown):
+            self.named.setdefault((table, int(number)), []).append(label)
+        self.names: dict[tuple[str, int], dict[str, str]] = {}
+        for words in NAMES.findall(shown):
+            table, number, key, label = words[:4] if words[0] else words[4:]
+            self.names.setdefault((table, int(number)), {})[key] = label
+        self.choices = self._of("choice")
+
+    def _of(self, table: str) -> list[list[str]]:
+        return [labels for (other, _), labels in self.named.items() if other == table]
+
+    def is_in(self, taken: set[str], labels: Sequence[str]) -> bool:
+        """Whether a variant that takes these alternatives is in the box of a list: of each choice of which this names some, it takes one of them."""
+        named = ([label for label in labels if label in choice] for choice in self.choices)
+        return all(not some or not taken.isdisjoint(some) for some in named)
+
+    def first(self, wanted: set[str]) -> set[str] | None:
+        """The alternatives of the first variant that is built and takes these; None where there is none."""
+        return self._behind(set(), wanted, 0)
+
+    def _behind(self, taken: set[str], wanted: set[str], place: int) -> set[str] | None:
+        if place == len(self.choices):
+            return taken if all(not self.is_in(taken, never) for never in self._of("never")) else None
+        choice = self.choices[place]
+        for label in [label for label in choice if label in wanted] or choice:
+            more = taken | {label}
+            if not any(set(never) <= set().union(*self.choices[:place + 1]) and self.is_in(more, never) for never in self._of("never")):
+                found = self._behind(more, wanted, place + 1)
+                if found is not None:
+                    return found
+        return None
+
+    def there(self, taken: set[str]) -> set[tuple[str, int]]:
+        """The tables that the plan of a variant has."""
+        found = {place for place in self.names if self.is_in(taken, self.named.get(place, ()))}
+        labels = {table: {self.names[place]["label"] for place in found if place[0] == table} for table in ("unit", "group")}
+        labels["unit"].add("all")
+        return {place for place in found if all(label in labels["group" if key == "group" else "unit"] for key, label in self._ends(place))}
+
+    def _ends(self, place: tuple[str, int]) -> Iterator[tuple[str, str]]:
+        return ((key, label) for key, label in self.names[place].items() if key != "label")
+
+
+def parts_of(text: str) -> Iterator[tuple[str, str, bool]]:
+    """The parts of a plan's text: what stands before the first header, and each table with the comments right above it; with the first key of its
+    header, and whether an element of an array begins with it. Fails where a header is spelled so that its keys aren't known."""
+    begin, key, is_element = 0, "", False
+    for at in Places(text).statements:
+        if text[at] == "[":
+            found = HEADER.match(text, at)
+            if found is None:
+                raise ValueError
+            above = ABOVE.search(text, begin, at)
+            end = above.start() if above else at
+            yield text[begin:end], key, is_element
+            begin, key, is_element = end, found[1], text.startswith("[[", at) and found[2] is None
+    yield text[begin:], key, is_element
+
+
+def variant_text(text: str, there: set[tuple[str, int]]) -> str | None:
+    """A plan's text without the tables that aren't there and without the keys of choices; None where its tables aren't spelled by headers."""
+    counts: dict[str, int] = {}
+    kept: list[str] = []
+    try:
+        for part, key, is_element in parts_of(text):
+            counts[key] = counts.get(key, 0) + is_element
+            if key in ("unit", "group", "flow", "need", "request"):
+                kept.append(WITH.sub("", part) if (key, counts[key]) in there else "")
+            elif key not in ("choice", "never"):
+                kept.append(part)
+    except ValueError:
+        return None
+    return "".join(kept)
