@@ -60,26 +60,26 @@ no_second : (w : Option Selector) → DifferInValue w None → ⊥
 no_second None none = none
 no_second (Some w) none = none
 
-module _ (plan : Plan) (clean : Clean plan) (on : ℕ → Bool) (held : ℕ → ℕ) (apart : AreHeldApart on held) where
+module _ (plan : Plan) (clean : Clean plan) (named : ℕ → Bool) (held : ℕ → ℕ) (apart : AreHeldApart named held) where
   pub planned : (g : ℕ) (group : GroupPlan) → slice_get plan.groups.items g ≡ Some group → CanBePlanned group
   planned g group at = subst CanBePlanned (get_or_from_slice_get plan.groups.items g group group at)
       ((parts_of plan clean).groups g group (slice_get_within plan.groups.items g group at))
 
-  pub one_unit : (u v : ℕ) → on u ≡ true → on v ≡ true → held u ≡ held v → u ≡ v
-  one_unit u v on_u on_v same = elim (cases_eq u v) [ inl is ↦ is | inr other ↦ absurd (apart.apart u v other on_u on_v same) ]
+  pub one_unit : (u v : ℕ) → named u ≡ true → named v ≡ true → held u ≡ held v → u ≡ v
+  one_unit u v named_u named_v same = elim (cases_eq u v) [ inl is ↦ is | inr other ↦ absurd (apart.apart u v other named_u named_v same) ]
 
-  pub one_receiver : (to other : To) → ((v : ℕ) → to ≡ One v → on v ≡ true) → ((v : ℕ) → other ≡ One v → on v ≡ true)
+  pub one_receiver : (to other : To) → ((v : ℕ) → to ≡ One v → named v ≡ true) → ((v : ℕ) → other ≡ One v → named v ≡ true)
       → destination_at held to ≡ destination_at held other → to ≡ other
   one_receiver ToAll ToAll on_to on_other same = refl
   one_receiver ToAll (One v) on_to on_other same = absurd (let low = apart.range v (on_other v refl) in omega (arith, low, same))
   one_receiver (One v) ToAll on_to on_other same = absurd (let low = apart.range v (on_to v refl) in omega (arith, low, same))
   one_receiver (One u) (One v) on_to on_other same = ap One (one_unit u v (on_to u refl) (on_other v refl) same)
 
-  pub few : (to : To) → ((v : ℕ) → to ≡ One v → on v ≡ true) → destination_at held to < 256
+  pub few : (to : To) → ((v : ℕ) → to ≡ One v → named v ≡ true) → destination_at held to < 256
   few ToAll known = omega arith
   few (One v) known = let low = apart.range v (known v refl) in omega (arith, low)
 
-  module _ (f : ℕ) (flow : FlowPlan) (group : GroupPlan) (is : IsShortFlow plan on f flow group) where
+  module _ (f : ℕ) (flow : FlowPlan) (group : GroupPlan) (is : IsShortFlow plan named f flow group) where
     -- where its frame names no destination it goes to all
     to_all : is_pdu2 group.pgn ≡ true → (to : To) → flow.to ≡ to → to ≡ ToAll
     to_all pdu2 ToAll same = refl
@@ -96,8 +96,8 @@ module _ (plan : Plan) (clean : Clean plan) (on : ℕ → Bool) (held : ℕ → 
       );
     }))
 
-  module _ (f h : ℕ) (flow other : FlowPlan) (group second : GroupPlan) (is : IsShortFlow plan on f flow group)
-      (its : IsShortFlow plan on h other second) (same : group_ident held group flow ≡ group_ident held second other) where
+  module _ (f h : ℕ) (flow other : FlowPlan) (group second : GroupPlan) (is : IsShortFlow plan named f flow group)
+      (its : IsShortFlow plan named h other second) (same : group_ident held group flow ≡ group_ident held second other) where
     told : (group.priority ≡ second.priority) × (group.pgn ≡ second.pgn) × (held flow.sender ≡ held other.sender)
         × (is_pdu2 group.pgn ≡ false → destination_at held flow.to ≡ destination_at held other.to)
     told =
@@ -120,7 +120,7 @@ module _ (plan : Plan) (clean : Clean plan) (on : ℕ → Bool) (held : ℕ → 
     pub senders : flow.sender ≡ other.sender
     senders = one_unit flow.sender other.sender is.sender its.sender told.2
 
-    sent : (at : ℕ) (one : FlowPlan) (its_group : GroupPlan) → IsShortFlow plan on at one its_group → one.sender ≡ flow.sender → one.to ≡ flow.to
+    sent : (at : ℕ) (one : FlowPlan) (its_group : GroupPlan) → IsShortFlow plan named at one its_group → one.sender ≡ flow.sender → one.to ≡ flow.to
         → SomeMeets (Fits plan its_group flow.sender flow.to) plan.flows.items
     sent at one its_group short from goes = (
       at,
@@ -190,13 +190,13 @@ module _ (plan : Plan) (clean : Clean plan) (on : ℕ → Bool) (held : ℕ → 
         go None w first_when second_when = absurd (planned_twice None w first_when second_when (λ none. none) (λ none. no_second w none))
         go (Some v) None first_when second_when = absurd (planned_twice (Some v) None first_when second_when (λ none. none) (λ none. none))
 
-  pub different : (f h : ℕ) (flow other : FlowPlan) (group second : GroupPlan) → f ≢ h → IsShortFlow plan on f flow group
-      → IsShortFlow plan on h other second → group_ident held group flow ≡ group_ident held second other → AreTwinFlows group flow second other
+  pub different : (f h : ℕ) (flow other : FlowPlan) (group second : GroupPlan) → f ≢ h → IsShortFlow plan named f flow group
+      → IsShortFlow plan named h other second → group_ident held group flow ≡ group_ident held second other → AreTwinFlows group flow second other
   different f h flow other group second differ is its same = only_twins f h flow other group second is its same differ
 
   -- requests are a service of the network, which no group of the plan is
-  pub other_than_requests : (f : ℕ) (flow : FlowPlan) (group : GroupPlan) → IsShortFlow plan on f flow group → (request : RequestPlan)
-      → IsAskedBetween on request → group_ident held group flow ≢ request_ident held request
+  pub other_than_requests : (f : ℕ) (flow : FlowPlan) (group : GroupPlan) → IsShortFlow plan named f flow group → (request : RequestPlan)
+      → IsAskedBetween named request → group_ident held group flow ≢ request_ident held request
   other_than_requests f flow group is request asked same =
       let can = planned flow.group group is.sent in
       let low = apart.range flow.sender is.sender in

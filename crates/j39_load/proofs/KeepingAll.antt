@@ -31,56 +31,11 @@ use Rattle.j39_load.specs.SentFrames.{IsSingleFrame, Part, SendsPart, Source, bi
 use Rattle.j39_load.specs.SentFrames.{Announcing, Carrying, Single, InSession, Asking, RequestToSend, Packet, ClearToSend, EndAcknowledged}
 use Rattle.j39_load.proofs.KeepingApart as alone
 use Rattle.j39_load.proofs.KeepingFrames.{one_to}
+use Rattle.j39_load.proofs.Slots.{ends_before, slots, slots_any_order, slots_legal}
 use Rattle.j39_timing.specs.AnyOrder.{Controllers, IsLegalInAnyOrder}
 use Rattle.j39_timing.specs.Rounds.{all_planned}
 use Rattle.j39_timing.specs.TimedFrames.{Schedule, IsLegal}
 use Rattle.j39_world.specs.HeldAddresses.{ArePlannedApart}
-
--- ---- frames one behind the other, none of which waits
-
-abbrev slots : ℕ → ℕ → (ℕ → ℕ) → Schedule
-slots width n ident = record {
-  count = n;
-  queued = λ p. p * width;
-  start = λ p. p * width;
-  bits = λ p. 80;
-  ident = ident;
-  now = n * width;
-}
-
--- one slot has ended where the next one begins
-ends_before : (width p q : ℕ) → p < q → p * width + width ≤ q * width
-ends_before width p q less = let most : width * (p + 1) ≤ width * q = mul-le-mul_left width (omega (arith, less)) in omega (arith, most)
-
-one_slot : (width p q t : ℕ) → 80 ≤ width → (p * width ≤ t) × (t < p * width + 80) → (q * width ≤ t) × (t < q * width + 80) → p ≡ q
-one_slot width p q t wide on_p on_q =
-    let (a, b) = on_p in
-    let (c, d) = on_q in
-    elim (cases_lt p q) [
-      | inl less ↦ absurd (let far = ends_before width p q less in omega (arith, far, wide, b, c))
-      | inr more ↦ elim (cases_eq p q) [
-        | inl same ↦ same
-        | inr other ↦ absurd (let far = ends_before width q p (omega (arith, more, other)) in omega (arith, far, wide, a, d))
-      ]
-    ]
-
-slots_legal : (width n : ℕ) (ident : ℕ → ℕ) → 80 ≤ width → IsLegal (slots width n ident)
-slots_legal width n ident wide = record {
-  positive = λ p in_p. omega arith;
-  queued_first = λ p in_p. omega arith;
-  alone = λ p q t in_p in_q seen on_p on_q. one_slot width p q t wide on_p on_q;
-  never_idle = λ p t in_p seen waits. absurd (let (a, b) = waits in omega (arith, a, b));
-  in_order = λ p q in_p in_q seen waits. absurd (let (a, b) = waits in omega (arith, a, b));
-}
-
-slots_any_order : (width n : ℕ) (ident : ℕ → ℕ) (controllers : Controllers) → 80 ≤ width → IsLegalInAnyOrder (slots width n ident) controllers
-slots_any_order width n ident controllers wide = record {
-  positive = λ p in_p. omega arith;
-  queued_first = λ p in_p. omega arith;
-  alone = λ p q t in_p in_q seen on_p on_q. one_slot width p q t wide on_p on_q;
-  never_idle = λ p t in_p seen waits. absurd (let (a, b) = waits in omega (arith, a, b));
-  in_order = λ p q in_p in_q seen waits. absurd (let (a, b) = waits in omega (arith, a, b));
-}
 
 -- ---- what is sent in a slot
 
@@ -167,8 +122,8 @@ module _ (plan : Plan) (timing : Timing) (apart : ArePlannedApart (units_of plan
   abbrev width : ℕ
   width = 160 + timing.broadcast_gap * bits_per_ms timing.bitrate
 
-  on_where : (x : ℕ) → x < length plan.units.items → ltb x (length plan.units.items) ≡ true
-  on_where x below = lt-ltb x (length plan.units.items) below
+  named_where : (x : ℕ) → x < length plan.units.items → ltb x (length plan.units.items) ≡ true
+  named_where x below = lt-ltb x (length plan.units.items) below
 
   abbrev ident_of : Choice → ℕ
   ident_of Alone = identifier_of group.priority group.pgn (goes_to address flow.to) (address flow.sender)
@@ -232,8 +187,8 @@ module _ (plan : Plan) (timing : Timing) (apart : ArePlannedApart (units_of plan
     length = omega arith;
     release_first = omega arith;
     jitter_at_most = omega arith;
-    sender_on = λ t queued. alone.sender_on plan timing apart f flow pace group its paced of short 0;
-    receiver_on = λ t w queued goes. alone.receiver_on plan timing apart f flow pace group its paced of short 0 w goes;
+    sender_named = λ t queued. alone.sender_named plan timing apart f flow pace group its paced of short 0;
+    receiver_named = λ t w queued goes. alone.receiver_named plan timing apart f flow pace group its paced of short 0 w goes;
     identifier = λ t queued. is;
   }
 
@@ -245,8 +200,8 @@ module _ (plan : Plan) (timing : Timing) (apart : ArePlannedApart (units_of plan
     paced = asked_paced;
     length = omega arith;
     at_once = refl;
-    sender_on = λ t queued. on_where asked.sender asks;
-    receiver_on = λ t w queued goes. on_where w (is_asked w goes);
+    sender_named = λ t queued. named_where asked.sender asks;
+    receiver_named = λ t w queued goes. named_where w (is_asked w goes);
     identifier = λ t queued. is;
   }
 
@@ -266,7 +221,7 @@ module _ (plan : Plan) (timing : Timing) (apart : ArePlannedApart (units_of plan
     known = subst (λ (x : Bool). 0 < cond x 1 0) (sym (eq-eqb w w refl)) (omega arith);
     length = omega arith;
     at_once = refl;
-    sender_on = λ t queued. on_where w sends_to_all;
+    sender_named = λ t queued. named_where w sends_to_all;
     identifier = λ t queued. is;
   }
 
@@ -287,8 +242,8 @@ module _ (plan : Plan) (timing : Timing) (apart : ArePlannedApart (units_of plan
     length = omega arith;
     release_first = omega arith;
     jitter_at_most = in_time p below;
-    sender_on = λ t queued. on_where u sends;
-    receiver_on = λ t queued. on_where v receives;
+    sender_named = λ t queued. named_where u sends;
+    receiver_named = λ t queued. named_where v receives;
     identifier = λ t queued. is;
   }
 
@@ -328,7 +283,7 @@ module _ (plan : Plan) (timing : Timing) (apart : ArePlannedApart (units_of plan
   frame p Announces below is has = to_each p 60416 is
   frame p (Sends k) below is has = (to_each p 60160 is, has)
 
-  held_apart : (t : ℕ) → AreHeldApart (held.on t) (held.address t)
+  held_apart : (t : ℕ) → AreHeldApart (held.named t) (held.address t)
   held_apart t = alone.held_apart plan timing apart f flow pace group its paced of short 0 t
 
   -- ---- the message to all
@@ -439,7 +394,7 @@ module _ (plan : Plan) (timing : Timing) (apart : ArePlannedApart (units_of plan
   sent_by (Sends k) z is = is
 
   few_address : (w : ℕ) → w < length plan.units.items → address w ≤ 255
-  few_address w below = let low = (held_apart 0).range w (on_where w below) in omega (arith, low)
+  few_address w below = let low = (held_apart 0).range w (named_where w below) in omega (arith, low)
 
   destination : (to : To) → ((w : ℕ) → to ≡ One w → w < length plan.units.items) → goes_to address to ≤ 255
   destination All known = omega arith

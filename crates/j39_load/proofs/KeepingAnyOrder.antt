@@ -112,86 +112,86 @@ module _ (plan : Plan) (timing : Timing) (stays : UnitPlan → Bool) (tells : De
         (part_made plan timing clean s held t (keeps.held_apart t) f part release p x at_p) (sym same))
     both_of (InSession f a) (InSession g b) release other p q t x y at_p at_q same is =
         at_session g b other q y
-        ∙ parts_between plan clean (held.on t) (held.address t) (keeps.held_apart t) counts (s.ident p) (s.ident q) x.flow.sender x.receiver y.flow.sender y.receiver
+        ∙ parts_between plan clean (held.named t) (held.address t) (keeps.held_apart t) counts (s.ident p) (s.ident q) x.flow.sender x.receiver y.flow.sender y.receiver
         (part_made plan timing clean s held t (keeps.held_apart t) f a release p x at_p)
         (part_made plan timing clean s held t (keeps.held_apart t) g b other q y at_q) same (sym (at_session f a release p x) ∙ is)
     both_of (InSession f part) (Asking r) release other p q t x y at_p at_q same is =
-        absurd (request_or_part plan clean (held.on t) (held.address t) (keeps.held_apart t) (s.ident q) (s.ident p) y.asked.sender x.flow.sender x.receiver y.asked.to
+        absurd (request_or_part plan clean (held.named t) (held.address t) (keeps.held_apart t) (s.ident q) (s.ident p) y.asked.sender x.flow.sender x.receiver y.asked.to
         (request_made plan timing clean s held t (keeps.held_apart t) r other q y at_q)
         (part_made plan timing clean s held t (keeps.held_apart t) f part release p x at_p) (sym same))
     both_of (Asking r) (Single g) release other p q t x y at_p at_q same is =
         absurd (no_request plan timing clean s held t (keeps.held_apart t) g other q y at_q (s.ident p) x.asked.sender x.asked.to
         (request_made plan timing clean s held t (keeps.held_apart t) r release p x at_p) (sym same))
     both_of (Asking r) (InSession g part) release other p q t x y at_p at_q same is =
-        absurd (request_or_part plan clean (held.on t) (held.address t) (keeps.held_apart t) (s.ident p) (s.ident q) x.asked.sender y.flow.sender y.receiver x.asked.to
+        absurd (request_or_part plan clean (held.named t) (held.address t) (keeps.held_apart t) (s.ident p) (s.ident q) x.asked.sender y.flow.sender y.receiver x.asked.to
         (request_made plan timing clean s held t (keeps.held_apart t) r release p x at_p)
         (part_made plan timing clean s held t (keeps.held_apart t) g part other q y at_q) same)
     both_of (Asking r) (Asking k) release other p q t x y at_p at_q same is =
         at_request k other q y
         ∙ subst (λ (u : ℕ). (counts u || false) ≡ true)
-        (one_asks plan clean (held.on t) (held.address t) (keeps.held_apart t) (s.ident p) (s.ident q) x.asked.sender y.asked.sender x.asked.to y.asked.to
+        (one_asks plan clean (held.named t) (held.address t) (keeps.held_apart t) (s.ident p) (s.ident q) x.asked.sender y.asked.sender x.asked.to y.asked.to
         (request_made plan timing clean s held t (keeps.held_apart t) r release p x at_p)
         (request_made plan timing clean s held t (keeps.held_apart t) k other q y at_q) same) (sym (at_request r release p x) ∙ is)
     both_of (Single f) (Announcing u m) release other p q t x y at_p at_q same is =
         absurd (no_broadcast plan timing clean s held t (keeps.held_apart t) f release p x at_p (s.ident q) 60416 u (inl refl)
         (broadcast_made plan timing clean s held t (keeps.held_apart t) sent.broadcasts 60416 u m other q (inl refl) y at_q) same)
     both_of (InSession f part) (Announcing u m) release other p q t x y at_p at_q same is =
-        absurd (broadcast_or_part plan clean (held.on t) (held.address t) (keeps.held_apart t) (s.ident q) (s.ident p) u x.flow.sender x.receiver 60416
+        absurd (broadcast_or_part plan clean (held.named t) (held.address t) (keeps.held_apart t) (s.ident q) (s.ident p) u x.flow.sender x.receiver 60416
         (broadcast_made plan timing clean s held t (keeps.held_apart t) sent.broadcasts 60416 u m other q (inl refl) y at_q)
         (part_made plan timing clean s held t (keeps.held_apart t) f part release p x at_p) (sym same))
     both_of (Asking r) (Announcing u m) release other p q t x y at_p at_q same is =
-        absurd (request_or_broadcast plan clean (held.on t) (held.address t) (keeps.held_apart t) (s.ident p) (s.ident q) x.asked.sender u 60416 x.asked.to (inl refl)
+        absurd (request_or_broadcast plan clean (held.named t) (held.address t) (keeps.held_apart t) (s.ident p) (s.ident q) x.asked.sender u 60416 x.asked.to (inl refl)
         (request_made plan timing clean s held t (keeps.held_apart t) r release p x at_p)
         (broadcast_made plan timing clean s held t (keeps.held_apart t) sent.broadcasts 60416 u m other q (inl refl) y at_q) same)
     both_of (Announcing u m) (Single g) release other p q t x y at_p at_q same is =
         absurd (no_broadcast plan timing clean s held t (keeps.held_apart t) g other q y at_q (s.ident p) 60416 u (inl refl)
         (broadcast_made plan timing clean s held t (keeps.held_apart t) sent.broadcasts 60416 u m release p (inl refl) x at_p) (sym same))
     both_of (Announcing u m) (InSession g part) release other p q t x y at_p at_q same is =
-        absurd (broadcast_or_part plan clean (held.on t) (held.address t) (keeps.held_apart t) (s.ident p) (s.ident q) u y.flow.sender y.receiver 60416
+        absurd (broadcast_or_part plan clean (held.named t) (held.address t) (keeps.held_apart t) (s.ident p) (s.ident q) u y.flow.sender y.receiver 60416
         (broadcast_made plan timing clean s held t (keeps.held_apart t) sent.broadcasts 60416 u m release p (inl refl) x at_p)
         (part_made plan timing clean s held t (keeps.held_apart t) g part other q y at_q) same)
     both_of (Announcing u m) (Asking r) release other p q t x y at_p at_q same is =
-        absurd (request_or_broadcast plan clean (held.on t) (held.address t) (keeps.held_apart t) (s.ident q) (s.ident p) y.asked.sender u 60416 y.asked.to (inl refl)
+        absurd (request_or_broadcast plan clean (held.named t) (held.address t) (keeps.held_apart t) (s.ident q) (s.ident p) y.asked.sender u 60416 y.asked.to (inl refl)
         (request_made plan timing clean s held t (keeps.held_apart t) r other q y at_q)
         (broadcast_made plan timing clean s held t (keeps.held_apart t) sent.broadcasts 60416 u m release p (inl refl) x at_p) (sym same))
     both_of (Single f) (Carrying u m i) release other p q t x y at_p at_q same is =
         absurd (no_broadcast plan timing clean s held t (keeps.held_apart t) f release p x at_p (s.ident q) 60160 u (inr refl)
         (broadcast_made plan timing clean s held t (keeps.held_apart t) sent.broadcasts 60160 u m other q (inr refl) y.0 at_q) same)
     both_of (InSession f part) (Carrying u m i) release other p q t x y at_p at_q same is =
-        absurd (broadcast_or_part plan clean (held.on t) (held.address t) (keeps.held_apart t) (s.ident q) (s.ident p) u x.flow.sender x.receiver 60160
+        absurd (broadcast_or_part plan clean (held.named t) (held.address t) (keeps.held_apart t) (s.ident q) (s.ident p) u x.flow.sender x.receiver 60160
         (broadcast_made plan timing clean s held t (keeps.held_apart t) sent.broadcasts 60160 u m other q (inr refl) y.0 at_q)
         (part_made plan timing clean s held t (keeps.held_apart t) f part release p x at_p) (sym same))
     both_of (Asking r) (Carrying u m i) release other p q t x y at_p at_q same is =
-        absurd (request_or_broadcast plan clean (held.on t) (held.address t) (keeps.held_apart t) (s.ident p) (s.ident q) x.asked.sender u 60160 x.asked.to (inr refl)
+        absurd (request_or_broadcast plan clean (held.named t) (held.address t) (keeps.held_apart t) (s.ident p) (s.ident q) x.asked.sender u 60160 x.asked.to (inr refl)
         (request_made plan timing clean s held t (keeps.held_apart t) r release p x at_p)
         (broadcast_made plan timing clean s held t (keeps.held_apart t) sent.broadcasts 60160 u m other q (inr refl) y.0 at_q) same)
     both_of (Carrying u m i) (Single g) release other p q t x y at_p at_q same is =
         absurd (no_broadcast plan timing clean s held t (keeps.held_apart t) g other q y at_q (s.ident p) 60160 u (inr refl)
         (broadcast_made plan timing clean s held t (keeps.held_apart t) sent.broadcasts 60160 u m release p (inr refl) x.0 at_p) (sym same))
     both_of (Carrying u m i) (InSession g part) release other p q t x y at_p at_q same is =
-        absurd (broadcast_or_part plan clean (held.on t) (held.address t) (keeps.held_apart t) (s.ident p) (s.ident q) u y.flow.sender y.receiver 60160
+        absurd (broadcast_or_part plan clean (held.named t) (held.address t) (keeps.held_apart t) (s.ident p) (s.ident q) u y.flow.sender y.receiver 60160
         (broadcast_made plan timing clean s held t (keeps.held_apart t) sent.broadcasts 60160 u m release p (inr refl) x.0 at_p)
         (part_made plan timing clean s held t (keeps.held_apart t) g part other q y at_q) same)
     both_of (Carrying u m i) (Asking r) release other p q t x y at_p at_q same is =
-        absurd (request_or_broadcast plan clean (held.on t) (held.address t) (keeps.held_apart t) (s.ident q) (s.ident p) y.asked.sender u 60160 y.asked.to (inr refl)
+        absurd (request_or_broadcast plan clean (held.named t) (held.address t) (keeps.held_apart t) (s.ident q) (s.ident p) y.asked.sender u 60160 y.asked.to (inr refl)
         (request_made plan timing clean s held t (keeps.held_apart t) r other q y at_q)
         (broadcast_made plan timing clean s held t (keeps.held_apart t) sent.broadcasts 60160 u m release p (inr refl) x.0 at_p) (sym same))
     both_of (Announcing u m) (Announcing v w) release other p q t x y at_p at_q same is =
         subst (λ (z : ℕ). has (source_place plan (Announcing z 0)) ≡ true)
-        (one_sends plan clean (held.on t) (held.address t) (keeps.held_apart t) (s.ident p) (s.ident q) u v 60416 60416
+        (one_sends plan clean (held.named t) (held.address t) (keeps.held_apart t) (s.ident p) (s.ident q) u v 60416 60416
         (broadcast_made plan timing clean s held t (keeps.held_apart t) sent.broadcasts 60416 u m release p (inl refl) x at_p)
         (broadcast_made plan timing clean s held t (keeps.held_apart t) sent.broadcasts 60416 v w other q (inl refl) y at_q) same).1 is
     both_of (Announcing u m) (Carrying v w j) release other p q t x y at_p at_q same is =
-        absurd (let number = (one_sends plan clean (held.on t) (held.address t) (keeps.held_apart t) (s.ident p) (s.ident q) u v 60416 60160
+        absurd (let number = (one_sends plan clean (held.named t) (held.address t) (keeps.held_apart t) (s.ident p) (s.ident q) u v 60416 60160
         (broadcast_made plan timing clean s held t (keeps.held_apart t) sent.broadcasts 60416 u m release p (inl refl) x at_p)
         (broadcast_made plan timing clean s held t (keeps.held_apart t) sent.broadcasts 60160 v w other q (inr refl) y.0 at_q) same).0 in omega (arith, number))
     both_of (Carrying u m i) (Announcing v w) release other p q t x y at_p at_q same is =
-        absurd (let number = (one_sends plan clean (held.on t) (held.address t) (keeps.held_apart t) (s.ident p) (s.ident q) u v 60160 60416
+        absurd (let number = (one_sends plan clean (held.named t) (held.address t) (keeps.held_apart t) (s.ident p) (s.ident q) u v 60160 60416
         (broadcast_made plan timing clean s held t (keeps.held_apart t) sent.broadcasts 60160 u m release p (inr refl) x.0 at_p)
         (broadcast_made plan timing clean s held t (keeps.held_apart t) sent.broadcasts 60416 v w other q (inl refl) y at_q) same).0 in omega (arith, number))
     both_of (Carrying u m i) (Carrying v w j) release other p q t x y at_p at_q same is =
         subst (λ (z : ℕ). has (source_place plan (Carrying z 0 0)) ≡ true)
-        (one_sends plan clean (held.on t) (held.address t) (keeps.held_apart t) (s.ident p) (s.ident q) u v 60160 60160
+        (one_sends plan clean (held.named t) (held.address t) (keeps.held_apart t) (s.ident p) (s.ident q) u v 60160 60160
         (broadcast_made plan timing clean s held t (keeps.held_apart t) sent.broadcasts 60160 u m release p (inr refl) x.0 at_p)
         (broadcast_made plan timing clean s held t (keeps.held_apart t) sent.broadcasts 60160 v w other q (inr refl) y.0 at_q) same).1 is
 

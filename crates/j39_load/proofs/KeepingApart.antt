@@ -122,7 +122,7 @@ module _ (plan : Plan) (timing : Timing) (apart : ArePlannedApart (units_of plan
   address u = (unit_at (units_of plan) u).preferred
 
   abbrev pub held : Held
-  held = record { on = λ t u. ltb u (length plan.units.items); address = λ t. address }
+  held = record { named = λ t u. ltb u (length plan.units.items); address = λ t. address }
 
   -- from one frame to the next is a period, and a frame
   abbrev step : ℕ
@@ -159,29 +159,29 @@ module _ (plan : Plan) (timing : Timing) (apart : ArePlannedApart (units_of plan
       let more : step * (p + 1) ≤ step * q = mul-le-mul_left step (omega (arith, less)) in
       in_ms_behind timing.bitrate pace.period (p * step) (q * step) (omega (arith, more))
 
-  units_on : (u : ℕ) → u < length plan.units.items → ltb u (length plan.units.items) ≡ true
-  units_on u below = lt-ltb u (length plan.units.items) below
+  units_named : (u : ℕ) → u < length plan.units.items → ltb u (length plan.units.items) ≡ true
+  units_named u below = lt-ltb u (length plan.units.items) below
 
-  pub held_apart : (t : ℕ) → AreHeldApart (held.on t) (held.address t)
+  pub held_apart : (t : ℕ) → AreHeldApart (held.named t) (held.address t)
   held_apart t = record {
-    range = λ u on.
-        let below = ltb-true u (length plan.units.items) on in
+    range = λ u named.
+        let below = ltb-true u (length plan.units.items) named in
         let (unit, at, is) = placed plan.keep_free plan.units.items u (omega (arith, below, length-map plan.units.items (planned_unit plan.keep_free))) in
         let same : address u ≡ unit.address = ap (λ (c : PlannedUnit). c.preferred) is in
         let low = unit.address_range in
         omega (arith, same, low);
-    apart = λ u v other on_u on_v.
-        let below_u = ltb-true u (length plan.units.items) on_u in
-        let below_v = ltb-true v (length plan.units.items) on_v in
+    apart = λ u v other named_u named_v.
+        let below_u = ltb-true u (length plan.units.items) named_u in
+        let below_v = ltb-true v (length plan.units.items) named_v in
         let size = length-map plan.units.items (planned_unit plan.keep_free) in
         apart u v (omega (arith, below_u, size)) (omega (arith, below_v, size)) other;
   }
 
-  pub sender_on : ltb flow.sender (length plan.units.items) ≡ true
-  sender_on = units_on flow.sender (all_at (λ (g : FlowPlan). g.sender < length plan.units.items) plan.flows.items plan.flow_senders f flow its)
+  pub sender_named : ltb flow.sender (length plan.units.items) ≡ true
+  sender_named = units_named flow.sender (all_at (λ (g : FlowPlan). g.sender < length plan.units.items) plan.flows.items plan.flow_senders f flow its)
 
-  pub receiver_on : (v : ℕ) → flow.to ≡ One v → ltb v (length plan.units.items) ≡ true
-  receiver_on v goes = units_on v
+  pub receiver_named : (v : ℕ) → flow.to ≡ One v → ltb v (length plan.units.items) ≡ true
+  receiver_named v goes = units_named v
       (all_at (λ (g : FlowPlan). (u : ℕ) → g.to ≡ One u → u < length plan.units.items) plan.flows.items plan.flow_receivers f flow its v goes)
 
   frame : (p : ℕ) → IsSingleFrame plan timing bus held f (p * step) p
@@ -196,12 +196,12 @@ module _ (plan : Plan) (timing : Timing) (apart : ArePlannedApart (units_of plan
     length = omega arith;
     release_first = omega arith;
     jitter_at_most = omega arith;
-    sender_on = λ t queued. sender_on;
-    receiver_on = λ t v queued goes. receiver_on v goes;
+    sender_named = λ t queued. sender_named;
+    receiver_named = λ t v queued goes. receiver_named v goes;
     identifier = λ t queued. refl;
   }
 
-  same_period : (ms : ℕ) → HasPeriodMs plan f ms → pace.period ≡ ms
+  pub same_period : (ms : ℕ) → HasPeriodMs plan f ms → pace.period ≡ ms
   same_period ms every =
       let same : flow ≡ every.flow = same_Some _ _ (sym its ∙ every.its) in
       let paces : pace ≡ every.pace = same_Some _ _ (sym paced ∙ (ap (λ (g : FlowPlan). g.pace) same ∙ every.paced)) in
@@ -282,8 +282,8 @@ module _ (plan : Plan) (timing : Timing) (apart : ArePlannedApart (units_of plan
     length = omega arith;
     release_first = omega arith;
     jitter_at_most = within_ms timing.bitrate pace.jitter (p * long_step);
-    sender_on = λ t queued. sender_on;
-    receiver_on = λ t v queued goes. receiver_on v goes;
+    sender_named = λ t queued. sender_named;
+    receiver_named = λ t v queued goes. receiver_named v goes;
     identifier = λ t queued. refl;
   }
 
@@ -315,15 +315,18 @@ module _ (plan : Plan) (timing : Timing) (apart : ArePlannedApart (units_of plan
 
   destination_few : (to : To) → flow.to ≡ to → goes_to address to ≤ 255
   destination_few All is = omega arith
-  destination_few (One v) is = let few = (held_apart 0).range v (receiver_on v is) in omega (arith, few)
+  destination_few (One v) is = let few = (held_apart 0).range v (receiver_named v is) in omega (arith, few)
+
+  pub few_ident : IsPgn group.pgn → ident < 2 ^ 29
+  few_ident number = few_bits group.priority group.pgn (goes_to address flow.to) (address flow.sender) group.priority_range number
+      (destination_few flow.to refl) (let few = (held_apart 0).range flow.sender sender_named in omega (arith, few))
 
   late_queues : IsPgn group.pgn → KeepsQueues plan timing late_bus controllers all_planned late_sent
   late_queues number = record {
     sender = λ p u in_p is sends. ap (λ (g : FlowPlan). g.sender) (same_Some _ _ (sym its ∙ sends.1)) ∙ sends.2;
     order = λ u unit at keeps.
         ap (λ (o : Option UnitPlan). option_map_or (λ (x : UnitPlan). not (is_any x.queue)) o true) at ∙ ap (λ (q : Queue). not (is_any q)) keeps;
-    identifiers = λ p in_p. few_bits group.priority group.pgn (goes_to address flow.to) (address flow.sender) group.priority_range number
-        (destination_few flow.to refl) (let few = (held_apart 0).range flow.sender sender_on in omega (arith, few));
+    identifiers = λ p in_p. few_ident number;
     others_apart = λ p q t u unit in_p in_q seen is_p is_q takes at any. absurd (true≢false is_q);
     few_unplanned = λ p from to u unit in_p is takes at any seen waits wait.
         let none = none_unplanned late_bus from to in omega (arith, none);

@@ -358,7 +358,7 @@ module _ (plan : Plan) (timing : Timing) (stays : UnitPlan → Bool) (tells : De
       to_itself t queued (One v) is there here = elim (cases_eq v one.flow.sender) [
         | inl same ↦ clean (FlowToSelf f) (record { value = one.flow; value_is = one.its; meets = is ∙ ap One same })
         | inr other ↦
-            (keeps.held_apart t).apart v one.flow.sender other (one.receiver_on t v queued is) (one.sender_on t queued) (there ∙ sym here)
+            (keeps.held_apart t).apart v one.flow.sender other (one.receiver_named t v queued is) (one.sender_named t queued) (there ∙ sym here)
       ]
 
   part_above_zero : (part : Part) (from to : ℕ) → 0 < part_identifier timing part from to

@@ -173,7 +173,7 @@ module _ (plan : Plan) (timing : Timing) (stays : UnitPlan → Bool) where
   -- ---- a frame of each source
 
   module _ (tells : DecidesWhoStays plan stays) (s : Schedule) (held : Held) (by_plan : (t : ℕ) → AreHeldByPlan plan (held.address t))
-      (apart : (t : ℕ) → AreHeldApart (held.on t) (held.address t)) (b : Broadcasts)
+      (apart : (t : ℕ) → AreHeldApart (held.named t) (held.address t)) (b : Broadcasts)
       (messages : (u m : ℕ) → m < b.count u → IsMessageToAll plan timing b u m) where
     abbrev low : ℕ → ℕ
     low = of_unit units (least_address stays)
@@ -305,8 +305,8 @@ module _ (plan : Plan) (timing : Timing) (stays : UnitPlan → Bool) where
       -- all addresses are below 255
       addresses_few : (address u < 255) × (address v < 255)
       addresses_few = (
-        (apart (s.queued p)).range u (one.sender_on (s.queued p) now),
-        (apart (s.queued p)).range v (one.receiver_on (s.queued p) now),
+        (apart (s.queued p)).range u (one.sender_named (s.queued p) now),
+        (apart (s.queued p)).range v (one.receiver_named (s.queued p) now),
       )
 
       there : (number : ℕ) → (identifier_of prio number (low v) (low u) ≤ identifier_of prio number (address v) (address u))

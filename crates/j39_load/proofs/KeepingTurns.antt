@@ -85,19 +85,19 @@ module _ (plan : Plan) (timing : Timing) (stays : UnitPlan → Bool) (tells : De
       absurd (no_broadcast plan timing clean s held t (keeps.held_apart t) g other q two at_q (s.ident p) number u either
       (broadcast_made plan timing clean s held t (keeps.held_apart t) sent.broadcasts number u m release p either one at_p) (sym same))
   shared number u m release p other q t (InSession g part) either one two at_p at_q same =
-      absurd (broadcast_or_part plan clean (held.on t) (held.address t) (keeps.held_apart t) (s.ident p) (s.ident q) u two.flow.sender two.receiver number
+      absurd (broadcast_or_part plan clean (held.named t) (held.address t) (keeps.held_apart t) (s.ident p) (s.ident q) u two.flow.sender two.receiver number
       (broadcast_made plan timing clean s held t (keeps.held_apart t) sent.broadcasts number u m release p either one at_p)
       (part_made plan timing clean s held t (keeps.held_apart t) g part other q two at_q) same)
   shared number u m release p other q t (Asking r) either one two at_p at_q same =
-      absurd (request_or_broadcast plan clean (held.on t) (held.address t) (keeps.held_apart t) (s.ident q) (s.ident p) two.asked.sender u number two.asked.to either
+      absurd (request_or_broadcast plan clean (held.named t) (held.address t) (keeps.held_apart t) (s.ident q) (s.ident p) two.asked.sender u number two.asked.to either
       (request_made plan timing clean s held t (keeps.held_apart t) r other q two at_q)
       (broadcast_made plan timing clean s held t (keeps.held_apart t) sent.broadcasts number u m release p either one at_p) (sym same))
   shared number u m release p other q t (Announcing v w) either one two at_p at_q same =
-      one_sends plan clean (held.on t) (held.address t) (keeps.held_apart t) (s.ident p) (s.ident q) u v number 60416
+      one_sends plan clean (held.named t) (held.address t) (keeps.held_apart t) (s.ident p) (s.ident q) u v number 60416
       (broadcast_made plan timing clean s held t (keeps.held_apart t) sent.broadcasts number u m release p either one at_p)
       (broadcast_made plan timing clean s held t (keeps.held_apart t) sent.broadcasts 60416 v w other q (inl refl) two at_q) same
   shared number u m release p other q t (Carrying v w k) either one two at_p at_q same =
-      one_sends plan clean (held.on t) (held.address t) (keeps.held_apart t) (s.ident p) (s.ident q) u v number 60160
+      one_sends plan clean (held.named t) (held.address t) (keeps.held_apart t) (s.ident p) (s.ident q) u v number 60160
       (broadcast_made plan timing clean s held t (keeps.held_apart t) sent.broadcasts number u m release p either one at_p)
       (broadcast_made plan timing clean s held t (keeps.held_apart t) sent.broadcasts 60160 v w other q (inr refl) two.0 at_q) same
 

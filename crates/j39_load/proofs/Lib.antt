@@ -21,6 +21,7 @@ pub mod KeepingErrors
 pub mod KeepingFrames
 pub mod KeepingPlan
 pub mod KeepingTurns
+pub mod KeepingWithout
 pub mod KeptInTime
 pub mod KeptReceivers
 pub mod LeastKnown
@@ -37,6 +38,7 @@ pub mod ReadingInTime
 pub mod Sending
 pub mod SessionParts
 pub mod SharedIdentifiers
+pub mod Slots
 pub mod StreamsBefore
 pub mod ToldBytes
 pub mod TurnTimes

@@ -65,20 +65,20 @@ never_twin a b none twin =
 -- ---- how an identifier is made
 
 -- of this number, from a unit to another one or to all
-pub record IsMade (on : ℕ → Bool) (address : ℕ → ℕ) (ident number from : ℕ) (to : To) : Type 0 where
+pub record IsMade (named : ℕ → Bool) (address : ℕ → ℕ) (ident number from : ℕ) (to : To) : Type 0 where
   pub priority : ℕ
   pub page : number < 131072
   pub low : pf_of number < 240 → number % 256 ≡ 0
-  pub from_on : on from ≡ true
-  pub to_on : (v : ℕ) → to ≡ One v → on v ≡ true
+  pub from_named : named from ≡ true
+  pub to_named : (v : ℕ) → to ≡ One v → named v ≡ true
   pub is : ident ≡ identifier_of priority number (destination_at address to) (address from)
 
 -- of a long message between two units
-pub record IsPartMade (on : ℕ → Bool) (address : ℕ → ℕ) (ident u v : ℕ) : Type 0 where
+pub record IsPartMade (named : ℕ → Bool) (address : ℕ → ℕ) (ident u v : ℕ) : Type 0 where
   pub number : ℕ
   pub from : ℕ
   pub to : To
-  pub made : IsMade on address ident number from to
+  pub made : IsMade named address ident number from to
   pub either : (number ≡ 60416) ⊎ (number ≡ 60160)
   pub ends : ((from ≡ u) × (to ≡ One v)) ⊎ ((from ≡ v) × (to ≡ One u))
 
@@ -109,19 +109,19 @@ leave counts u v from to (inl ends) is = subst (λ (x : To). (counts u || counts
 leave counts u v from to (inr ends) is = or_swap (counts v) (counts u) (subst (λ (x : To). (counts v || counts_to counts x) ≡ true) ends.1
     (subst (λ (x : ℕ). (counts x || counts_to counts to) ≡ true) ends.0 is))
 
-module _ (plan : Plan) (clean : Clean plan) (on : ℕ → Bool) (address : ℕ → ℕ) (apart : AreHeldApart on address) where
+module _ (plan : Plan) (clean : Clean plan) (named : ℕ → Bool) (address : ℕ → ℕ) (apart : AreHeldApart named address) where
   -- one identifier is made in one way
-  made_alike : (x y n m u v : ℕ) (to other : To) → IsMade on address x n u to → IsMade on address y m v other → x ≡ y
+  made_alike : (x y n m u v : ℕ) (to other : To) → IsMade named address x n u to → IsMade named address y m v other → x ≡ y
       → (n ≡ m) × (u ≡ v) × (is_pdu2 n ≡ false → to ≡ other)
   made_alike x y n m u v to other a b same =
-      let first = apart.range u a.from_on in
-      let second = apart.range v b.from_on in
+      let first = apart.range u a.from_named in
+      let second = apart.range v b.from_named in
       let told = other_idents.tells a.priority b.priority n m (destination_at address to) (destination_at address other) (address u) (address v) a.page b.page
-      (other_idents.few plan clean on address apart to a.to_on) (other_idents.few plan clean on address apart other b.to_on) (omega (arith, first))
+      (other_idents.few plan clean named address apart to a.to_named) (other_idents.few plan clean named address apart other b.to_named) (omega (arith, first))
       (omega (arith, second)) a.low b.low (sym a.is ∙ (same ∙ b.is)) in (
         told.1,
-        other_idents.one_unit plan clean on address apart u v a.from_on b.from_on told.2,
-        λ pdu1. other_idents.one_receiver plan clean on address apart to other a.to_on b.to_on (told.3 pdu1),
+        other_idents.one_unit plan clean named address apart u v a.from_named b.from_named told.2,
+        λ pdu1. other_idents.one_receiver plan clean named address apart to other a.to_named b.to_named (told.3 pdu1),
       )
 
   names_destination : (number : ℕ) → (number ≡ 60416) ⊎ (number ≡ 60160) → is_pdu2 number ≡ false
@@ -129,7 +129,7 @@ module _ (plan : Plan) (clean : Clean plan) (on : ℕ → Bool) (address : ℕ �
   names_destination number (inr is) = ap is_pdu2 is
 
   -- parts of long messages are of messages between the same two units
-  pub parts_between : (counts : ℕ → Bool) (x y u v w z : ℕ) → IsPartMade on address x u v → IsPartMade on address y w z → x ≡ y
+  pub parts_between : (counts : ℕ → Bool) (x y u v w z : ℕ) → IsPartMade named address x u v → IsPartMade named address y w z → x ≡ y
       → (counts u || counts v) ≡ true → (counts w || counts z) ≡ true
   parts_between counts x y u v w z a b same is =
       let (number, from, to) = made_alike x y a.number b.number a.from b.from a.to b.to a.made b.made same in
@@ -138,7 +138,7 @@ module _ (plan : Plan) (clean : Clean plan) (on : ℕ → Bool) (address : ℕ �
       (subst (λ (k : To). (counts a.from || counts_to counts k) ≡ true) receiver (enter counts u v a.from a.to a.ends is)))
 
   -- no request is one of them
-  pub request_or_part : (x y u w z : ℕ) (to : To) → IsMade on address x 59904 u to → IsPartMade on address y w z → x ≡ y → ⊥
+  pub request_or_part : (x y u w z : ℕ) (to : To) → IsMade named address x 59904 u to → IsPartMade named address y w z → x ≡ y → ⊥
   request_or_part x y u w z to a b same =
       let number : 59904 ≡ b.number = (made_alike x y 59904 b.number u b.from to b.to a b.made same).0 in
       elim b.either [
@@ -147,8 +147,8 @@ module _ (plan : Plan) (clean : Clean plan) (on : ℕ → Bool) (address : ℕ �
       ]
 
   -- nor a frame of a long message to all
-  pub request_or_broadcast : (x y u v number : ℕ) (to : To) → (number ≡ 60416) ⊎ (number ≡ 60160) → IsMade on address x 59904 u to
-      → IsMade on address y number v ToAllUnits → x ≡ y → ⊥
+  pub request_or_broadcast : (x y u v number : ℕ) (to : To) → (number ≡ 60416) ⊎ (number ≡ 60160) → IsMade named address x 59904 u to
+      → IsMade named address y number v ToAllUnits → x ≡ y → ⊥
   request_or_broadcast x y u v number to either a b same =
       let is : 59904 ≡ number = (made_alike x y 59904 number u v to ToAllUnits a b same).0 in
       elim either [
@@ -157,7 +157,7 @@ module _ (plan : Plan) (clean : Clean plan) (on : ℕ → Bool) (address : ℕ �
       ]
 
   -- and no part of one to a single unit
-  pub broadcast_or_part : (x y u w z number : ℕ) → IsMade on address x number u ToAllUnits → IsPartMade on address y w z → x ≡ y → ⊥
+  pub broadcast_or_part : (x y u w z number : ℕ) → IsMade named address x number u ToAllUnits → IsPartMade named address y w z → x ≡ y → ⊥
   broadcast_or_part x y u w z number a b same =
       let (is, from, to) = made_alike x y number b.number u b.from ToAllUnits b.to a b.made same in
       to_one w z b.from b.to b.ends (to (ap is_pdu2 is ∙ names_destination b.number b.either))
@@ -167,43 +167,43 @@ module _ (plan : Plan) (clean : Clean plan) (on : ℕ → Bool) (address : ℕ �
       to_one w z from to (inr ends) all = let told = all ∙ ends.1 in cc
 
   -- two of long messages to all are of one unit, and of one kind
-  pub one_sends : (x y u v n k : ℕ) → IsMade on address x n u ToAllUnits → IsMade on address y k v ToAllUnits → x ≡ y → (n ≡ k) × (u ≡ v)
+  pub one_sends : (x y u v n k : ℕ) → IsMade named address x n u ToAllUnits → IsMade named address y k v ToAllUnits → x ≡ y → (n ≡ k) × (u ≡ v)
   one_sends x y u v n k a b same =
       let (number, from, to) = made_alike x y n k u v ToAllUnits ToAllUnits a b same in
       (number, from)
 
   -- two requests are of one unit
-  pub one_asks : (x y u v : ℕ) (to other : To) → IsMade on address x 59904 u to → IsMade on address y 59904 v other → x ≡ y → u ≡ v
+  pub one_asks : (x y u v : ℕ) (to other : To) → IsMade named address x 59904 u to → IsMade named address y 59904 v other → x ≡ y → u ≡ v
   one_asks x y u v to other a b same = (made_alike x y 59904 59904 u v to other a b same).1
 
-module _ (plan : Plan) (timing : Timing) (clean : Clean plan) (s : Schedule) (held : Held) (t : ℕ) (apart : AreHeldApart (held.on t) (held.address t)) where
+module _ (plan : Plan) (timing : Timing) (clean : Clean plan) (s : Schedule) (held : Held) (t : ℕ) (apart : AreHeldApart (held.named t) (held.address t)) where
   pub request_made : (r release p : ℕ) (one : IsRequestFrame plan s held r release p) → IsQueuedAt s p t
-      → IsMade (held.on t) (held.address t) (s.ident p) 59904 one.asked.sender one.asked.to
+      → IsMade (held.named t) (held.address t) (s.ident p) 59904 one.asked.sender one.asked.to
   request_made r release p one queued = record {
     priority = 6;
     page = omega arith;
     low = λ _. refl;
-    from_on = one.sender_on t queued;
-    to_on = λ v goes. one.receiver_on t v queued goes;
+    from_named = one.sender_named t queued;
+    to_named = λ v goes. one.receiver_named t v queued goes;
     is = asking_ident plan s held r release p t one queued;
   }
 
   pub broadcast_made : (b : Broadcasts) (number u m release p : ℕ) → (number ≡ 60416) ⊎ (number ≡ 60160)
-      → IsBroadcastFrame timing s held b number u m release p → IsQueuedAt s p t → IsMade (held.on t) (held.address t) (s.ident p) number u ToAllUnits
+      → IsBroadcastFrame timing s held b number u m release p → IsQueuedAt s p t → IsMade (held.named t) (held.address t) (s.ident p) number u ToAllUnits
   broadcast_made b number u m release p (inl is) one queued = record {
     priority = timing.transport_priority;
     page = omega (arith, is);
     low = λ _. omega (arith, is);
-    from_on = one.sender_on t queued;
-    to_on = λ v goes. absurd (let told = goes in cc);
+    from_named = one.sender_named t queued;
+    to_named = λ v goes. absurd (let told = goes in cc);
     is = one.identifier t queued;
   }
   broadcast_made b number u m release p (inr is) one queued = record {
     priority = timing.transport_priority;
     page = omega (arith, is);
     low = λ _. omega (arith, is);
-    from_on = one.sender_on t queued;
-    to_on = λ v goes. absurd (let told = goes in cc);
+    from_named = one.sender_named t queued;
+    to_named = λ v goes. absurd (let told = goes in cc);
     is = one.identifier t queued;
   }
 
@@ -215,94 +215,94 @@ module _ (plan : Plan) (timing : Timing) (clean : Clean plan) (s : Schedule) (he
     v = one.receiver
 
     -- from the one of its units to the other one
-    from_to : (number from to : ℕ) → number < 131072 → number % 256 ≡ 0 → held.on t from ≡ true → held.on t to ≡ true
+    from_to : (number from to : ℕ) → number < 131072 → number % 256 ≡ 0 → held.named t from ≡ true → held.named t to ≡ true
         → s.ident p ≡ identifier_of timing.transport_priority number (held.address t to) (held.address t from)
-        → IsMade (held.on t) (held.address t) (s.ident p) number from (One to)
-    from_to number from to page low from_on to_on is = record {
+        → IsMade (held.named t) (held.address t) (s.ident p) number from (One to)
+    from_to number from to page low from_named to_named is = record {
       priority = timing.transport_priority;
       page = page;
       low = λ _. low;
-      from_on = from_on;
-      to_on = λ w goes. subst (λ (x : ℕ). held.on t x ≡ true) (one_to to w goes) to_on;
+      from_named = from_named;
+      to_named = λ w goes. subst (λ (x : ℕ). held.named t x ≡ true) (one_to to w goes) to_named;
       is = is;
     }
 
     there : (number : ℕ) → number < 131072 → number % 256 ≡ 0 → (number ≡ 60416) ⊎ (number ≡ 60160)
         → s.ident p ≡ identifier_of timing.transport_priority number (held.address t v) (held.address t u)
-        → IsPartMade (held.on t) (held.address t) (s.ident p) u v
+        → IsPartMade (held.named t) (held.address t) (s.ident p) u v
     there number page low either is = record {
       number = number;
       from = u;
       to = One v;
-      made = from_to number u v page low (one.sender_on t queued) (one.receiver_on t queued) is;
+      made = from_to number u v page low (one.sender_named t queued) (one.receiver_named t queued) is;
       either = either;
       ends = inl (refl, refl);
     }
 
     back : s.ident p ≡ identifier_of timing.transport_priority 60416 (held.address t u) (held.address t v)
-        → IsPartMade (held.on t) (held.address t) (s.ident p) u v
+        → IsPartMade (held.named t) (held.address t) (s.ident p) u v
     back is = record {
       number = 60416;
       from = v;
       to = One u;
-      made = from_to 60416 v u (omega arith) refl (one.receiver_on t queued) (one.sender_on t queued) is;
+      made = from_to 60416 v u (omega arith) refl (one.receiver_named t queued) (one.sender_named t queued) is;
       either = inl refl;
       ends = inr (refl, refl);
     }
 
     by_part : (part : Part) → s.ident p ≡ part_identifier timing part (held.address t u) (held.address t v)
-        → IsPartMade (held.on t) (held.address t) (s.ident p) u v
+        → IsPartMade (held.named t) (held.address t) (s.ident p) u v
     by_part RequestToSend is = there 60416 (omega arith) refl (inl refl) is
     by_part (Packet k) is = there 60160 (omega arith) refl (inr refl) is
     by_part (ClearToSend k) is = back is
     by_part EndAcknowledged is = back is
 
-    pub part_made : IsPartMade (held.on t) (held.address t) (s.ident p) one.flow.sender one.receiver
+    pub part_made : IsPartMade (held.named t) (held.address t) (s.ident p) one.flow.sender one.receiver
     part_made = by_part part (one.identifier t queued)
 
   module _ (f release p : ℕ) (one : IsSingleFrame plan timing s held f release p) (queued : IsQueuedAt s p t) where
-    single_made : IsMade (held.on t) (held.address t) (s.ident p) one.group.pgn one.flow.sender one.flow.to
+    single_made : IsMade (held.named t) (held.address t) (s.ident p) one.group.pgn one.flow.sender one.flow.to
     single_made =
-        let can = other_idents.planned plan clean (held.on t) (held.address t) apart one.flow.group one.group one.of in
+        let can = other_idents.planned plan clean (held.named t) (held.address t) apart one.flow.group one.group one.of in
         record {
           priority = one.group.priority;
           page = can.page;
           low = can.group.low;
-          from_on = one.sender_on t queued;
-          to_on = λ v goes. one.receiver_on t v queued goes;
+          from_named = one.sender_named t queued;
+          to_named = λ v goes. one.receiver_named t v queued goes;
           is = single_ident plan timing s held f release p t one queued;
         }
 
     -- no service of the network has it
-    no_service : (y number from : ℕ) (to : To) → Contains service_groups number → IsMade (held.on t) (held.address t) y number from to → s.ident p ≡ y → ⊥
+    no_service : (y number from : ℕ) (to : To) → Contains service_groups number → IsMade (held.named t) (held.address t) y number from to → s.ident p ≡ y → ⊥
     no_service y number from to service made same =
-        let can = other_idents.planned plan clean (held.on t) (held.address t) apart one.flow.group one.group one.of in
+        let can = other_idents.planned plan clean (held.named t) (held.address t) apart one.flow.group one.group one.of in
         let is : one.group.pgn ≡ number =
-        (made_alike plan clean (held.on t) (held.address t) apart (s.ident p) y one.group.pgn number one.flow.sender from one.flow.to to single_made made same).0 in
+        (made_alike plan clean (held.named t) (held.address t) apart (s.ident p) y one.group.pgn number one.flow.sender from one.flow.to to single_made made same).0 in
         can.not_service (subst (Contains service_groups) (sym is) service)
 
     -- so no request has it, and no part of a long message
-    pub no_request : (y from : ℕ) (to : To) → IsMade (held.on t) (held.address t) y 59904 from to → s.ident p ≡ y → ⊥
+    pub no_request : (y from : ℕ) (to : To) → IsMade (held.named t) (held.address t) y 59904 from to → s.ident p ≡ y → ⊥
     no_request y from to made same = no_service y 59904 from to (1, omega arith, refl) made same
 
-    pub no_broadcast : (y number from : ℕ) → (number ≡ 60416) ⊎ (number ≡ 60160) → IsMade (held.on t) (held.address t) y number from ToAllUnits → s.ident p ≡ y → ⊥
+    pub no_broadcast : (y number from : ℕ) → (number ≡ 60416) ⊎ (number ≡ 60160) → IsMade (held.named t) (held.address t) y number from ToAllUnits → s.ident p ≡ y → ⊥
     no_broadcast y number from (inl is) made same = no_service y number from ToAllUnits (3, omega arith, sym is) made same
     no_broadcast y number from (inr is) made same = no_service y number from ToAllUnits (2, omega arith, sym is) made same
 
-    pub no_part : (y w z : ℕ) → IsPartMade (held.on t) (held.address t) y w z → s.ident p ≡ y → ⊥
+    pub no_part : (y w z : ℕ) → IsPartMade (held.named t) (held.address t) y w z → s.ident p ≡ y → ⊥
     no_part y w z part same = no_service y part.number part.from part.to (by_number part.number part.either) part.made same
       where
         by_number : (number : ℕ) → (number ≡ 60416) ⊎ (number ≡ 60160) → Contains service_groups number
         by_number number (inl is) = (3, omega arith, sym is)
         by_number number (inr is) = (2, omega arith, sym is)
 
-    short_flow : IsShortFlow plan (held.on t) f one.flow one.group
+    short_flow : IsShortFlow plan (held.named t) f one.flow one.group
     short_flow = record {
       its = one.its;
       sent = one.of;
       short = le-leb one.group.most 8 one.short;
-      sender = one.sender_on t queued;
-      receiver = λ v goes. one.receiver_on t v queued goes;
+      sender = one.sender_named t queued;
+      receiver = λ v goes. one.receiver_named t v queued goes;
     }
 
   -- two single frames are of one flow, or of two that are alike
@@ -317,8 +317,8 @@ module _ (plan : Plan) (timing : Timing) (clean : Clean plan) (s : Schedule) (he
         sym (single_ident plan timing s held f release p t one at_p) ∙ (same ∙ single_ident plan timing s held g other q t two at_q) in
         let first = short_flow f release p one at_p in
         let second = short_flow g other q two at_q in
-        let twins = other_idents.different plan clean (held.on t) (held.address t) apart f g one.flow two.flow one.group two.group differ first second idents in
-        let from = other_idents.senders plan clean (held.on t) (held.address t) apart f g one.flow two.flow one.group two.group first second idents in
+        let twins = other_idents.different plan clean (held.named t) (held.address t) apart f g one.flow two.flow one.group two.group differ first second idents in
+        let from = other_idents.senders plan clean (held.named t) (held.address t) apart f g one.flow two.flow one.group two.group first second idents in
         inr (record {
           number = twins.number;
           first = twins.first_is;

@@ -31,9 +31,9 @@ pub record KeepsToPlan (plan : Plan) (timing : Timing) (s : Schedule) (planned :
       → sent.source p ≡ sent.source q → IsSentEvery plan (sent.source p) ms
       → IsMsBehind timing ms (sent.release p) (sent.release q) ⊎ IsMsBehind timing ms (sent.release q) (sent.release p)
   pub broadcasts : KeepsBroadcasts plan timing s planned sent
-  -- each unit holds its planned address, or one of the pool if it has to move, and no two that are on hold one
+  -- each unit holds its planned address, or one of the pool if it has to move, and no two that are named hold one
   pub held_by_plan : (t : ℕ) → AreHeldByPlan plan (held.address t)
-  pub held_apart : (t : ℕ) → AreHeldApart (held.on t) (held.address t)
+  pub held_apart : (t : ℕ) → AreHeldApart (held.named t) (held.address t)
   -- a frame that is of none of them has eight bytes at most, and the priority that is told or a larger number; while a frame of a flow with
   -- messages of one frame is queued too, or one of a long message to all, it has another identifier, and no more of them go before this one than are told
   pub others_length : (p : ℕ) → p < s.count → planned p ≡ false → s.bits p ≤ 160

@@ -12,6 +12,7 @@ pub mod KeepsBroadcasts
 pub mod KeepsErrors
 pub mod KeptReceivers
 pub mod KeptTogether
+pub mod KeptWithout
 pub mod KeepsPlan
 pub mod LiveClaims
 pub mod LoadAnswers

@@ -43,18 +43,18 @@ pub record RequestLiesBetween (plan : Plan) (stays : UnitPlan → Bool) (held : 
   pub least : request_ident (of_unit plan.units.items (least_address stays)) request ≤ request_ident held request
   pub greatest : request_ident held request ≤ request_ident (of_unit plan.units.items (greatest_address stays)) request
 
--- of the units that are on each holds an address, and no two of them one
-pub record AreHeldApart (on : ℕ → Bool) (held : ℕ → ℕ) : Type 0 where
-  pub range : (u : ℕ) → on u ≡ true → held u < global_address
-  pub apart : (u v : ℕ) → u ≢ v → on u ≡ true → on v ≡ true → held u ≢ held v
+-- of the units that are named (those that are on, say, or that frames are for) each holds an address, and no two of them one
+pub record AreHeldApart (named : ℕ → Bool) (held : ℕ → ℕ) : Type 0 where
+  pub range : (u : ℕ) → named u ≡ true → held u < global_address
+  pub apart : (u v : ℕ) → u ≢ v → named u ≡ true → named v ≡ true → held u ≢ held v
 
--- the flow at this place, between units that are on, sends each message of this group in one frame
-pub record IsShortFlow (plan : Plan) (on : ℕ → Bool) (place : ℕ) (flow : FlowPlan) (group : GroupPlan) : Type 0 where
+-- the flow at this place, between units that are named, sends each message of this group in one frame
+pub record IsShortFlow (plan : Plan) (named : ℕ → Bool) (place : ℕ) (flow : FlowPlan) (group : GroupPlan) : Type 0 where
   pub its : slice_get plan.flows.items place ≡ Some flow
   pub sent : slice_get plan.groups.items flow.group ≡ Some group
   pub short : is_always_short group ≡ true
-  pub sender : on flow.sender ≡ true
-  pub receiver : (v : ℕ) → flow.to ≡ One v → on v ≡ true
+  pub sender : named flow.sender ≡ true
+  pub receiver : (v : ℕ) → flow.to ≡ One v → named v ≡ true
 
 -- the groups of two flows are told by their data, and their frames have one identifier, whatever addresses the units hold
 pub record AreTwinFlows (group : GroupPlan) (flow : FlowPlan) (second : GroupPlan) (other : FlowPlan) : Type 0 where
@@ -63,7 +63,7 @@ pub record AreTwinFlows (group : GroupPlan) (flow : FlowPlan) (second : GroupPla
   pub second_is : twin_ident second other ≡ Some number
   pub alike : (held : ℕ → ℕ) → group_ident held group flow ≡ group_ident held second other
 
--- a request of a unit that is on, to one that is on or to all
-pub record IsAskedBetween (on : ℕ → Bool) (request : RequestPlan) : Type 0 where
-  pub sender : on request.sender ≡ true
-  pub receiver : (v : ℕ) → request.to ≡ One v → on v ≡ true
+-- a request of a unit that is named, to one that is or to all
+pub record IsAskedBetween (named : ℕ → Bool) (request : RequestPlan) : Type 0 where
+  pub sender : named request.sender ≡ true
+  pub receiver : (v : ℕ) → request.to ≡ One v → named v ≡ true

@@ -77,9 +77,10 @@ pub record FrameSources : Type 0 where
   pub release : ℕ → ℕ
   pub broadcasts : Broadcasts
 
--- at each bit, of each unit by its place: whether it is on, and the address that it holds
+-- at each bit, of each unit by its place: whether it is named (the unit is on, or a frame that is queued is for it), and the address that it holds: of
+-- one that is off this is the one that it is sent to
 pub record Held : Type 0 where
-  pub on : ℕ → ℕ → Bool
+  pub named : ℕ → ℕ → Bool
   pub address : ℕ → ℕ → ℕ
 
 -- where a message goes: to all, or to the address that the unit holds
@@ -103,9 +104,9 @@ pub record IsSingleFrame (plan : Plan) (timing : Timing) (s : Schedule) (held : 
   -- it is queued at its release, or as much behind it as the jitter allows
   pub release_first : release ≤ s.queued p
   pub jitter_at_most : IsWithinMs timing pace.jitter release (s.queued p)
-  -- while it is queued its units are on, and it has the group's priority and number, and the addresses that they hold
-  pub sender_on : (t : ℕ) → IsQueuedAt s p t → held.on t flow.sender ≡ true
-  pub receiver_on : (t v : ℕ) → IsQueuedAt s p t → flow.to ≡ One v → held.on t v ≡ true
+  -- while it is queued its units are named, and it has the group's priority and number, and the addresses that they hold
+  pub sender_named : (t : ℕ) → IsQueuedAt s p t → held.named t flow.sender ≡ true
+  pub receiver_named : (t v : ℕ) → IsQueuedAt s p t → flow.to ≡ One v → held.named t v ≡ true
   pub identifier : (t : ℕ) → IsQueuedAt s p t
       → s.ident p ≡ identifier_of group.priority group.pgn (goes_to (held.address t) flow.to) (held.address t flow.sender)
 
@@ -144,9 +145,9 @@ pub record IsSessionFrame (plan : Plan) (timing : Timing) (s : Schedule) (held :
   -- the message has ended before the next one of its flow is queued
   pub release_first : release ≤ s.queued p
   pub jitter_at_most : IsWithinMs timing (pace.period + pace.jitter) release (s.queued p)
-  -- while it is queued both units are on, and it has the addresses that they hold
-  pub sender_on : (t : ℕ) → IsQueuedAt s p t → held.on t flow.sender ≡ true
-  pub receiver_on : (t : ℕ) → IsQueuedAt s p t → held.on t receiver ≡ true
+  -- while it is queued both units are named, and it has the addresses that they hold
+  pub sender_named : (t : ℕ) → IsQueuedAt s p t → held.named t flow.sender ≡ true
+  pub receiver_named : (t : ℕ) → IsQueuedAt s p t → held.named t receiver ≡ true
   pub identifier : (t : ℕ) → IsQueuedAt s p t → s.ident p ≡ part_identifier timing part (held.address t flow.sender) (held.address t receiver)
 
 -- ---- requests
@@ -159,9 +160,9 @@ pub record IsRequestFrame (plan : Plan) (s : Schedule) (held : Held) (r release 
   pub paced : asked.period ≡ Some ms
   pub length : s.bits p ≤ 80 + 10 * 3
   pub at_once : s.queued p ≡ release
-  -- while it is queued its units are on, and it has the addresses that they hold
-  pub sender_on : (t : ℕ) → IsQueuedAt s p t → held.on t asked.sender ≡ true
-  pub receiver_on : (t v : ℕ) → IsQueuedAt s p t → asked.to ≡ One v → held.on t v ≡ true
+  -- while it is queued its units are named, and it has the addresses that they hold
+  pub sender_named : (t : ℕ) → IsQueuedAt s p t → held.named t asked.sender ≡ true
+  pub receiver_named : (t v : ℕ) → IsQueuedAt s p t → asked.to ≡ One v → held.named t v ≡ true
   pub identifier : (t : ℕ) → IsQueuedAt s p t → s.ident p ≡ identifier_of 6 request (goes_to (held.address t) asked.to) (held.address t asked.sender)
 
 -- ---- long messages to all
@@ -171,8 +172,8 @@ pub record IsBroadcastFrame (timing : Timing) (s : Schedule) (held : Held) (b : 
   pub known : m < b.count u
   pub length : s.bits p ≤ 160
   pub at_once : s.queued p ≡ release
-  -- while it is queued its unit is on, and it has the address that this holds
-  pub sender_on : (t : ℕ) → IsQueuedAt s p t → held.on t u ≡ true
+  -- while it is queued its unit is named, and it has the address that this holds
+  pub sender_named : (t : ℕ) → IsQueuedAt s p t → held.named t u ≡ true
   pub identifier : (t : ℕ) → IsQueuedAt s p t → s.ident p ≡ identifier_of timing.transport_priority number 255 (held.address t u)
 
 -- ---- all of them

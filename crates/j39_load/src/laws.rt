@@ -24,6 +24,7 @@ ghost use Rattle.j39_load.specs.KeepsPlan.{AreFramesInTime, CanBeKept, IsSingleF
 ghost use Rattle.j39_load.specs.KeepsPlan.{origins_of};
 ghost use Rattle.j39_load.specs.KeptReceivers.{AreNotGivenUp};
 ghost use Rattle.j39_load.specs.KeptTogether.{CanBeKeptTogether, CanSendAll};
+ghost use Rattle.j39_load.specs.KeptWithout.{CanBeKeptWithout};
 ghost use Rattle.j39_load.specs.Delays.{announcements_place, packets_place};
 ghost use Rattle.j39_load.specs.LoadFindings.{AreLoadFindings, AsksOfBus, load_findings};
 ghost use Rattle.j39_load.specs.LongRuns.{IsLongRunLoad};
@@ -228,6 +229,22 @@ pub fn plans_can_be_kept_whole()
         → CanSendAll plan timing f g r to_all.sender packets more }
 {}
 
+/// And a vehicle can lack a unit: two flows of other units whose messages go in one frame, the first of them to this
+/// unit, can be sent in whichever order, as often as one likes, on a bus that keeps to the plan, whether its units keep
+/// order or not, and to which this unit sends nothing.
+pub fn plans_can_be_kept_without_a_unit()
+    ensures { (plan : Plans) (timing : Timings) → ArePlannedApart (units_of plan)
+        → (u f : ℕ) (flow : PlannedFlows) (pace : PlannedPaces) (group : PlannedGroups)
+        → slice_get plan.flows.items f ≡ Some flow → flow.pace ≡ Some pace
+        → slice_get plan.groups.items flow.group ≡ Some group → group.most ≤ 8
+        → IsPgn group.pgn → flow.to ≡ One u → flow.sender ≢ u
+        → (g : ℕ) (other : PlannedFlows) (its : PlannedPaces) (second : PlannedGroups)
+        → slice_get plan.flows.items g ≡ Some other → other.pace ≡ Some its
+        → slice_get plan.groups.items other.group ≡ Some second → second.most ≤ 8
+        → IsPgn second.pgn → other.sender ≢ u
+        → (first : ℕ → Bool) (n : ℕ) → CanBeKeptWithout plan timing u f g first n }
+{}
+
 /// What `load` counts bounds the planned frames of a bus: on each bus that keeps to a clean plan in the plan's own words
 /// no more bits of them are queued than `total_load` a second, and a number more that is the same however long the bus
 /// runs; so it is with the bits of damaged attempts and of the error frames behind them.
@@ -271,14 +288,14 @@ pub fn kept_plans_bring_values_in_time()
 /// which goes in one frame, have two identifiers, unless both groups are told by their data: then they have one
 /// wherever the units are (`flows`). And no request between units that are on has that of such a frame (`requests`).
 pub fn short_flows_have_different_identifiers()
-    ensures flows { (plan : Plans) → Clean plan → (on : ℕ → Bool) (held : ℕ → ℕ) → AreHeldApart on held
+    ensures flows { (plan : Plans) → Clean plan → (named : ℕ → Bool) (held : ℕ → ℕ) → AreHeldApart named held
         → (f h : ℕ) (flow other : PlannedFlows) (group second : PlannedGroups) → f ≢ h
-        → IsShortFlow plan on f flow group
-        → IsShortFlow plan on h other second → group_ident held group flow ≡ group_ident held second other
+        → IsShortFlow plan named f flow group
+        → IsShortFlow plan named h other second → group_ident held group flow ≡ group_ident held second other
         → AreTwinFlows group flow second other }
-    ensures requests { (plan : Plans) → Clean plan → (on : ℕ → Bool) (held : ℕ → ℕ) → AreHeldApart on held
-        → (f : ℕ) (flow : PlannedFlows) (group : PlannedGroups) → IsShortFlow plan on f flow group
-        → (request : PlannedRequests) → IsAskedBetween on request
+    ensures requests { (plan : Plans) → Clean plan → (named : ℕ → Bool) (held : ℕ → ℕ) → AreHeldApart named held
+        → (f : ℕ) (flow : PlannedFlows) (group : PlannedGroups) → IsShortFlow plan named f flow group
+        → (request : PlannedRequests) → IsAskedBetween named request
         → group_ident held group flow ≢ request_ident held request }
 {}
 

@@ -3,8 +3,8 @@ use Rattle.j39_load.proofs.laws.short_flows_have_different_identifiers.Goals as 
 
 pub returns : goal.returns
 returns c = record {
-  flows = λ plan clean on held apart f h flow other group second distinct is its same.
-      different plan clean on held apart f h flow other group second distinct is its same;
-  requests = λ plan clean on held apart f flow group is request asked.
-      other_than_requests plan clean on held apart f flow group is request asked;
+  flows = λ plan clean named held apart f h flow other group second distinct is its same.
+      different plan clean named held apart f h flow other group second distinct is its same;
+  requests = λ plan clean named held apart f flow group is request asked.
+      other_than_requests plan clean named held apart f flow group is request asked;
 }
