@@ -1,12 +1,14 @@
--- Where no more damaged attempts begin in a window than are told, of one more in a row the last begins this window behind the first.
+-- How many bits a damaged attempt takes; and where no more of them begin in a window than are told, of one more in a row the last begins this
+-- window behind the first.
 use Rattle.std.proofs.Common.{ℕ, zero, suc, ◌+◌, ◌*◌, ◌<◌, ◌≤◌, cond, arith, inl, inr}
 use Rattle.std.proofs.Math.Nat.{mul-le-mul_right}
-use Rattle.std.proofs.lemmas.Bool.{cases_lt, le-ltb, lt-ltb}
+use Rattle.std.proofs.lemmas.Bool.{cases_Bool, cases_lt, le-ltb, lt-ltb}
 use Rattle.j39_network.specs.declared.plan.timing.Timing.{Timing}
 use Rattle.j39_load.specs.KeepsErrors.{attempts_within, begins_within}
 use Rattle.j39_load.specs.SentFrames.{IsMsBehind, bit_time}
-use Rattle.j39_timing.specs.Errors.{Damaged}
+use Rattle.j39_timing.specs.Errors.{Damaged, IsBusWithErrors}
 use Rattle.j39_timing.specs.Sums.{total}
+use Rattle.j39_timing.specs.TimedFrames.{Schedule}
 
 -- a sum of which so many places in a row have 1 at least is no less than their number
 in_a_row : (n e k : ℕ) (f : ℕ → ℕ) → e + k ≤ n → ((i : ℕ) → e ≤ i → i < e + k → 1 ≤ f i) → k ≤ total n f
@@ -21,6 +23,16 @@ in_a_row (suc n) e (suc k) f inside ones = elim (cases_lt n (e + suc k)) [
   | inr short ↦
       let before : suc k ≤ total n f = in_a_row n e (suc k) f short ones in
       omega (arith, before)
+]
+
+-- of a frame that is sent again or one that is left half sent, an attempt takes no more bits than a frame of eight bytes
+pub attempt_few : (s : Schedule) (d : Damaged) → IsBusWithErrors s d → ((p : ℕ) → p < s.count → s.bits p ≤ 160) → (e : ℕ) → e < d.count → d.sent e ≤ 160
+attempt_few s d bus short e below = elim (cases_Bool (d.lost e)) [
+  | inl lost ↦ let few = bus.lost_at_most e below lost in omega (arith, few)
+  | inr sent_again ↦
+      let few = bus.sent_at_most e below sent_again in
+      let frame = short (d.frame e) (bus.known e below sent_again) in
+      omega (arith, few, frame)
 ]
 
 module _ (timing : Timing) (ms many : ℕ) (d : Damaged) (in_order : (e f : ℕ) → e ≤ f → f < d.count → d.begin e ≤ d.begin f)

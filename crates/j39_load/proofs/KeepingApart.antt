@@ -1,5 +1,5 @@
 -- A bus can keep to a plan in the plan's own words: one flow of it alone, whose frames come one behind the other, in time or as late as its
--- jitter allows, undamaged or with the first one damaged once.
+-- jitter allows, undamaged, or with the first one damaged once or behind one that is left half sent.
 use Rattle.std.proofs.Common.{◌≡◌, ℕ, ◌+◌, ◌*◌, ◌^◌, ◌%◌, ◌<◌, ◌≤◌, ◌⊎◌, Bool, true, false, not, ◌&&◌, cond, if◌then◌else◌, ltb, nat_le, nat_lt, length, Option}
 use Rattle.std.proofs.Common.{None, Some}
 use Rattle.std.proofs.Common.{refl, sym, ap, ◌∙◌, subst, inl, inr, arith}
@@ -238,7 +238,7 @@ module _ (plan : Plan) (timing : Timing) (apart : ArePlannedApart (units_of plan
     of_flow = λ p. refl;
   }
 
-  -- ---- each frame as late as the jitter allows, and the first damaged once
+  -- ---- each frame as late as the jitter allows, and the first damaged once, or behind one that is left half sent
 
   abbrev jitter : ℕ
   jitter = pace.jitter * bits_per_ms timing.bitrate
@@ -258,9 +258,6 @@ module _ (plan : Plan) (timing : Timing) (apart : ArePlannedApart (units_of plan
 
   abbrev late_bus : Schedule
   late_bus = damaged_first.frames n long_step jitter (80 + 10 * group.most) ident some_bits room
-
-  abbrev attempt : Damaged
-  attempt = damaged_first.damage n long_step jitter (80 + 10 * group.most) ident some_bits room
 
   abbrev late_sent : FrameSources
   late_sent = record { source = λ p. Single f; release = λ p. p * long_step; broadcasts = no_broadcasts }
@@ -332,58 +329,63 @@ module _ (plan : Plan) (timing : Timing) (apart : ArePlannedApart (units_of plan
         let none = none_unplanned late_bus from to in omega (arith, none);
   }
 
-  late_errors : (rate : ErrorRate) → timing.errors ≡ Some rate → KeepsErrors timing rate late_bus attempt all_planned late_sent
-  late_errors rate told = record {
-    told = told;
-    in_order = λ e g before in_g. omega arith;
-    seldom = λ from.
-        let once = one_at_most (λ e. cond (begins_within timing rate.every attempt from e) 1 0)
-        (cond_both (begins_within timing rate.every attempt from 0) 1 0 (λ (k : ℕ). k ≤ 1) (λ _. omega arith) (λ _. omega arith)) in
-        let some = rate.count_positive in
-        omega (arith, once, some);
-    few_others = λ p from to in_p is source seen waits wait.
-        let none = none_other (with_errors late_bus attempt) (planned_with late_bus all_planned)
-        (λ q. cond_both (nat_lt q late_bus.count) true true (λ (b : Bool). b ≡ true) (λ _. refl) (λ _. refl))
-        ((with_errors late_bus attempt).ident p) from to in
-        omega (arith, none);
-  }
-
   no_unit : slice_get plan.units.items (length plan.units.items) ≡ None
   no_unit = elim (slice_get_cases plan.units.items (length plan.units.items)).1 [
     | inl (unit, below, at, same) ↦ absurd (omega (arith, below))
     | inr (past, none) ↦ none
   ]
 
-  late_errors_in_any_order : KeepsErrorsInAnyOrder plan timing late_bus controllers attempt all_planned late_sent
-  late_errors_in_any_order = record {
-    own = length plan.units.items;
-    in_order = ap (λ (o : Option UnitPlan). option_map_or (λ (x : UnitPlan). not (is_any x.queue)) o true) no_unit;
-    few_unplanned = λ p from to u unit in_p is takes at any seen waits wait.
-        let none = none_foreseen (with_errors late_bus attempt) (planned_with late_bus all_planned)
-        (λ q. cond_both (nat_lt q late_bus.count) true true (λ (b : Bool). b ≡ true) (λ _. refl) (λ _. refl)) from to in
-        omega (arith, none);
-  }
+  module _ (half_sent : Bool) where
+    abbrev attempt : Damaged
+    attempt = damaged_first.damage n long_step jitter (80 + 10 * group.most) ident some_bits room half_sent (omega (arith, short))
 
-  pub can_be_kept_together : IsPgn group.pgn → (rate : ErrorRate) → timing.errors ≡ Some rate → CanBeKeptTogether plan timing rate f pace n
-  can_be_kept_together number rate told =
-      let legal = damaged_first.legal n long_step jitter (80 + 10 * group.most) ident some_bits room in
-      record {
-        s = late_bus;
-        damaged = attempt;
-        controllers = controllers;
-        planned = all_planned;
-        sent = late_sent;
-        held = held;
-        legal = legal;
-        any_order = damaged_first.any_order late_bus attempt legal controllers;
-        keeps = late_keeps;
-        queues = late_queues number;
-        errors = late_errors rate told;
-        errors_in_any_order = late_errors_in_any_order;
-        frames = refl;
-        of_flow = λ p. refl;
-        all_planned = λ p. refl;
-        jitter = λ p. in_ms_behind timing.bitrate pace.jitter (p * long_step) (p * long_step + jitter) (omega arith);
-        once = refl;
-        of_first = λ e. refl;
-      }
+    late_errors : (rate : ErrorRate) → timing.errors ≡ Some rate → KeepsErrors timing rate late_bus attempt all_planned late_sent
+    late_errors rate told = record {
+      told = told;
+      in_order = λ e g before in_g. omega arith;
+      seldom = λ from.
+          let once = one_at_most (λ e. cond (begins_within timing rate.every attempt from e) 1 0)
+          (cond_both (begins_within timing rate.every attempt from 0) 1 0 (λ (k : ℕ). k ≤ 1) (λ _. omega arith) (λ _. omega arith)) in
+          let some = rate.count_positive in
+          omega (arith, once, some);
+      few_others = λ p from to in_p is source seen waits wait.
+          let none = none_other (with_errors late_bus attempt) (planned_with late_bus all_planned)
+          (λ q. cond_both (nat_lt q late_bus.count) true true (λ (b : Bool). b ≡ true) (λ _. refl) (λ _. refl))
+          ((with_errors late_bus attempt).ident p) from to in
+          omega (arith, none);
+    }
+
+    late_errors_in_any_order : KeepsErrorsInAnyOrder plan timing late_bus controllers attempt all_planned late_sent
+    late_errors_in_any_order = record {
+      own = length plan.units.items;
+      in_order = ap (λ (o : Option UnitPlan). option_map_or (λ (x : UnitPlan). not (is_any x.queue)) o true) no_unit;
+      few_unplanned = λ p from to u unit in_p is takes at any seen waits wait.
+          let none = none_foreseen (with_errors late_bus attempt) (planned_with late_bus all_planned)
+          (λ q. cond_both (nat_lt q late_bus.count) true true (λ (b : Bool). b ≡ true) (λ _. refl) (λ _. refl)) from to in
+          omega (arith, none);
+    }
+
+    pub can_be_kept_together : IsPgn group.pgn → (rate : ErrorRate) → timing.errors ≡ Some rate → CanBeKeptTogether plan timing rate f pace n half_sent
+    can_be_kept_together number rate told =
+        let legal = damaged_first.legal n long_step jitter (80 + 10 * group.most) ident some_bits room half_sent (omega (arith, short)) in
+        record {
+          s = late_bus;
+          damaged = attempt;
+          controllers = controllers;
+          planned = all_planned;
+          sent = late_sent;
+          held = held;
+          legal = legal;
+          any_order = damaged_first.any_order late_bus attempt legal controllers;
+          keeps = late_keeps;
+          queues = late_queues number;
+          errors = late_errors rate told;
+          errors_in_any_order = late_errors_in_any_order;
+          frames = refl;
+          of_flow = λ p. refl;
+          all_planned = λ p. refl;
+          jitter = λ p. in_ms_behind timing.bitrate pace.jitter (p * long_step) (p * long_step + jitter) (omega arith);
+          once = refl;
+          of_first = λ e. refl;
+          of_another = λ e. refl;
+        }

@@ -29,7 +29,7 @@ use Rattle.j39_load.specs.SentFrames.{Asking, Source, goes_to, part_identifier}
 use Rattle.j39_load.specs.SentFrames.{RequestToSend, Packet, ClearToSend, EndAcknowledged}
 use Rattle.j39_findings.specs.Standing.{DecidesWhoStays}
 use Rattle.j39_load.specs.Twins.{is_same}
-use Rattle.j39_load.proofs.Attempts.{a_window_apart}
+use Rattle.j39_load.proofs.Attempts.{a_window_apart, attempt_few}
 use Rattle.j39_load.proofs.KeepingBroadcasts.{IsCopy, as_wanted}
 use Rattle.j39_load.proofs.KeepingFrames.{IsBelowGreatest, inside_asked}
 use Rattle.j39_load.proofs.PlacedFrames.{traffic}
@@ -145,8 +145,7 @@ module _ (plan : Plan) (timing : Timing) (stays : UnitPlan → Bool) (tells : De
       let behind = le-ltb (s.count + e) s.count (omega arith) in
       let back : s.count + e - s.count ≡ e = omega arith in
       let front = lt-ltb e d.count below in
-      let few = bus.sent_at_most e below in
-      let short = longest_of (d.frame e) (bus.known e below) in
+      let few = attempt_few s d bus longest_of e below in
       record {
         error = false;
         attempt = e;
@@ -154,7 +153,7 @@ module _ (plan : Plan) (timing : Timing) (stays : UnitPlan → Bool) (tells : De
         is = omega arith;
         behind = omega arith;
         queued = rw (behind, back, front) refl;
-        bits = rw (behind, back, front) (omega (arith, few, short));
+        bits = rw (behind, back, front) (omega (arith, few));
         ident = rw (behind, back, front) refl;
         source = rw (behind, back, front) (omega arith);
         turn = rw (behind, back, front) refl;

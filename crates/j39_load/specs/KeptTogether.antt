@@ -15,8 +15,8 @@ use Rattle.j39_timing.specs.Errors.{Damaged, IsLegalInAnyOrderWithErrors, IsLega
 use Rattle.j39_timing.specs.Messages.{frame_end}
 use Rattle.j39_timing.specs.TimedFrames.{Schedule, IsLegal}
 
--- a bus on which a flow of this pace is sent, one frame and so many more, of which the first is damaged once
-pub record CanBeKeptTogether (plan : Plan) (timing : Timing) (rate : ErrorRate) (f : ℕ) (pace : Pace) (n : ℕ) : Type 0 where
+-- a bus on which a flow of this pace is sent, one frame and so many more, of which the first is damaged once, or waits for one that is left half sent
+pub record CanBeKeptTogether (plan : Plan) (timing : Timing) (rate : ErrorRate) (f : ℕ) (pace : Pace) (n : ℕ) (half_sent : Bool) : Type 0 where
   pub s : Schedule
   pub damaged : Damaged
   pub controllers : Controllers
@@ -37,6 +37,7 @@ pub record CanBeKeptTogether (plan : Plan) (timing : Timing) (rate : ErrorRate) 
   pub jitter : (p : ℕ) → IsMsBehind timing pace.jitter (sent.release p) (s.queued p)
   pub once : damaged.count ≡ 1
   pub of_first : (e : ℕ) → damaged.frame e ≡ 0
+  pub of_another : (e : ℕ) → damaged.lost e ≡ half_sent
 
 -- a frame of this source has been sent
 abbrev pub HasBeenSent : Schedule → FrameSources → Source → Type 0

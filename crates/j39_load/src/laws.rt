@@ -194,15 +194,15 @@ pub fn plans_can_be_kept()
 {}
 
 /// And all of it at once: such a flow can be sent as late as its jitter allows, as often as one likes, where the first
-/// frame is damaged once, on a bus that keeps to the plan and to what it tells of damage, and that is legal whether its
-/// units keep order or not.
+/// frame is damaged once, or waits for one that its unit leaves half sent, on a bus that keeps to the plan and to what it
+/// tells of damage, and that is legal whether its units keep order or not.
 pub fn plans_can_be_kept_together()
     ensures { (plan : Plans) (timing : Timings) → ArePlannedApart (units_of plan)
         → (f : ℕ) (flow : PlannedFlows) (pace : PlannedPaces) (group : PlannedGroups)
         → slice_get plan.flows.items f ≡ Some flow → flow.pace ≡ Some pace
         → slice_get plan.groups.items flow.group ≡ Some group → group.most ≤ 8
-        → IsPgn group.pgn → (rate : ErrorRates) → timing.errors ≡ Some rate → (n : ℕ)
-        → CanBeKeptTogether plan timing rate f pace n }
+        → IsPgn group.pgn → (rate : ErrorRates) → timing.errors ≡ Some rate
+        → (n : ℕ) (half_sent : Bool) → CanBeKeptTogether plan timing rate f pace n half_sent }
 {}
 
 /// And such a flow, a request, a long message to one unit and one to all on one bus: where the message to one unit has

@@ -22,6 +22,7 @@ use Rattle.j39_load.specs.Loads.{bits_of_ms, bits_per_ms, load_of_flow}
 use Rattle.j39_load.specs.LongRuns.{IsLongRunLoad, bits_damaged, bits_queued, is_queued_within, seconds}
 use Rattle.j39_load.specs.RequestLoads.{load_of_request}
 use Rattle.j39_load.specs.SentFrames.{FrameSources, Held, IsFrameOf, Source, Single, InSession, Asking, Announcing, Carrying, bit_time}
+use Rattle.j39_load.proofs.Attempts.{attempt_few}
 use Rattle.j39_load.proofs.LongRuns.Flows.{flow_bits}
 use Rattle.j39_load.proofs.LongRuns.Frames.{bits_at, index, kind, kind_below, more_at, of_kind, passes}
 use Rattle.j39_load.proofs.LongRuns.Units.{more_announcements, more_packets}
@@ -197,10 +198,9 @@ module _ (plan : Plan) (timing : Timing) (stays : UnitPlan → Bool) (tells : De
         let all = both n (load_of_damage timing) all_rates in
         let each : bits_damaged timing (seconds n) d from ≤ 191 * attempts_within timing (seconds n) d from =
         total-times d.count (begins_within timing (seconds n) d from) (begins_within timing (seconds n) d from) (λ e. d.sent e + d.error e) 191 (λ e below is.
-        let sent_bits = bus.sent_at_most e below in
+        let sent_bits = attempt_few s d bus (shortest s bus.queued_first planned sent held keeps) e below in
         let error_bits = bus.error_at_most e below in
-        let short = shortest s bus.queued_first planned sent held keeps (d.frame e) (bus.known e below) in
-        (is, omega (arith, sent_bits, error_bits, short))) in
+        (is, omega (arith, sent_bits, error_bits))) in
         let damaged = damage_rate timing d rate.every rate.count errors.seldom 191 n from rate.every_positive in
         let load : load_of_damage timing ≡ div_ceil (1000 * (rate.count * 191)) rate.every =
         ap (λ (x : Option ErrorRate). option_map_or (λ (r : ErrorRate). div_ceil (1000 * (r.count * 191)) r.every) x 0) errors.told in
