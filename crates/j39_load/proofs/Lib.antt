@@ -22,6 +22,7 @@ pub mod KeepingFrames
 pub mod KeepingPlan
 pub mod KeepingTurns
 pub mod KeepingWithout
+pub mod KeptDeadlines
 pub mod KeptInTime
 pub mod KeptReceivers
 pub mod LeastKnown
@@ -29,6 +30,7 @@ pub mod LoadAnswers
 pub mod LosslessTransfers
 pub mod Milliseconds
 pub mod BufferingDelays
+pub mod OnceEach
 pub mod OneLoad
 pub mod PartFrames
 pub mod PlacedFrames

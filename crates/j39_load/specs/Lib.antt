@@ -10,6 +10,7 @@ pub mod Demands
 pub mod FreshNeeds
 pub mod KeepsBroadcasts
 pub mod KeepsErrors
+pub mod KeptDeadlines
 pub mod KeptReceivers
 pub mod KeptTogether
 pub mod KeptWithout

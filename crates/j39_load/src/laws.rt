@@ -22,6 +22,7 @@ ghost use Rattle.j39_load.specs.KeepsErrors.{AreInTimeWithErrors, AreInTimeWithE
 ghost use Rattle.j39_load.specs.KeepsErrors.{origins_with, planned_with};
 ghost use Rattle.j39_load.specs.KeepsPlan.{AreFramesInTime, CanBeKept, IsSingleFlow, KeepsQueues, KeepsToPlan};
 ghost use Rattle.j39_load.specs.KeepsPlan.{origins_of};
+ghost use Rattle.j39_load.specs.KeptDeadlines.{AreEachInTime};
 ghost use Rattle.j39_load.specs.KeptReceivers.{AreNotGivenUp};
 ghost use Rattle.j39_load.specs.KeptTogether.{CanBeKeptTogether, CanSendAll};
 ghost use Rattle.j39_load.specs.KeptWithout.{CanBeKeptWithout};
@@ -274,6 +275,14 @@ pub fn kept_plans_are_in_time()
 pub fn kept_plans_lose_no_receiver()
     ensures { (plan : Plans) (timing : Timings) → Clean plan → AreLoadFindings plan (Some timing) []
         → AreNotGivenUp plan timing }
+{}
+
+/// Of such a plan each long message to all of a flow with a deadline is whole within it from its release, on each bus
+/// that keeps to it in the plan's own words, whether units keep order or not, and on which each message is sent to its
+/// end and units take turns: also a message that is wanted while another one of its flow is under way.
+pub fn kept_plans_meet_deadlines()
+    ensures { (plan : Plans) (timing : Timings) → Clean plan → AreLoadFindings plan (Some timing) []
+        → AreEachInTime plan timing }
 {}
 
 /// Of such a plan each need that asks for an age has a flow that meets it, and on each bus that keeps to the plan in

@@ -9,6 +9,7 @@ use Rattle.j39_load.specs.BusTimes.{timing_of}
 use Rattle.j39_load.specs.FreshNeeds.{AreNeedsFresh}
 use Rattle.j39_load.specs.KeepsErrors.{AreInTimeWithErrors, AreInTimeWithErrorsInAnyOrder}
 use Rattle.j39_load.specs.KeepsPlan.{AreFramesInTime}
+use Rattle.j39_load.specs.KeptDeadlines.{AreEachInTime}
 use Rattle.j39_load.specs.KeptReceivers.{AreNotGivenUp}
 use Rattle.j39_load.specs.PlannedFrames.{ArePlannedFramesInTime}
 use Rattle.j39_load.specs.ReadInTime.{AreNeedsRead}
@@ -32,6 +33,8 @@ pub record IsSoundInTime (plan : Plan) : Type 0 where
   pub kept : (timing : Timing) → timing_of plan ≡ Some timing → AreFramesInTime plan timing
   pub damaged : (timing : Timing) → timing_of plan ≡ Some timing → AreInTimeWithErrors plan timing
   pub damaged_in_any_order : (timing : Timing) → timing_of plan ≡ Some timing → AreInTimeWithErrorsInAnyOrder plan timing
+  -- each long message to all of a flow with a deadline is whole within it, where its unit takes turns
+  pub broadcasts : (timing : Timing) → timing_of plan ≡ Some timing → AreEachInTime plan timing
   -- nor does a receiver give up a long message to all that has a deadline, where each packet is queued soon enough behind the frame before
   pub receivers : (timing : Timing) → timing_of plan ≡ Some timing → AreNotGivenUp plan timing
   pub values : (timing : Timing) → timing_of plan ≡ Some timing → AreValuesInTime plan timing

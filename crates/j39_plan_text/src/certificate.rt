@@ -9,8 +9,8 @@ ghost use Rattle.j39_load.specs.LoadFindings.{AreLoadFindings};
 use j39_findings::serial_numbers_change_nothing;
 use j39_load::{
     delays_are_bounds, kept_plans_are_in_time, kept_plans_bring_values_in_time,
-    kept_plans_lose_no_receiver, needed_values_are_read_in_time, needs_stay_fresh,
-    serial_numbers_change_no_load,
+    kept_plans_lose_no_receiver, kept_plans_meet_deadlines, needed_values_are_read_in_time,
+    needs_stay_fresh, serial_numbers_change_no_load,
 };
 use j39_run_laws::clean_plans_are_sound;
 
@@ -28,6 +28,7 @@ pub fn clean_plans_are_certified()
     needed_values_are_read_in_time();
     kept_plans_are_in_time();
     kept_plans_lose_no_receiver();
+    kept_plans_meet_deadlines();
     kept_plans_bring_values_in_time();
     serial_numbers_change_nothing();
     serial_numbers_change_no_load();

@@ -24,6 +24,7 @@ returns c = λ checked clean calm.
       kept = λ timing told. c.kept_plans_are_in_time.ensures.sound plan timing clean (found plan timing none told);
       damaged = λ timing told. c.kept_plans_are_in_time.ensures.with_errors plan timing clean (found plan timing none told);
       damaged_in_any_order = λ timing told. c.kept_plans_are_in_time.ensures.damaged_in_any_order plan timing clean (found plan timing none told);
+      broadcasts = λ timing told. c.kept_plans_meet_deadlines.ensures plan timing clean (found plan timing none told);
       receivers = λ timing told. c.kept_plans_lose_no_receiver.ensures plan timing clean (found plan timing none told);
       values = λ timing told. c.kept_plans_bring_values_in_time.ensures plan timing clean (found plan timing none told);
     } in
