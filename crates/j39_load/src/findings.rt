@@ -5,7 +5,7 @@ mod faults;
 mod load_answer;
 mod load_finding;
 
-pub use ages::{has_several, least_age, youngest_flow};
 pub(crate) use ages::smaller;
+pub use ages::{has_several, least_age, youngest_flow};
 pub use load_answer::{LoadAnswer, check_load};
 pub use load_finding::LoadFinding;

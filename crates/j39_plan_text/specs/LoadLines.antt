@@ -114,7 +114,7 @@ unfoldable pub known_age_text : Plan → Timing → List (Option Delay) → Need
 known_age_text plan timing delays need limit =
     if is_unmet plan.requests.items plan.flows.items need then time_text (codes " unmet of ") timing.bitrate limit
     else age_text timing.bitrate limit (least_age timing plan.requests.items plan.flows.items delays need)
-        ++ age_flow_text plan timing delays need
+    ++ age_flow_text plan timing delays need
 
 -- a need and its age, where it asks for one
 unfoldable pub need_line : Plan → Timing → List (Option Delay) → ℕ → NeedPlan → List ℕ

@@ -23,21 +23,21 @@ loop-place-preserved c =
     sym (length-append (find place x) rest) ∙ ap (λ (xs : List ℕ). length xs) more in
     elim (c.if-is_need_flow.branch) [
       | then-is_need_flow w ↦
-        let yes : is_need_flow v c.args.need.now place x ≡ true = cc in
-        let one : length (find place x) ≡ 1 = ap (λ b. length (found_if b place)) yes in
-        let counted : c.if-is_need_flow.count ≡ c.loop-place.count + 1 = w.count-is in
-        record {
-          total = omega (arith, whole, one, counted, c.loop-place.invariant.total);
-          few = omega (arith, counted, c.loop-place.invariant.few);
-        }
+          let yes : is_need_flow v c.args.need.now place x ≡ true = cc in
+          let one : length (find place x) ≡ 1 = ap (λ b. length (found_if b place)) yes in
+          let counted : c.if-is_need_flow.count ≡ c.loop-place.count + 1 = w.count-is in
+          record {
+            total = omega (arith, whole, one, counted, c.loop-place.invariant.total);
+            few = omega (arith, counted, c.loop-place.invariant.few);
+          }
       | else-is_need_flow w ↦
-        let no : is_need_flow v c.args.need.now place x ≡ false = cc in
-        let none : length (find place x) ≡ 0 = ap (λ b. length (found_if b place)) no in
-        let counted : c.if-is_need_flow.count ≡ c.loop-place.count = w.count-is in
-        record {
-          total = omega (arith, whole, none, counted, c.loop-place.invariant.total);
-          few = omega (arith, counted, c.loop-place.invariant.few);
-        }
+          let no : is_need_flow v c.args.need.now place x ≡ false = cc in
+          let none : length (find place x) ≡ 0 = ap (λ b. length (found_if b place)) no in
+          let counted : c.if-is_need_flow.count ≡ c.loop-place.count = w.count-is in
+          record {
+            total = omega (arith, whole, none, counted, c.loop-place.invariant.total);
+            few = omega (arith, counted, c.loop-place.invariant.few);
+          }
     ]
 
 pub returns : goal.returns
