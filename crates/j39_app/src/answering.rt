@@ -15,6 +15,7 @@ ghost use Rattle.j39_stream.specs.CommandEnds.{AnswersWhole, IsOfAny};
 ghost use Rattle.j39_stream.specs.Streams.{HasFailed, log_limits, plan_limits};
 ghost use Rattle.j39_text.specs.FrameText.{IsInputText};
 
+use crate::answering_audits::audit_files;
 use crate::answering_vehicles::vehicle_files;
 use crate::{
     Fault, Folder, Order, Sink, Source, Verdict, addresses_text, check_text, follow_text,
@@ -37,7 +38,7 @@ fn input_by<S: Source, W: Sink>(
 }
 
 // The plan of a file. Where the file describes none, writes why, and gives none.
-fn plan_of<F: Folder, W: Sink>(
+pub(crate) fn plan_of<F: Folder, W: Sink>(
     alloc: Global,
     files: &F,
     name: &str,
@@ -227,6 +228,9 @@ pub fn answer<F: Folder, S: Source, W: Sink>(
         Order::Read(plan, log) => read_files(alloc, files, plan, log, sink),
         Order::Follow(plan, log, all_frames) => {
             follow_files(alloc, files, plan, log, *all_frames, sink)
+        }
+        Order::Audit(plan, log, part, stamps) => {
+            audit_files(alloc, files, plan, log, *part, *stamps, sink)
         }
         Order::Vehicle(vehicle) => vehicle_files(alloc, files, vehicle, sink),
         Order::Help(text) => {

@@ -2,6 +2,7 @@
 #![tactic(auto)]
 
 mod answering;
+mod answering_audits;
 mod answering_vehicles;
 mod exit_status;
 mod folder;
@@ -10,6 +11,7 @@ mod program;
 pub use answering::answer;
 pub use exit_status::status;
 pub use folder::{Folder, SystemFiles};
+pub use j39_audit::audit_text;
 pub use j39_command_line::{Order, WordsFault, order};
 pub use j39_follow::follow_text;
 pub use j39_log::read_text;

@@ -1,8 +1,12 @@
 //! The words of the command line, read.
-ghost use Rattle.std.specs.Prelude.{◌≡◌, ◌≢◌, Err, None, true, false, [], IfOk, Some, codes, map, string_bytes};
+ghost use Rattle.std.specs.Prelude.{ℕ, min, if◌then◌else◌, ◌≡◌, ◌≢◌, Err, None, true, false, [], IfOk, Some, codes, map, string_bytes};
 ghost use Rattle.clap.specs.Words.{first_of, found_of, kind_of, one_of, rows_of, subcommand_of, subcommand_rows_of};
 ghost use Rattle.j39_command_line.specs.Commands.{commands};
-ghost use Rattle.j39_command_line.specs.Orders.{IsOrdered, AreRefused, AsksHelp, IsHelp, Orders, OrdersNothing, asks_for_text};
+ghost use Rattle.j39_command_line.specs.Orders.{IsOrdered, AreRefused, AsksHelp, HasStamps, IsHelp, Orders, OrdersNothing, are_stamps};
+ghost use Rattle.j39_command_line.specs.Orders.{asks_for_text};
+ghost use Rattle.std.specs.Char.{is_ascii_digit};
+ghost use Rattle.std.specs.List.{list_all};
+ghost use Rattle.std.specs.Str.Parse.{digits_value};
 ghost use Rattle.j39_command_line.specs.declared.orders.WordsFault.TheVariants.{Bad, Memory};
 ghost use Rattle.clap.specs.declared.error.kind.ErrorKind.TheVariants.{OutOfMemory};
 
@@ -11,6 +15,11 @@ use crate::orders::{Order, WordsFault};
 use clap::error::ErrorKind;
 use clap::{ArgMatches, Error};
 use std::alloc::Global;
+
+// By how many microseconds the times of a log may differ, unless it is said, and at most.
+const USUAL_STAMPS: u64 = 1000;
+
+const MOST_STAMPS: u64 = 1_000_000;
 
 // The value that a command asks for by this name.
 fn value(alloc: Global, values: &ArgMatches, name: &str) -> Result<String, WordsFault>
@@ -32,6 +41,73 @@ fn is_given(values: &ArgMatches, flag: &str) -> bool
     values.get_flag(flag)
 }
 
+fn is_digit(byte: u8) -> bool
+    ensures { result ≡ is_ascii_digit byte }
+{
+    matches!(byte, b'0'..=b'9')
+}
+
+fn are_digits(text: &[u8]) -> bool
+    ensures { result ≡ list_all is_ascii_digit text.now }
+{
+    text.iter().all(|byte| is_digit(*byte))
+}
+
+// The number of digits, or the first one that is too large.
+fn number_of(digits: &[u8]) -> u64
+    requires { list_all is_ascii_digit digits.now ≡ true }
+    ensures { result ≡ min (digits_value 10 digits.now) 1000001 }
+{
+    let mut number = 0;
+    for digit in digits {
+        number = (number * 10 + u64::from(*digit - b'0')).min(MOST_STAMPS + 1);
+    }
+    number
+}
+
+// The number that digits are, if it is at most that of a second's microseconds.
+fn stamps_of(text: &str) -> Option<u64>
+    ensures { result ≡ (if are_stamps text.now then Some (digits_value 10 text.now) else None) }
+{
+    let digits = text.as_bytes();
+    if digits.is_empty() || !are_digits(digits) {
+        return None;
+    }
+    let number = number_of(digits);
+    if number <= MOST_STAMPS {
+        Some(number)
+    } else {
+        None
+    }
+}
+
+// By how many microseconds the times of a log may differ.
+fn stamps(name: &str, values: &ArgMatches) -> Result<u64, WordsFault>
+    ensures given { IfOk result (HasStamps (Some (name.now, rows_of (found_of values.now))) name.now) }
+    ensures refused { result ≡ Err Bad → (stamps : ℕ) → ¬ HasStamps (Some (name.now, rows_of (found_of values.now))) name.now stamps }
+    ensures memory { result ≡ Err Memory → ⊥ }
+{
+    match values.get_str("stamps") {
+        Some(text) => match stamps_of(text) {
+            Some(stamps) => Ok(stamps),
+            None => Err(WordsFault::Bad),
+        },
+        None => Ok(USUAL_STAMPS),
+    }
+}
+
+// What `audit` orders of a plan.
+fn audit(alloc: Global, plan: String, values: &ArgMatches) -> Result<Order, WordsFault>
+    requires { first_of (codes "PLAN") (rows_of (found_of values.now)) ≡ Some (string_bytes plan) }
+    ensures ordered { IfOk result (Orders (Some (codes "audit", rows_of (found_of values.now)))) }
+    ensures named { IfOk result (λ o. IsHelp o → ⊥) }
+    ensures refused { result ≡ Err Bad → OrdersNothing (Some (codes "audit", rows_of (found_of values.now))) }
+{
+    let log = value(alloc, values, "LOG")?;
+    let stamps = stamps("audit", values)?;
+    Ok(Order::Audit(plan, log, is_given(values, "part"), stamps))
+}
+
 // What a command orders whose first value is a plan.
 fn of_plan(alloc: Global, name: &str, values: &ArgMatches) -> Result<Order, WordsFault>
     requires line { name.now ≡ codes "frame" → ⊥ }
@@ -48,6 +124,7 @@ fn of_plan(alloc: Global, name: &str, values: &ArgMatches) -> Result<Order, Word
         "load" => Ok(Order::Load(plan)),
         "run" => Ok(Order::Run(plan, value(alloc, values, "SCHEDULE")?)),
         "read" => Ok(Order::Read(plan, value(alloc, values, "LOG")?)),
+        "audit" => audit(alloc, plan, values),
         "follow" => Ok(Order::Follow(plan, value(alloc, values, "LOG")?, is_given(values, "all"))),
         _ => Err(WordsFault::Bad),
     }
