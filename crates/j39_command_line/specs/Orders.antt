@@ -1,5 +1,5 @@
 -- What a command line orders.
-use Rattle.std.specs.Prelude.{◌≡◌, ◌⊎◌, ℕ, nat_le, nat_lt, ◌&&◌, Bool, true, false, List, length, None, Option, Some, codes, string_bytes, [], ◌∷◌}
+use Rattle.std.specs.Prelude.{◌≡◌, ◌⊎◌, ℕ, nat_le, nat_lt, ◌&&◌, Bool, true, false, if◌then◌else◌, List, length, None, Option, Some, codes, string_bytes, [], ◌∷◌}
 use Rattle.std.specs.Char.{is_ascii_digit}
 use Rattle.std.specs.List.{list_all}
 use Rattle.std.specs.Str.Parse.{digits_value}
@@ -24,10 +24,14 @@ HasFlag met name flag given =
 abbrev pub are_stamps : Text → Bool
 are_stamps text = nat_lt 0 (length text) && (list_all is_ascii_digit text && nat_le (digits_value 10 text) 1000000)
 
--- the subcommand that was met has this name, and its times differ by so many microseconds: 1000 unless it says another number
+-- by how many microseconds times differ: 1000 unless a number is given
+abbrev pub stamps_in : Option Text → Option ℕ
+stamps_in None = Some 1000
+stamps_in (Some text) = if are_stamps text then Some (digits_value 10 text) else None
+
+-- the subcommand that was met has this name, and so many are given or meant
 abbrev pub HasStamps : Option (Text × List Row) → Text → ℕ → Type 0
-HasStamps met name stamps = (rows : List Row) × (met ≡ Some (name, rows)) × (first_of (codes "stamps") rows ≡ None → stamps ≡ 1000)
-    × ((text : Text) → first_of (codes "stamps") rows ≡ Some text → (are_stamps text ≡ true) × (stamps ≡ digits_value 10 text))
+HasStamps met name stamps = (rows : List Row) × (met ≡ Some (name, rows)) × (stamps_in (first_of (codes "stamps") rows) ≡ Some stamps)
 
 -- the order is the subcommand that was met, with its values, or the words ask for a text of help
 abbrev pub Orders : Option (Text × List Row) → Order → Type 0

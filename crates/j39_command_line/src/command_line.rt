@@ -1,8 +1,8 @@
 //! The words of the command line, read.
-ghost use Rattle.std.specs.Prelude.{ℕ, min, if◌then◌else◌, ◌≡◌, ◌≢◌, Err, None, true, false, [], IfOk, Some, codes, map, string_bytes};
+ghost use Rattle.std.specs.Prelude.{ℕ, nat_le, ◌<◌, if◌then◌else◌, ◌≡◌, ◌≢◌, Err, None, true, false, [], IfOk, Some, codes, length, map, string_bytes};
 ghost use Rattle.clap.specs.Words.{first_of, found_of, kind_of, one_of, rows_of, subcommand_of, subcommand_rows_of};
 ghost use Rattle.j39_command_line.specs.Commands.{commands};
-ghost use Rattle.j39_command_line.specs.Orders.{IsOrdered, AreRefused, AsksHelp, HasStamps, IsHelp, Orders, OrdersNothing, are_stamps};
+ghost use Rattle.j39_command_line.specs.Orders.{IsOrdered, AreRefused, AsksHelp, IsHelp, Orders, OrdersNothing, are_stamps, stamps_in};
 ghost use Rattle.j39_command_line.specs.Orders.{asks_for_text};
 ghost use Rattle.std.specs.Char.{is_ascii_digit};
 ghost use Rattle.std.specs.List.{list_all};
@@ -53,27 +53,15 @@ fn are_digits(text: &[u8]) -> bool
     text.iter().all(|byte| is_digit(*byte))
 }
 
-// The number of digits, or the first one that is too large.
-fn number_of(digits: &[u8]) -> u64
-    requires { list_all is_ascii_digit digits.now ≡ true }
-    ensures { result ≡ min (digits_value 10 digits.now) 1000001 }
-{
-    let mut number = 0;
-    for digit in digits {
-        number = (number * 10 + u64::from(*digit - b'0')).min(MOST_STAMPS + 1);
-    }
-    number
-}
-
 // The number that digits are, if it is at most that of a second's microseconds.
-fn stamps_of(text: &str) -> Option<u64>
-    ensures { result ≡ (if are_stamps text.now then Some (digits_value 10 text.now) else None) }
+fn number_of(digits: &str) -> Option<u64>
+    requires some { 0 < length digits.now }
+    requires digits { list_all is_ascii_digit digits.now ≡ true }
+    ensures { result ≡ (if nat_le (digits_value 10 digits.now) 1000000 then Some (digits_value 10 digits.now) else None) }
 {
-    let digits = text.as_bytes();
-    if digits.is_empty() || !are_digits(digits) {
+    let Ok(number) = digits.parse::<u64>() else {
         return None;
-    }
-    let number = number_of(digits);
+    };
     if number <= MOST_STAMPS {
         Some(number)
     } else {
@@ -81,18 +69,24 @@ fn stamps_of(text: &str) -> Option<u64>
     }
 }
 
+// The number that a text is, if it is one of digits, and at most that of a second's microseconds.
+fn stamps_of(text: &str) -> Option<u64>
+    ensures { result ≡ (if are_stamps text.now then Some (digits_value 10 text.now) else None) }
+{
+    if text.is_empty() || !are_digits(text.as_bytes()) {
+        None
+    } else {
+        number_of(text)
+    }
+}
+
 // By how many microseconds the times of a log may differ.
-fn stamps(name: &str, values: &ArgMatches) -> Result<u64, WordsFault>
-    ensures given { IfOk result (HasStamps (Some (name.now, rows_of (found_of values.now))) name.now) }
-    ensures refused { result ≡ Err Bad → (stamps : ℕ) → ¬ HasStamps (Some (name.now, rows_of (found_of values.now))) name.now stamps }
-    ensures memory { result ≡ Err Memory → ⊥ }
+fn stamps_in(values: &ArgMatches) -> Option<u64>
+    ensures { result ≡ stamps_in (first_of (codes "stamps") (rows_of (found_of values.now))) }
 {
     match values.get_str("stamps") {
-        Some(text) => match stamps_of(text) {
-            Some(stamps) => Ok(stamps),
-            None => Err(WordsFault::Bad),
-        },
-        None => Ok(USUAL_STAMPS),
+        Some(text) => stamps_of(text),
+        None => Some(USUAL_STAMPS),
     }
 }
 
@@ -104,8 +98,10 @@ fn audit(alloc: Global, plan: String, values: &ArgMatches) -> Result<Order, Word
     ensures refused { result ≡ Err Bad → OrdersNothing (Some (codes "audit", rows_of (found_of values.now))) }
 {
     let log = value(alloc, values, "LOG")?;
-    let stamps = stamps("audit", values)?;
-    Ok(Order::Audit(plan, log, is_given(values, "part"), stamps))
+    match stamps_in(values) {
+        Some(stamps) => Ok(Order::Audit(plan, log, is_given(values, "part"), stamps)),
+        None => Err(WordsFault::Bad),
+    }
 }
 
 // What a command orders whose first value is a plan.
