@@ -154,7 +154,7 @@ fn run_files<F: Folder, W: Sink>(
     schedule: &str,
     sink: &mut W,
 ) -> Result<Verdict, Fault>
-    ensures { EndsByTwo IsRunOf IsRunFrontOf plan_limits
+    ensures { EndsByTwo IsRunOf IsRunFrontOf ⊥ plan_limits
         (F.stays_shut files.now) (F.bytes_of files.now) F.File.state plan.now schedule.now W.state sink.old sink.new result }
 {
     match plan_of(alloc, files, plan, sink)? {
@@ -171,7 +171,7 @@ fn read_files<F: Folder, W: Sink>(
     log: &str,
     sink: &mut W,
 ) -> Result<Verdict, Fault>
-    ensures { EndsByTwo IsReadOf IsReadFrontOf log_limits
+    ensures { EndsByTwo IsReadOf IsReadFrontOf ⊥ log_limits
         (F.stays_shut files.now) (F.bytes_of files.now) F.File.state plan.now log.now W.state sink.old sink.new result }
 {
     match plan_of(alloc, files, plan, sink)? {
@@ -189,7 +189,7 @@ fn follow_files<F: Folder, W: Sink>(
     all_frames: bool,
     sink: &mut W,
 ) -> Result<Verdict, Fault>
-    ensures { EndsByTwo (IsFollowOf all_frames) (IsFollowFrontOf all_frames) log_limits
+    ensures { EndsByTwo (IsFollowOf all_frames) (IsFollowFrontOf all_frames) ⊥ log_limits
         (F.stays_shut files.now) (F.bytes_of files.now) F.File.state plan.now log.now W.state sink.old sink.new result }
 {
     match plan_of(alloc, files, plan, sink)? {

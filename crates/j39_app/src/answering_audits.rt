@@ -1,4 +1,14 @@
 //! What is written of a log that is audited.
+ghost use Rattle.std.specs.Prelude.{◌≡◌, true, false, IfOk};
+ghost use Rattle.std.specs.List.{list_any};
+ghost use Rattle.j39_app.specs.Answers.{IsOfSome};
+ghost use Rattle.j39_app.specs.AuditAnswers.{IsAuditOf, hinders, is_hindered, is_hindering};
+ghost use Rattle.j39_app.specs.Faults.{EndsByFile, EndsByTwo};
+ghost use Rattle.j39_audit.specs.AuditText.{IsAudit};
+ghost use Rattle.j39_plan_text.specs.CheckText.{IsReport};
+ghost use Rattle.j39_stream.specs.CommandEnds.{AnswersWhole, IsOfAny, PutsText};
+ghost use Rattle.j39_stream.specs.Streams.{log_limits};
+
 use crate::answering::plan_of;
 use crate::{Fault, Folder, Sink, Source, Verdict, audit_text, put_all};
 use j39_findings::{Finding, check};
@@ -7,44 +17,64 @@ use j39_plan_text::{PlanFindings, write_check};
 use j39_text::TextBuffer;
 use std::alloc::{AllocError, Global};
 
-// Whether a finding of this number hinders an audit: addresses or identifiers aren't what they should be.
-fn hinders(number: u8) -> bool {
+// Whether a finding of this number hinders an audit.
+fn is_hindering(number: u8) -> bool
+    ensures { result ≡ is_hindering number }
+{
     number <= 12 || number == 24 || number >= 26
 }
 
-fn is_hindrance(finding: &Finding) -> bool {
-    hinders(finding.number())
+// Whether one of these findings does.
+fn are_hindering(findings: &[Finding]) -> bool
+    ensures { result ≡ list_any hinders findings.now }
+{
+    findings
+        .iter()
+        .any(|finding| is_hindering(finding.number()))
 }
 
-// What `check` writes of a plan by which no log can be audited.
-fn hindrances(alloc: Global, plan: &Plan) -> Result<Option<TextBuffer>, AllocError> {
-    if !check(alloc, plan)?.iter().any(is_hindrance) {
-        return Ok(None);
-    }
+// What the check command writes of a plan, with its verdict.
+fn findings_of(alloc: Global, plan: &Plan) -> Result<(TextBuffer, Verdict), AllocError>
+    ensures { IfOk result (λ report. IsReport plan.now report.0 report.1) }
+{
     let found = PlanFindings::new(alloc, plan)?;
     let mut text = TextBuffer::new(alloc);
-    write_check(alloc, &mut text, plan, &found)?;
-    Ok(Some(text))
+    let verdict = write_check(alloc, &mut text, plan, &found)?;
+    Ok((text, verdict))
 }
 
-// Writes which premises of a plan a log refutes, or what is wrong with the plan, where it can't be audited.
-fn audit_log<S: Source, W: Sink>(
+fn put_findings<W: Sink>(alloc: Global, plan: &Plan, sink: &mut W) -> Result<Verdict, Fault>
+    ensures { PutsText (IsReport plan.now) W.state sink.old sink.new result }
+{
+    let (text, verdict) = findings_of(alloc, plan)?;
+    put_all(sink, text.as_slice())?;
+    Ok(verdict)
+}
+
+/// Writes which premises of a plan a log refutes. Where addresses or identifiers of the plan aren't what they should be
+/// (findings F1 to F12, F24, F26 to F28) it writes what the check command does, and reads nothing.
+pub fn audit_planned<S: Source, W: Sink>(
     alloc: Global,
     plan: &Plan,
     part: bool,
     stamps: u64,
     log: &mut S,
     sink: &mut W,
-) -> Result<Verdict, Fault> {
-    match hindrances(alloc, plan)? {
-        Some(text) => {
-            put_all(sink, text.as_slice())?;
-            Ok(Verdict::Findings)
-        }
-        None => audit_text(alloc, plan, part, stamps, log, sink),
+) -> Result<Verdict, Fault>
+    ensures hindered { is_hindered plan.now ≡ true → PutsText (IsReport plan.now) W.state sink.old sink.new result }
+    ensures unread { is_hindered plan.now ≡ true → log.new ≡ log.old }
+    ensures audited { is_hindered plan.now ≡ false → AnswersWhole (IsAudit plan.now part stamps) (IsOfAny (IsAudit plan.now part stamps)) log_limits
+        (S.state log.old) (S.state log.new) W.state sink.old sink.new result }
+{
+    let findings = check(alloc, plan)?;
+    if are_hindering(findings.as_slice()) {
+        put_findings(alloc, plan, sink)
+    } else {
+        audit_text(alloc, plan, part, stamps, log, sink)
     }
 }
 
+// It holds its buffers and tables in a frame of its own.
 #[inline(never)]
 fn audit_by<F: Folder, W: Sink>(
     alloc: Global,
@@ -54,8 +84,11 @@ fn audit_by<F: Folder, W: Sink>(
     part: bool,
     stamps: u64,
     sink: &mut W,
-) -> Result<Verdict, Fault> {
-    audit_log(alloc, plan, part, stamps, &mut files.open(log)?, sink)
+) -> Result<Verdict, Fault>
+    ensures { EndsByFile (IsAuditOf part stamps plan.now) (λ known. IsOfSome (IsAuditOf part stamps plan.now known)) (Unit {0}) log_limits
+        (F.stays_shut files.now) (F.bytes_of files.now) F.File.state log.now W.state sink.old sink.new result }
+{
+    audit_planned(alloc, plan, part, stamps, &mut files.open(log)?, sink)
 }
 
 /// Writes which premises of a plan a log refutes; the log's file is opened once the plan was read.
@@ -67,7 +100,10 @@ pub(crate) fn audit_files<F: Folder, W: Sink>(
     part: bool,
     stamps: u64,
     sink: &mut W,
-) -> Result<Verdict, Fault> {
+) -> Result<Verdict, Fault>
+    ensures { EndsByTwo (IsAuditOf part stamps) (IsAuditOf part stamps) (Unit {0}) log_limits
+        (F.stays_shut files.now) (F.bytes_of files.now) F.File.state plan.now log.now W.state sink.old sink.new result }
+{
     match plan_of(alloc, files, plan, sink)? {
         Some(plan) => audit_by(alloc, files, &plan, log, part, stamps, sink),
         None => Ok(Verdict::Unreadable),

@@ -9,6 +9,7 @@ mod folder;
 mod program;
 
 pub use answering::answer;
+pub use answering_audits::audit_planned;
 pub use exit_status::status;
 pub use folder::{Folder, SystemFiles};
 pub use j39_audit::audit_text;

@@ -10,11 +10,11 @@ use Rattle.j39_id.specs.declared.line_error.LineError.TheVariants.{Empty, NoHash
 use Rattle.j39_log.specs.declared.line_counts.LineCounts.{LineCounts}
 use Rattle.j39_log.specs.LineCounting.{AreWithin, IsLineMore}
 use Rattle.j39_tp.specs.declared.packet.Packet.{Packet}
-use Rattle.j39_audit.specs.AuditText.{Past, ReadsLine, ReadsLines, passed_over, with_frame}
+use Rattle.j39_audit.specs.AuditText.{AuditPast, AuditsLine, AuditsLines, passed_by, past_with_frame}
 use Rattle.j39_audit.specs.Settings.{Settings}
 
 -- none of these is a line of its own
-pub as_many_lines : (e : LineError) (past : Past) → (passed_over e past).number ≡ past.number
+pub as_many_lines : (e : LineError) (past : AuditPast) → (passed_by e past).number ≡ past.number
 as_many_lines Empty past = refl
 as_many_lines NoHash past = refl
 as_many_lines ShortIdent past = refl
@@ -22,15 +22,15 @@ as_many_lines BadIdent past = refl
 as_many_lines TooLong past = refl
 as_many_lines BadData past = refl
 
-pub frame_number : (s : Settings) (past : Past) (time : Option ℕ) (named : Option (List ℕ)) (f : Frame) (packet : Option Packet)
-    → (with_frame s past time named f packet).number ≡ past.number
-unfolding with_frame
+pub frame_number : (s : Settings) (past : AuditPast) (time : Option ℕ) (named : Option (List ℕ)) (f : Frame) (packet : Option Packet)
+    → (past_with_frame s past time named f packet).number ≡ past.number
+unfolding past_with_frame
 frame_number s past time named f packet = refl
 
 -- one line is read behind others
-pub line_more : (s : Settings) (ls : List Line) (line : Line) (past middle end : Past) → ReadsLines s past ls middle → ReadsLine s middle line end
-    → ReadsLines s past (ls ++ line ∷ []) end
-line_more s [] line past middle end all one = (end, subst (λ (p : Past). ReadsLine s p line end) all one, refl)
+pub line_more : (s : Settings) (ls : List Line) (line : Line) (past middle end : AuditPast) → AuditsLines s past ls middle → AuditsLine s middle line end
+    → AuditsLines s past (ls ++ line ∷ []) end
+line_more s [] line past middle end all one = (end, subst (λ (p : AuditPast). AuditsLine s p line end) all one, refl)
 line_more s (first ∷ ls) line past middle end all one = (all.0, all.1, line_more s ls line all.0 middle end all.2 one)
 
 pub within_more : (counts : LineCounts) (most more : ℕ) → most ≤ more → AreWithin counts most → AreWithin counts more

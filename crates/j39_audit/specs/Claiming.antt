@@ -6,9 +6,9 @@ use Rattle.std.specs.Option.{option_eq, option_map_or}
 use Rattle.j39_id.specs.Addresses.{in_pool, is_address}
 use Rattle.j39_network.specs.declared.plan.unit_plan.UnitPlan.{UnitPlan}
 use Rattle.j39_audit.specs.Below.{any_below, first_below}
-use Rattle.j39_audit.specs.Settings.{Settings, moves, unit_count}
-use Rattle.j39_audit.specs.declared.senders.Sender.{Sender}
-use Rattle.j39_audit.specs.declared.senders.Sender.TheVariants.{Unit as OfUnit, Nobody, Unknown}
+use Rattle.j39_audit.specs.Settings.{Settings, moves, units_planned}
+use Rattle.j39_audit.specs.declared.senders.SureSender.{SureSender}
+use Rattle.j39_audit.specs.declared.senders.SureSender.TheVariants.{Unit as OfUnit, Nobody, Unknown}
 
 -- ---- claims
 
@@ -18,18 +18,18 @@ pub record Heard : Type 0 where
   pub source : ℕ
 
 -- the claims before a frame, the newest one first: all of them, and those from the last break on
-pub record Claims : Type 0 where
+pub record HeardClaims : Type 0 where
   pub all : List Heard
   pub recent : List Heard
 
-abbrev pub no_claims : Claims
+abbrev pub no_claims : HeardClaims
 no_claims = record { all = []; recent = [] }
 
 -- behind a break
-abbrev pub broken_off : Bool → Claims → Claims
+abbrev pub broken_off : Bool → HeardClaims → HeardClaims
 broken_off broken claims = if broken then record claims { recent = [] } else claims
 
-abbrev pub with_claim : Heard → Claims → Claims
+abbrev pub with_claim : Heard → HeardClaims → HeardClaims
 with_claim h claims = record { all = h ∷ claims.all; recent = h ∷ claims.recent }
 
 abbrev pub is_at : Option ℕ → ℕ → Bool
@@ -47,14 +47,14 @@ pub record Knowledge : Type 0 where
   pub taken : ℕ → Bool
 
 -- a unit that may move may have moved unheard before a break, and any in a part of what the bus carried
-abbrev pub last_of : Settings → Claims → ℕ → Option ℕ
-last_of s claims u = if s.part then None else newest_of u (if moves s u then claims.recent else claims.all)
+abbrev pub last_claim_of : Settings → HeardClaims → ℕ → Option ℕ
+last_claim_of s claims u = if s.part then None else newest_of u (if moves s u then claims.recent else claims.all)
 
-abbrev pub is_taken : Claims → ℕ → Bool
+abbrev pub is_taken : HeardClaims → ℕ → Bool
 is_taken claims a = is_address a && list_any (λ (h : Heard). is_none h.unit && h.source == a) claims.all
 
-abbrev pub knowledge : Settings → Claims → Knowledge
-knowledge s claims = record { last = last_of s claims; taken = is_taken claims }
+abbrev pub knowledge : Settings → HeardClaims → Knowledge
+knowledge s claims = record { last = last_claim_of s claims; taken = is_taken claims }
 
 -- ---- addresses
 
@@ -81,7 +81,7 @@ may_be s k u a = may_stand s u a (k.last u)
 
 -- some unit claimed it last
 unfoldable pub is_claimed_last : Settings → Knowledge → ℕ → Bool
-is_claimed_last s k a = any_below (λ u. is_at (k.last u) a) (unit_count s)
+is_claimed_last s k a = any_below (λ u. is_at (k.last u) a) (units_planned s)
 
 -- somebody who isn't in the plan may be there
 unfoldable pub is_strange : Settings → Knowledge → ℕ → Bool
@@ -92,17 +92,17 @@ is_strange s k a =
 
 -- another unit than this may be there
 unfoldable pub is_another_there : Settings → Knowledge → ℕ → ℕ → Bool
-is_another_there s k a u = any_below (λ v. may_be s k v a && not (v == u)) (unit_count s)
+is_another_there s k a u = any_below (λ v. may_be s k v a && not (v == u)) (units_planned s)
 
 -- the first unit that may be there
 unfoldable pub first_there : Settings → Knowledge → ℕ → Option ℕ
-first_there s k a = first_below (λ u. may_be s k u a) (unit_count s)
+first_there s k a = first_below (λ u. may_be s k u a) (units_planned s)
 
 -- it is the sender where no other may be there; where none may be, nobody is there, unless strangers come
-abbrev pub sure_sender : Settings → Knowledge → ℕ → Option ℕ → Sender
+abbrev pub sure_sender : Settings → Knowledge → ℕ → Option ℕ → SureSender
 sure_sender s k a None = if has_strangers s then Unknown else Nobody
 sure_sender s k a (Some u) = if is_another_there s k a u then Unknown else OfUnit u
 
 -- who sends from an address, where that is sure: the one unit that may be there, or nobody
-unfoldable pub sender_at : Settings → Knowledge → ℕ → Sender
+unfoldable pub sender_at : Settings → Knowledge → ℕ → SureSender
 sender_at s k a = if is_strange s k a then Unknown else sure_sender s k a (first_there s k a)

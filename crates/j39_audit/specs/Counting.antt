@@ -60,5 +60,5 @@ told_more t line detail =
 unfoldable pub told_at : List Noted → Key → Told
 told_at noted key = told_of (filter (λ (n : Noted). is_same_key (key_of n.mark) key) noted)
 
-abbrev pub told : List Noted → Mark → Told
-told noted m = told_at noted (key_of m)
+abbrev pub told_in : List Noted → Mark → Told
+told_in noted m = told_at noted (key_of m)

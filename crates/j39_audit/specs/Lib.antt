@@ -4,6 +4,6 @@ pub mod Breaks
 pub mod Claiming
 pub mod Counting
 pub mod Looking
-pub mod Messages
+pub mod SentMessages
 pub mod Settings
 pub mod inside

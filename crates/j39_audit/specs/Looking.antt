@@ -15,16 +15,16 @@ use Rattle.j39_log.specs.LogFrames.{IsPacket}
 use Rattle.j39_tp.specs.declared.packet.Packet.{Packet}
 use Rattle.j39_tp.specs.declared.packet.Packet.TheVariants.{Rts, Bam}
 use Rattle.j39_audit.specs.Breaks.{breaks}
-use Rattle.j39_audit.specs.Claiming.{Claims, Heard, Knowledge, broken_off, has_strangers, is_address_of, knowledge, sender_at, with_claim}
+use Rattle.j39_audit.specs.Claiming.{HeardClaims, Heard, Knowledge, broken_off, has_strangers, is_address_of, knowledge, sender_at, with_claim}
 use Rattle.j39_audit.specs.Counting.{Noted}
-use Rattle.j39_audit.specs.Messages.{Sent, deviation, first_group, flows_noted, noted_at, requests_noted}
+use Rattle.j39_audit.specs.SentMessages.{SentMessage, deviation, first_group, flows_noted, noted_at, requests_noted}
 use Rattle.j39_audit.specs.Settings.{Settings}
 use Rattle.j39_audit.specs.declared.mark.Mark.{Mark}
 use Rattle.j39_audit.specs.declared.mark.Word.{Word}
 use Rattle.j39_audit.specs.declared.mark.Word.TheVariants.{Stranger, Nobody as NobodyThere, Address, Cannot, Urgent, Counted, Unsure, Break}
 use Rattle.j39_audit.specs.declared.messages.Test.TheVariants.{Any}
-use Rattle.j39_audit.specs.declared.senders.Sender.{Sender}
-use Rattle.j39_audit.specs.declared.senders.Sender.TheVariants.{Unit as OfUnit, Nobody, Unknown}
+use Rattle.j39_audit.specs.declared.senders.SureSender.{SureSender}
+use Rattle.j39_audit.specs.declared.senders.SureSender.TheVariants.{Unit as OfUnit, Nobody, Unknown}
 
 -- the transport packet of a frame, if it is one
 abbrev pub IsPacketOf : Frame → Option Packet → Type 0
@@ -80,7 +80,7 @@ claim_noted s f line (Some u) = claim_of_unit s f line u
 abbrev pub is_single : ℕ → Bool
 is_single pgn = not (pgn == address_claimed || (pgn == request || (pgn == connection_management || pgn == data_transfer)))
 
-abbrev pub single : ℕ → Frame → Sent
+abbrev pub single : ℕ → Frame → SentMessage
 single u f = record {
   unit = u;
   number = pgn_of f.ident;
@@ -92,8 +92,8 @@ single u f = record {
 }
 
 -- a message of this size and number that is announced
-abbrev pub announced : ℕ → Frame → ℕ → ℕ → Sent
-announced u f size pgn = record {
+abbrev pub announced_message : ℕ → Frame → ℕ → ℕ → SentMessage
+announced_message u f size pgn = record {
   unit = u;
   number = pgn;
   destination = f.ident.ps;
@@ -103,19 +103,19 @@ announced u f size pgn = record {
   bytes = None;
 }
 
-abbrev pub announced_by : ℕ → Frame → Option Packet → Option Sent
-announced_by u f (Some (Rts size limit pgn)) = Some (announced u f size pgn)
-announced_by u f (Some (Bam size pgn)) = Some (announced u f size pgn)
+abbrev pub announced_by : ℕ → Frame → Option Packet → Option SentMessage
+announced_by u f (Some (Rts size limit pgn)) = Some (announced_message u f size pgn)
+announced_by u f (Some (Bam size pgn)) = Some (announced_message u f size pgn)
 announced_by u f _ = None
 
 -- the message that a frame is, or announces
-abbrev pub message_of : ℕ → Frame → Option Packet → Option Sent
-message_of u f packet = if is_single (pgn_of f.ident) then Some (single u f) else announced_by u f packet
+abbrev pub message_sent : ℕ → Frame → Option Packet → Option SentMessage
+message_sent u f packet = if is_single (pgn_of f.ident) then Some (single u f) else announced_by u f packet
 
-abbrev pub requested : ℕ → Frame → Sent
-requested u f = announced u f 0 (requested_group f)
+abbrev pub requested : ℕ → Frame → SentMessage
+requested u f = announced_message u f 0 (requested_group f)
 
-abbrev pub message_noted : Settings → Knowledge → ℕ → Option Sent → List Noted
+abbrev pub message_noted : Settings → Knowledge → ℕ → Option SentMessage → List Noted
 message_noted s k line None = []
 message_noted s k line (Some m) = mark_noted line (deviation s k m) ++ flows_noted s k m line
 
@@ -133,10 +133,10 @@ is_urgent s u f = is_above_unplanned s f && (not (is_of_transport s f) && not (i
 unfoldable pub counted : Settings → Knowledge → Frame → Option Packet → ℕ → ℕ → List Noted
 counted s k f packet line u =
     ((noted_at line Counted u 0 ∷ []
-    ++ message_noted s k line (message_of u f packet))
+    ++ message_noted s k line (message_sent u f packet))
     ++ request_noted s k u f line) ++ noted_if (is_urgent s u f) (noted_at line Urgent u 0)
 
-abbrev pub sent_noted : Settings → Knowledge → Frame → Option Packet → ℕ → Sender → List Noted
+abbrev pub sent_noted : Settings → Knowledge → Frame → Option Packet → ℕ → SureSender → List Noted
 sent_noted s k f packet line (OfUnit u) = counted s k f packet line u
 sent_noted s k f packet line Nobody = noted_at line NobodyThere f.ident.sa 0 ∷ []
 sent_noted s k f packet line Unknown = noted_at line Unsure 0 0 ∷ []
@@ -150,11 +150,11 @@ abbrev pub claimant : Settings → Frame → Heard
 claimant s f = record { unit = unit_of_name s.plan (name_in f); source = f.ident.sa }
 
 -- the claims behind a frame
-abbrev pub claims_behind : Settings → Frame → Claims → Claims
+abbrev pub claims_behind : Settings → Frame → HeardClaims → HeardClaims
 claims_behind s f claims = if is_claim f then with_claim (claimant s f) claims else claims
 
 -- what is noted at a frame, these being the claims before it
-abbrev pub frame_noted : Settings → Claims → Frame → Option Packet → ℕ → List Noted
+abbrev pub frame_noted : Settings → HeardClaims → Frame → Option Packet → ℕ → List Noted
 frame_noted s claims f packet line =
     if is_claim f then claim_noted s f line (unit_of_name s.plan (name_in f))
     else if is_address f.ident.sa then sent_noted s (knowledge s claims) f packet line (sender_at s (knowledge s claims) f.ident.sa)

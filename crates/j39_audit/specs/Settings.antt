@@ -17,8 +17,8 @@ pub record Settings : Type 0 where
 abbrev pub moves : Settings → ℕ → Bool
 moves s u = slice_index_or s.moving u false
 
-abbrev pub unit_count : Settings → ℕ
-unit_count s = length s.plan.units.items
+abbrev pub units_planned : Settings → ℕ
+units_planned s = length s.plan.units.items
 
 -- these units may move: those that may choose and don't stay at their planned addresses
 pub record AreMoving (plan : Plan) (moving : List Bool) : Type 0 where

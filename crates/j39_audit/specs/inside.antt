@@ -1,3 +1,3 @@
 -- What only private contracts and proofs need.
-pub mod Hearing
+pub mod Auditing
 pub mod Recalling

@@ -1,7 +1,7 @@
 //! What the audit command writes.
 ghost use Rattle.std.specs.Prelude.{IfOk};
 ghost use Rattle.j39_audit.specs.AuditText.{IsAudit};
-ghost use Rattle.j39_audit.specs.inside.Hearing.{IsReported};
+ghost use Rattle.j39_audit.specs.inside.Auditing.{IsAuditReport};
 ghost use Rattle.j39_stream.specs.CommandEnds.{AnswersWhole, IsOfAny, PutsText};
 ghost use Rattle.j39_stream.specs.Streams.{log_limits};
 
@@ -15,7 +15,7 @@ use std::alloc::{AllocError, Global};
 
 // What is written of a log that was read, with the verdict.
 fn report(alloc: Global, log: &AuditLog<'_>) -> Result<(TextBuffer, Verdict), AllocError>
-    ensures { IfOk result (λ r. IsReported log.now r.0 r.1) }
+    ensures { IfOk result (λ r. IsAuditReport log.now r.0 r.1) }
 {
     let mut text = TextBuffer::new(alloc);
     let count = write_audit(&mut text, log)?;
@@ -28,7 +28,7 @@ fn report(alloc: Global, log: &AuditLog<'_>) -> Result<(TextBuffer, Verdict), Al
 
 // Writes it.
 fn put_report<W: Sink>(alloc: Global, log: &AuditLog<'_>, sink: &mut W) -> Result<Verdict, Fault>
-    ensures { PutsText (IsReported log.now) W.state sink.old sink.new result }
+    ensures { PutsText (IsAuditReport log.now) W.state sink.old sink.new result }
 {
     let (text, verdict) = report(alloc, log)?;
     put_all(sink, text.as_slice())?;

@@ -3,18 +3,18 @@ ghost use Rattle.std.specs.Prelude.{◌≡◌, ◌≤◌, ◌<◌, ◌^◌, ◌+
 ghost use Rattle.std.specs.Option.{option_copied};
 ghost use Rattle.j39_id.specs.Lines.{Line, tells};
 ghost use Rattle.j39_log.specs.LineCounting.{AreWithin, IsLineMore};
-ghost use Rattle.j39_audit.specs.AuditText.{Past, passed_over};
-ghost use Rattle.j39_audit.specs.Claiming.{Claims, broken_off};
+ghost use Rattle.j39_audit.specs.AuditText.{AuditPast, passed_by};
+ghost use Rattle.j39_audit.specs.Claiming.{HeardClaims, broken_off};
 ghost use Rattle.j39_audit.specs.Looking.{break_noted};
 ghost use Rattle.j39_audit.specs.Settings.{AreMoving, Settings};
-ghost use Rattle.j39_audit.specs.inside.Hearing.{Follows, HasAudited, IsWithin, Recalls, TakesFrame, TakesFrameLine, TakesLine};
-ghost use Rattle.j39_audit.specs.inside.Recalling.{Knows, Notes, settings_of};
+ghost use Rattle.j39_audit.specs.inside.Auditing.{AccordsWith, HasAudited, IsWithinLines, RecallsAudit, TakesFrame, TakesFrameLine, TakesLine};
+ghost use Rattle.j39_audit.specs.inside.Recalling.{KnowsClaims, Notes, settings_of};
 
 use crate::basis::Basis;
 use crate::frame_marks::take_frame;
 use crate::known::Known;
 use crate::mark::{Word, make_mark};
-use crate::tally::Tally;
+use crate::tally::MarkTally;
 use crate::times::{breaks, line_time, newest_behind};
 use j39_follow::{interface, is_elsewhere, keep_interface, kept_interface, read_part, time_text};
 use j39_id::{Cut, Frame, LineError, read_frame};
@@ -33,20 +33,20 @@ pub(crate) struct AuditLog<'a> {
     pub interface: Option<Vec<u8>>,
     pub newest: Option<u64>,
     pub known: Known,
-    pub tally: Tally,
+    pub tally: MarkTally,
     pub counts: LineCounts,
 }
 
 // Notes that the log breaks off, where it does, and forgets where units stood that may have moved.
 fn take_break(
-    tally: &mut Tally,
+    tally: &mut MarkTally,
     basis: &Basis<'_>,
     known: &mut Known,
     line: u64,
     broken: bool,
 ) -> Result<(), AllocError>
-    ensures known { (claims : Claims) → Knows (settings_of basis.now) known.old claims
-        → Knows (settings_of basis.now) known.new (broken_off broken claims) }
+    ensures known { (claims : HeardClaims) → KnowsClaims (settings_of basis.now) known.old claims
+        → KnowsClaims (settings_of basis.now) known.new (broken_off broken claims) }
     ensures noted { OnOk result (Notes tally.old tally.new (break_noted line broken)) }
 {
     if broken {
@@ -64,7 +64,7 @@ impl<'a> AuditLog<'a> {
         ensures part { IfOk result (λ log. log.basis.part ≡ part) }
         ensures stamps { IfOk result (λ log. log.basis.stamps ≡ stamps) }
         ensures nothing { IfOk result (λ log. HasAudited (settings_of log.basis) log []) }
-        ensures within { IfOk result (λ log. IsWithin log 0) }
+        ensures within { IfOk result (λ log. IsWithinLines log 0) }
     {
         let basis = Basis::new(alloc, plan, part, stamps)?;
         let known = Known::new(alloc, &basis)?;
@@ -75,7 +75,7 @@ impl<'a> AuditLog<'a> {
             interface: None,
             newest: None,
             known,
-            tally: Tally::new(alloc),
+            tally: MarkTally::new(alloc),
             counts: LineCounts::new(),
         })
     }
@@ -86,7 +86,7 @@ impl<'a> AuditLog<'a> {
         ensures number { self.new.number ≡ self.old.number }
         ensures interface { self.new.interface ≡ self.old.interface }
         ensures counts { self.new.counts ≡ self.old.counts }
-        ensures frame { OnOk result ((past : Past) (named : Option (List ℕ)) → Follows self.old past → self.old.number ≡ past.number
+        ensures frame { OnOk result ((past : AuditPast) (named : Option (List ℕ)) → AccordsWith self.old past → self.old.number ≡ past.number
             → TakesFrame self.new past time named frame.now) }
     {
         let broken = breaks(self.basis.stamps, self.newest, time);
@@ -113,7 +113,7 @@ impl<'a> AuditLog<'a> {
     fn take_fault(&mut self, error: LineError) -> Result<(), AllocError>
         requires { AreWithin self.old.counts (2 ^ 62) }
         ensures basis { self.new.basis ≡ self.old.basis }
-        ensures fault { OnOk result ((past : Past) → Recalls self.old past → Recalls self.new (passed_over error past)) }
+        ensures fault { OnOk result ((past : AuditPast) → RecallsAudit self.old past → RecallsAudit self.new (passed_by error past)) }
         ensures number { self.new.number ≡ self.old.number }
         ensures counted { IsLineMore self.old.counts self.new.counts }
     {
@@ -135,7 +135,7 @@ impl<'a> AuditLog<'a> {
     ) -> Result<(), AllocError>
         requires { AreWithin self.old.counts (2 ^ 62) }
         ensures basis { self.new.basis ≡ self.old.basis }
-        ensures frame { OnOk result ((past : Past) → Recalls self.old past
+        ensures frame { OnOk result ((past : AuditPast) → RecallsAudit self.old past
             → TakesFrameLine self.new past time (option_copied named.entry) frame.now) }
         ensures number { self.new.number ≡ self.old.number }
         ensures counted { IsLineMore self.old.counts self.new.counts }
@@ -150,7 +150,7 @@ impl<'a> AuditLog<'a> {
     fn take_line(&mut self, line: &[u8]) -> Result<(), AllocError>
         requires { AreWithin self.old.counts (2 ^ 62) }
         ensures basis { self.new.basis ≡ self.old.basis }
-        ensures line { OnOk result ((past : Past) → Recalls self.old past → TakesLine self.new past line.now) }
+        ensures line { OnOk result ((past : AuditPast) → RecallsAudit self.old past → TakesLine self.new past line.now) }
         ensures number { self.new.number ≡ self.old.number }
         ensures counted { IsLineMore self.old.counts self.new.counts }
     {
@@ -172,10 +172,10 @@ impl<'a> AuditLog<'a> {
 
     /// Reads what a cutter tells: a line, a line that is too long, or nothing yet.
     pub fn read(&mut self, cut: Cut, line: &[u8]) -> Result<(), AllocError>
-        requires room { (most : ℕ) × IsWithin self.old most × (most ≤ 2 ^ 62) }
+        requires room { (most : ℕ) × IsWithinLines self.old most × (most ≤ 2 ^ 62) }
         ensures lines { OnOk result ((s : Settings) (ls : List Line) → HasAudited s self.old ls
             → HasAudited s self.new (ls ++ tells cut line.now)) }
-        ensures count { OnOk result ((most more : ℕ) → IsWithin self.old most → most < more → IsWithin self.new more) }
+        ensures count { OnOk result ((most more : ℕ) → IsWithinLines self.old most → most < more → IsWithinLines self.new more) }
     {
         match cut {
             Cut::More => Ok(()),

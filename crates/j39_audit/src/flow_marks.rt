@@ -3,28 +3,28 @@ ghost use Rattle.std.specs.Prelude.{◌≡◌, ◌==◌, ◌&&◌, ◌||◌, ◌
 ghost use Rattle.std.specs.List.{list_any};
 ghost use Rattle.j39_network.specs.declared.plan.flow_plan.FlowPlan.{FlowPlan as AFlow};
 ghost use Rattle.j39_network.specs.declared.plan.request_plan.RequestPlan.{RequestPlan as ARequest};
-ghost use Rattle.j39_audit.specs.Messages.{all_marked, asks, flows_noted, is_near, is_of, marked, requests_noted};
+ghost use Rattle.j39_audit.specs.SentMessages.{all_marked, asks_by_plan, flows_noted, is_near, is_of, marked, requests_noted};
 ghost use Rattle.j39_audit.specs.declared.mark.Word.TheVariants.{Asked, Seen, Unclear};
-ghost use Rattle.j39_audit.specs.inside.Recalling.{Notes, known_by, sent_of, settings_of};
+ghost use Rattle.j39_audit.specs.inside.Recalling.{Notes, known_by, sent_as, settings_of};
 
 use crate::basis::Basis;
 use crate::known::Known;
 use crate::mark::{Word, make_mark};
-use crate::messages::{Message, asks, is_near, is_of};
-use crate::tally::Tally;
+use crate::messages::{UnitMessage, asks, is_near, is_of};
+use crate::tally::MarkTally;
 use j39_network::{FlowPlan, RequestPlan};
 use std::alloc::AllocError;
 
 // Whether a flow may bring a message to who may be at its destination.
-fn is_near_flow(basis: &Basis<'_>, known: &Known, message: &Message<'_>, flow: &FlowPlan) -> bool
-    ensures { result ≡ (is_of (settings_of basis.now) (known_by known.now) (sent_of message.now) flow.now && is_near (settings_of basis.now) (known_by known.now) (sent_of message.now) flow.now.to) }
+fn is_near_flow(basis: &Basis<'_>, known: &Known, message: &UnitMessage<'_>, flow: &FlowPlan) -> bool
+    ensures { result ≡ (is_of (settings_of basis.now) (known_by known.now) (sent_as message.now) flow.now && is_near (settings_of basis.now) (known_by known.now) (sent_as message.now) flow.now.to) }
 {
     is_of(basis, known, message, flow) && is_near(basis, known, message, flow.to)
 }
 
 // Whether some flow does.
-fn has_near_flow(basis: &Basis<'_>, known: &Known, message: &Message<'_>) -> bool
-    ensures { result ≡ list_any (λ (f : AFlow). is_of (settings_of basis.now) (known_by known.now) (sent_of message.now) f && is_near (settings_of basis.now) (known_by known.now) (sent_of message.now) f.to) basis.now.plan.now.flows.items }
+fn has_near_flow(basis: &Basis<'_>, known: &Known, message: &UnitMessage<'_>) -> bool
+    ensures { result ≡ list_any (λ (f : AFlow). is_of (settings_of basis.now) (known_by known.now) (sent_as message.now) f && is_near (settings_of basis.now) (known_by known.now) (sent_as message.now) f.to) basis.now.plan.now.flows.items }
 {
     basis
         .plan
@@ -38,18 +38,18 @@ fn has_near_flow(basis: &Basis<'_>, known: &Known, message: &Message<'_>) -> boo
 fn is_nearest_flow(
     basis: &Basis<'_>,
     known: &Known,
-    message: &Message<'_>,
+    message: &UnitMessage<'_>,
     some_near: bool,
     flow: &FlowPlan,
 ) -> bool
-    ensures { result ≡ (is_of (settings_of basis.now) (known_by known.now) (sent_of message.now) flow.now && (is_near (settings_of basis.now) (known_by known.now) (sent_of message.now) flow.now.to || not some_near)) }
+    ensures { result ≡ (is_of (settings_of basis.now) (known_by known.now) (sent_as message.now) flow.now && (is_near (settings_of basis.now) (known_by known.now) (sent_as message.now) flow.now.to || not some_near)) }
 {
     is_of(basis, known, message, flow) && (is_near(basis, known, message, flow.to) || !some_near)
 }
 
 // Of how many flows a message is.
-fn count_flows(basis: &Basis<'_>, known: &Known, message: &Message<'_>, some_near: bool) -> usize
-    ensures { result ≡ count_by (λ (f : AFlow). is_of (settings_of basis.now) (known_by known.now) (sent_of message.now) f && (is_near (settings_of basis.now) (known_by known.now) (sent_of message.now) f.to || not some_near)) basis.now.plan.now.flows.items }
+fn count_flows(basis: &Basis<'_>, known: &Known, message: &UnitMessage<'_>, some_near: bool) -> usize
+    ensures { result ≡ count_by (λ (f : AFlow). is_of (settings_of basis.now) (known_by known.now) (sent_as message.now) f && (is_near (settings_of basis.now) (known_by known.now) (sent_as message.now) f.to || not some_near)) basis.now.plan.now.flows.items }
 {
     basis
         .plan
@@ -62,17 +62,17 @@ fn count_flows(basis: &Basis<'_>, known: &Known, message: &Message<'_>, some_nea
 
 // Notes a word at a flow if a message is of it.
 fn note_flow(
-    tally: &mut Tally,
+    tally: &mut MarkTally,
     basis: &Basis<'_>,
     known: &Known,
-    message: &Message<'_>,
+    message: &UnitMessage<'_>,
     some_near: bool,
     word: Word,
     line: u64,
     place: usize,
 ) -> Result<(), AllocError>
     requires { place < length basis.now.plan.now.flows.items }
-    ensures { OnOk result (Notes tally.old tally.new (marked line word (λ (x : AFlow). is_of (settings_of basis.now) (known_by known.now) (sent_of message.now) x && (is_near (settings_of basis.now) (known_by known.now) (sent_of message.now) x.to || not some_near)) basis.now.plan.now.flows.items place)) }
+    ensures { OnOk result (Notes tally.old tally.new (marked line word (λ (x : AFlow). is_of (settings_of basis.now) (known_by known.now) (sent_as message.now) x && (is_near (settings_of basis.now) (known_by known.now) (sent_as message.now) x.to || not some_near)) basis.now.plan.now.flows.items place)) }
 {
     let flow = &basis.plan.flows[place];
     if is_nearest_flow(basis, known, message, some_near, flow) {
@@ -84,15 +84,15 @@ fn note_flow(
 
 // Notes a word at each flow of which a message is.
 fn note_each_flow(
-    tally: &mut Tally,
+    tally: &mut MarkTally,
     basis: &Basis<'_>,
     known: &Known,
-    message: &Message<'_>,
+    message: &UnitMessage<'_>,
     some_near: bool,
     word: Word,
     line: u64,
 ) -> Result<(), AllocError>
-    ensures { OnOk result (Notes tally.old tally.new (all_marked line word (λ (x : AFlow). is_of (settings_of basis.now) (known_by known.now) (sent_of message.now) x && (is_near (settings_of basis.now) (known_by known.now) (sent_of message.now) x.to || not some_near)) basis.now.plan.now.flows.items)) }
+    ensures { OnOk result (Notes tally.old tally.new (all_marked line word (λ (x : AFlow). is_of (settings_of basis.now) (known_by known.now) (sent_as message.now) x && (is_near (settings_of basis.now) (known_by known.now) (sent_as message.now) x.to || not some_near)) basis.now.plan.now.flows.items)) }
 {
     for place in 0..basis.plan.flows.len() {
         note_flow(tally, basis, known, message, some_near, word, line, place)?;
@@ -113,13 +113,13 @@ fn word_of(count: usize) -> Word
 
 /// Counts a message for the flow that it is of, or as unclear for each of several.
 pub(crate) fn note_flows(
-    tally: &mut Tally,
+    tally: &mut MarkTally,
     basis: &Basis<'_>,
     known: &Known,
-    message: &Message<'_>,
+    message: &UnitMessage<'_>,
     line: u64,
 ) -> Result<(), AllocError>
-    ensures { OnOk result (Notes tally.old tally.new (flows_noted (settings_of basis.now) (known_by known.now) (sent_of message.now) line)) }
+    ensures { OnOk result (Notes tally.old tally.new (flows_noted (settings_of basis.now) (known_by known.now) (sent_as message.now) line)) }
 {
     let some_near = has_near_flow(basis, known, message);
     let word = word_of(count_flows(basis, known, message, some_near));
@@ -130,17 +130,17 @@ pub(crate) fn note_flows(
 fn is_near_request(
     basis: &Basis<'_>,
     known: &Known,
-    message: &Message<'_>,
+    message: &UnitMessage<'_>,
     request: &RequestPlan,
 ) -> bool
-    ensures { result ≡ (asks (settings_of basis.now) (known_by known.now) (sent_of message.now) request.now && is_near (settings_of basis.now) (known_by known.now) (sent_of message.now) request.now.to) }
+    ensures { result ≡ (asks_by_plan (settings_of basis.now) (known_by known.now) (sent_as message.now) request.now && is_near (settings_of basis.now) (known_by known.now) (sent_as message.now) request.now.to) }
 {
     asks(basis, known, message, request) && is_near(basis, known, message, request.to)
 }
 
 // Whether some request does.
-fn has_near_request(basis: &Basis<'_>, known: &Known, message: &Message<'_>) -> bool
-    ensures { result ≡ list_any (λ (r : ARequest). asks (settings_of basis.now) (known_by known.now) (sent_of message.now) r && is_near (settings_of basis.now) (known_by known.now) (sent_of message.now) r.to) basis.now.plan.now.requests.items }
+fn has_near_request(basis: &Basis<'_>, known: &Known, message: &UnitMessage<'_>) -> bool
+    ensures { result ≡ list_any (λ (r : ARequest). asks_by_plan (settings_of basis.now) (known_by known.now) (sent_as message.now) r && is_near (settings_of basis.now) (known_by known.now) (sent_as message.now) r.to) basis.now.plan.now.requests.items }
 {
     basis
         .plan
@@ -154,19 +154,19 @@ fn has_near_request(basis: &Basis<'_>, known: &Known, message: &Message<'_>) -> 
 fn is_nearest_request(
     basis: &Basis<'_>,
     known: &Known,
-    message: &Message<'_>,
+    message: &UnitMessage<'_>,
     some_near: bool,
     request: &RequestPlan,
 ) -> bool
-    ensures { result ≡ (asks (settings_of basis.now) (known_by known.now) (sent_of message.now) request.now && (is_near (settings_of basis.now) (known_by known.now) (sent_of message.now) request.now.to || not some_near)) }
+    ensures { result ≡ (asks_by_plan (settings_of basis.now) (known_by known.now) (sent_as message.now) request.now && (is_near (settings_of basis.now) (known_by known.now) (sent_as message.now) request.now.to || not some_near)) }
 {
     asks(basis, known, message, request)
         && (is_near(basis, known, message, request.to) || !some_near)
 }
 
 // How many requests of the plan a request is.
-fn count_requests(basis: &Basis<'_>, known: &Known, message: &Message<'_>, some_near: bool) -> usize
-    ensures { result ≡ count_by (λ (r : ARequest). asks (settings_of basis.now) (known_by known.now) (sent_of message.now) r && (is_near (settings_of basis.now) (known_by known.now) (sent_of message.now) r.to || not some_near)) basis.now.plan.now.requests.items }
+fn count_requests(basis: &Basis<'_>, known: &Known, message: &UnitMessage<'_>, some_near: bool) -> usize
+    ensures { result ≡ count_by (λ (r : ARequest). asks_by_plan (settings_of basis.now) (known_by known.now) (sent_as message.now) r && (is_near (settings_of basis.now) (known_by known.now) (sent_as message.now) r.to || not some_near)) basis.now.plan.now.requests.items }
 {
     basis
         .plan
@@ -179,16 +179,16 @@ fn count_requests(basis: &Basis<'_>, known: &Known, message: &Message<'_>, some_
 
 // Notes a word at a request if a message is of it.
 fn note_request(
-    tally: &mut Tally,
+    tally: &mut MarkTally,
     basis: &Basis<'_>,
     known: &Known,
-    message: &Message<'_>,
+    message: &UnitMessage<'_>,
     some_near: bool,
     line: u64,
     place: usize,
 ) -> Result<(), AllocError>
     requires { place < length basis.now.plan.now.requests.items }
-    ensures { OnOk result (Notes tally.old tally.new (marked line Asked (λ (x : ARequest). asks (settings_of basis.now) (known_by known.now) (sent_of message.now) x && (is_near (settings_of basis.now) (known_by known.now) (sent_of message.now) x.to || not some_near)) basis.now.plan.now.requests.items place)) }
+    ensures { OnOk result (Notes tally.old tally.new (marked line Asked (λ (x : ARequest). asks_by_plan (settings_of basis.now) (known_by known.now) (sent_as message.now) x && (is_near (settings_of basis.now) (known_by known.now) (sent_as message.now) x.to || not some_near)) basis.now.plan.now.requests.items place)) }
 {
     let request = &basis.plan.requests[place];
     if is_nearest_request(basis, known, message, some_near, request) {
@@ -200,14 +200,14 @@ fn note_request(
 
 // Notes a word at each request of which a message is.
 fn note_each_request(
-    tally: &mut Tally,
+    tally: &mut MarkTally,
     basis: &Basis<'_>,
     known: &Known,
-    message: &Message<'_>,
+    message: &UnitMessage<'_>,
     some_near: bool,
     line: u64,
 ) -> Result<(), AllocError>
-    ensures { OnOk result (Notes tally.old tally.new (all_marked line Asked (λ (x : ARequest). asks (settings_of basis.now) (known_by known.now) (sent_of message.now) x && (is_near (settings_of basis.now) (known_by known.now) (sent_of message.now) x.to || not some_near)) basis.now.plan.now.requests.items)) }
+    ensures { OnOk result (Notes tally.old tally.new (all_marked line Asked (λ (x : ARequest). asks_by_plan (settings_of basis.now) (known_by known.now) (sent_as message.now) x && (is_near (settings_of basis.now) (known_by known.now) (sent_as message.now) x.to || not some_near)) basis.now.plan.now.requests.items)) }
 {
     for place in 0..basis.plan.requests.len() {
         note_request(tally, basis, known, message, some_near, line, place)?;
@@ -217,13 +217,13 @@ fn note_each_request(
 
 /// Counts a request for the one of the plan that it is.
 pub(crate) fn note_requests(
-    tally: &mut Tally,
+    tally: &mut MarkTally,
     basis: &Basis<'_>,
     known: &Known,
-    message: &Message<'_>,
+    message: &UnitMessage<'_>,
     line: u64,
 ) -> Result<(), AllocError>
-    ensures { OnOk result (Notes tally.old tally.new (requests_noted (settings_of basis.now) (known_by known.now) (sent_of message.now) line)) }
+    ensures { OnOk result (Notes tally.old tally.new (requests_noted (settings_of basis.now) (known_by known.now) (sent_as message.now) line)) }
 {
     let some_near = has_near_request(basis, known, message);
     if count_requests(basis, known, message, some_near) == 1 {

@@ -4,21 +4,21 @@ ghost use Rattle.std.specs.Option.{option_map};
 ghost use Rattle.j39_id.specs.Addresses.{is_address};
 ghost use Rattle.j39_id.specs.FrameMeaning.{name_in};
 ghost use Rattle.j39_id.specs.Ident.{pgn_of};
-ghost use Rattle.j39_audit.specs.Claiming.{Claims};
-ghost use Rattle.j39_audit.specs.Looking.{announced as announced_message, announced_by as message_announced, claim_noted};
+ghost use Rattle.j39_audit.specs.Claiming.{HeardClaims};
+ghost use Rattle.j39_audit.specs.Looking.{announced_message, announced_by as message_announced, claim_noted};
 ghost use Rattle.j39_audit.specs.Looking.{claim_of_unit, claim_place, claims_behind, counted, frame_noted, is_above_unplanned as is_above};
 ghost use Rattle.j39_audit.specs.Looking.{is_claim, is_claiming as claims_addresses, is_of_transport as is_for_transport, may_be_transport, is_of_own_group};
 ghost use Rattle.j39_audit.specs.Looking.{is_single as is_single_number, is_urgent as is_urgent_frame, mark_noted, message_noted};
-ghost use Rattle.j39_audit.specs.Looking.{message_of, noted_if, request_noted, sent_noted, single as single_message};
-ghost use Rattle.j39_audit.specs.inside.Recalling.{IsWithinUnits, Knows, Notes, known_by, sent_of, settings_of};
+ghost use Rattle.j39_audit.specs.Looking.{message_sent, noted_if, request_noted, sent_noted, single as single_message};
+ghost use Rattle.j39_audit.specs.inside.Recalling.{IsWithinUnits, KnowsClaims, Notes, known_by, sent_as, settings_of};
 
 use crate::basis::Basis;
 use crate::flow_marks::{note_flows, note_requests};
 use crate::known::Known;
 use crate::mark::{Mark, Word, make_mark};
-use crate::messages::{Message, Test, deviation, first_group};
-use crate::senders::{Sender, sender_at};
-use crate::tally::Tally;
+use crate::messages::{UnitMessage, Test, deviation, first_group};
+use crate::senders::{SureSender, sender_at};
+use crate::tally::MarkTally;
 use j39_follow::unit_named;
 use j39_id::addresses::NULL_ADDRESS;
 use j39_id::services::{ADDRESS_CLAIMED, CONNECTION_MANAGEMENT, DATA_TRANSFER, REQUEST};
@@ -56,7 +56,7 @@ fn is_of_transport(basis: &Basis<'_>, frame: &Frame) -> bool
 
 // Notes a mark where a frame is one.
 fn note_if(
-    tally: &mut Tally,
+    tally: &mut MarkTally,
     is: bool,
     mark: Mark,
     line: u64,
@@ -82,7 +82,7 @@ fn is_claiming(basis: &Basis<'_>, unit: usize) -> bool
 
 // Notes what is wrong with where a unit claims.
 fn note_place(
-    tally: &mut Tally,
+    tally: &mut MarkTally,
     basis: &Basis<'_>,
     frame: &Frame,
     line: u64,
@@ -102,7 +102,7 @@ fn note_place(
 
 // Notes what is wrong with a claim of a unit.
 fn note_claim_of_unit(
-    tally: &mut Tally,
+    tally: &mut MarkTally,
     basis: &Basis<'_>,
     frame: &Frame,
     line: u64,
@@ -118,7 +118,7 @@ fn note_claim_of_unit(
 
 // Notes what is wrong with a claim of this unit, if it is of one.
 fn note_claim(
-    tally: &mut Tally,
+    tally: &mut MarkTally,
     basis: &Basis<'_>,
     frame: &Frame,
     name: u64,
@@ -147,11 +147,11 @@ fn is_single(frame: &Frame) -> bool
 }
 
 // The message that a frame is.
-fn single(unit: usize, frame: &Frame) -> Message<'_>
-    ensures { sent_of result ≡ single_message unit frame.now }
+fn single(unit: usize, frame: &Frame) -> UnitMessage<'_>
+    ensures { sent_as result ≡ single_message unit frame.now }
 {
     let pgn = frame.ident.pgn();
-    Message {
+    UnitMessage {
         unit,
         number: pgn.number(),
         destination: frame.ident.ps,
@@ -163,10 +163,10 @@ fn single(unit: usize, frame: &Frame) -> Message<'_>
 }
 
 // A message of this size and number that a frame announces.
-fn announced(unit: usize, frame: &Frame, size: usize, number: u32) -> Message<'static>
-    ensures { sent_of result ≡ announced_message unit frame.now size number }
+fn announced(unit: usize, frame: &Frame, size: usize, number: u32) -> UnitMessage<'static>
+    ensures { sent_as result ≡ announced_message unit frame.now size number }
 {
-    Message {
+    UnitMessage {
         unit,
         number,
         destination: frame.ident.ps,
@@ -178,8 +178,8 @@ fn announced(unit: usize, frame: &Frame, size: usize, number: u32) -> Message<'s
 }
 
 // The message that a packet announces.
-fn announced_by(unit: usize, frame: &Frame, packet: &Packet) -> Option<Message<'static>>
-    ensures { option_map sent_of result ≡ message_announced unit frame.now (Some packet.now) }
+fn announced_by(unit: usize, frame: &Frame, packet: &Packet) -> Option<UnitMessage<'static>>
+    ensures { option_map sent_as result ≡ message_announced unit frame.now (Some packet.now) }
 {
     match packet {
         Packet::Rts { size, pgn, .. } => {
@@ -193,7 +193,7 @@ fn announced_by(unit: usize, frame: &Frame, packet: &Packet) -> Option<Message<'
 }
 
 // Notes how a message differs.
-fn note_deviation(tally: &mut Tally, mark: Option<Mark>, line: u64) -> Result<(), AllocError>
+fn note_deviation(tally: &mut MarkTally, mark: Option<Mark>, line: u64) -> Result<(), AllocError>
     ensures { OnOk result (Notes tally.old tally.new (mark_noted line mark)) }
 {
     match mark {
@@ -204,13 +204,13 @@ fn note_deviation(tally: &mut Tally, mark: Option<Mark>, line: u64) -> Result<()
 
 // Notes what a message is, and how it differs.
 fn note_message(
-    tally: &mut Tally,
+    tally: &mut MarkTally,
     basis: &Basis<'_>,
     known: &Known,
-    message: &Message<'_>,
+    message: &UnitMessage<'_>,
     line: u64,
 ) -> Result<(), AllocError>
-    ensures { OnOk result (Notes tally.old tally.new (message_noted (settings_of basis.now) (known_by known.now) line (Some (sent_of message.now)))) }
+    ensures { OnOk result (Notes tally.old tally.new (message_noted (settings_of basis.now) (known_by known.now) line (Some (sent_as message.now)))) }
 {
     note_deviation(tally, deviation(basis, known, message), line)?;
     note_flows(tally, basis, known, message, line)?;
@@ -219,7 +219,7 @@ fn note_message(
 
 // Notes the message that a packet announces.
 fn note_announced(
-    tally: &mut Tally,
+    tally: &mut MarkTally,
     basis: &Basis<'_>,
     known: &Known,
     frame: &Frame,
@@ -240,7 +240,7 @@ fn note_announced(
 
 // Notes the message that a frame is or announces.
 fn note_messages(
-    tally: &mut Tally,
+    tally: &mut MarkTally,
     basis: &Basis<'_>,
     known: &Known,
     frame: &Frame,
@@ -248,7 +248,7 @@ fn note_messages(
     line: u64,
     unit: usize,
 ) -> Result<(), AllocError>
-    ensures { OnOk result (Notes tally.old tally.new (message_noted (settings_of basis.now) (known_by known.now) line (message_of unit frame.now packet))) }
+    ensures { OnOk result (Notes tally.old tally.new (message_noted (settings_of basis.now) (known_by known.now) line (message_sent unit frame.now packet))) }
 {
     if is_single(frame) {
         note_message(tally, basis, known, &single(unit, frame), line)
@@ -259,7 +259,7 @@ fn note_messages(
 
 // Notes the request that a frame is.
 fn note_request(
-    tally: &mut Tally,
+    tally: &mut MarkTally,
     basis: &Basis<'_>,
     known: &Known,
     frame: &Frame,
@@ -293,7 +293,7 @@ fn is_urgent(basis: &Basis<'_>, frame: &Frame, unit: usize) -> bool
 // Notes a frame of a unit.
 #[tactic(auto, unfolding(crate::specs::Looking::counted))]
 fn note_counted(
-    tally: &mut Tally,
+    tally: &mut MarkTally,
     basis: &Basis<'_>,
     known: &Known,
     frame: &Frame,
@@ -313,30 +313,30 @@ fn note_counted(
 
 // Notes a frame that is no claim, of this sender.
 fn note_sent(
-    tally: &mut Tally,
+    tally: &mut MarkTally,
     basis: &Basis<'_>,
     known: &Known,
     frame: &Frame,
     packet: Option<Packet>,
     line: u64,
-    sender: Sender,
+    sender: SureSender,
 ) -> Result<(), AllocError>
     ensures { OnOk result (Notes tally.old tally.new (sent_noted (settings_of basis.now) (known_by known.now) frame.now packet line sender)) }
 {
     match sender {
-        Sender::Unit(unit) => note_counted(tally, basis, known, frame, packet, line, unit),
-        Sender::Nobody => tally.note(
+        SureSender::Unit(unit) => note_counted(tally, basis, known, frame, packet, line, unit),
+        SureSender::Nobody => tally.note(
             make_mark(Word::Nobody, usize::from(frame.ident.sa)),
             line,
             0,
         ),
-        Sender::Unknown => tally.note(make_mark(Word::Unsure, 0), line, 0),
+        SureSender::Unknown => tally.note(make_mark(Word::Unsure, 0), line, 0),
     }
 }
 
 // Notes a claim, and keeps what it tells.
 fn take_claim(
-    tally: &mut Tally,
+    tally: &mut MarkTally,
     basis: &Basis<'_>,
     known: &mut Known,
     frame: &Frame,
@@ -344,8 +344,8 @@ fn take_claim(
     line: u64,
 ) -> Result<(), AllocError>
     requires { is_claim frame.now ≡ true }
-    ensures { OnOk result ((claims : Claims) → Knows (settings_of basis.now) known.old claims
-        → Knows (settings_of basis.now) known.new (claims_behind (settings_of basis.now) frame.now claims)
+    ensures { OnOk result ((claims : HeardClaims) → KnowsClaims (settings_of basis.now) known.old claims
+        → KnowsClaims (settings_of basis.now) known.new (claims_behind (settings_of basis.now) frame.now claims)
         × Notes tally.old tally.new (frame_noted (settings_of basis.now) claims frame.now packet line)) }
 {
     let name = carried_name(frame).to_bits();
@@ -356,7 +356,7 @@ fn take_claim(
 
 // Notes a frame that is no claim.
 fn take_other(
-    tally: &mut Tally,
+    tally: &mut MarkTally,
     basis: &Basis<'_>,
     known: &Known,
     frame: &Frame,
@@ -364,7 +364,7 @@ fn take_other(
     line: u64,
 ) -> Result<(), AllocError>
     requires { is_claim frame.now ≡ false }
-    ensures { OnOk result ((claims : Claims) → Knows (settings_of basis.now) known.now claims
+    ensures { OnOk result ((claims : HeardClaims) → KnowsClaims (settings_of basis.now) known.now claims
         → Notes tally.old tally.new (frame_noted (settings_of basis.now) claims frame.now packet line)) }
 {
     let source = frame.ident.sa;
@@ -377,15 +377,15 @@ fn take_other(
 
 /// Notes what there is to a frame that is this transport packet, if it is one, and keeps what it claims.
 pub(crate) fn take_frame(
-    tally: &mut Tally,
+    tally: &mut MarkTally,
     basis: &Basis<'_>,
     known: &mut Known,
     frame: &Frame,
     packet: Option<Packet>,
     line: u64,
 ) -> Result<(), AllocError>
-    ensures { OnOk result ((claims : Claims) → Knows (settings_of basis.now) known.old claims
-        → Knows (settings_of basis.now) known.new (claims_behind (settings_of basis.now) frame.now claims)
+    ensures { OnOk result ((claims : HeardClaims) → KnowsClaims (settings_of basis.now) known.old claims
+        → KnowsClaims (settings_of basis.now) known.new (claims_behind (settings_of basis.now) frame.now claims)
         × Notes tally.old tally.new (frame_noted (settings_of basis.now) claims frame.now packet line)) }
 {
     if claims_address(frame) {

@@ -1,8 +1,8 @@
 //! What the claims of a log tell of units and addresses.
 ghost use Rattle.std.specs.Prelude.{◌≡◌, ◌≢◌, ◌<◌, ◌≤◌, ℕ, true, false, Some, None, IfOk, IfSome, if◌then◌else◌, length, slice_index_or};
-ghost use Rattle.j39_audit.specs.Claiming.{Claims, broken_off, no_claims, with_claim};
+ghost use Rattle.j39_audit.specs.Claiming.{HeardClaims, broken_off, no_claims, with_claim};
 ghost use Rattle.j39_audit.specs.Settings.{moves};
-ghost use Rattle.j39_audit.specs.inside.Recalling.{Knows, last_in, settings_of, taken_in};
+ghost use Rattle.j39_audit.specs.inside.Recalling.{KnowsClaims, last_in, settings_of, taken_in};
 
 use crate::basis::Basis;
 use std::alloc::{AllocError, Global};
@@ -42,7 +42,7 @@ fn untaken(alloc: Global) -> Result<Vec<bool>, AllocError>
 
 impl Known {
     pub fn new(alloc: Global, basis: &Basis<'_>) -> Result<Self, AllocError>
-        ensures { IfOk result (λ known. Knows (settings_of basis.now) known no_claims) }
+        ensures { IfOk result (λ known. KnowsClaims (settings_of basis.now) known no_claims) }
     {
         let last = nowhere(alloc, basis.plan.units.len())?;
         let taken = untaken(alloc)?;
@@ -87,8 +87,8 @@ impl Known {
 
     /// Forgets where the units claimed last that may have moved.
     pub fn break_off(&mut self, basis: &Basis<'_>)
-        ensures { (claims : Claims) → Knows (settings_of basis.now) self.old claims
-            → Knows (settings_of basis.now) self.new (broken_off true claims) }
+        ensures { (claims : HeardClaims) → KnowsClaims (settings_of basis.now) self.old claims
+            → KnowsClaims (settings_of basis.now) self.new (broken_off true claims) }
     {
         for unit in 0..self.last.len() {
             self.forget(basis, unit);
@@ -125,8 +125,8 @@ impl Known {
     /// Notes a claim: of this unit, if it is one, from this source.
     pub fn hear(&mut self, basis: &Basis<'_>, unit: Option<usize>, source: u8)
         requires { IfSome unit (λ u. u < length basis.now.plan.now.units.items) }
-        ensures { (claims : Claims) → Knows (settings_of basis.now) self.old claims
-            → Knows (settings_of basis.now) self.new (with_claim (record { unit = unit; source = source }) claims) }
+        ensures { (claims : HeardClaims) → KnowsClaims (settings_of basis.now) self.old claims
+            → KnowsClaims (settings_of basis.now) self.new (with_claim (record { unit = unit; source = source }) claims) }
     {
         match unit {
             Some(unit) => self.note_unit(basis, unit, source),

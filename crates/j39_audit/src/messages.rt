@@ -4,11 +4,11 @@ ghost use Rattle.std.specs.List.{list_any, position, slice_get};
 ghost use Rattle.std.specs.Option.{option_copied, option_map_or, option_or};
 ghost use Rattle.j39_signal.specs.Selectors.{is_selected};
 ghost use Rattle.j39_network.specs.declared.plan.group_plan.GroupPlan.{GroupPlan as AGroup};
-ghost use Rattle.j39_audit.specs.Messages.{asks, deviation, first_group, fits, goes, has_flow_of, has_priority, is_fit};
-ghost use Rattle.j39_audit.specs.Messages.{is_fit_group, is_group, is_near, is_of, is_own, is_told_by, may_hear, passes};
-ghost use Rattle.j39_audit.specs.Messages.{flow_group, without_flow};
+ghost use Rattle.j39_audit.specs.SentMessages.{asks_by_plan, deviation, first_group, fits_group, goes, has_flow_of, has_priority, is_fit};
+ghost use Rattle.j39_audit.specs.SentMessages.{is_fit_group, is_group, is_near, is_of, is_own, is_told_by, may_hear, passes};
+ghost use Rattle.j39_audit.specs.SentMessages.{flow_group, without_flow};
 ghost use Rattle.j39_audit.specs.declared.messages.Test.TheVariants.{Any, Fitting, Selected};
-ghost use Rattle.j39_audit.specs.inside.Recalling.{known_by, sent_of, settings_of};
+ghost use Rattle.j39_audit.specs.inside.Recalling.{known_by, sent_as, settings_of};
 
 use crate::basis::Basis;
 use crate::known::Known;
@@ -21,7 +21,7 @@ use j39_signal::is_selected;
 /// What a unit sent: the number of a group, whereto, whether in a single frame that names no destination, its priority
 /// where it is a single frame, how many bytes, and these where it is a single frame.
 #[derive(Clone, Copy)]
-pub(crate) struct Message<'a> {
+pub(crate) struct UnitMessage<'a> {
     pub unit: usize,
     pub number: u32,
     pub destination: u8,
@@ -53,8 +53,8 @@ fn selects(group: &GroupPlan, bytes: Option<&[u8]>, otherwise: bool) -> bool
 }
 
 // Whether a message may be one of a group of its number.
-fn fits(message: &Message<'_>, group: &GroupPlan) -> bool
-    ensures { result ≡ fits (sent_of message.now) group.now }
+fn fits(message: &UnitMessage<'_>, group: &GroupPlan) -> bool
+    ensures { result ≡ fits_group (sent_as message.now) group.now }
 {
     usize::from(group.length) <= message.size
         && message.size <= usize::from(group.most)
@@ -62,8 +62,8 @@ fn fits(message: &Message<'_>, group: &GroupPlan) -> bool
 }
 
 // Whether a group is told from others by the bytes of a message.
-fn is_told_by(message: &Message<'_>, group: &GroupPlan) -> bool
-    ensures { result ≡ is_told_by (sent_of message.now) group.now }
+fn is_told_by(message: &UnitMessage<'_>, group: &GroupPlan) -> bool
+    ensures { result ≡ is_told_by (sent_as message.now) group.now }
 {
     match group.when {
         Some(_selector) => selects(group, message.bytes, false),
@@ -71,8 +71,8 @@ fn is_told_by(message: &Message<'_>, group: &GroupPlan) -> bool
     }
 }
 
-fn passes(message: &Message<'_>, test: Test, group: &GroupPlan) -> bool
-    ensures { result ≡ passes (sent_of message.now) test group.now }
+fn passes(message: &UnitMessage<'_>, test: Test, group: &GroupPlan) -> bool
+    ensures { result ≡ passes (sent_as message.now) test group.now }
 {
     match test {
         Test::Fitting => fits(message, group),
@@ -94,16 +94,16 @@ fn has_flow(basis: &Basis<'_>, unit: usize, group: usize) -> bool
 }
 
 // Whether a group is one of the sender's of the number.
-fn is_own(basis: &Basis<'_>, message: &Message<'_>, place: usize, group: &GroupPlan) -> bool
-    ensures { result ≡ is_own (settings_of basis.now) (sent_of message.now) place group.now }
+fn is_own(basis: &Basis<'_>, message: &UnitMessage<'_>, place: usize, group: &GroupPlan) -> bool
+    ensures { result ≡ is_own (settings_of basis.now) (sent_as message.now) place group.now }
 {
     group.pgn == message.number && (!group.private || has_flow(basis, message.unit, place))
 }
 
 // Whether the group at a place is one of the sender's of the number, and passes.
-#[tactic(auto, unfolding(crate::specs::Messages::is_group))]
-fn is_group(basis: &Basis<'_>, message: &Message<'_>, test: Test, place: usize) -> bool
-    ensures { result ≡ is_group (settings_of basis.now) (sent_of message.now) test place }
+#[tactic(auto, unfolding(crate::specs::SentMessages::is_group))]
+fn is_group(basis: &Basis<'_>, message: &UnitMessage<'_>, test: Test, place: usize) -> bool
+    ensures { result ≡ is_group (settings_of basis.now) (sent_as message.now) test place }
 {
     match basis.plan.groups.get(place) {
         Some(group) => { is_own(basis, message, place, group) && passes(message, test, group) }
@@ -112,8 +112,8 @@ fn is_group(basis: &Basis<'_>, message: &Message<'_>, test: Test, place: usize) 
 }
 
 /// The first group of the sender of a message that has its number and passes.
-pub(crate) fn first_group(basis: &Basis<'_>, message: &Message<'_>, test: Test) -> Option<usize>
-    ensures { result ≡ first_group (settings_of basis.now) (sent_of message.now) test }
+pub(crate) fn first_group(basis: &Basis<'_>, message: &UnitMessage<'_>, test: Test) -> Option<usize>
+    ensures { result ≡ first_group (settings_of basis.now) (sent_as message.now) test }
 {
     for place in 0..basis.plan.groups.len() {
         if is_group(basis, message, test, place) {
@@ -124,7 +124,7 @@ pub(crate) fn first_group(basis: &Basis<'_>, message: &Message<'_>, test: Test) 
 }
 
 // Whether an address is one of a unit, or where it claimed last.
-#[tactic(auto, unfolding(crate::specs::Messages::may_hear))]
+#[tactic(auto, unfolding(crate::specs::SentMessages::may_hear))]
 fn may_hear(basis: &Basis<'_>, known: &Known, unit: usize, address: u8) -> bool
     ensures { result ≡ may_hear (settings_of basis.now) (known_by known.now) unit address }
 {
@@ -132,8 +132,8 @@ fn may_hear(basis: &Basis<'_>, known: &Known, unit: usize, address: u8) -> bool
 }
 
 // Whether a message may be meant for these.
-fn goes(basis: &Basis<'_>, known: &Known, message: &Message<'_>, to: To) -> bool
-    ensures { result ≡ goes (settings_of basis.now) (known_by known.now) (sent_of message.now) to }
+fn goes(basis: &Basis<'_>, known: &Known, message: &UnitMessage<'_>, to: To) -> bool
+    ensures { result ≡ goes (settings_of basis.now) (known_by known.now) (sent_as message.now) to }
 {
     match to {
         To::All => message.unaddressed || message.destination == GLOBAL_ADDRESS,
@@ -146,8 +146,8 @@ fn goes(basis: &Basis<'_>, known: &Known, message: &Message<'_>, to: To) -> bool
 }
 
 /// Whether these may be at the destination of a message.
-pub(crate) fn is_near(basis: &Basis<'_>, known: &Known, message: &Message<'_>, to: To) -> bool
-    ensures { result ≡ is_near (settings_of basis.now) (known_by known.now) (sent_of message.now) to }
+pub(crate) fn is_near(basis: &Basis<'_>, known: &Known, message: &UnitMessage<'_>, to: To) -> bool
+    ensures { result ≡ is_near (settings_of basis.now) (known_by known.now) (sent_as message.now) to }
 {
     match to {
         To::All => true,
@@ -156,9 +156,9 @@ pub(crate) fn is_near(basis: &Basis<'_>, known: &Known, message: &Message<'_>, t
 }
 
 // Whether the group at a place has the number, and messages as this one.
-#[tactic(auto, unfolding(crate::specs::Messages::is_fit_group))]
-fn is_fit_group(basis: &Basis<'_>, message: &Message<'_>, place: usize) -> bool
-    ensures { result ≡ is_fit_group (settings_of basis.now) (sent_of message.now) place }
+#[tactic(auto, unfolding(crate::specs::SentMessages::is_fit_group))]
+fn is_fit_group(basis: &Basis<'_>, message: &UnitMessage<'_>, place: usize) -> bool
+    ensures { result ≡ is_fit_group (settings_of basis.now) (sent_as message.now) place }
 {
     match basis.plan.groups.get(place) {
         Some(group) => group.pgn == message.number && fits(message, group),
@@ -177,9 +177,9 @@ fn is_of_priority(basis: &Basis<'_>, place: usize, priority: u8) -> bool
 }
 
 // Whether messages of the group at a place have the priority of this one, where it has one.
-#[tactic(auto, unfolding(crate::specs::Messages::has_priority))]
-fn has_priority(basis: &Basis<'_>, message: &Message<'_>, place: usize) -> bool
-    ensures { result ≡ has_priority (settings_of basis.now) (sent_of message.now) place }
+#[tactic(auto, unfolding(crate::specs::SentMessages::has_priority))]
+fn has_priority(basis: &Basis<'_>, message: &UnitMessage<'_>, place: usize) -> bool
+    ensures { result ≡ has_priority (settings_of basis.now) (sent_as message.now) place }
 {
     match message.priority {
         Some(priority) => is_of_priority(basis, place, priority),
@@ -188,9 +188,9 @@ fn has_priority(basis: &Basis<'_>, message: &Message<'_>, place: usize) -> bool
 }
 
 // Whether a flow may bring such a message there.
-#[tactic(auto, unfolding(crate::specs::Messages::is_fit))]
-fn is_fit(basis: &Basis<'_>, known: &Known, message: &Message<'_>, flow: &FlowPlan) -> bool
-    ensures { result ≡ is_fit (settings_of basis.now) (known_by known.now) (sent_of message.now) flow.now }
+#[tactic(auto, unfolding(crate::specs::SentMessages::is_fit))]
+fn is_fit(basis: &Basis<'_>, known: &Known, message: &UnitMessage<'_>, flow: &FlowPlan) -> bool
+    ensures { result ≡ is_fit (settings_of basis.now) (known_by known.now) (sent_as message.now) flow.now }
 {
     flow.sender == message.unit
         && is_fit_group(basis, message, flow.group)
@@ -198,14 +198,14 @@ fn is_fit(basis: &Basis<'_>, known: &Known, message: &Message<'_>, flow: &FlowPl
 }
 
 /// Whether a flow may bring such a message there, with its priority.
-#[tactic(auto, unfolding(crate::specs::Messages::is_of))]
+#[tactic(auto, unfolding(crate::specs::SentMessages::is_of))]
 pub(crate) fn is_of(
     basis: &Basis<'_>,
     known: &Known,
-    message: &Message<'_>,
+    message: &UnitMessage<'_>,
     flow: &FlowPlan,
 ) -> bool
-    ensures { result ≡ is_of (settings_of basis.now) (known_by known.now) (sent_of message.now) flow.now }
+    ensures { result ≡ is_of (settings_of basis.now) (known_by known.now) (sent_as message.now) flow.now }
 {
     is_fit(basis, known, message, flow) && has_priority(basis, message, flow.group)
 }
@@ -221,14 +221,14 @@ fn has_number(basis: &Basis<'_>, place: usize, number: u32) -> bool
 }
 
 /// Whether a request of the plan asks for the number there.
-#[tactic(auto, unfolding(crate::specs::Messages::asks))]
+#[tactic(auto, unfolding(crate::specs::SentMessages::asks_by_plan))]
 pub(crate) fn asks(
     basis: &Basis<'_>,
     known: &Known,
-    message: &Message<'_>,
+    message: &UnitMessage<'_>,
     request: &RequestPlan,
 ) -> bool
-    ensures { result ≡ asks (settings_of basis.now) (known_by known.now) (sent_of message.now) request.now }
+    ensures { result ≡ asks_by_plan (settings_of basis.now) (known_by known.now) (sent_as message.now) request.now }
 {
     request.sender == message.unit
         && has_number(basis, request.group, message.number)
@@ -236,8 +236,8 @@ pub(crate) fn asks(
 }
 
 // The first flow that may bring such a message there.
-fn first_fit(basis: &Basis<'_>, known: &Known, message: &Message<'_>) -> Option<usize>
-    ensures { result ≡ position (is_fit (settings_of basis.now) (known_by known.now) (sent_of message.now)) basis.now.plan.now.flows.items }
+fn first_fit(basis: &Basis<'_>, known: &Known, message: &UnitMessage<'_>) -> Option<usize>
+    ensures { result ≡ position (is_fit (settings_of basis.now) (known_by known.now) (sent_as message.now)) basis.now.plan.now.flows.items }
 {
     basis
         .plan
@@ -248,8 +248,8 @@ fn first_fit(basis: &Basis<'_>, known: &Known, message: &Message<'_>) -> Option<
 }
 
 // Whether some flow may bring it with its priority.
-fn some_is_of(basis: &Basis<'_>, known: &Known, message: &Message<'_>) -> bool
-    ensures { result ≡ list_any (is_of (settings_of basis.now) (known_by known.now) (sent_of message.now)) basis.now.plan.now.flows.items }
+fn some_is_of(basis: &Basis<'_>, known: &Known, message: &UnitMessage<'_>) -> bool
+    ensures { result ≡ list_any (is_of (settings_of basis.now) (known_by known.now) (sent_as message.now)) basis.now.plan.now.flows.items }
 {
     basis
         .plan
@@ -270,11 +270,11 @@ fn flow_group(basis: &Basis<'_>, place: usize) -> usize
 }
 
 // How a message differs that no flow may bring.
-fn without_flow(basis: &Basis<'_>, message: &Message<'_>) -> Option<Mark>
-    ensures { result ≡ without_flow (settings_of basis.now) (sent_of message.now)
-        (first_group (settings_of basis.now) (sent_of message.now) Fitting)
-        (option_or (first_group (settings_of basis.now) (sent_of message.now) Selected)
-        (first_group (settings_of basis.now) (sent_of message.now) Any)) }
+fn without_flow(basis: &Basis<'_>, message: &UnitMessage<'_>) -> Option<Mark>
+    ensures { result ≡ without_flow (settings_of basis.now) (sent_as message.now)
+        (first_group (settings_of basis.now) (sent_as message.now) Fitting)
+        (option_or (first_group (settings_of basis.now) (sent_as message.now) Selected)
+        (first_group (settings_of basis.now) (sent_as message.now) Any)) }
 {
     if let Some(group) = first_group(basis, message, Test::Fitting) {
         return Some(deviates(message.unit, Word::NoFlow, group));
@@ -299,9 +299,9 @@ fn deviates(unit: usize, word: Word, group: usize) -> Mark
 }
 
 /// How a message differs from all that the plan has of its sender.
-#[tactic(auto, unfolding(crate::specs::Messages::deviation))]
-pub(crate) fn deviation(basis: &Basis<'_>, known: &Known, message: &Message<'_>) -> Option<Mark>
-    ensures { result ≡ deviation (settings_of basis.now) (known_by known.now) (sent_of message.now) }
+#[tactic(auto, unfolding(crate::specs::SentMessages::deviation))]
+pub(crate) fn deviation(basis: &Basis<'_>, known: &Known, message: &UnitMessage<'_>) -> Option<Mark>
+    ensures { result ≡ deviation (settings_of basis.now) (known_by known.now) (sent_as message.now) }
 {
     match first_fit(basis, known, message) {
         Some(flow) => {

@@ -4,7 +4,7 @@ ghost use Rattle.std.specs.Io.KnownBytes.{Consumes, IsAtEnd};
 ghost use Rattle.j39_id.specs.Lines.{Line, behind_all, lines, told};
 ghost use Rattle.j39_stream.specs.Streams.{HasFailed, KeepsLimits, PassesLimits, log_limits};
 ghost use Rattle.j39_audit.specs.Settings.{Settings};
-ghost use Rattle.j39_audit.specs.inside.Hearing.{HasAudited, HasReadLog, IsWithin};
+ghost use Rattle.j39_audit.specs.inside.Auditing.{HasAudited, HasReadLog, IsWithinLines};
 
 use crate::audit_log::AuditLog;
 use j39_id::Cutter;
@@ -13,11 +13,11 @@ use std::alloc::AllocError;
 
 // Reads the lines that a piece of a log ends.
 fn read_piece(log: &mut AuditLog<'_>, cutter: &mut Cutter, piece: &[u8]) -> Result<(), AllocError>
-    requires room { (most : ℕ) × IsWithin log.old most × (most + length piece.now ≤ 2 ^ 62) }
+    requires room { (most : ℕ) × IsWithinLines log.old most × (most + length piece.now ≤ 2 ^ 62) }
     ensures pending { OnOk result (cutter.new.pending ≡ behind_all cutter.old.pending piece.now) }
     ensures lines { OnOk result ((s : Settings) (before : List Line) → HasAudited s log.old before
         → HasAudited s log.new (before ++ told cutter.old.pending piece.now)) }
-    ensures count { OnOk result ((most : ℕ) → IsWithin log.old most → IsWithin log.new (most + length piece.now)) }
+    ensures count { OnOk result ((most : ℕ) → IsWithinLines log.old most → IsWithinLines log.new (most + length piece.now)) }
 {
     let mut rest = piece;
     while !rest.is_empty() {
@@ -31,7 +31,7 @@ fn read_piece(log: &mut AuditLog<'_>, cutter: &mut Cutter, piece: &[u8]) -> Resu
 
 /// Reads a log to its end.
 pub(crate) fn read_log<S: Source>(log: &mut AuditLog<'_>, source: &mut S) -> Result<(), Fault>
-    requires within { IsWithin log.old 0 }
+    requires within { IsWithinLines log.old 0 }
     ensures read { OnOk result ((s : Settings) → HasAudited s log.old []
         → HasReadLog s log.new (S.state source.old).left (S.state source.new).left) }
     ensures limits { OnOk result (KeepsLimits log_limits (S.state source.old) (S.state source.new)) }

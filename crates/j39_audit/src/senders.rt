@@ -10,7 +10,7 @@ use j39_id::addresses::is_in_pool;
 
 /// Who sends from an address.
 #[derive(Clone, Copy, PartialEq, Eq)]
-pub enum Sender {
+pub enum SureSender {
     /// The unit at this place, from 0.
     Unit(usize),
     /// No unit may be there.
@@ -84,7 +84,7 @@ fn is_another_there(basis: &Basis<'_>, known: &Known, address: u8, unit: usize) 
 }
 
 // The one unit that may be at an address.
-fn sure_sender(basis: &Basis<'_>, known: &Known, address: u8) -> Sender
+fn sure_sender(basis: &Basis<'_>, known: &Known, address: u8) -> SureSender
     ensures sender { result ≡ sure_sender (settings_of basis.now) (known_by known.now) address
         (first_there (settings_of basis.now) (known_by known.now) address) }
     ensures inside { IsWithinUnits basis.now.plan.now result }
@@ -92,16 +92,16 @@ fn sure_sender(basis: &Basis<'_>, known: &Known, address: u8) -> Sender
     match first_there(basis, known, address) {
         Some(unit) => {
             if is_another_there(basis, known, address, unit) {
-                Sender::Unknown
+                SureSender::Unknown
             } else {
-                Sender::Unit(unit)
+                SureSender::Unit(unit)
             }
         }
         None => {
             if basis.has_strangers() {
-                Sender::Unknown
+                SureSender::Unknown
             } else {
-                Sender::Nobody
+                SureSender::Nobody
             }
         }
     }
@@ -109,12 +109,12 @@ fn sure_sender(basis: &Basis<'_>, known: &Known, address: u8) -> Sender
 
 /// Who sends from an address.
 #[tactic(auto, unfolding(crate::specs::Claiming::sender_at))]
-pub(crate) fn sender_at(basis: &Basis<'_>, known: &Known, address: u8) -> Sender
+pub(crate) fn sender_at(basis: &Basis<'_>, known: &Known, address: u8) -> SureSender
     ensures sender { result ≡ sender_at (settings_of basis.now) (known_by known.now) address }
     ensures inside { IsWithinUnits basis.now.plan.now result }
 {
     if is_strange(basis, known, address) {
-        Sender::Unknown
+        SureSender::Unknown
     } else {
         sure_sender(basis, known, address)
     }

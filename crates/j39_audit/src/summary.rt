@@ -1,16 +1,16 @@
 //! What is written of a log that was read.
 ghost use Rattle.std.specs.Prelude.{◌≡◌, ◌≤◌, ◌<◌, ◌++◌, length, IfOk, OnOk};
-ghost use Rattle.j39_audit.specs.AuditText.{accusation_count, accusations, accusing_at, accusing_line, counts_text, deviations_line, flow_line};
-ghost use Rattle.j39_audit.specs.AuditText.{flow_seen, flows_seen, groups_named, line_of, lines_told, request_line, request_seen};
+ghost use Rattle.j39_audit.specs.AuditText.{accusation_count, accusations, accusing_at, accusing_line, sorts_text, deviations_line, flow_seen_line};
+ghost use Rattle.j39_audit.specs.AuditText.{flow_seen, flows_seen, groups_named, line_of_mark, lines_told, request_seen_line, request_seen};
 ghost use Rattle.j39_audit.specs.AuditText.{requests_seen, sending_text, stranger_text, subject_count, subject_lines, subject_of};
-ghost use Rattle.j39_audit.specs.AuditText.{subjects, text_of, times_of, times_text, unit_and_group_text, unit_at_text, unit_line};
+ghost use Rattle.j39_audit.specs.AuditText.{subjects, text_by, times_of, times_text, unit_and_group_text, unit_at_text, unit_frames_line};
 ghost use Rattle.j39_audit.specs.AuditText.{unit_seen, unit_text, units_seen, word_count, word_lines, word_text};
-ghost use Rattle.j39_audit.specs.inside.Recalling.{found_in, settings_of};
+ghost use Rattle.j39_audit.specs.inside.Recalling.{tallied, settings_of};
 
 use crate::audit_log::AuditLog;
 use crate::basis::Basis;
 use crate::mark::{Mark, Word, make_mark};
-use crate::tally::{Tally, Told};
+use crate::tally::{MarkTally, Told};
 use j39_follow::{write_name, write_to};
 use j39_network::{FlowPlan, Plan, RequestPlan, To};
 use j39_text::{TextBuffer, group_label, unit_label};
@@ -170,15 +170,15 @@ fn write_accusing(
 }
 
 // Writes the line of a mark where it was found, and answers how many lines that is.
-#[tactic(auto, unfolding(crate::specs::AuditText::line_of, crate::specs::AuditText::lines_told))]
+#[tactic(auto, unfolding(crate::specs::AuditText::line_of_mark, crate::specs::AuditText::lines_told))]
 fn write_line(
     text: &mut TextBuffer,
     plan: &Plan,
-    tally: &Tally,
+    tally: &MarkTally,
     mark: Mark,
 ) -> Result<u64, AllocError>
-    ensures text { OnOk result (text.new ≡ text.old ++ line_of plan.now mark (found_in tally.now mark)) }
-    ensures count { IfOk result (λ n. n ≡ lines_told (found_in tally.now mark)) }
+    ensures text { OnOk result (text.new ≡ text.old ++ line_of_mark plan.now mark (tallied tally.now mark)) }
+    ensures count { IfOk result (λ n. n ≡ lines_told (tallied tally.now mark)) }
     ensures few { IfOk result (λ n. n ≤ 1) }
 {
     let told = tally.told(mark);
@@ -193,12 +193,12 @@ fn write_line(
 fn write_subject_lines(
     text: &mut TextBuffer,
     basis: &Basis<'_>,
-    tally: &Tally,
+    tally: &MarkTally,
     word: Word,
     subject: usize,
 ) -> Result<u64, AllocError>
-    ensures text { OnOk result (text.new ≡ text.old ++ subject_lines (settings_of basis.now) (found_in tally.now) word subject) }
-    ensures count { IfOk result (λ n. n ≡ subject_count (settings_of basis.now) (found_in tally.now) word subject) }
+    ensures text { OnOk result (text.new ≡ text.old ++ subject_lines (settings_of basis.now) (tallied tally.now) word subject) }
+    ensures count { IfOk result (λ n. n ≡ subject_count (settings_of basis.now) (tallied tally.now) word subject) }
     ensures few { IfOk result (λ n. n ≤ 256) }
 {
     let mut count = 0;
@@ -217,11 +217,11 @@ fn write_subject_lines(
 fn write_word_lines(
     text: &mut TextBuffer,
     basis: &Basis<'_>,
-    tally: &Tally,
+    tally: &MarkTally,
     word: Word,
 ) -> Result<u64, AllocError>
-    ensures text { OnOk result (text.new ≡ text.old ++ word_lines (settings_of basis.now) (found_in tally.now) word) }
-    ensures count { IfOk result (λ n. n ≡ word_count (settings_of basis.now) (found_in tally.now) word) }
+    ensures text { OnOk result (text.new ≡ text.old ++ word_lines (settings_of basis.now) (tallied tally.now) word) }
+    ensures count { IfOk result (λ n. n ≡ word_count (settings_of basis.now) (tallied tally.now) word) }
     ensures few { IfOk result (λ n. n ≤ 65536) }
 {
     let mut count = 0;
@@ -235,10 +235,10 @@ fn write_word_lines(
 fn write_accusations(
     text: &mut TextBuffer,
     basis: &Basis<'_>,
-    tally: &Tally,
+    tally: &MarkTally,
 ) -> Result<u64, AllocError>
-    ensures text { OnOk result (text.new ≡ text.old ++ accusations (settings_of basis.now) (found_in tally.now)) }
-    ensures count { IfOk result (λ n. n ≡ accusation_count (settings_of basis.now) (found_in tally.now)) }
+    ensures text { OnOk result (text.new ≡ text.old ++ accusations (settings_of basis.now) (tallied tally.now)) }
+    ensures count { IfOk result (λ n. n ≡ accusation_count (settings_of basis.now) (tallied tally.now)) }
 {
     let mut count = 0;
     for place in 0..ACCUSING.len() {
@@ -265,7 +265,7 @@ fn write_sending(
     write_to(text, plan, to)
 }
 
-#[tactic(auto, unfolding(crate::specs::AuditText::flow_line))]
+#[tactic(auto, unfolding(crate::specs::AuditText::flow_seen_line))]
 fn write_flow(
     text: &mut TextBuffer,
     plan: &Plan,
@@ -274,7 +274,7 @@ fn write_flow(
     seen: u64,
     unclear: u64,
 ) -> Result<(), AllocError>
-    ensures { OnOk result (text.new ≡ text.old ++ flow_line plan.now place flow.now seen unclear) }
+    ensures { OnOk result (text.new ≡ text.old ++ flow_seen_line plan.now place flow.now seen unclear) }
 {
     text.place("flow ", place)?;
     write_sending(text, plan, flow.group, flow.sender, flow.to)?;
@@ -283,7 +283,7 @@ fn write_flow(
     text.end_line()
 }
 
-#[tactic(auto, unfolding(crate::specs::AuditText::request_line))]
+#[tactic(auto, unfolding(crate::specs::AuditText::request_seen_line))]
 fn write_request(
     text: &mut TextBuffer,
     plan: &Plan,
@@ -291,7 +291,7 @@ fn write_request(
     request: &RequestPlan,
     seen: u64,
 ) -> Result<(), AllocError>
-    ensures { OnOk result (text.new ≡ text.old ++ request_line plan.now place request.now seen) }
+    ensures { OnOk result (text.new ≡ text.old ++ request_seen_line plan.now place request.now seen) }
 {
     text.place("request ", place)?;
     write_sending(text, plan, request.group, request.sender, request.to)?;
@@ -299,14 +299,14 @@ fn write_request(
     text.end_line()
 }
 
-#[tactic(auto, unfolding(crate::specs::AuditText::unit_line))]
+#[tactic(auto, unfolding(crate::specs::AuditText::unit_frames_line))]
 fn write_frames(
     text: &mut TextBuffer,
     plan: &Plan,
     unit: usize,
     frames: u64,
 ) -> Result<(), AllocError>
-    ensures { OnOk result (text.new ≡ text.old ++ unit_line plan.now unit frames) }
+    ensures { OnOk result (text.new ≡ text.old ++ unit_frames_line plan.now unit frames) }
 {
     text.word("unit ")?;
     text.word(unit_label(plan, unit))?;
@@ -314,8 +314,8 @@ fn write_frames(
     text.end_line()
 }
 
-fn times_of(tally: &Tally, word: Word, subject: usize) -> u64
-    ensures { result ≡ times_of (found_in tally.now) word subject }
+fn times_of(tally: &MarkTally, word: Word, subject: usize) -> u64
+    ensures { result ≡ times_of (tallied tally.now) word subject }
 {
     tally.told(make_mark(word, subject)).times
 }
@@ -323,10 +323,10 @@ fn times_of(tally: &Tally, word: Word, subject: usize) -> u64
 fn write_flow_seen(
     text: &mut TextBuffer,
     plan: &Plan,
-    tally: &Tally,
+    tally: &MarkTally,
     place: usize,
 ) -> Result<(), AllocError>
-    ensures { OnOk result (text.new ≡ text.old ++ flow_seen plan.now (found_in tally.now) place) }
+    ensures { OnOk result (text.new ≡ text.old ++ flow_seen plan.now (tallied tally.now) place) }
 {
     let seen = times_of(tally, Word::Seen, place);
     let unclear = times_of(tally, Word::Unclear, place);
@@ -336,8 +336,8 @@ fn write_flow_seen(
     }
 }
 
-fn write_flows(text: &mut TextBuffer, plan: &Plan, tally: &Tally) -> Result<(), AllocError>
-    ensures { OnOk result (text.new ≡ text.old ++ flows_seen plan.now (found_in tally.now)) }
+fn write_flows(text: &mut TextBuffer, plan: &Plan, tally: &MarkTally) -> Result<(), AllocError>
+    ensures { OnOk result (text.new ≡ text.old ++ flows_seen plan.now (tallied tally.now)) }
 {
     for place in 0..plan.flows.len() {
         write_flow_seen(text, plan, tally, place)?;
@@ -348,10 +348,10 @@ fn write_flows(text: &mut TextBuffer, plan: &Plan, tally: &Tally) -> Result<(), 
 fn write_request_seen(
     text: &mut TextBuffer,
     plan: &Plan,
-    tally: &Tally,
+    tally: &MarkTally,
     place: usize,
 ) -> Result<(), AllocError>
-    ensures { OnOk result (text.new ≡ text.old ++ request_seen plan.now (found_in tally.now) place) }
+    ensures { OnOk result (text.new ≡ text.old ++ request_seen plan.now (tallied tally.now) place) }
 {
     let seen = times_of(tally, Word::Asked, place);
     match plan.requests.get(place) {
@@ -360,8 +360,8 @@ fn write_request_seen(
     }
 }
 
-fn write_requests(text: &mut TextBuffer, plan: &Plan, tally: &Tally) -> Result<(), AllocError>
-    ensures { OnOk result (text.new ≡ text.old ++ requests_seen plan.now (found_in tally.now)) }
+fn write_requests(text: &mut TextBuffer, plan: &Plan, tally: &MarkTally) -> Result<(), AllocError>
+    ensures { OnOk result (text.new ≡ text.old ++ requests_seen plan.now (tallied tally.now)) }
 {
     for place in 0..plan.requests.len() {
         write_request_seen(text, plan, tally, place)?;
@@ -372,17 +372,17 @@ fn write_requests(text: &mut TextBuffer, plan: &Plan, tally: &Tally) -> Result<(
 fn write_unit_seen(
     text: &mut TextBuffer,
     plan: &Plan,
-    tally: &Tally,
+    tally: &MarkTally,
     unit: usize,
 ) -> Result<(), AllocError>
-    ensures { OnOk result (text.new ≡ text.old ++ unit_seen plan.now (found_in tally.now) unit) }
+    ensures { OnOk result (text.new ≡ text.old ++ unit_seen plan.now (tallied tally.now) unit) }
 {
     let frames = times_of(tally, Word::Counted, unit);
     write_frames(text, plan, unit, frames)
 }
 
-fn write_units(text: &mut TextBuffer, plan: &Plan, tally: &Tally) -> Result<(), AllocError>
-    ensures { OnOk result (text.new ≡ text.old ++ units_seen plan.now (found_in tally.now)) }
+fn write_units(text: &mut TextBuffer, plan: &Plan, tally: &MarkTally) -> Result<(), AllocError>
+    ensures { OnOk result (text.new ≡ text.old ++ units_seen plan.now (tallied tally.now)) }
 {
     for place in 0..plan.units.len() {
         write_unit_seen(text, plan, tally, place)?;
@@ -391,9 +391,9 @@ fn write_units(text: &mut TextBuffer, plan: &Plan, tally: &Tally) -> Result<(), 
 }
 
 // Writes how many lines there were of each sort.
-#[tactic(auto, unfolding(crate::specs::AuditText::counts_text))]
+#[tactic(auto, unfolding(crate::specs::AuditText::sorts_text))]
 fn write_counts(text: &mut TextBuffer, log: &AuditLog<'_>) -> Result<(), AllocError>
-    ensures { OnOk result (text.new ≡ text.old ++ counts_text log.now.basis.stamps log.now.counts (found_in log.now.tally)) }
+    ensures { OnOk result (text.new ≡ text.old ++ sorts_text log.now.basis.stamps log.now.counts (tallied log.now.tally)) }
 {
     log.counts.write(text)?;
     text.field(" elsewhere ", log.counts.elsewhere)?;
@@ -412,10 +412,10 @@ fn write_deviations(text: &mut TextBuffer, count: u64) -> Result<(), AllocError>
 }
 
 /// Writes what was found in a log, and answers how many lines accuse.
-#[tactic(auto, unfolding(crate::specs::AuditText::text_of))]
+#[tactic(auto, unfolding(crate::specs::AuditText::text_by))]
 pub(crate) fn write_audit(text: &mut TextBuffer, log: &AuditLog<'_>) -> Result<u64, AllocError>
-    ensures text { OnOk result (text.new ≡ text.old ++ text_of (settings_of log.now.basis) log.now.counts (found_in log.now.tally)) }
-    ensures count { IfOk result (λ n. n ≡ accusation_count (settings_of log.now.basis) (found_in log.now.tally)) }
+    ensures text { OnOk result (text.new ≡ text.old ++ text_by (settings_of log.now.basis) log.now.counts (tallied log.now.tally)) }
+    ensures count { IfOk result (λ n. n ≡ accusation_count (settings_of log.now.basis) (tallied log.now.tally)) }
 {
     let plan = log.basis.plan;
     let count = write_accusations(text, &log.basis, &log.tally)?;

@@ -1,7 +1,7 @@
 //! How often what was found, and at which line first.
 ghost use Rattle.std.specs.Prelude.{◌≡◌, ◌<◌, ◌^◌, ◌∷◌, [], OnOk};
 ghost use Rattle.j39_audit.specs.Counting.{key_of, told_more};
-ghost use Rattle.j39_audit.specs.inside.Recalling.{AreCounted, Notes, found_at};
+ghost use Rattle.j39_audit.specs.inside.Recalling.{AreCounted, Notes, tallied_at};
 
 use crate::mark::Mark;
 use std::alloc::{AllocError, Global};
@@ -42,22 +42,22 @@ fn one_more(old: Told, line: u64, detail: u64) -> Told
 
 /// What was found in a log: of each mark how often, without a look at the others.
 #[derive(Drop)]
-pub(crate) struct Tally {
+pub(crate) struct MarkTally {
     pub found: HashMap<(u8, usize, usize), Told>,
 }
 
-impl Tally {
+impl MarkTally {
     pub fn new(alloc: Global) -> Self
         ensures { AreCounted result [] }
     {
-        Tally {
+        MarkTally {
             found: HashMap::new(alloc),
         }
     }
 
     /// What was found of a mark.
     pub fn told(&self, mark: Mark) -> Told
-        ensures { result ≡ found_at self.now (key_of mark) }
+        ensures { result ≡ tallied_at self.now (key_of mark) }
     {
         match self
             .found

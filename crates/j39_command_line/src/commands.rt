@@ -105,12 +105,15 @@ fn follow<'a>(alloc: Global) -> Result<Command<'a>, AllocError>
     ))
 }
 
-// A value that may be given behind a name with two hyphens.
-fn option<'a>(alloc: Global, name: &'a str, help: &'a str) -> Arg<'a>
+// A value, which the help calls so, that may be given behind a name with two hyphens.
+fn option<'a>(alloc: Global, name: &'a str, called: &'a str, help: &'a str) -> Arg<'a>
     ensures rule { rule_of result ≡ option_rule name.entry.now }
     ensures local { result.global ≡ false }
 {
-    Arg::new(alloc, name).long(name).help(help)
+    Arg::new(alloc, name)
+        .long(name)
+        .value_name(called)
+        .help(help)
 }
 
 fn audit<'a>(alloc: Global) -> Result<Command<'a>, AllocError>
@@ -134,6 +137,7 @@ fn audit<'a>(alloc: Global) -> Result<Command<'a>, AllocError>
     .arg(option(
         alloc,
         "stamps",
+        "US",
         "By how many microseconds the time of a line may differ from the end of its frame: 0 to 1000000, 1000 without it",
     ))
 }

@@ -1,8 +1,8 @@
 use Rattle.std.proofs.Common.{◌≡◌, ◌&&◌, ◌||◌, not, ℕ, length, sym, ap, subst, ◌∙◌, arith}
 use Rattle.j39_network.specs.declared.plan.flow_plan.FlowPlan.{FlowPlan}
 use Rattle.j39_audit.specs.Below.{each_below}
-use Rattle.j39_audit.specs.Messages.{all_marked, is_of, is_near, marked}
-use Rattle.j39_audit.specs.inside.Recalling.{Notes, known_by, sent_of, settings_of}
+use Rattle.j39_audit.specs.SentMessages.{all_marked, is_of, is_near, marked}
+use Rattle.j39_audit.specs.inside.Recalling.{Notes, known_by, sent_as, settings_of}
 use Rattle.j39_audit.proofs.Noting.{notes_more, notes_none_below}
 use Rattle.j39_audit.proofs.flow_marks.note_each_flow.Goals as goal
 
@@ -17,7 +17,7 @@ unfolding all_marked
 returns c =
     let s = settings_of c.args.basis.now in
     let k = known_by c.args.known.now in
-    let m = sent_of c.args.message.now in
+    let m = sent_as c.args.message.now in
     let all = c.args.basis.now.plan.now.flows.items in
     let count = c.len-place-end.ensures in
     let done = c.loop-place-test.false in

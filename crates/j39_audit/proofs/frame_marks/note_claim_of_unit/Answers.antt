@@ -1,7 +1,7 @@
 use Rattle.std.proofs.Common.{◌≡◌, ◌∷◌, [], List, Bool, ap, subst, ◌∙◌}
 use Rattle.j39_audit.specs.Counting.{Noted}
 use Rattle.j39_audit.specs.Looking.{noted_if}
-use Rattle.j39_audit.specs.Messages.{noted_at}
+use Rattle.j39_audit.specs.SentMessages.{noted_at}
 use Rattle.j39_audit.specs.declared.mark.Mark.{Mark}
 use Rattle.j39_audit.specs.declared.mark.Word.TheVariants.{Urgent}
 use Rattle.j39_audit.specs.inside.Recalling.{Notes}

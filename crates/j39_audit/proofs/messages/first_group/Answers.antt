@@ -1,7 +1,7 @@
 use Rattle.std.proofs.Common.{◌≡◌, ◌<◌, true, false, length, sym, ap, ◌∙◌, arith, None}
 use Rattle.j39_audit.specs.Below.{first_below}
-use Rattle.j39_audit.specs.Messages.{first_group, is_group}
-use Rattle.j39_audit.specs.inside.Recalling.{sent_of, settings_of}
+use Rattle.j39_audit.specs.SentMessages.{first_group, is_group}
+use Rattle.j39_audit.specs.inside.Recalling.{sent_as, settings_of}
 use Rattle.j39_audit.proofs.Below.{first_here, first_more, first_none}
 use Rattle.j39_audit.proofs.messages.first_group.Goals as goal
 
@@ -26,4 +26,4 @@ returns c =
     let test = c.loop-place-test.false in
     let auto = c.loop-place.auto in
     let end : c.loop-place.place ≡ length c.args.basis.now.plan.now.groups.items = omega (arith, count, test) in
-    sym (ap (first_below (is_group (settings_of c.args.basis.now) (sent_of c.args.message.now) c.args.test)) (sym end) ∙ c.loop-place.invariant)
+    sym (ap (first_below (is_group (settings_of c.args.basis.now) (sent_as c.args.message.now) c.args.test)) (sym end) ∙ c.loop-place.invariant)

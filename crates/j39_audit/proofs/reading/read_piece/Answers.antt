@@ -6,7 +6,7 @@ use Rattle.std.proofs.lemmas.List.{append-nil, length-append, length-drop, lengt
 use Rattle.j39_id.specs.Lines.{Line, Pending, behind_all, tells, told}
 use Rattle.j39_id.proofs.CutLines.{behind_all-append, told-append}
 use Rattle.j39_audit.specs.Settings.{Settings}
-use Rattle.j39_audit.specs.inside.Hearing.{HasAudited, IsWithin}
+use Rattle.j39_audit.specs.inside.Auditing.{HasAudited, IsWithinLines}
 use Rattle.j39_audit.proofs.reading.read_piece.Goals as goal
 
 cut_line : (whole : Option (Bor (List ℕ))) (line : Bor (List ℕ)) → (unwrap_or whole line).now ≡ unwrap_or (option_copied whole) line.now
@@ -19,7 +19,7 @@ loop-rest-init c = record {
   parts = refl;
   pending = refl;
   lines = λ s before so. rw append-nil so;
-  count = λ most within. let same : most ≡ most + 0 = omega arith in subst (IsWithin c.args.log.now) same within;
+  count = λ most within. let same : most ≡ most + 0 = omega arith in subst (IsWithinLines c.args.log.now) same within;
 }
 
 pub read-requires : goal.read-requires
@@ -80,4 +80,4 @@ returns-clause-count c = λ most within.
     ap length before.parts ∙ length-append before.used c.loop-rest.rest.now in
     let none : length c.loop-rest.rest.now ≡ 0 = search rules in
     let all : most + length before.used ≡ most + length c.args.piece.now = omega (arith, len, none) in
-    subst (IsWithin c.loop-rest.log) all (before.count most within)
+    subst (IsWithinLines c.loop-rest.log) all (before.count most within)

@@ -2,7 +2,7 @@ use Rattle.std.proofs.Common.{◌≡◌, ◌≤◌, ◌++◌, ℕ, refl, sym, ap
 use Rattle.j39_audit.specs.AuditText.{accusation_count, accusations, accusing_at, word_count, word_lines}
 use Rattle.j39_audit.specs.Below.{each_below, sum_below}
 use Rattle.j39_audit.specs.declared.mark.Word.{Word}
-use Rattle.j39_audit.specs.inside.Recalling.{found_in, settings_of}
+use Rattle.j39_audit.specs.inside.Recalling.{tallied, settings_of}
 use Rattle.j39_audit.proofs.Below.{sum_none}
 use Rattle.j39_audit.proofs.Writing.{count_more, text_more, text_none}
 use Rattle.j39_audit.proofs.summary.write_accusations.Goals as goal
@@ -13,7 +13,7 @@ loop-place-init c = record { text = text_none _ _; count = sym (sum_none _); few
 pub loop-place-preserved : goal.loop-place-preserved
 loop-place-preserved c =
     let s = settings_of c.args.basis.now in
-    let look = found_in c.args.tally.now in
+    let look = tallied c.args.tally.now in
     let before = c.loop-place.invariant in
     let more = c.in_ok-write_word_lines.ensures in
     let few = before.few in
@@ -31,7 +31,7 @@ pub returns : goal.returns
 unfolding accusations accusation_count
 returns c =
     let s = settings_of c.args.basis.now in
-    let look = found_in c.args.tally.now in
+    let look = tallied c.args.tally.now in
     let before = c.loop-place.invariant in
     let count = c.len-place-end.ensures in
     let done = c.loop-place-test.false in

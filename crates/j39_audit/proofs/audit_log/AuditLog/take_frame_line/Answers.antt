@@ -2,11 +2,11 @@ use Rattle.std.proofs.Common.{◌≡◌, ◌+◌, ℕ, List, Option, refl, sym, 
 use Rattle.std.specs.Option.{option_copied}
 use Rattle.j39_log.specs.declared.line_counts.LineCounts.{LineCounts}
 use Rattle.j39_follow.specs.LogLines.{interface_behind}
-use Rattle.j39_audit.specs.AuditText.{Past, with_frame}
+use Rattle.j39_audit.specs.AuditText.{AuditPast, past_with_frame}
 use Rattle.j39_audit.proofs.audit_log.AuditLog.take_frame_line.Goals as goal
 
 pub returns-clause-frame : goal.returns-clause-frame
-unfolding with_frame
+unfolding past_with_frame
 returns-clause-frame c = λ past recalls.
     let timed = c.in_ok-take_timed.ensures in
     let named : Option (List ℕ) = option_copied c.args.named in

@@ -8,7 +8,7 @@ use Rattle.j39_id.specs.declared.frame.Frame.{Frame}
 use Rattle.j39_id.specs.declared.line_error.LineError.{LineError}
 use Rattle.j39_follow.specs.LogLines.{IsElsewhere}
 use Rattle.j39_network.specs.declared.plan.Plan.{Plan}
-use Rattle.j39_audit.specs.AuditText.{Past, passed_over, with_frame}
+use Rattle.j39_audit.specs.AuditText.{AuditPast, passed_by, past_with_frame}
 use Rattle.j39_audit.specs.Breaks.{line_time}
 use Rattle.j39_audit.specs.declared.basis.Basis.{Basis}
 use Rattle.j39_audit.specs.inside.Recalling.{settings_of}
@@ -56,7 +56,7 @@ returns-in-Ok-clause-line c =
     IfOk-weaker c.take_frame_line.result _ _
     (λ _ took. λ past recalls.
     let done = took past recalls in
-    let next : Past = with_frame s past c.line_time-time.result (option_copied named.result) f done.packet in
+    let next : AuditPast = past_with_frame s past c.line_time-time.result (option_copied named.result) f done.packet in
     record {
       next = next;
       reads = (
@@ -77,7 +77,7 @@ returns-in-Ok-clause-line c =
             (
               done.packet,
               done.packet_is,
-              ap (λ (t : Option ℕ). with_frame s past t (option_copied named.result) f done.packet)
+              ap (λ (t : Option ℕ). past_with_frame s past t (option_copied named.result) f done.packet)
                   (c.line_time-time.ensures ∙ ap (λ (p : Plan). line_time p c.time_text.result.now) plan),
             ),
           ),
@@ -95,7 +95,7 @@ returns-in-Err-clause-line c =
     let error = c.in-Err.error in
     IfOk-weaker c.take_fault.result _ _
     (λ _ took. λ past recalls. record {
-      next = passed_over error past;
+      next = passed_by error past;
       reads = (
         read.result.now,
         option_copied named.result,

@@ -1,5 +1,5 @@
 use Rattle.std.proofs.Common.{refl}
-use Rattle.j39_audit.proofs.tally.Tally.new.Goals as goal
+use Rattle.j39_audit.proofs.tally.MarkTally.new.Goals as goal
 use Rattle.j39_audit.specs.Counting.{told_at}
 
 pub returns : goal.returns
