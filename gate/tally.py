@@ -29,6 +29,8 @@ COMMANDS = (
     ["follow", "two_units_one_address.toml", "two_units_one_address.drive.log"],
     ["follow", "service_requests.toml", "service_requests.start.log"],
     ["follow", "--all", "service_requests.toml", "service_requests.start.log"],
+    ["audit", "two_units_one_address.toml", "two_units_one_address.drive.log"],
+    ["audit", "--part", "--stamps", "500", "service_requests.toml", "service_requests.start.log"],
     ["vehicle", "three_buses/truck.toml"],
     ["vehicle", "three_buses/slow_gateway.toml"],
     ["--help"],

@@ -20,7 +20,7 @@ from j39plan import program
 from tests.support import TOOLS, TOP, InFolder, run, text_of, there
 
 PACKAGE = os.path.join(TOOLS, "package")
-COMMANDS = ["show", "variant", "check", "addresses", "load", "run", "read", "follow", "frame", "vehicle", "help"]
+COMMANDS = ["show", "variant", "check", "addresses", "load", "run", "read", "follow", "audit", "frame", "vehicle", "help"]
 INSTALLED = ["where", "answer", "startup", "dbc2plan", "log2plan", "plan2dbc", "join", "forwards", "compare", "variant", "mend", "against", "drift", "fleet", "table", "report", "signals", "codes", "plot", "tolog",
              "cut", "restbus", "check-plans"]
 PAGE = text_of(os.path.join(TOP, "docs", "guide", "TOOLS.md"))
@@ -265,6 +265,8 @@ class Completions(InFolder):
         self.assertEqual(self.complete_bash("j39plan", "v"), ["vehicle"])
         self.assertEqual(self.complete_bash("j39plan", "help", "f"), ["follow", "frame"])
         self.assertEqual(self.complete_bash("j39plan", "follow", "--"), ["--all"])
+        self.assertEqual(self.complete_bash("j39plan", "audit", "--"), ["--part", "--stamps"])
+        self.assertEqual(self.complete_bash("j39plan", "audit", "--part", "--s"), ["--stamps"])
 
     def test_bash_of_files(self) -> None:
         """Those of the ending that is wanted and folders, else all."""
@@ -272,6 +274,7 @@ class Completions(InFolder):
             self.write(name, "")
         for words, name in ((("j39plan", "check"), "a.toml"), (("j39plan", "vehicle"), "a.toml"), (("j39plan", "run", "a.toml"), "a.schedule"),
                             (("j39plan", "read", "a.toml"), "a.log"), (("j39plan", "follow", "--all", "a.toml"), "a.log"),
+                            (("j39plan", "audit", "--stamps", "5"), "a.toml"), (("j39plan", "audit", "--stamps", "5", "--part", "a.toml"), "a.log"),
                             (("j39plan-where",), "a.toml"), (("j39plan-startup",), "a.toml"),
                             (("j39plan-against", "a.toml"), "a.log"), (("j39plan-fleet", "a.toml", "a.log"), "a.log"), (("j39plan-join", "a.toml"), "a.toml"),
                             (("j39plan-forwards", "a.toml"), "a.toml"),

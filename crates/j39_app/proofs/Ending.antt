@@ -165,27 +165,28 @@ module _ {W : Type 0} {IsText : List ℕ → List ℕ → Verdict → Type 0} {m
   }
 
 -- what ends so ends as another one that writes such texts
-pub ends_weaker : {V W : Type 0} {IsText Was : List ℕ → V → Type 0} {IsPart WasPart : List ℕ → Type 0} {AtOnce IsTooLong WasTooLong IsBroken : Type 0}
-    {state : W → SinkState} {told ended : W} (weaker : (text : List ℕ) (answer : V) → IsText text answer → Was text answer) (parts : (text : List ℕ) → IsPart text → WasPart text)
-    (longer : IsTooLong → WasTooLong) (r : Result V Fault) → Ends IsText IsPart AtOnce IsTooLong IsBroken state told ended r → Ends Was WasPart AtOnce WasTooLong IsBroken state told ended r
-ends_weaker weaker parts longer (Ok answer) ends =
+pub ends_weaker : {V W : Type 0} {IsText Was : List ℕ → V → Type 0} {IsPart WasPart : List ℕ → Type 0}
+    {AtOnce WasAtOnce IsTooLong WasTooLong IsBroken : Type 0} {state : W → SinkState} {told ended : W} (weaker : (text : List ℕ) (answer : V) → IsText text answer → Was text answer) (parts : (text : List ℕ) → IsPart text → WasPart text)
+    (sooner : AtOnce → WasAtOnce) (longer : IsTooLong → WasTooLong) (r : Result V Fault)
+    → Ends IsText IsPart AtOnce IsTooLong IsBroken state told ended r → Ends Was WasPart WasAtOnce WasTooLong IsBroken state told ended r
+ends_weaker weaker parts sooner longer (Ok answer) ends =
     let (text, is, put) = ends.written in
     record {
       written = (text, weaker text answer is, put);
       calm = ends.calm;
       cut = tt;
-      at_once = ends.at_once;
+      at_once = λ e. sooner (ends.at_once e);
       long = λ e. longer (ends.long e);
       device = ends.device;
     }
-ends_weaker weaker parts longer (Err fault) ends = record {
+ends_weaker weaker parts sooner longer (Err fault) ends = record {
   written = tt;
   calm = tt;
   cut = elim ends.cut [
     | inl same ↦ inl same
     | inr (text, is, part) ↦ inr (text, parts text is, part)
   ];
-  at_once = ends.at_once;
+  at_once = λ e. sooner (ends.at_once e);
   long = λ e. longer (ends.long e);
   device = ends.device;
 }
@@ -193,11 +194,11 @@ ends_weaker weaker parts longer (Err fault) ends = record {
 -- ---- an order of two files
 
 -- the first one describes a plan, and the other one is read by it
-module _ {W : Type 0} {FirstLong Long FirstBroken Broken : Type 0} {state : W → SinkState} {told ended : W}
+module _ {W : Type 0} {AtOnce FirstLong Long FirstBroken Broken : Type 0} {state : W → SinkState} {told ended : W}
     (IsTextFor IsFrontFor : ProductLine → Option (List ℕ) → List ℕ → Verdict → Type 0) (first second : Option (List ℕ)) (found : ProductLine) (bytes : List ℕ) (of : AreOf first bytes)
     (described : Describes bytes found) where
-  by_plan : (r : Result Verdict Fault) → Ends (IsTextFor found second) (IsOfSome (IsFrontFor found second)) ⊥ Long Broken state told ended r
-      → Ends (IsAnswerOfTwo IsTextFor first second) (IsOfSome (IsAnswerOfTwo IsFrontFor first second)) ⊥ (FirstLong ⊎ (AreOfPlan first × Long))
+  by_plan : (r : Result Verdict Fault) → Ends (IsTextFor found second) (IsOfSome (IsFrontFor found second)) AtOnce Long Broken state told ended r
+      → Ends (IsAnswerOfTwo IsTextFor first second) (IsOfSome (IsAnswerOfTwo IsFrontFor first second)) AtOnce (FirstLong ⊎ (AreOfPlan first × Long))
       (FirstBroken ⊎ (AreOfPlan first × Broken)) state told ended r
   by_plan (Ok verdict) by =
       let (text, is, put) = by.written in
@@ -205,7 +206,7 @@ module _ {W : Type 0} {FirstLong Long FirstBroken Broken : Type 0} {state : W �
         written = (text, inr (bytes, found, of, described, is), put);
         calm = by.calm;
         cut = tt;
-        at_once = λ never. absurd never;
+        at_once = λ _ _. tt;
         long = λ e. cc e;
         device = λ e. cc e;
       }
@@ -216,18 +217,18 @@ module _ {W : Type 0} {FirstLong Long FirstBroken Broken : Type 0} {state : W �
       | inl same ↦ inl same
       | inr (text, (verdict, is), part) ↦ inr (text, (verdict, inr (bytes, found, of, described, is)), part)
     ];
-    at_once = λ never. absurd never;
+    at_once = by.at_once;
     long = λ e. inr ((bytes, found, of, described), by.long e);
     device = λ e. elim (by.device e) [ inl broken ↦ inl (inr ((bytes, found, of, described), broken)) | inr to ↦ inr to ];
   }
 
 module _ {W : Type 0} {AtOnce FirstLong Long FirstBroken Broken : Type 0} {state : W → SinkState} {told middle : W}
     (IsTextFor IsFrontFor : ProductLine → Option (List ℕ) → List ℕ → Verdict → Type 0) (first second : Option (List ℕ)) (plan : Result (Option ProductLine) Fault)
-    (read : Ends (IsOfBytes IsLineText first) (λ text. (bytes : List ℕ) × AreOf first bytes × IsRefusedText bytes text) AtOnce FirstLong FirstBroken
+    (read : Ends (IsOfBytes IsLineText first) (λ text. (bytes : List ℕ) × AreOf first bytes × IsRefusedText bytes text) (Unit {0}) FirstLong FirstBroken
     state told middle plan) where
   -- the plan's can't be read
   pub no_plan : (fault : Fault) (r : Result Verdict Fault) → plan ≡ Err fault → IsErrOf r fault
-      → Ends (IsAnswerOfTwo IsTextFor first second) (IsOfSome (IsAnswerOfTwo IsFrontFor first second)) ⊥ (FirstLong ⊎ (AreOfPlan first × Long))
+      → Ends (IsAnswerOfTwo IsTextFor first second) (IsOfSome (IsAnswerOfTwo IsFrontFor first second)) AtOnce (FirstLong ⊎ (AreOfPlan first × Long))
       (FirstBroken ⊎ (AreOfPlan first × Broken)) state told middle r
   no_plan fault r is ends =
       let before = rw is at read in
@@ -238,14 +239,14 @@ module _ {W : Type 0} {AtOnce FirstLong Long FirstBroken Broken : Type 0} {state
           | inl same ↦ inl same
           | inr (text, (bytes, of, refused), part) ↦ inr (text, (Unreadable, inl (bytes, of, refused, refl)), part)
         ];
-        at_once = λ never. absurd never;
+        at_once = λ _ other. before.at_once tt (λ is. other (cc is));
         long = λ e. inl (before.long (cc e));
         device = λ e. elim (before.device (cc e)) [ inl broken ↦ inl (inl broken) | inr to ↦ inr to ];
       }
 
   -- it describes none
   pub plan_refused : plan ≡ Ok None
-      → Ends (IsAnswerOfTwo IsTextFor first second) (IsOfSome (IsAnswerOfTwo IsFrontFor first second)) ⊥ (FirstLong ⊎ (AreOfPlan first × Long))
+      → Ends (IsAnswerOfTwo IsTextFor first second) (IsOfSome (IsAnswerOfTwo IsFrontFor first second)) AtOnce (FirstLong ⊎ (AreOfPlan first × Long))
       (FirstBroken ⊎ (AreOfPlan first × Broken)) state told middle (Ok Unreadable)
   plan_refused is =
       let before = rw is at read in
@@ -254,18 +255,18 @@ module _ {W : Type 0} {AtOnce FirstLong Long FirstBroken Broken : Type 0} {state
         written = (text, inl (bytes, of, refused, refl), put);
         calm = before.calm;
         cut = tt;
-        at_once = λ never. absurd never;
+        at_once = λ _ _. tt;
         long = λ e. cc e;
         device = λ e. cc e;
       }
 
   -- the other file is read by the plan
   pub plan_known : {ended : W} (found : ProductLine) (r : Result Verdict Fault) → plan ≡ Ok (Some found) → middle ≡ told
-      → Ends (IsTextFor found second) (IsOfSome (IsFrontFor found second)) ⊥ Long Broken state middle ended r
-      → Ends (IsAnswerOfTwo IsTextFor first second) (IsOfSome (IsAnswerOfTwo IsFrontFor first second)) ⊥ (FirstLong ⊎ (AreOfPlan first × Long))
+      → Ends (IsTextFor found second) (IsOfSome (IsFrontFor found second)) AtOnce Long Broken state middle ended r
+      → Ends (IsAnswerOfTwo IsTextFor first second) (IsOfSome (IsAnswerOfTwo IsFrontFor first second)) AtOnce (FirstLong ⊎ (AreOfPlan first × Long))
       (FirstBroken ⊎ (AreOfPlan first × Broken)) state told ended r
   plan_known {ended} found r is same by =
       let before = rw is at read in
       let (text, (bytes, of, described), put) = before.written in
       by_plan IsTextFor IsFrontFor first second found bytes of described.0 r
-      (subst (λ (w : W). Ends (IsTextFor found second) (IsOfSome (IsFrontFor found second)) ⊥ Long Broken state w ended r) same by)
+      (subst (λ (w : W). Ends (IsTextFor found second) (IsOfSome (IsFrontFor found second)) AtOnce Long Broken state w ended r) same by)

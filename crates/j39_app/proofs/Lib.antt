@@ -1,3 +1,4 @@
+pub mod AuditEnds
 pub mod BusesRead
 pub mod Ending
 pub mod VehicleEnds

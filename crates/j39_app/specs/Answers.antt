@@ -1,5 +1,6 @@
 -- What is written for what a command line orders.
 use Rattle.std.specs.Prelude.{◌≡◌, ◌⊎◌, ℕ, Bool, List, Option, string_bytes, length, map}
+use Rattle.j39_app.specs.AuditAnswers.{IsAuditOf}
 use Rattle.j39_app.specs.Known.{AreFrontOf, AreOf, Names}
 use Rattle.j39_app.specs.VehicleAnswers.{IsAnswerOfVehicle}
 use Rattle.j39_plan_text.specs.AddressesText.{IsAddressesText}
@@ -17,7 +18,7 @@ use Rattle.j39_network.specs.declared.plan.Plan.{Plan}
 use Rattle.j39_stream.specs.declared.verdict.Verdict.{Verdict}
 use Rattle.j39_stream.specs.declared.verdict.Verdict.TheVariants.{Done, Unreadable}
 use Rattle.j39_command_line.specs.declared.orders.Order.{Order}
-use Rattle.j39_command_line.specs.declared.orders.Order.TheVariants.{Input, Frame, Show, Variant, Check, Addresses, Load, Run, Read, Follow, Vehicle, Help}
+use Rattle.j39_command_line.specs.declared.orders.Order.TheVariants.{Input, Frame, Show, Variant, Check, Addresses, Load, Run, Read, Follow, Audit, Vehicle, Help}
 
 -- for the bytes of a file, or of an input
 abbrev pub IsOfBytes : {V : Type 0} → (List ℕ → List ℕ → V → Type 0) → Option (List ℕ) → List ℕ → V → Type 0
@@ -72,6 +73,8 @@ IsAnswer files input (Read plan log) text verdict =
     IsAnswerOfTwo (IsForOnePlan IsReadOf) (files (string_bytes plan)) (files (string_bytes log)) text verdict
 IsAnswer files input (Follow plan log all_frames) text verdict =
     IsAnswerOfTwo (IsForOnePlan (IsFollowOf all_frames)) (files (string_bytes plan)) (files (string_bytes log)) text verdict
+IsAnswer files input (Audit plan log part stamps) text verdict =
+    IsAnswerOfTwo (IsForOnePlan (IsAuditOf part stamps)) (files (string_bytes plan)) (files (string_bytes log)) text verdict
 IsAnswer files input (Vehicle vehicle) text verdict = IsAnswerOfVehicle files (string_bytes vehicle) text verdict
 IsAnswer files input (Help shown) text verdict = (text ≡ string_bytes shown) × (verdict ≡ Done)
 

@@ -18,7 +18,7 @@ use Rattle.j39_vehicle.specs.declared.file.VehicleFile.{VehicleFile}
 use Rattle.j39_vehicle.specs.declared.file.bus_table.BusTable.{BusTable}
 use Rattle.j39_vehicle.specs.declared.vehicle.bus_plan.BusPlan.{BusPlan}
 use Rattle.j39_command_line.specs.declared.orders.Order.{Order}
-use Rattle.j39_command_line.specs.declared.orders.Order.TheVariants.{Input, Frame, Show, Variant, Check, Addresses, Load, Run, Read, Follow, Vehicle, Help}
+use Rattle.j39_command_line.specs.declared.orders.Order.TheVariants.{Input, Frame, Show, Variant, Check, Addresses, Load, Run, Read, Follow, Audit, Vehicle, Help}
 
 -- the file of a name can't be opened, or a call of it failed once it was open
 abbrev pub HasFileFailed : {File : Type 0} → (List ℕ → Type 0) → Names → (File → SourceState) → List ℕ → Type 0
@@ -42,6 +42,7 @@ IsOfRead OfInput IsOf files (Load plan) = IsOf plan_limits (string_bytes plan)
 IsOfRead OfInput IsOf files (Run plan schedule) = IsOfTwo IsOf files plan_limits (string_bytes plan) (string_bytes schedule)
 IsOfRead OfInput IsOf files (Read plan log) = IsOfTwo IsOf files log_limits (string_bytes plan) (string_bytes log)
 IsOfRead OfInput IsOf files (Follow plan log all_frames) = IsOfTwo IsOf files log_limits (string_bytes plan) (string_bytes log)
+IsOfRead OfInput IsOf files (Audit plan log part stamps) = IsOfTwo IsOf files log_limits (string_bytes plan) (string_bytes log)
 IsOfRead OfInput IsOf files (Vehicle vehicle) = IsOfVehicleFiles (IsOf plan_limits) files (string_bytes vehicle)
 IsOfRead OfInput IsOf files (Help shown) = ⊥
 
@@ -77,9 +78,9 @@ EndsByFile IsText IsPart AtOnce limits stays_shut files state_of name state told
 
 -- of what reads the file of a plan, and then another one by the plan, of which less may have come where a part of the text stands written
 abbrev pub EndsByTwo : {File W : Type 0} → (ProductLine → Option (List ℕ) → List ℕ → Verdict → Type 0) → (ProductLine → Option (List ℕ) → List ℕ → Verdict → Type 0)
-    → Limits → (List ℕ → Type 0) → Names → (File → SourceState) → List ℕ → List ℕ → (W → SinkState) → W → W → Result Verdict Fault → Type 0
-EndsByTwo IsText IsFront limits stays_shut files state_of plan other state told ended result =
-    Ends (IsAnswerOfTwo IsText (files plan) (files other)) (IsOfSome (IsAnswerOfTwo IsFront (files plan) (files other))) ⊥
+    → Type 0 → Limits → (List ℕ → Type 0) → Names → (File → SourceState) → List ℕ → List ℕ → (W → SinkState) → W → W → Result Verdict Fault → Type 0
+EndsByTwo IsText IsFront AtOnce limits stays_shut files state_of plan other state told ended result =
+    Ends (IsAnswerOfTwo IsText (files plan) (files other)) (IsOfSome (IsAnswerOfTwo IsFront (files plan) (files other))) AtOnce
     (IsOfTwo (λ most name. MayBeTooLong most (files name)) files limits plan other)
     (IsOfTwo (λ _ name. HasFileFailed stays_shut files state_of name) files limits plan other) state told ended result
 

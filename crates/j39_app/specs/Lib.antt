@@ -1,4 +1,5 @@
 pub mod Answers
+pub mod AuditAnswers
 pub mod Faults
 pub mod Known
 pub mod Status

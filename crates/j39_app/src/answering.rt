@@ -16,6 +16,7 @@ ghost use Rattle.j39_stream.specs.CommandEnds.{AnswersWhole, IsOfAny};
 ghost use Rattle.j39_stream.specs.Streams.{HasFailed, log_limits, plan_limits};
 ghost use Rattle.j39_text.specs.FrameText.{IsInputText};
 
+use crate::answering_audits::audit_files;
 use crate::answering_vehicles::vehicle_files;
 use crate::{
     Fault, Folder, Order, Sink, Source, Verdict, addresses_text, check_text, follow_text,
@@ -40,7 +41,7 @@ fn input_by<S: Source, W: Sink>(
 }
 
 // The line of vehicles of a plan file. Where the file describes none, writes why, and gives none.
-fn line_of<F: Folder, W: Sink>(
+pub(crate) fn line_of<F: Folder, W: Sink>(
     alloc: Global,
     files: &F,
     name: &str,
@@ -54,7 +55,7 @@ fn line_of<F: Folder, W: Sink>(
 }
 
 // Writes that a plan has choices, once the other file is open.
-fn refuse_opened<F: Folder, W: Sink>(
+pub(crate) fn refuse_opened<F: Folder, W: Sink>(
     alloc: Global,
     files: &F,
     name: &str,
@@ -240,7 +241,7 @@ fn run_files<F: Folder, W: Sink>(
     schedule: &str,
     sink: &mut W,
 ) -> Result<Verdict, Fault>
-    ensures { EndsByTwo (IsForOnePlan IsRunOf) (IsForOnePlan IsRunFrontOf) plan_limits
+    ensures { EndsByTwo (IsForOnePlan IsRunOf) (IsForOnePlan IsRunFrontOf) ⊥ plan_limits
         (F.stays_shut files.now) (F.bytes_of files.now) F.File.state plan.now schedule.now W.state sink.old sink.new result }
 {
     match line_of(alloc, files, plan, sink)? {
@@ -257,7 +258,7 @@ fn read_files<F: Folder, W: Sink>(
     log: &str,
     sink: &mut W,
 ) -> Result<Verdict, Fault>
-    ensures { EndsByTwo (IsForOnePlan IsReadOf) (IsForOnePlan IsReadFrontOf) log_limits
+    ensures { EndsByTwo (IsForOnePlan IsReadOf) (IsForOnePlan IsReadFrontOf) ⊥ log_limits
         (F.stays_shut files.now) (F.bytes_of files.now) F.File.state plan.now log.now W.state sink.old sink.new result }
 {
     match line_of(alloc, files, plan, sink)? {
@@ -275,7 +276,7 @@ fn follow_files<F: Folder, W: Sink>(
     all_frames: bool,
     sink: &mut W,
 ) -> Result<Verdict, Fault>
-    ensures { EndsByTwo (IsForOnePlan (IsFollowOf all_frames)) (IsForOnePlan (IsFollowFrontOf all_frames)) log_limits
+    ensures { EndsByTwo (IsForOnePlan (IsFollowOf all_frames)) (IsForOnePlan (IsFollowFrontOf all_frames)) ⊥ log_limits
         (F.stays_shut files.now) (F.bytes_of files.now) F.File.state plan.now log.now W.state sink.old sink.new result }
 {
     match line_of(alloc, files, plan, sink)? {
@@ -315,6 +316,9 @@ pub fn answer<F: Folder, S: Source, W: Sink>(
         Order::Read(plan, log) => read_files(alloc, files, plan, log, sink),
         Order::Follow(plan, log, all_frames) => {
             follow_files(alloc, files, plan, log, *all_frames, sink)
+        }
+        Order::Audit(plan, log, part, stamps) => {
+            audit_files(alloc, files, plan, log, *part, *stamps, sink)
         }
         Order::Vehicle(vehicle) => vehicle_files(alloc, files, vehicle, sink),
         Order::Help(text) => {

@@ -2,14 +2,17 @@
 #![tactic(auto)]
 
 mod answering;
+mod answering_audits;
 mod answering_vehicles;
 mod exit_status;
 mod folder;
 mod program;
 
 pub use answering::answer;
+pub use answering_audits::audit_planned;
 pub use exit_status::status;
 pub use folder::{Folder, SystemFiles};
+pub use j39_audit::audit_text;
 pub use j39_command_line::{Order, WordsFault, order};
 pub use j39_follow::follow_text;
 pub use j39_log::read_text;

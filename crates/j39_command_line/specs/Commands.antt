@@ -32,6 +32,14 @@ value_and_values name value others = with_rule (one_value name value) (any_value
 abbrev pub two_values_and_flag : Text → Text → Text → Text → App
 two_values_and_flag name value other flag = with_rule (two_values name value other) (flag_rule flag)
 
+-- a value that may be given behind a name with two hyphens
+abbrev pub option_rule : Text → Rule
+option_rule name = record (new_rule name) { long = Some name }
+
+-- the audit of a log by a plan, of a part of what the bus carried, and by a logger of this error
+abbrev pub audit_command : App
+audit_command = with_rule (two_values_and_flag (codes "audit") (codes "PLAN") (codes "LOG") (codes "part")) (option_rule (codes "stamps"))
+
 -- the words after the program's name, of which the first is a subcommand
 abbrev pub program : App
 program = on_top (λ s. record s { no_binary_name = true; subcommand_required = true; has_version = true }) (new_app (codes "j39plan"))
@@ -56,4 +64,5 @@ commands =
     (two_values (codes "run") (codes "PLAN") (codes "SCHEDULE")).top)
     (two_values (codes "read") (codes "PLAN") (codes "LOG")).top)
     (two_values_and_flag (codes "follow") (codes "PLAN") (codes "LOG") (codes "all")).top)
+    audit_command.top)
     (one_value (codes "vehicle") (codes "VEHICLE")).top

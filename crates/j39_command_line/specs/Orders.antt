@@ -1,11 +1,14 @@
 -- What a command line orders.
-use Rattle.std.specs.Prelude.{◌≡◌, ◌⊎◌, Bool, true, false, List, None, Option, Some, codes, string_bytes, [], ◌∷◌, map, unwrap_or}
+use Rattle.std.specs.Prelude.{◌≡◌, ◌⊎◌, ℕ, nat_le, nat_lt, ◌&&◌, Bool, true, false, if◌then◌else◌, List, length, None, Option, Some, codes, string_bytes, [], ◌∷◌, map, unwrap_or}
+use Rattle.std.specs.Char.{is_ascii_digit}
+use Rattle.std.specs.List.{list_all}
+use Rattle.std.specs.Str.Parse.{digits_value}
 use Rattle.clap.specs.Words.{IsAmong, Kinds, Row, Text, all_of, fault_of, first_of, one_of, subcommand_of}
 use Rattle.j39_command_line.specs.Commands.{commands}
 use Rattle.clap.specs.declared.error.kind.ErrorKind.{ErrorKind}
 use Rattle.clap.specs.declared.error.kind.ErrorKind.TheVariants as kind
 use Rattle.j39_command_line.specs.declared.orders.Order.{Order}
-use Rattle.j39_command_line.specs.declared.orders.Order.TheVariants.{Input, Frame, Show, Variant, Check, Addresses, Load, Run, Read, Follow, Vehicle, Help}
+use Rattle.j39_command_line.specs.declared.orders.Order.TheVariants.{Input, Frame, Show, Variant, Check, Addresses, Load, Run, Read, Follow, Audit, Vehicle, Help}
 
 -- the subcommand that was met has this name, and the value by this name is the text
 abbrev pub HasValue : Option (Text × List Row) → Text → Text → Text → Type 0
@@ -20,6 +23,19 @@ abbrev pub HasFlag : Option (Text × List Row) → Text → Text → Bool → Ty
 HasFlag met name flag given =
     (rows : List Row) × (met ≡ Some (name, rows)) × (one_of flag rows ≡ Some (codes "true") → given ≡ true)
     × (one_of flag rows ≡ Some (codes "false") → given ≡ false) × (one_of flag rows ≡ None → given ≡ false)
+
+-- these are the digits of a number, which is at most a second in microseconds
+abbrev pub are_stamps : Text → Bool
+are_stamps text = nat_lt 0 (length text) && (list_all is_ascii_digit text && nat_le (digits_value 10 text) 1000000)
+
+-- by how many microseconds times differ: 1000 unless a number is given
+abbrev pub stamps_in : Option Text → Option ℕ
+stamps_in None = Some 1000
+stamps_in (Some text) = if are_stamps text then Some (digits_value 10 text) else None
+
+-- the subcommand that was met has this name, and so many are given or meant
+abbrev pub HasStamps : Option (Text × List Row) → Text → ℕ → Type 0
+HasStamps met name stamps = (rows : List Row) × (met ≡ Some (name, rows)) × (stamps_in (first_of (codes "stamps") rows) ≡ Some stamps)
 
 -- the order is the subcommand that was met, with its values, or the words ask for a text of help
 abbrev pub Orders : Option (Text × List Row) → Order → Type 0
@@ -37,6 +53,9 @@ Orders met (Read plan log) =
 Orders met (Follow plan log all_frames) =
     HasValue met (codes "follow") (codes "PLAN") (string_bytes plan) × HasValue met (codes "follow") (codes "LOG") (string_bytes log)
     × HasFlag met (codes "follow") (codes "all") all_frames
+Orders met (Audit plan log part stamps) =
+    HasValue met (codes "audit") (codes "PLAN") (string_bytes plan) × HasValue met (codes "audit") (codes "LOG") (string_bytes log)
+    × HasFlag met (codes "audit") (codes "part") part × HasStamps met (codes "audit") stamps
 Orders met (Vehicle vehicle) = HasValue met (codes "vehicle") (codes "VEHICLE") (string_bytes vehicle)
 Orders met Input = ⊥
 Orders met (Help text) = Unit {0}
@@ -53,6 +72,7 @@ IsHelp (Load plan) = ⊥
 IsHelp (Run plan schedule) = ⊥
 IsHelp (Read plan log) = ⊥
 IsHelp (Follow plan log all_frames) = ⊥
+IsHelp (Audit plan log part stamps) = ⊥
 IsHelp (Vehicle vehicle) = ⊥
 
 -- what the words order: the input where there are none, and else what they name

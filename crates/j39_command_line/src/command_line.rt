@@ -1,8 +1,12 @@
 //! The words of the command line, read.
-ghost use Rattle.std.specs.Prelude.{◌≡◌, ◌≢◌, Err, None, true, false, [], IfOk, Some, codes, map, string_bytes, unwrap_or};
+ghost use Rattle.std.specs.Prelude.{ℕ, nat_le, ◌<◌, if◌then◌else◌, ◌≡◌, ◌≢◌, Err, None, true, false, [], IfOk, Some, codes, length, map, string_bytes, unwrap_or};
 ghost use Rattle.clap.specs.Words.{all_of, first_of, found_of, kind_of, one_of, rows_of, subcommand_of, subcommand_rows_of};
 ghost use Rattle.j39_command_line.specs.Commands.{commands};
-ghost use Rattle.j39_command_line.specs.Orders.{IsOrdered, AreRefused, AsksHelp, IsHelp, Orders, OrdersNothing, asks_for_text};
+ghost use Rattle.j39_command_line.specs.Orders.{IsOrdered, AreRefused, AsksHelp, IsHelp, Orders, OrdersNothing, are_stamps, stamps_in};
+ghost use Rattle.j39_command_line.specs.Orders.{asks_for_text};
+ghost use Rattle.std.specs.Char.{is_ascii_digit};
+ghost use Rattle.std.specs.List.{list_all};
+ghost use Rattle.std.specs.Str.Parse.{digits_value};
 ghost use Rattle.j39_command_line.specs.declared.orders.WordsFault.TheVariants.{Bad, Memory};
 ghost use Rattle.clap.specs.declared.error.kind.ErrorKind.TheVariants.{OutOfMemory};
 
@@ -11,6 +15,11 @@ use crate::orders::{Order, WordsFault};
 use clap::error::ErrorKind;
 use clap::{ArgMatches, Error};
 use std::alloc::{AllocError, Global};
+
+// By how many microseconds the times of a log may differ, unless it is said, and at most.
+const USUAL_STAMPS: u64 = 1000;
+
+const MOST_STAMPS: u64 = 1_000_000;
 
 // The value that a command asks for by this name.
 fn value(alloc: Global, values: &ArgMatches, name: &str) -> Result<String, WordsFault>
@@ -53,6 +62,69 @@ fn is_given(values: &ArgMatches, flag: &str) -> bool
     values.get_flag(flag)
 }
 
+fn is_digit(byte: u8) -> bool
+    ensures { result ≡ is_ascii_digit byte }
+{
+    matches!(byte, b'0'..=b'9')
+}
+
+fn are_digits(text: &[u8]) -> bool
+    ensures { result ≡ list_all is_ascii_digit text.now }
+{
+    text.iter().all(|byte| is_digit(*byte))
+}
+
+// The number that digits are, if it is at most that of a second's microseconds.
+fn number_of(digits: &str) -> Option<u64>
+    requires some { 0 < length digits.now }
+    requires digits { list_all is_ascii_digit digits.now ≡ true }
+    ensures { result ≡ (if nat_le (digits_value 10 digits.now) 1000000 then Some (digits_value 10 digits.now) else None) }
+{
+    let Ok(number) = digits.parse::<u64>() else {
+        return None;
+    };
+    if number <= MOST_STAMPS {
+        Some(number)
+    } else {
+        None
+    }
+}
+
+// The number that a text is, if it is one of digits, and at most that of a second's microseconds.
+fn stamps_of(text: &str) -> Option<u64>
+    ensures { result ≡ (if are_stamps text.now then Some (digits_value 10 text.now) else None) }
+{
+    if text.is_empty() || !are_digits(text.as_bytes()) {
+        None
+    } else {
+        number_of(text)
+    }
+}
+
+// By how many microseconds the times of a log may differ.
+fn stamps_in(values: &ArgMatches) -> Option<u64>
+    ensures { result ≡ stamps_in (first_of (codes "stamps") (rows_of (found_of values.now))) }
+{
+    match values.get_str("stamps") {
+        Some(text) => stamps_of(text),
+        None => Some(USUAL_STAMPS),
+    }
+}
+
+// What `audit` orders of a plan.
+fn audit(alloc: Global, plan: String, values: &ArgMatches) -> Result<Order, WordsFault>
+    requires { first_of (codes "PLAN") (rows_of (found_of values.now)) ≡ Some (string_bytes plan) }
+    ensures ordered { IfOk result (Orders (Some (codes "audit", rows_of (found_of values.now)))) }
+    ensures named { IfOk result (λ o. IsHelp o → ⊥) }
+    ensures refused { result ≡ Err Bad → OrdersNothing (Some (codes "audit", rows_of (found_of values.now))) }
+{
+    let log = value(alloc, values, "LOG")?;
+    match stamps_in(values) {
+        Some(stamps) => Ok(Order::Audit(plan, log, is_given(values, "part"), stamps)),
+        None => Err(WordsFault::Bad),
+    }
+}
+
 // What a command orders whose first value is a plan.
 fn of_plan(alloc: Global, name: &str, values: &ArgMatches) -> Result<Order, WordsFault>
     requires line { name.now ≡ codes "frame" → ⊥ }
@@ -70,6 +142,7 @@ fn of_plan(alloc: Global, name: &str, values: &ArgMatches) -> Result<Order, Word
         "load" => Ok(Order::Load(plan)),
         "run" => Ok(Order::Run(plan, value(alloc, values, "SCHEDULE")?)),
         "read" => Ok(Order::Read(plan, value(alloc, values, "LOG")?)),
+        "audit" => audit(alloc, plan, values),
         "follow" => Ok(Order::Follow(plan, value(alloc, values, "LOG")?, is_given(values, "all"))),
         _ => Err(WordsFault::Bad),
     }

@@ -3,7 +3,7 @@ ghost use Rattle.std.specs.Prelude.{◌≡◌, false, IfOk, IsOkAnd, codes};
 ghost use Rattle.clap.specs.Words.{app_of, rule_of, with_subcommand};
 ghost use Rattle.clap.specs.declared.builder.command.Command.TheViews.{out-Command as fields_of};
 ghost use Rattle.j39_command_line.specs.Commands.{commands, flag_rule, one_value, program, two_values, two_values_and_flag};
-ghost use Rattle.j39_command_line.specs.Commands.{value_and_values, value_rule, any_values_rule};
+ghost use Rattle.j39_command_line.specs.Commands.{audit_command, option_rule, value_and_values, value_rule, any_values_rule};
 
 use clap::{Arg, ArgAction, Command};
 use std::alloc::{AllocError, Global};
@@ -131,6 +131,43 @@ fn follow<'a>(alloc: Global) -> Result<Command<'a>, AllocError>
     ))
 }
 
+// A value, which the help calls so, that may be given behind a name with two hyphens.
+fn option<'a>(alloc: Global, name: &'a str, called: &'a str, help: &'a str) -> Arg<'a>
+    ensures rule { rule_of result ≡ option_rule name.entry.now }
+    ensures local { result.global ≡ false }
+{
+    Arg::new(alloc, name)
+        .long(name)
+        .value_name(called)
+        .help(help)
+}
+
+fn audit<'a>(alloc: Global) -> Result<Command<'a>, AllocError>
+    ensures app { IfOk result (λ c. app_of c ≡ audit_command) }
+    ensures local { IfOk result (λ c. (fields_of c).has_globals ≡ false) }
+{
+    two_values(
+        alloc,
+        "audit",
+        "Shows which premises of the plan the log refutes, of which unit or flow, and at which lines",
+        "PLAN",
+        "The name of a plan file",
+        "LOG",
+        "The name of a file as candump -L writes it, of one interface, with R or T behind the data or without",
+    )?
+    .arg(flag(
+        alloc,
+        "part",
+        "The log may lack frames of the bus: a filter took them out, or the logger lost some",
+    ))?
+    .arg(option(
+        alloc,
+        "stamps",
+        "US",
+        "By how many microseconds the time of a line may differ from the end of its frame: 0 to 1000000, 1000 without it",
+    ))
+}
+
 // Adds a subcommand, if both could be made.
 fn with<'a>(
     program: Result<Command<'a>, AllocError>,
@@ -246,8 +283,9 @@ pub(super) fn commands<'a>(alloc: Global) -> Result<Command<'a>, AllocError>
         are the usual cause: sed -E 's/ [RT]\\r?$//' LOG takes them away",
     );
     let follows = with(reads, follow(alloc));
+    let audits = with(follows, audit(alloc));
     with_one(
-        follows,
+        audits,
         alloc,
         "vehicle",
         "Shows what is wrong with the buses of a vehicle, and with what its gateways send on",

@@ -30,6 +30,10 @@ pub enum Order {
     /// `follow PLAN LOG`: who sent what in the log, by its own claims, the files of these names; with `--all`, which is
     /// true then, of all frames.
     Follow(String, String, bool),
+    /// `audit PLAN LOG`: which premises of the plan the log refutes, the files of these names; with `--part`, which is
+    /// true then, of a log in which frames may be missing; and with `--stamps US` by a logger of this error in
+    /// microseconds.
+    Audit(String, String, bool, u64),
     /// `vehicle VEHICLE`: what is wrong with the vehicle of several buses of the file of this name.
     Vehicle(String),
     /// The help of the program or of a command, or the program's version: this text.

@@ -27,8 +27,8 @@ fn copied(alloc: Global, name: &[u8]) -> Result<Vec<u8>, AllocError>
     Ok(copy)
 }
 
-// Keeps the interface that a line names, if none was named before.
-fn keep_interface(
+/// Keeps the interface that a line names, if none was named before.
+pub fn keep_interface(
     alloc: Global,
     kept: &mut Option<Vec<u8>>,
     named: Option<&[u8]>,
@@ -46,8 +46,8 @@ fn keep_interface(
     Ok(())
 }
 
-// The interface that is kept.
-fn kept_interface(kept: &Option<Vec<u8>>) -> Option<&[u8]>
+/// The interface that is kept.
+pub fn kept_interface(kept: &Option<Vec<u8>>) -> Option<&[u8]>
     ensures { option_copied result ≡ interface_of kept.now }
 {
     match kept {

@@ -1,8 +1,8 @@
 //! Commands, by what they read.
 use crate::Command;
 use j39_app::{
-    Fault, Sink, Source, Verdict, addresses_text, bus_plan, check_text, follow_text, input_text,
-    line_text, load_text, read_text, refuse_choices, run_planned, show_text, vehicle_file,
+    Fault, Sink, Source, Verdict, addresses_text, audit_planned, bus_plan, check_text, follow_text,
+    input_text, line_text, load_text, read_text, refuse_choices, run_planned, show_text, vehicle_file,
     vehicle_text,
 };
 use j39_id::Label;
@@ -10,6 +10,9 @@ use j39_network::Plan;
 use j39_vehicle::BusPlan;
 use j39_vehicle::limits::BUS_LIMIT;
 use std::alloc::{AllocError, Global};
+
+// By how many microseconds the times of a log that is audited may differ.
+const STAMPS: u64 = 1_000;
 
 fn add_bus(buses: &mut Vec<BusPlan>, label: Label, plan: Plan) -> Result<(), AllocError> {
     buses.push(BusPlan { label, plan })?;
@@ -55,7 +58,7 @@ pub fn perform<P: Source, S: Source, W: Sink>(
         Command::Addresses => return addresses_text(alloc, plan, sink),
         Command::Load => return load_text(alloc, plan, sink),
         Command::Vehicle => return perform_vehicle(alloc, plan, input, sink),
-        Command::Run | Command::Read | Command::Follow | Command::FollowAll => {}
+        Command::Run | Command::Read | Command::Follow | Command::FollowAll | Command::Audit => {}
     }
     let Some(line) = line_text(alloc, plan, sink)? else {
         return Ok(Verdict::Unreadable);
@@ -67,6 +70,7 @@ pub fn perform<P: Source, S: Source, W: Sink>(
         Command::Run => run_planned(alloc, &line.plan, input, sink),
         Command::Follow => follow_text(alloc, &line.plan, false, input, sink),
         Command::FollowAll => follow_text(alloc, &line.plan, true, input, sink),
+        Command::Audit => audit_planned(alloc, &line.plan, false, STAMPS, input, sink),
         _ => read_text(alloc, &line.plan, input, sink),
     }
 }

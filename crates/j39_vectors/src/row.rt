@@ -22,6 +22,8 @@ pub enum Command {
     Follow,
     /// Who sent which frames in a log, the input.
     FollowAll,
+    /// Which premises of the plan a log, the input, refutes.
+    Audit,
     /// The check of a vehicle, the plan, each of whose buses has the plan that the input describes.
     Vehicle,
 }

@@ -13,18 +13,30 @@ _j39plan() {
   local word=${COMP_WORDS[COMP_CWORD]} place=$COMP_CWORD
   COMPREPLY=()
   [ "${COMP_WORDS[1]} ${COMP_WORDS[2]}" = 'follow --all' ] && place=$((place - 1))
+  if [ "${COMP_WORDS[1]}" = audit ]; then
+    # Options stand before the plan, --stamps with a number behind it.
+    local at=2
+    while [ "$at" -lt "$COMP_CWORD" ] && [[ ${COMP_WORDS[at]} =~ ^--(part|stamps)$ ]]; do
+      [ "${COMP_WORDS[at]}" = --stamps ] && at=$((at + 1))
+      at=$((at + 1))
+    done
+    place=$((COMP_CWORD - at + 2))
+  fi
   if [ "$COMP_CWORD" -eq 1 ]; then
-    mapfile -t COMPREPLY < <(compgen -W 'show variant check addresses load run read follow frame vehicle help --help --version' -- "$word")
+    mapfile -t COMPREPLY < <(compgen -W 'show variant check addresses load run read follow audit frame vehicle help --help --version' -- "$word")
   elif [ "${COMP_WORDS[1]} $COMP_CWORD" = 'follow 2' ] && [[ $word == -* ]]; then
     COMPREPLY=(--all)
-  elif [[ ${COMP_WORDS[1]} =~ ^(show|variant|check|addresses|load|run|read|follow|vehicle)$ ]]; then
+  elif [ "${COMP_WORDS[1]} $place" = 'audit 2' ] && [[ $word == -* ]]; then
+    mapfile -t COMPREPLY < <(compgen -W '--part --stamps' -- "$word")
+  elif [[ ${COMP_WORDS[1]} =~ ^(show|variant|check|addresses|load|run|read|follow|audit|vehicle)$ ]]; then
     case "$place ${COMP_WORDS[1]}" in
       '3 run') _j39plan_files "$word" schedule ;;
-      '3 read' | '3 follow') _j39plan_files "$word" log ;;
+      '1 audit') ;;
+      '3 read' | '3 follow' | '3 audit') _j39plan_files "$word" log ;;
       *) _j39plan_files "$word" toml ;;
     esac
   elif [ "${COMP_WORDS[1]}" = help ]; then
-    mapfile -t COMPREPLY < <(compgen -W 'show variant check addresses load run read follow frame vehicle' -- "$word")
+    mapfile -t COMPREPLY < <(compgen -W 'show variant check addresses load run read follow audit frame vehicle' -- "$word")
   fi
 }
 complete -F _j39plan j39plan

@@ -9,14 +9,17 @@ complete -c j39plan -n __fish_use_subcommand -a load -d 'show how long frames wa
 complete -c j39plan -n __fish_use_subcommand -a run -d 'run a schedule on a simulated bus of a plan'
 complete -c j39plan -n __fish_use_subcommand -a read -d 'decode a log by the groups of a plan'
 complete -c j39plan -n __fish_use_subcommand -a follow -d 'show who sent what in a log'
+complete -c j39plan -n __fish_use_subcommand -a audit -d 'show which premises of a plan a log refutes'
 complete -c j39plan -n __fish_use_subcommand -a frame -d 'show what a frame line says'
 complete -c j39plan -n __fish_use_subcommand -a vehicle -d 'show what is wrong with a vehicle of several buses'
 complete -c j39plan -n __fish_use_subcommand -a help -d 'print the help of a command'
 complete -c j39plan -n __fish_use_subcommand -l help -s h -d 'print the help'
 complete -c j39plan -n __fish_use_subcommand -l version -s V -d 'print the version'
-complete -c j39plan -n '__fish_seen_subcommand_from show variant check addresses load run read follow vehicle' -F
+complete -c j39plan -n '__fish_seen_subcommand_from show variant check addresses load run read follow audit vehicle' -F
 complete -c j39plan -n '__fish_seen_subcommand_from follow' -l all -d 'show each frame of which there is no other line, too'
-complete -c j39plan -n '__fish_seen_subcommand_from help' -a 'show variant check addresses load run read follow frame vehicle'
+complete -c j39plan -n '__fish_seen_subcommand_from audit' -l part -d 'the log may lack frames of the bus'
+complete -c j39plan -n '__fish_seen_subcommand_from audit' -l stamps -x -d 'by how many us times differ'
+complete -c j39plan -n '__fish_seen_subcommand_from help' -a 'show variant check addresses load run read follow audit frame vehicle'
 
 # The tools.
 for tool in where answer startup dbc2plan log2plan plan2dbc join forwards compare variant mend against drift fleet table report signals codes plot tolog cut restbus check-plans

@@ -80,6 +80,24 @@ const FOLLOW: [&str; 8] = [
     "", "flow", "group", "unit", "need", "request", "frames", "refused",
 ];
 
+// Those of audit, beside those of check.
+const AUDIT: [&str; 14] = [
+    "short",
+    "stranger",
+    "nobody",
+    "address",
+    "cannot",
+    "layout",
+    "no_flow",
+    "priority",
+    "urgent",
+    "flow",
+    "request",
+    "unit",
+    "frames",
+    "deviations",
+];
+
 // Those of vehicle, beside those of check.
 const VEHICLE: [&str; 18] = [
     "bus", "load", "forward", "need", "G1", "G2", "G3", "G4", "G5", "G6", "G7", "G8", "G9", "G10",
@@ -102,7 +120,17 @@ fn refused(line: &str) -> Option<Verdict> {
     }
 }
 
-// Whether a line of load tells of a late flow, of a need that is too old, or of more bits than the bus carries.
+// Whether a line tells of findings: of check or vehicle, of audit, or of load: a late flow, a need that is too old, or
+// more bits than the bus carries.
+fn is_finding(line: &str) -> bool {
+    match word(line, 0) {
+        "findings" => true,
+        "deviations" => word(line, 1) != "0",
+        _ => is_too_much(line),
+    }
+}
+
+// Whether a line of load does.
 fn is_too_much(line: &str) -> bool {
     let number = |place| word(line, place).parse::<u64>().unwrap_or(0);
     match word(line, 0) {
@@ -117,12 +145,7 @@ fn is_too_much(line: &str) -> bool {
 fn told(text: &str) -> Option<Verdict> {
     match text.lines().find(|line| line.starts_with("refused ")) {
         Some(line) => refused(line),
-        None
-            if text
-                .lines()
-                .any(|line| line.starts_with("findings ") || is_too_much(line)) => Some(
-            Verdict::Findings,
-        ),
+        None if text.lines().any(is_finding) => Some(Verdict::Findings),
         None => Some(Verdict::Done),
     }
 }
@@ -137,6 +160,7 @@ fn is_line_of(command: Command, line: &str) -> bool {
         Command::Load => LOAD.contains(&first) || CHECK.contains(&first),
         Command::Run => RUN.contains(&first) || first.contains('#'),
         Command::Read => READ.contains(&first),
+        Command::Audit => AUDIT.contains(&first) || CHECK.contains(&first),
         Command::Vehicle => VEHICLE.contains(&first) || CHECK.contains(&first),
         Command::Follow | Command::FollowAll => {
             FOLLOW.contains(&first) || first.parse::<u64>().is_ok()

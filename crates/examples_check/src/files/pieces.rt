@@ -1,15 +1,18 @@
 //! Schedules and logs that come some bytes at a time.
 
 use j39_app::{
-    Fault, Pieces, Sink, Source, Stop, Verdict, follow_text, line_text, read_text, refuse_choices,
-    run_planned,
+    Fault, Pieces, Sink, Source, Stop, Verdict, audit_planned, follow_text, line_text, read_text,
+    refuse_choices, run_planned,
 };
 use std::alloc::{AllocError, Global};
 
 // The most bytes that a call gives.
 const SIZES: [usize; 4] = [1, 2, 3, 4_096];
 
-// Runs a schedule by a plan, or reads or follows a log, all frames of it where the command is no other one.
+// By how many microseconds times differ where a command doesn't say it.
+const STAMPS: u64 = 1_000;
+
+// Runs a schedule by a plan, or reads, audits or follows a log, all frames of it where the command is no other one.
 fn perform<S: Source, W: Sink>(
     alloc: Global,
     command: &str,
@@ -27,6 +30,8 @@ fn perform<S: Source, W: Sink>(
         "run" => run_planned(alloc, &line.plan, input, sink),
         "read" => read_text(alloc, &line.plan, input, sink),
         "follow" => follow_text(alloc, &line.plan, false, input, sink),
+        "audit" => audit_planned(alloc, &line.plan, false, STAMPS, input, sink),
+        "audit --part" => audit_planned(alloc, &line.plan, true, STAMPS, input, sink),
         _ => follow_text(alloc, &line.plan, true, input, sink),
     }
 }

@@ -3,8 +3,9 @@
 //! `PLAN.toml` is checked, and where `PLAN.addresses`, `PLAN.load` or `PLAN.show` stands beside it also answered as to its
 //! addresses, its load or its values, but where `NAME.answer` stands beside it `NAME.toml` is a vehicle file, and
 //! answered as one; `PLAN.NAME.schedule` is run and `PLAN.NAME.log` is read by the plan beside it and, where
-//! `PLAN.NAME.follow` stands there, also followed, or `PLAN.NAME.all`, all frames of it; `NAME.line` is a frame line;
-//! `NAME.vehicle` has the files of a vehicle, and what is written of them. Standard error stays empty, and the status
+//! `PLAN.NAME.follow` stands there, also followed, or `PLAN.NAME.all`, all frames of it, or `PLAN.NAME.audit`, audited,
+//! or `PLAN.NAME.part`, as a part of a log; `NAME.line` is a frame line; `NAME.vehicle` has the files of a vehicle, and
+//! what is written of them. Standard error stays empty, and the status
 //! is one of the program's output.
 
 use crate::files::outcome::perform;
@@ -22,7 +23,7 @@ struct RowKind {
     shown: &'static str,
 }
 
-const KINDS: [RowKind; 10] = [
+const KINDS: [RowKind; 12] = [
     RowKind {
         command: "check",
         ending: ".toml",
@@ -69,6 +70,16 @@ const KINDS: [RowKind; 10] = [
         shown: ".all",
     },
     RowKind {
+        command: "audit",
+        ending: ".audit",
+        shown: ".audit",
+    },
+    RowKind {
+        command: "audit --part",
+        ending: ".part",
+        shown: ".part",
+    },
+    RowKind {
         command: "frame",
         ending: ".line",
         shown: ".frame",
@@ -99,7 +110,7 @@ fn words_of<R: Files + AllocGlobal>(
     match kind.command {
         "check" => words.push(file.into_bytes())?,
         "addresses" | "load" | "show" | "vehicle" => words.push(plan_of(rt, name)?.into_bytes())?,
-        "follow" | "follow --all" => {
+        "follow" | "follow --all" | "audit" | "audit --part" => {
             words.push(plan_of(rt, name)?.into_bytes())?;
             words.push(format!(in rt.alloc(); "{name}.log")?.into_bytes())?;
         }
@@ -122,7 +133,7 @@ fn is_shown_in_pieces<R: Files + AllocGlobal>(
 ) -> Result<bool, anyhow::Error> {
     let ending = match kind.command {
         "run" => ".schedule",
-        "read" | "follow" | "follow --all" => ".log",
+        "read" | "follow" | "follow --all" | "audit" | "audit --part" => ".log",
         _ => return Ok(true),
     };
     let plan = format!(in rt.alloc(); "{folder}{}", plan_of(rt, name)?)?;

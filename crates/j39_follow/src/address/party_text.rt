@@ -18,8 +18,9 @@ use std::alloc::AllocError;
 // The identity numbers of NAMEs: 0 to 2,097,151.
 const IDENTITIES: u64 = 1 << 21;
 
+/// Writes a NAME of no unit.
 #[tactic(auto, unfolding(crate::specs::Who::name_text))]
-fn write_name(text: &mut TextBuffer, name: u64) -> Result<(), AllocError>
+pub fn write_name(text: &mut TextBuffer, name: u64) -> Result<(), AllocError>
     ensures { OnOk result (text.new ≡ text.old ++ name_text name) }
 {
     text.word("#")?;

@@ -63,7 +63,7 @@ fn unit_of_kind(plan: &Plan, name: u64) -> Option<usize>
 }
 
 /// The unit of a NAME, by its place.
-pub(crate) fn unit_named(plan: &Plan, name: u64) -> Option<usize>
+pub fn unit_named(plan: &Plan, name: u64) -> Option<usize>
     ensures { result ≡ first_named plan.now name }
 {
     match numbered_unit(plan, name) {

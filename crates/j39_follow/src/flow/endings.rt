@@ -19,7 +19,7 @@ use std::alloc::AllocError;
 
 /// Writes whom a flow or a request goes to.
 #[tactic(auto, unfolding(crate::specs::FollowText::to_text))]
-pub(crate) fn write_to(text: &mut TextBuffer, plan: &Plan, to: To) -> Result<(), AllocError>
+pub fn write_to(text: &mut TextBuffer, plan: &Plan, to: To) -> Result<(), AllocError>
     ensures { OnOk result (text.new ≡ text.old ++ to_text plan.now to) }
 {
     match to {

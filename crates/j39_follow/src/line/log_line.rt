@@ -10,7 +10,7 @@ use crate::line::words::{
 use j39_id::{Frame, LineError, split_last};
 
 /// The part of a line that is read: what stands before a word of direction, else all of it.
-pub(crate) fn read_part(line: &[u8]) -> &[u8]
+pub fn read_part(line: &[u8]) -> &[u8]
     ensures { IsReadPart line.now result.now }
 {
     let Some(front) = before_direction(line) else {
@@ -37,7 +37,7 @@ fn interface_in(front: &[u8]) -> Option<&[u8]>
 }
 
 // The interface that the part of a line names that is read, as a frame or not.
-pub(crate) fn interface<'a>(part: &'a [u8], read: &Result<Frame, LineError>) -> Option<&'a [u8]>
+pub fn interface<'a>(part: &'a [u8], read: &Result<Frame, LineError>) -> Option<&'a [u8]>
     requires { IfOk read.now (λ f. Spells part.now f) }
     ensures named { IfSome result (λ interface. IsInterface part.now interface.now) }
     ensures none { IfNone result ((interface : List ℕ) → ¬ IsInterface part.now interface) }
@@ -95,7 +95,7 @@ fn is_other(log: &[u8], part: &[u8], read: &Result<Frame, LineError>, name: &[u8
 }
 
 /// Whether the part of a line that is read, as a frame or not, names another interface than the log's.
-pub(crate) fn is_elsewhere(
+pub fn is_elsewhere(
     log: Option<&[u8]>,
     part: &[u8],
     read: &Result<Frame, LineError>,
@@ -115,7 +115,7 @@ pub(crate) fn is_elsewhere(
 }
 
 /// What is printed of the time of a line: its first word, where that is a time.
-pub(crate) fn time_text(line: &[u8]) -> &[u8]
+pub fn time_text(line: &[u8]) -> &[u8]
     ensures { IsTimeText line.now result.now }
 {
     match leading_time(line) {

@@ -159,7 +159,7 @@ fn time_of(digits: &[u8]) -> Option<u64>
 
 /// The time of a line in microseconds, by what is printed of it, if it is a number of seconds.
 #[tactic(auto, unfolding(crate::specs::LogLines::moment_of))]
-pub(crate) fn moment(time: &[u8]) -> Option<u64>
+pub fn moment(time: &[u8]) -> Option<u64>
     ensures { result ≡ moment_of time.now }
 {
     if time.len() < 2 {

@@ -1,4 +1,4 @@
-//! Rows of logs, read and followed.
+//! Rows of logs, read, followed and audited.
 use crate::rows::plans::{ASKED, SENDING, TEMPERATURE};
 use crate::{Command, Row};
 use j39_app::Verdict;
@@ -114,4 +114,31 @@ request 1 STATE from C to A asked 1 answered 0 refused 0
 frames 5 skipped 0 bad 0 elsewhere 0
 ",
     verdict: Verdict::Done,
+};
+
+/// A log that refutes premises of its plan.
+pub const AUDITED_LOG: Row = Row {
+    name: "a log that refutes a plan",
+    command: Command::Audit,
+    plan: ASKED,
+    input: "(1) can0 18EEFF80#0100000000000080
+(1.1) can0 18EEFF81#0200000000000080
+(1.2) can0 18FEEF80#1111111111111111
+(1.3) can0 18FEEF80#11
+(1.4) can0 18EA8005#EFFE00
+(1.5) can0 123#00
+(1.6) can0 18FF0009#00
+",
+    text: "short times 1 first 6
+nobody address 9 times 1 first 7
+layout unit A group STATE times 1 first 4
+flow 1 STATE A all seen 1 unclear 0
+request 1 STATE C A seen 1
+unit A frames 2
+unit B frames 0
+unit C frames 1
+frames 6 skipped 1 bad 0 elsewhere 0 unsure 0 breaks 0 stamps 1000
+deviations 3
+",
+    verdict: Verdict::Findings,
 };

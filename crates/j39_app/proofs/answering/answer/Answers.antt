@@ -35,5 +35,8 @@ returns-in-Read-clause-ends g c = rw c.in-Read.is (rw (c.deref-in-Read.ensures, 
 pub returns-in-Follow-clause-ends : goal.returns-in-Follow-clause-ends
 returns-in-Follow-clause-ends g c = rw c.in-Follow.is (rw (c.deref-in-Follow.ensures, c.deref-in-Follow-2.ensures) at c.follow_files.ensures)
 
+pub returns-in-Audit-clause-ends : goal.returns-in-Audit-clause-ends
+returns-in-Audit-clause-ends g c = rw c.in-Audit.is (rw (c.deref-in-Audit.ensures, c.deref-in-Audit-2.ensures) at c.audit_files.ensures)
+
 pub returns-in-Vehicle-clause-ends : goal.returns-in-Vehicle-clause-ends
 returns-in-Vehicle-clause-ends g c = rw c.in-Vehicle.is (rw c.deref-in-Vehicle.ensures at c.vehicle_files.ensures)

@@ -1,6 +1,6 @@
 use Rattle.std.proofs.Common.{codes}
 use Rattle.clap.specs.Words.{App, with_subcommand}
-use Rattle.j39_command_line.specs.Commands.{commands, one_value, program, two_values, two_values_and_flag, value_and_values}
+use Rattle.j39_command_line.specs.Commands.{audit_command, commands, one_value, program, two_values, two_values_and_flag, value_and_values}
 use Rattle.j39_command_line.proofs.CommandLaws.{added, known}
 use Rattle.j39_command_line.proofs.commands.commands.Goals as goal
 
@@ -29,4 +29,7 @@ returns c =
     let follows_is = known c.with_two-reads.result c.with-follows.result with_reads follows reads_is
     (added c.with_two-reads.result c.with-follows.result c.follow.result follows c.follow.ensures.app c.with-follows.ensures) in
     let with_follows : App = with_subcommand with_reads follows.top in
-    known c.with-follows.result c.with_one.result with_follows (one_value (codes "vehicle") (codes "VEHICLE")) follows_is c.with_one.ensures
+    let audits_is = known c.with-follows.result c.with-audits.result with_follows audit_command follows_is
+    (added c.with-follows.result c.with-audits.result c.audit.result audit_command c.audit.ensures.app c.with-audits.ensures) in
+    let with_audits : App = with_subcommand with_follows audit_command.top in
+    known c.with-audits.result c.with_one.result with_audits (one_value (codes "vehicle") (codes "VEHICLE")) audits_is c.with_one.ensures

@@ -1,0 +1,44 @@
+-- How an audit ends, by how the commands end that it makes.
+use Rattle.std.proofs.Common.{◌≡◌, ◌⊎◌, ℕ, Bool, true, false, List, Option, Result, Ok, Err, inl, inr, refl}
+use Rattle.j39_app.specs.Answers.{IsOfSome}
+use Rattle.j39_app.specs.AuditAnswers.{IsAuditOf, is_hindered}
+use Rattle.j39_app.specs.Faults.{Ends}
+use Rattle.j39_app.specs.Known.{AreLeft, MayBeTooLong}
+use Rattle.j39_app.proofs.Ending.{put_ends, whole_ends}
+use Rattle.j39_audit.specs.AuditText.{IsAudit}
+use Rattle.j39_network.specs.declared.plan.Plan.{Plan}
+use Rattle.j39_plan_text.specs.CheckText.{IsReport}
+use Rattle.j39_stream.specs.CommandEnds.{AnswersWhole, IsOfAny, PutsText}
+use Rattle.j39_stream.specs.Streams.{HasFailed, SinkState, SourceState}
+use Rattle.j39_stream.specs.declared.fault.Fault.{Fault}
+use Rattle.j39_stream.specs.declared.limits.Limits.{Limits}
+use Rattle.j39_stream.specs.declared.verdict.Verdict.{Verdict}
+
+-- what is written is said in other words
+ends_said : {W : Type 0} {IsText IsOther : List ℕ → Verdict → Type 0} {IsPart : List ℕ → Type 0} {AtOnce IsTooLong IsBroken : Type 0} {state : W → SinkState}
+    {told ended : W} (says : (text : List ℕ) (verdict : Verdict) → IsText text verdict → IsOther text verdict) (r : Result Verdict Fault)
+    → Ends IsText IsPart AtOnce IsTooLong IsBroken state told ended r → Ends IsOther IsPart AtOnce IsTooLong IsBroken state told ended r
+ends_said says (Ok verdict) ends =
+    let (text, is, put) = ends.written in
+    record { written = (text, says text verdict is, put); calm = ends.calm; cut = tt; at_once = ends.at_once; long = ends.long; device = ends.device }
+ends_said says (Err fault) ends =
+    record { written = tt; calm = tt; cut = ends.cut; at_once = ends.at_once; long = ends.long; device = ends.device }
+
+module _ {W : Type 0} {most : Limits} {old new : SourceState} {state : W → SinkState} {told ended : W} {AtOnce : Type 0} (plan : Plan) (part : Bool)
+    (stamps : ℕ) (known : Option (List ℕ)) (IsBroken : Type 0) (opened : AreLeft known old.left)
+    (breaks : HasFailed old.failures new.failures → IsBroken) (r : Result Verdict Fault) where
+  abbrev AuditEnds : Type 0
+  AuditEnds = Ends (IsAuditOf part stamps plan known) (IsOfSome (IsAuditOf part stamps plan known)) AtOnce (MayBeTooLong most known) IsBroken state told ended r
+
+  ends_where : (b : Bool) → is_hindered plan ≡ b → (b ≡ true → PutsText (IsReport plan) state told ended r)
+      → (b ≡ false → AnswersWhole (IsAudit plan part stamps) (IsOfAny (IsAudit plan part stamps)) most old new state told ended r) → AuditEnds
+  ends_where true is puts answers =
+      ends_said (λ text verdict report. inl (is, report)) r (put_ends (λ text verdict report. (verdict, inl (is, report))) r (puts refl))
+  ends_where false is puts answers =
+      ends_said (λ text verdict audit. inr (is, audit)) r
+      (whole_ends known (IsOfSome (IsAuditOf part stamps plan known)) IsBroken opened
+      (λ log text of audit. (audit.0, inr (is, (log, of, audit.1)))) breaks r (answers refl))
+
+  pub audit_ends : (is_hindered plan ≡ true → PutsText (IsReport plan) state told ended r)
+      → (is_hindered plan ≡ false → AnswersWhole (IsAudit plan part stamps) (IsOfAny (IsAudit plan part stamps)) most old new state told ended r) → AuditEnds
+  audit_ends = ends_where (is_hindered plan) refl

@@ -1,0 +1,43 @@
+-- What is written of a log that was read is its text.
+use Rattle.std.proofs.Common.{◌≡◌, ℕ, List, Bool, refl, sym, ap, subst, ◌∙◌}
+use Rattle.j39_id.specs.Lines.{lines}
+use Rattle.j39_log.specs.declared.line_counts.LineCounts.{LineCounts}
+use Rattle.j39_network.specs.declared.plan.Plan.{Plan}
+use Rattle.j39_stream.specs.declared.verdict.Verdict.{Verdict}
+use Rattle.j39_audit.specs.AuditText.{IsAudit, IsAuditedLog, Look, AuditPast, accusation_count, counts_of, text_by, verdict_by}
+use Rattle.j39_audit.specs.Counting.{key_of, told_in}
+use Rattle.j39_audit.specs.Settings.{AreMoving, Settings}
+use Rattle.j39_audit.specs.declared.audit_log.AuditLog.{AuditLog}
+use Rattle.j39_audit.specs.declared.mark.Mark.{Mark}
+use Rattle.j39_audit.specs.inside.Auditing.{HasAudited, IsAuditReport, RecallsAudit}
+use Rattle.j39_audit.specs.inside.Recalling.{tallied, settings_of}
+
+looks : (log : AuditLog) (past : AuditPast) → RecallsAudit log past → tallied log.tally ≡ told_in past.noted
+looks log past recalls = λ i m. recalls.follows.counted (key_of m) i
+
+counts : (log : AuditLog) (past : AuditPast) → RecallsAudit log past → log.counts ≡ counts_of past
+counts log past recalls =
+    let make : ℕ → ℕ → ℕ → ℕ → LineCounts = λ f s b e. record { frames = f; skipped = s; bad = b; elsewhere = e } in
+    ap (λ (f : ℕ). make f log.counts.skipped log.counts.bad log.counts.elsewhere) recalls.frames_are
+    ∙ ap (λ (s : ℕ). make past.frames s log.counts.bad log.counts.elsewhere) recalls.skipped_are
+    ∙ ap (λ (b : ℕ). make past.frames past.skipped b log.counts.elsewhere) recalls.bad_are
+    ∙ ap (λ (e : ℕ). make past.frames past.skipped past.bad e) recalls.elsewhere_are
+
+audited : (s : Settings) (log : AuditLog) (input text : List ℕ) (verdict : Verdict) → HasAudited s log (lines input) → IsAuditReport log text verdict
+    → IsAuditedLog s input text verdict
+audited s log input text verdict has is =
+    let past = has.past in
+    let look = looks log past has.recalls in
+    record {
+      past = past;
+      read = has.read;
+      text_is = is.text_is ∙ ap (λ (t : Settings). text_by t log.counts (tallied log.tally)) has.settings_are
+          ∙ ap (λ (k : LineCounts). text_by s k (tallied log.tally)) (counts log past has.recalls)
+          ∙ ap (λ (l : Look). text_by s (counts_of past) l) look;
+      verdict_is = is.verdict_is ∙ ap (λ (t : Settings). verdict_by (accusation_count t (tallied log.tally))) has.settings_are
+          ∙ ap (λ (l : Look). verdict_by (accusation_count s l)) look;
+    }
+
+pub is_audit : (s : Settings) (log : AuditLog) (input text : List ℕ) (verdict : Verdict) → HasAudited s log (lines input)
+    → AreMoving s.plan s.moving → IsAuditReport log text verdict → IsAudit s.plan s.part s.stamps input text verdict
+is_audit s log input text verdict has moving is = record { moving = s.moving; moving_are = moving; audited = audited s log input text verdict has is }

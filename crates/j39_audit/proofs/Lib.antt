@@ -1,0 +1,7 @@
+pub mod Audited
+pub mod Below
+pub mod Counted
+pub mod Hearing
+pub mod Knowing
+pub mod Noting
+pub mod Writing

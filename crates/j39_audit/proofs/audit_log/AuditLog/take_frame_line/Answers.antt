@@ -1,0 +1,26 @@
+use Rattle.std.proofs.Common.{◌≡◌, ◌+◌, ℕ, List, Option, refl, sym, ap, subst, ◌∙◌}
+use Rattle.std.specs.Option.{option_copied}
+use Rattle.j39_log.specs.declared.line_counts.LineCounts.{LineCounts}
+use Rattle.j39_follow.specs.LogLines.{interface_behind}
+use Rattle.j39_audit.specs.AuditText.{AuditPast, past_with_frame}
+use Rattle.j39_audit.proofs.audit_log.AuditLog.take_frame_line.Goals as goal
+
+pub returns-clause-frame : goal.returns-clause-frame
+unfolding past_with_frame
+returns-clause-frame c = λ past recalls.
+    let timed = c.in_ok-take_timed.ensures in
+    let named : Option (List ℕ) = option_copied c.args.named in
+    let took = timed.frame past named recalls.follows recalls.number_is in
+    record {
+      packet = took.packet;
+      packet_is = took.packet_is;
+      recalls = record {
+        follows = record { knows = took.follows.knows; counted = took.follows.counted; newest_is = took.follows.newest_is };
+        number_is = timed.number ∙ recalls.number_is;
+        interface_is = c.in_ok-keep_interface.ensures ∙ ap (λ (i : Option (List ℕ)). interface_behind i named) ?;
+        frames_are = ap (λ (k : LineCounts). k.frames + 1) timed.counts ∙ ap (λ (n : ℕ). n + 1) recalls.frames_are;
+        skipped_are = ap (λ (k : LineCounts). k.skipped) timed.counts ∙ recalls.skipped_are;
+        bad_are = ap (λ (k : LineCounts). k.bad) timed.counts ∙ recalls.bad_are;
+        elsewhere_are = ap (λ (k : LineCounts). k.elsewhere) timed.counts ∙ recalls.elsewhere_are;
+      };
+    }

@@ -1,0 +1,19 @@
+use Rattle.std.proofs.Common.{◌≡◌, ◌∙◌, ◌&&◌, ℕ, Bool, List, true, false, Option, None, cond, refl, arith}
+use Rattle.j39_id.specs.Addresses.{is_address}
+use Rattle.j39_audit.specs.Claiming.{Heard, newest_of}
+use Rattle.j39_audit.specs.Settings.{moves}
+use Rattle.j39_audit.specs.inside.Recalling.{settings_of}
+use Rattle.j39_audit.proofs.Knowing.{none_heard, none_taken}
+use Rattle.j39_audit.proofs.known.Known.new.Goals as goal
+
+pub returns : goal.returns
+returns c =
+    let size = c.in_ok-last.ensures.size in
+    let count = c.len.ensures in
+    let s = settings_of c.args.basis.now in
+    record {
+      last_size = omega (arith, size, count);
+      taken_size = c.in_ok-taken.ensures.size;
+      last = λ u. none_heard s.part (moves s u) u _ (c.in_ok-last.ensures.none u);
+      taken = λ a. none_taken a _ (c.in_ok-taken.ensures.none a);
+    }

@@ -1,0 +1,290 @@
+-- The text that the audit command writes for a plan and a log.
+use Rattle.std.specs.Prelude.{◌≡◌, ℕ, ◌+◌, ◌⊎◌, ◌==◌, nat_lt, Bool, true, false, if◌then◌else◌, List, [], ◌∷◌, ◌++◌, length, codes, slice_index_or, Option, Some, None}
+use Rattle.std.specs.List.{slice_get}
+use Rattle.std.specs.Option.{option_map_or}
+use Rattle.j39_id.specs.FrameLine.{Spells, HasLineFault}
+use Rattle.j39_id.specs.Lines.{Line, Short as ShortLine, Long, lines}
+use Rattle.j39_id.specs.declared.frame.Frame.{Frame}
+use Rattle.j39_id.specs.declared.line_error.LineError.{LineError}
+use Rattle.j39_id.specs.declared.line_error.LineError.TheVariants.{Empty, ShortIdent}
+use Rattle.j39_network.specs.declared.plan.Plan.{Plan}
+use Rattle.j39_network.specs.declared.plan.flow_plan.FlowPlan.{FlowPlan}
+use Rattle.j39_network.specs.declared.plan.request_plan.RequestPlan.{RequestPlan}
+use Rattle.j39_network.specs.declared.plan.to.To.{To}
+use Rattle.j39_follow.specs.FollowText.{to_text}
+use Rattle.j39_log.specs.LineCounting.{counts_text as lines_text}
+use Rattle.j39_log.specs.declared.line_counts.LineCounts.{LineCounts}
+use Rattle.j39_follow.specs.LogLines.{IsElsewhere, IsReadPart, IsTimeText, NamesInterface, interface_behind}
+use Rattle.j39_follow.specs.Who.{name_text}
+use Rattle.j39_text.specs.Labels.{group_label, unit_label}
+use Rattle.j39_text.specs.Texts.{field, place_field}
+use Rattle.j39_tp.specs.declared.packet.Packet.{Packet}
+use Rattle.j39_stream.specs.declared.verdict.Verdict.{Verdict}
+use Rattle.j39_stream.specs.declared.verdict.Verdict.TheVariants.{Done, Findings, Refused, Unreadable}
+use Rattle.j39_audit.specs.Below.{each_below, sum_below}
+use Rattle.j39_audit.specs.Breaks.{breaks, line_time, newest_behind}
+use Rattle.j39_audit.specs.Claiming.{HeardClaims, broken_off, no_claims}
+use Rattle.j39_audit.specs.Counting.{Noted, told_in}
+use Rattle.j39_audit.specs.Looking.{IsPacketOf, break_noted, claims_behind, frame_noted, noted_if}
+use Rattle.j39_audit.specs.SentMessages.{noted_at}
+use Rattle.j39_audit.specs.Settings.{AreMoving, Settings, units_planned}
+use Rattle.j39_audit.specs.declared.mark.Mark.{Mark}
+use Rattle.j39_audit.specs.declared.mark.Word.{Word}
+use Rattle.j39_audit.specs.declared.mark.Word.TheVariants.{Short, Stranger, Nobody, Address, Cannot, Layout, NoFlow, Priority, Urgent, Seen, Unclear, Asked, Counted, Unsure, Break}
+use Rattle.j39_audit.specs.declared.tally.Told.{Told}
+
+-- ---- a log
+
+-- what came so far: how many lines, the interface of the log, the newest time, the claims, what was noted, and how many lines there were of each
+-- sort
+pub record AuditPast : Type 0 where
+  pub number : ℕ
+  pub interface : Option (List ℕ)
+  pub newest : Option ℕ
+  pub claims : HeardClaims
+  pub noted : List Noted
+  pub frames : ℕ
+  pub skipped : ℕ
+  pub bad : ℕ
+  pub elsewhere : ℕ
+
+abbrev pub nothing_read : AuditPast
+nothing_read = record { number = 0; interface = None; newest = None; claims = no_claims; noted = []; frames = 0; skipped = 0; bad = 0; elsewhere = 0 }
+
+abbrev pub bad_line : AuditPast → AuditPast
+bad_line past = record past { bad = past.bad + 1 }
+
+-- a line of an 11-bit identifier is skipped, which is told of behind the first frame; one without a word isn't counted
+abbrev pub skipped_line : AuditPast → AuditPast
+skipped_line past = record past {
+  skipped = past.skipped + 1;
+  noted = past.noted ++ noted_if (nat_lt 0 past.frames) (noted_at past.number Short 0 0);
+}
+
+abbrev pub passed_by : LineError → AuditPast → AuditPast
+passed_by Empty past = past
+passed_by ShortIdent past = skipped_line past
+passed_by _ past = bad_line past
+
+-- the claims just before a frame of this time
+abbrev pub claims_before : Settings → AuditPast → Option ℕ → HeardClaims
+claims_before s past time = broken_off (breaks s.stamps past.newest time) past.claims
+
+-- what came, with a frame of this time and packet of a line that names this interface
+unfoldable pub past_with_frame : Settings → AuditPast → Option ℕ → Option (List ℕ) → Frame → Option Packet → AuditPast
+past_with_frame s past time named f packet = record past {
+  interface = interface_behind past.interface named;
+  newest = newest_behind s.stamps past.newest time;
+  claims = claims_behind s f (claims_before s past time);
+  noted = past.noted ++ (break_noted past.number (breaks s.stamps past.newest time)
+      ++ frame_noted s (claims_before s past time) f packet past.number);
+  frames = past.frames + 1;
+}
+
+abbrev pub AuditsFrame : Settings → AuditPast → List ℕ → Option (List ℕ) → Frame → AuditPast → Type 0
+AuditsFrame s past time named f next =
+    (packet : Option Packet) × IsPacketOf f packet × (next ≡ past_with_frame s past (line_time s.plan time) named f packet)
+
+-- a line that isn't elsewhere is read: as the frame that its part spells, or it is passed over
+abbrev pub AuditsPart : Settings → AuditPast → List ℕ → List ℕ → Option (List ℕ) → AuditPast → Type 0
+AuditsPart s past line part named next =
+    ((f : Frame) × (time : List ℕ) × Spells part f × IsTimeText line time × AuditsFrame s past time named f next)
+    ⊎ ((e : LineError) × HasLineFault part e × (next ≡ passed_by e past))
+
+abbrev pub AuditsShort : Settings → AuditPast → List ℕ → AuditPast → Type 0
+AuditsShort s past line next =
+    (part : List ℕ) × (named : Option (List ℕ)) × IsReadPart line part × NamesInterface part named
+    × ((IsElsewhere past.interface part named × (next ≡ record past { elsewhere = past.elsewhere + 1 }))
+    ⊎ ((¬ IsElsewhere past.interface part named) × AuditsPart s past line part named next))
+
+abbrev pub with_next_number : AuditPast → AuditPast
+with_next_number past = record past { number = past.number + 1 }
+
+abbrev pub AuditsLine : Settings → AuditPast → Line → AuditPast → Type 0
+AuditsLine s past (ShortLine line) next = AuditsShort s (with_next_number past) line next
+AuditsLine s past Long next = next ≡ bad_line (with_next_number past)
+
+-- so do all lines, one after another
+abbrev pub AuditsLines : Settings → AuditPast → List Line → AuditPast → Type 0
+AuditsLines s past [] end = end ≡ past
+AuditsLines s past (line ∷ rest) end = (next : AuditPast) × AuditsLine s past line next × AuditsLines s next rest end
+
+-- ---- what accuses
+
+-- the words that accuse, in the order in which they are written
+abbrev pub accusing : List Word
+accusing = Short ∷ Stranger ∷ Nobody ∷ Address ∷ Cannot ∷ Layout ∷ NoFlow ∷ Priority ∷ Urgent ∷ []
+
+abbrev pub accusing_at : ℕ → Word
+accusing_at n = slice_index_or accusing n Urgent
+
+-- of how many each word speaks: of addresses, or of units
+abbrev pub subjects : Settings → Word → ℕ
+subjects s Short = 1
+subjects s Stranger = 256
+subjects s Nobody = 256
+subjects s _ = units_planned s
+
+-- and of how many groups of each
+abbrev pub groups_named : Settings → Word → ℕ
+groups_named s Layout = length s.plan.groups.items
+groups_named s NoFlow = length s.plan.groups.items
+groups_named s Priority = length s.plan.groups.items
+groups_named s _ = 1
+
+abbrev pub word_text : Word → List ℕ
+word_text Short = codes "short"
+word_text Stranger = codes "stranger"
+word_text Nobody = codes "nobody"
+word_text Address = codes "address"
+word_text Cannot = codes "cannot"
+word_text Layout = codes "layout"
+word_text NoFlow = codes "no_flow"
+word_text Priority = codes "priority"
+word_text _ = codes "urgent"
+
+unfoldable pub unit_text : Plan → ℕ → List ℕ
+unit_text plan u = codes " unit " ++ unit_label plan u
+
+unfoldable pub unit_and_group_text : Plan → ℕ → ℕ → List ℕ
+unit_and_group_text plan u g = unit_text plan u ++ (codes " group " ++ group_label plan g)
+
+unfoldable pub stranger_text : ℕ → ℕ → List ℕ
+stranger_text address name = field (codes " address ") address ++ (codes " " ++ name_text name)
+
+unfoldable pub unit_at_text : Plan → ℕ → ℕ → List ℕ
+unit_at_text plan u address = unit_text plan u ++ field (codes " at ") address
+
+-- whom or what a word speaks of, and what belongs to the first line
+abbrev pub subject_of : Plan → Word → ℕ → ℕ → ℕ → List ℕ
+subject_of plan Short subject group detail = []
+subject_of plan Stranger subject group detail = stranger_text subject detail
+subject_of plan Nobody subject group detail = field (codes " address ") subject
+subject_of plan Address subject group detail = unit_at_text plan subject detail
+subject_of plan Layout subject group detail = unit_and_group_text plan subject group
+subject_of plan NoFlow subject group detail = unit_and_group_text plan subject group
+subject_of plan Priority subject group detail = unit_and_group_text plan subject group
+subject_of plan _ subject group detail = unit_text plan subject
+
+-- how often, and the first line
+unfoldable pub times_text : Told → List ℕ
+times_text t = field (codes " times ") t.times ++ (field (codes " first ") t.first ++ 10 ∷ [])
+
+unfoldable pub accusing_line : Plan → Mark → Told → List ℕ
+accusing_line plan m t = word_text m.word ++ (subject_of plan m.word m.subject m.group t.detail ++ times_text t)
+
+abbrev pub mark_at : Word → ℕ → ℕ → Mark
+mark_at word subject group = record { word = word; subject = subject; group = group }
+
+-- what is told of each mark
+abbrev pub Look : Type 0
+Look = Mark → Told
+
+-- the line of a mark, where it was found, and how many lines that is
+unfoldable pub line_of_mark : Plan → Mark → Told → List ℕ
+line_of_mark plan m t = if t.times == 0 then [] else accusing_line plan m t
+
+unfoldable pub lines_told : Told → ℕ
+lines_told t = if t.times == 0 then 0 else 1
+
+-- those of a word and a subject, of a word, and of all words
+unfoldable pub subject_lines : Settings → Look → Word → ℕ → List ℕ
+subject_lines s look word u = each_below (λ g. line_of_mark s.plan (mark_at word u g) (look (mark_at word u g))) (groups_named s word)
+
+unfoldable pub subject_count : Settings → Look → Word → ℕ → ℕ
+subject_count s look word u = sum_below (λ g. lines_told (look (mark_at word u g))) (groups_named s word)
+
+unfoldable pub word_lines : Settings → Look → Word → List ℕ
+word_lines s look word = each_below (subject_lines s look word) (subjects s word)
+
+unfoldable pub word_count : Settings → Look → Word → ℕ
+word_count s look word = sum_below (subject_count s look word) (subjects s word)
+
+unfoldable pub accusations : Settings → Look → List ℕ
+accusations s look = each_below (λ n. word_lines s look (accusing_at n)) 9
+
+unfoldable pub accusation_count : Settings → Look → ℕ
+accusation_count s look = sum_below (λ n. word_count s look (accusing_at n)) 9
+
+-- ---- what was seen
+
+abbrev pub times_of : Look → Word → ℕ → ℕ
+times_of look word subject = (look (mark_at word subject 0)).times
+
+unfoldable pub sending_text : Plan → ℕ → ℕ → To → List ℕ
+sending_text plan group sender to =
+    codes " " ++ (group_label plan group ++ (codes " " ++ (unit_label plan sender ++ (codes " " ++ to_text plan to))))
+
+unfoldable pub flow_seen_line : Plan → ℕ → FlowPlan → ℕ → ℕ → List ℕ
+flow_seen_line plan n flow seen unclear =
+    place_field (codes "flow ") n ++ (sending_text plan flow.group flow.sender flow.to
+    ++ (field (codes " seen ") seen ++ (field (codes " unclear ") unclear ++ 10 ∷ [])))
+
+unfoldable pub request_seen_line : Plan → ℕ → RequestPlan → ℕ → List ℕ
+request_seen_line plan n r seen =
+    place_field (codes "request ") n ++ (sending_text plan r.group r.sender r.to ++ (field (codes " seen ") seen ++ 10 ∷ []))
+
+unfoldable pub unit_frames_line : Plan → ℕ → ℕ → List ℕ
+unit_frames_line plan u frames = codes "unit " ++ (unit_label plan u ++ (field (codes " frames ") frames ++ 10 ∷ []))
+
+abbrev pub flow_seen : Plan → Look → ℕ → List ℕ
+flow_seen plan look n =
+    option_map_or (λ (flow : FlowPlan). flow_seen_line plan n flow (times_of look Seen n) (times_of look Unclear n)) (slice_get plan.flows.items n) []
+
+abbrev pub request_seen : Plan → Look → ℕ → List ℕ
+request_seen plan look n =
+    option_map_or (λ (r : RequestPlan). request_seen_line plan n r (times_of look Asked n)) (slice_get plan.requests.items n) []
+
+abbrev pub unit_seen : Plan → Look → ℕ → List ℕ
+unit_seen plan look u = unit_frames_line plan u (times_of look Counted u)
+
+unfoldable pub flows_seen : Plan → Look → List ℕ
+flows_seen plan look = each_below (flow_seen plan look) (length plan.flows.items)
+
+unfoldable pub requests_seen : Plan → Look → List ℕ
+requests_seen plan look = each_below (request_seen plan look) (length plan.requests.items)
+
+unfoldable pub units_seen : Plan → Look → List ℕ
+units_seen plan look = each_below (unit_seen plan look) (length plan.units.items)
+
+-- how many lines there were of each sort
+unfoldable pub sorts_text : ℕ → LineCounts → Look → List ℕ
+sorts_text stamps counts look = lines_text counts ++ (field (codes " elsewhere ") counts.elsewhere
+    ++ (field (codes " unsure ") (times_of look Unsure 0) ++ (field (codes " breaks ") (times_of look Break 0)
+    ++ (field (codes " stamps ") stamps ++ 10 ∷ []))))
+
+-- and how many accuse
+unfoldable pub deviations_line : ℕ → List ℕ
+deviations_line n = field (codes "deviations ") n ++ 10 ∷ []
+
+-- ---- the text
+
+unfoldable pub text_by : Settings → LineCounts → Look → List ℕ
+text_by s counts look =
+    accusations s look ++ (flows_seen s.plan look ++ (requests_seen s.plan look ++ (units_seen s.plan look
+    ++ (sorts_text s.stamps counts look ++ deviations_line (accusation_count s look)))))
+
+abbrev pub counts_of : AuditPast → LineCounts
+counts_of past = record { frames = past.frames; skipped = past.skipped; bad = past.bad; elsewhere = past.elsewhere }
+
+abbrev pub audit_text : Settings → AuditPast → List ℕ
+audit_text s past = text_by s (counts_of past) (told_in past.noted)
+
+abbrev pub verdict_by : ℕ → Verdict
+verdict_by n = if n == 0 then Done else Findings
+
+abbrev pub audit_verdict : Settings → AuditPast → Verdict
+audit_verdict s past = verdict_by (accusation_count s (told_in past.noted))
+
+-- what is written of a log, with the verdict
+pub record IsAuditedLog (s : Settings) (log text : List ℕ) (verdict : Verdict) : Type 0 where
+  pub past : AuditPast
+  pub read : AuditsLines s nothing_read (lines log) past
+  pub text_is : text ≡ audit_text s past
+  pub verdict_is : verdict ≡ audit_verdict s past
+
+-- by a plan in which no addresses and no identifiers are wrong, of a whole log or a part of one, by a logger of this error
+pub record IsAudit (plan : Plan) (part : Bool) (stamps : ℕ) (log text : List ℕ) (verdict : Verdict) : Type 0 where
+  pub moving : List Bool
+  pub moving_are : AreMoving plan moving
+  pub audited : IsAuditedLog (record { plan = plan; moving = moving; part = part; stamps = stamps }) log text verdict

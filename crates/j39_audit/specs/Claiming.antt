@@ -1,0 +1,108 @@
+-- Who may be where, by the claims of a log alone: a log may begin in the midst of a drive, and who wins a contest isn't asked.
+use Rattle.std.specs.Prelude.{◌≡◌, ℕ, nat_le, nat_lt, ◌==◌, ◌||◌, ◌&&◌, not, Bool, true, false, if◌then◌else◌, List, [], ◌∷◌, Option, Some, None, is_none}
+use Rattle.std.specs.FinSet.{contains}
+use Rattle.std.specs.List.{list_any, slice_get}
+use Rattle.std.specs.Option.{option_eq, option_map_or}
+use Rattle.j39_id.specs.Addresses.{in_pool, is_address}
+use Rattle.j39_network.specs.declared.plan.unit_plan.UnitPlan.{UnitPlan}
+use Rattle.j39_audit.specs.Below.{any_below, first_below}
+use Rattle.j39_audit.specs.Settings.{Settings, moves, units_planned}
+use Rattle.j39_audit.specs.declared.senders.SureSender.{SureSender}
+use Rattle.j39_audit.specs.declared.senders.SureSender.TheVariants.{Unit as OfUnit, Nobody, Unknown}
+
+-- ---- claims
+
+-- a claim: the unit of its NAME, if it is one of the plan, and its source, 254 where none can be claimed
+pub record Heard : Type 0 where
+  pub unit : Option ℕ
+  pub source : ℕ
+
+-- the claims before a frame, the newest one first: all of them, and those from the last break on
+pub record HeardClaims : Type 0 where
+  pub all : List Heard
+  pub recent : List Heard
+
+abbrev pub no_claims : HeardClaims
+no_claims = record { all = []; recent = [] }
+
+-- behind a break
+abbrev pub broken_off : Bool → HeardClaims → HeardClaims
+broken_off broken claims = if broken then record claims { recent = [] } else claims
+
+abbrev pub with_claim : Heard → HeardClaims → HeardClaims
+with_claim h claims = record { all = h ∷ claims.all; recent = h ∷ claims.recent }
+
+abbrev pub is_at : Option ℕ → ℕ → Bool
+is_at None a = false
+is_at (Some b) a = b == a
+
+-- the source of the newest claim of the unit
+unfoldable pub newest_of : ℕ → List Heard → Option ℕ
+newest_of u [] = None
+newest_of u (h ∷ older) = if is_at h.unit u then Some h.source else newest_of u older
+
+-- what is known of the units and the addresses: where each unit claimed last, and which addresses were claimed by a NAME of no unit
+pub record Knowledge : Type 0 where
+  pub last : ℕ → Option ℕ
+  pub taken : ℕ → Bool
+
+-- a unit that may move may have moved unheard before a break, and any in a part of what the bus carried
+abbrev pub last_claim_of : Settings → HeardClaims → ℕ → Option ℕ
+last_claim_of s claims u = if s.part then None else newest_of u (if moves s u then claims.recent else claims.all)
+
+abbrev pub is_taken : HeardClaims → ℕ → Bool
+is_taken claims a = is_address a && list_any (λ (h : Heard). is_none h.unit && h.source == a) claims.all
+
+abbrev pub knowledge : Settings → HeardClaims → Knowledge
+knowledge s claims = record { last = last_claim_of s claims; taken = is_taken claims }
+
+-- ---- addresses
+
+-- units that aren't in the plan may come
+abbrev pub has_strangers : Settings → Bool
+has_strangers s = nat_lt 0 s.plan.strangers
+
+-- a unit that moves goes to one of 128 to 247: not to one that is kept free, unless strangers, which don't know of this, make it
+abbrev pub is_free_for : Settings → ℕ → Bool
+is_free_for s a = in_pool a && (has_strangers s || not (contains s.plan.keep_free a))
+
+-- the address is one of the unit at this place: its planned one, or one to which it may move
+unfoldable pub is_address_of : Settings → ℕ → ℕ → Bool
+is_address_of s u a =
+    option_map_or (λ (unit : UnitPlan). unit.address == a || (moves s u && is_free_for s a)) (slice_get s.plan.units.items u) false
+
+-- the unit may be there: where it claimed last, or, as long as it is unheard, at each of its addresses
+abbrev pub may_stand : Settings → ℕ → ℕ → Option ℕ → Bool
+may_stand s u a None = is_address_of s u a
+may_stand s u a (Some last) = last == a
+
+unfoldable pub may_be : Settings → Knowledge → ℕ → ℕ → Bool
+may_be s k u a = may_stand s u a (k.last u)
+
+-- some unit claimed it last
+unfoldable pub is_claimed_last : Settings → Knowledge → ℕ → Bool
+is_claimed_last s k a = any_below (λ u. is_at (k.last u) a) (units_planned s)
+
+-- somebody who isn't in the plan may be there
+unfoldable pub is_strange : Settings → Knowledge → ℕ → Bool
+is_strange s k a =
+    k.taken a || (has_strangers s && (in_pool a && not (is_claimed_last s k a)))
+
+-- ---- the sender
+
+-- another unit than this may be there
+unfoldable pub is_another_there : Settings → Knowledge → ℕ → ℕ → Bool
+is_another_there s k a u = any_below (λ v. may_be s k v a && not (v == u)) (units_planned s)
+
+-- the first unit that may be there
+unfoldable pub first_there : Settings → Knowledge → ℕ → Option ℕ
+first_there s k a = first_below (λ u. may_be s k u a) (units_planned s)
+
+-- it is the sender where no other may be there; where none may be, nobody is there, unless strangers come
+abbrev pub sure_sender : Settings → Knowledge → ℕ → Option ℕ → SureSender
+sure_sender s k a None = if has_strangers s then Unknown else Nobody
+sure_sender s k a (Some u) = if is_another_there s k a u then Unknown else OfUnit u
+
+-- who sends from an address, where that is sure: the one unit that may be there, or nobody
+unfoldable pub sender_at : Settings → Knowledge → ℕ → SureSender
+sender_at s k a = if is_strange s k a then Unknown else sure_sender s k a (first_there s k a)

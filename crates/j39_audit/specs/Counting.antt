@@ -1,0 +1,64 @@
+-- What is counted of a log, and at which lines.
+use Rattle.std.specs.Prelude.{◌≡◌, ℕ, ◌+◌, ◌-◌, ◌^◌, min, ◌==◌, ◌&&◌, Bool, if◌then◌else◌, List, [], ◌∷◌, filter, length, nat_eq}
+use Rattle.j39_audit.specs.declared.mark.Mark.{Mark}
+use Rattle.j39_audit.specs.declared.mark.Word.{Word}
+use Rattle.j39_audit.specs.declared.mark.Word.TheVariants.{Short, Stranger, Nobody, Address, Cannot, Layout, NoFlow, Priority, Urgent, Seen, Unclear, Asked, Counted, Unsure, Break}
+use Rattle.j39_audit.specs.declared.tally.Told.{Told}
+
+-- what was found at a line, with a number that belongs to it
+pub record Noted : Type 0 where
+  pub mark : Mark
+  pub line : ℕ
+  pub detail : ℕ
+
+abbrev pub word_number : Word → ℕ
+word_number Short = 0
+word_number Stranger = 1
+word_number Nobody = 2
+word_number Address = 3
+word_number Cannot = 4
+word_number Layout = 5
+word_number NoFlow = 6
+word_number Priority = 7
+word_number Urgent = 8
+word_number Seen = 9
+word_number Unclear = 10
+word_number Asked = 11
+word_number Counted = 12
+word_number Unsure = 13
+word_number Break = 14
+
+-- two marks are one where this is
+abbrev pub Key : Type 0
+Key = ℕ × ℕ × ℕ
+
+abbrev pub key_of : Mark → Key
+key_of m = (word_number m.word, m.subject, m.group)
+
+abbrev pub is_same_key : Key → Key → Bool
+is_same_key a b = (nat_eq a.0 b.0 && nat_eq a.1 b.1) && nat_eq a.2 b.2
+
+abbrev pub never : Told
+never = record { times = 0; first = 0; detail = 0 }
+
+-- where counts stop; a log has fewer lines
+abbrev pub most_times : ℕ
+most_times = 2 ^ 64 - 1
+
+-- how often something was found, the first line, and what belongs to it there
+abbrev pub told_of : List Noted → Told
+told_of [] = never
+told_of (n ∷ rest) = record { times = min (length rest + 1) most_times; first = n.line; detail = n.detail }
+
+-- with one line more
+abbrev pub told_more : Told → ℕ → ℕ → Told
+told_more t line detail =
+    if t.times == 0 then record { times = 1; first = line; detail = detail }
+    else record { times = min (t.times + 1) most_times; first = t.first; detail = t.detail }
+
+-- that of one mark
+unfoldable pub told_at : List Noted → Key → Told
+told_at noted key = told_of (filter (λ (n : Noted). is_same_key (key_of n.mark) key) noted)
+
+abbrev pub told_in : List Noted → Mark → Told
+told_in noted m = told_at noted (key_of m)

@@ -1,0 +1,9 @@
+pub mod AuditText
+pub mod Below
+pub mod Breaks
+pub mod Claiming
+pub mod Counting
+pub mod Looking
+pub mod SentMessages
+pub mod Settings
+pub mod inside

@@ -1,0 +1,165 @@
+-- What is noted at a frame.
+use Rattle.std.specs.Prelude.{◌≡◌, ℕ, nat_le, nat_lt, ◌==◌, ◌||◌, ◌&&◌, not, Bool, true, false, if◌then◌else◌, List, [], ◌∷◌, ◌++◌, length, Option, Some, None, is_some}
+use Rattle.std.specs.List.{slice_get}
+use Rattle.std.specs.Option.{option_map_or}
+use Rattle.j39_id.specs.Addresses.{is_address, null_address}
+use Rattle.j39_id.specs.FrameMeaning.{cannot_claim, claims_address, name_in, requested_group, requests_group}
+use Rattle.j39_id.specs.Ident.{pgn_of}
+use Rattle.j39_id.specs.Pgn.{is_pdu2}
+use Rattle.j39_id.specs.Services.{address_claimed, connection_management, data_transfer, request}
+use Rattle.j39_id.specs.declared.frame.Frame.{Frame}
+use Rattle.j39_network.specs.declared.plan.timing.Timing.{Timing}
+use Rattle.j39_network.specs.declared.plan.unit_plan.UnitPlan.{UnitPlan}
+use Rattle.j39_follow.specs.Who.{unit_of_name}
+use Rattle.j39_log.specs.LogFrames.{IsPacket}
+use Rattle.j39_tp.specs.declared.packet.Packet.{Packet}
+use Rattle.j39_tp.specs.declared.packet.Packet.TheVariants.{Rts, Bam}
+use Rattle.j39_audit.specs.Breaks.{breaks}
+use Rattle.j39_audit.specs.Claiming.{HeardClaims, Heard, Knowledge, broken_off, has_strangers, is_address_of, knowledge, sender_at, with_claim}
+use Rattle.j39_audit.specs.Counting.{Noted}
+use Rattle.j39_audit.specs.SentMessages.{SentMessage, deviation, first_group, flows_noted, noted_at, requests_noted}
+use Rattle.j39_audit.specs.Settings.{Settings}
+use Rattle.j39_audit.specs.declared.mark.Mark.{Mark}
+use Rattle.j39_audit.specs.declared.mark.Word.{Word}
+use Rattle.j39_audit.specs.declared.mark.Word.TheVariants.{Stranger, Nobody as NobodyThere, Address, Cannot, Urgent, Counted, Unsure, Break}
+use Rattle.j39_audit.specs.declared.messages.Test.TheVariants.{Any}
+use Rattle.j39_audit.specs.declared.senders.SureSender.{SureSender}
+use Rattle.j39_audit.specs.declared.senders.SureSender.TheVariants.{Unit as OfUnit, Nobody, Unknown}
+
+-- the transport packet of a frame, if it is one
+abbrev pub IsPacketOf : Frame → Option Packet → Type 0
+IsPacketOf f (Some p) = IsPacket f p
+IsPacketOf f None = (p : Packet) → ¬ IsPacket f p
+
+abbrev pub noted_if : Bool → Noted → List Noted
+noted_if true n = n ∷ []
+noted_if false n = []
+
+abbrev pub mark_noted : ℕ → Option Mark → List Noted
+mark_noted line None = []
+mark_noted line (Some m) = record { mark = m; line = line; detail = 0 } ∷ []
+
+-- ---- urgent frames
+
+-- the priority is above that of all that isn't planned
+abbrev pub is_above_unplanned : Settings → Frame → Bool
+is_above_unplanned s f = option_map_or (λ (t : Timing). nat_lt f.ident.priority t.unplanned_priority) s.plan.timing false
+
+-- frames of long messages may have the priority of these
+abbrev pub may_be_transport : Settings → Frame → Bool
+may_be_transport s f = option_map_or (λ (t : Timing). nat_le t.transport_priority f.ident.priority) s.plan.timing false
+
+abbrev pub is_of_transport : Settings → Frame → Bool
+is_of_transport s f = (pgn_of f.ident == connection_management || pgn_of f.ident == data_transfer) && may_be_transport s f
+
+-- ---- claims
+
+-- a unit of the plan claims
+abbrev pub is_claiming : Settings → ℕ → Bool
+is_claiming s u = option_map_or (λ (unit : UnitPlan). unit.claims) (slice_get s.plan.units.items u) false
+
+abbrev pub noted_with : ℕ → Word → ℕ → ℕ → Noted
+noted_with line word subject detail = record { mark = record { word = word; subject = subject; group = 0 }; line = line; detail = detail }
+
+-- a claim of a unit: it says that it can't, or claims where it may not or without leave; and its priority
+abbrev pub claim_place : Settings → Frame → ℕ → ℕ → List Noted
+claim_place s f line u =
+    if f.ident.sa == null_address then noted_at line Cannot u 0 ∷ []
+    else noted_if (not (is_address_of s u f.ident.sa && is_claiming s u)) (noted_with line Address u f.ident.sa)
+
+abbrev pub claim_of_unit : Settings → Frame → ℕ → ℕ → List Noted
+claim_of_unit s f line u = claim_place s f line u ++ noted_if (is_above_unplanned s f) (noted_at line Urgent u 0)
+
+abbrev pub claim_noted : Settings → Frame → ℕ → Option ℕ → List Noted
+claim_noted s f line None = noted_if (not (has_strangers s)) (noted_with line Stranger f.ident.sa (name_in f))
+claim_noted s f line (Some u) = claim_of_unit s f line u
+
+-- ---- other frames
+
+-- all but those of the network itself and of long messages
+abbrev pub is_single : ℕ → Bool
+is_single pgn = not (pgn == address_claimed || (pgn == request || (pgn == connection_management || pgn == data_transfer)))
+
+abbrev pub single : ℕ → Frame → SentMessage
+single u f = record {
+  unit = u;
+  number = pgn_of f.ident;
+  destination = f.ident.ps;
+  unaddressed = is_pdu2 (pgn_of f.ident);
+  priority = Some f.ident.priority;
+  size = length f.payload.items;
+  bytes = Some f.payload.items;
+}
+
+-- a message of this size and number that is announced
+abbrev pub announced_message : ℕ → Frame → ℕ → ℕ → SentMessage
+announced_message u f size pgn = record {
+  unit = u;
+  number = pgn;
+  destination = f.ident.ps;
+  unaddressed = false;
+  priority = None;
+  size = size;
+  bytes = None;
+}
+
+abbrev pub announced_by : ℕ → Frame → Option Packet → Option SentMessage
+announced_by u f (Some (Rts size limit pgn)) = Some (announced_message u f size pgn)
+announced_by u f (Some (Bam size pgn)) = Some (announced_message u f size pgn)
+announced_by u f _ = None
+
+-- the message that a frame is, or announces
+abbrev pub message_sent : ℕ → Frame → Option Packet → Option SentMessage
+message_sent u f packet = if is_single (pgn_of f.ident) then Some (single u f) else announced_by u f packet
+
+abbrev pub requested : ℕ → Frame → SentMessage
+requested u f = announced_message u f 0 (requested_group f)
+
+abbrev pub message_noted : Settings → Knowledge → ℕ → Option SentMessage → List Noted
+message_noted s k line None = []
+message_noted s k line (Some m) = mark_noted line (deviation s k m) ++ flows_noted s k m line
+
+abbrev pub request_noted : Settings → Knowledge → ℕ → Frame → ℕ → List Noted
+request_noted s k u f line = if requests_group f then requests_noted s k (requested u f) line else []
+
+-- a priority above that of all that isn't planned is for planned groups, and for frames of long messages
+abbrev pub is_of_own_group : Settings → ℕ → Frame → Bool
+is_of_own_group s u f = is_single (pgn_of f.ident) && is_some (first_group s (single u f) Any)
+
+abbrev pub is_urgent : Settings → ℕ → Frame → Bool
+is_urgent s u f = is_above_unplanned s f && (not (is_of_transport s f) && not (is_of_own_group s u f))
+
+-- a frame that counts for a unit
+unfoldable pub counted : Settings → Knowledge → Frame → Option Packet → ℕ → ℕ → List Noted
+counted s k f packet line u =
+    ((noted_at line Counted u 0 ∷ []
+    ++ message_noted s k line (message_sent u f packet))
+    ++ request_noted s k u f line) ++ noted_if (is_urgent s u f) (noted_at line Urgent u 0)
+
+abbrev pub sent_noted : Settings → Knowledge → Frame → Option Packet → ℕ → SureSender → List Noted
+sent_noted s k f packet line (OfUnit u) = counted s k f packet line u
+sent_noted s k f packet line Nobody = noted_at line NobodyThere f.ident.sa 0 ∷ []
+sent_noted s k f packet line Unknown = noted_at line Unsure 0 0 ∷ []
+
+-- ---- a frame
+
+abbrev pub is_claim : Frame → Bool
+is_claim f = claims_address f || cannot_claim f
+
+abbrev pub claimant : Settings → Frame → Heard
+claimant s f = record { unit = unit_of_name s.plan (name_in f); source = f.ident.sa }
+
+-- the claims behind a frame
+abbrev pub claims_behind : Settings → Frame → HeardClaims → HeardClaims
+claims_behind s f claims = if is_claim f then with_claim (claimant s f) claims else claims
+
+-- what is noted at a frame, these being the claims before it
+abbrev pub frame_noted : Settings → HeardClaims → Frame → Option Packet → ℕ → List Noted
+frame_noted s claims f packet line =
+    if is_claim f then claim_noted s f line (unit_of_name s.plan (name_in f))
+    else if is_address f.ident.sa then sent_noted s (knowledge s claims) f packet line (sender_at s (knowledge s claims) f.ident.sa)
+    else []
+
+-- the log breaks off just before it
+abbrev pub break_noted : ℕ → Bool → List Noted
+break_noted line broken = noted_if broken (noted_at line Break 0 0)

@@ -1,0 +1,29 @@
+-- What an audit goes by.
+use Rattle.std.specs.Prelude.{◌≡◌, ℕ, ◌&&◌, Bool, false, not, List, length, slice_index_or, Some}
+use Rattle.std.specs.List.{slice_get}
+use Rattle.j39_id.specs.Name.{is_arbitrary}
+use Rattle.j39_findings.specs.Standing.{DecidesWhoStays}
+use Rattle.j39_network.specs.declared.plan.Plan.{Plan}
+use Rattle.j39_network.specs.declared.plan.unit_plan.UnitPlan.{UnitPlan}
+
+-- the plan, which of its units may move to other addresses, whether frames of the bus may be missing in the log, and by how many microseconds
+-- the time of a line may differ from the end of its frame
+pub record Settings : Type 0 where
+  pub plan : Plan
+  pub moving : List Bool
+  pub part : Bool
+  pub stamps : ℕ
+
+abbrev pub moves : Settings → ℕ → Bool
+moves s u = slice_index_or s.moving u false
+
+abbrev pub units_planned : Settings → ℕ
+units_planned s = length s.plan.units.items
+
+-- these units may move: those that may choose and don't stay at their planned addresses
+pub record AreMoving (plan : Plan) (moving : List Bool) : Type 0 where
+  pub size : length moving ≡ length plan.units.items
+  pub stays : UnitPlan → Bool
+  pub decides : DecidesWhoStays plan stays
+  pub each : (u : ℕ) (unit : UnitPlan) → slice_get plan.units.items u ≡ Some unit
+      → slice_index_or moving u false ≡ (is_arbitrary unit.name && not (stays unit))

@@ -1,0 +1,3 @@
+-- What only private contracts and proofs need.
+pub mod Auditing
+pub mod Recalling

@@ -1,0 +1,76 @@
+-- What an audit keeps of the lines that were read.
+use Rattle.std.specs.Prelude.{◌≡◌, ◌≤◌, ℕ, List, length, Option, Some, None}
+use Rattle.std.specs.declared.alloc.Global.{Global}
+use Rattle.std.specs.declared.vec.Vec.{Vec}
+use Rattle.std.specs.Io.KnownBytes.{Consumes, IsAtEnd}
+use Rattle.j39_id.specs.Lines.{Line, lines}
+use Rattle.j39_id.specs.declared.frame.Frame.{Frame}
+use Rattle.j39_follow.specs.inside.FollowedSoFar.{interface_of}
+use Rattle.j39_log.specs.LineCounting.{AreWithin}
+use Rattle.j39_stream.specs.declared.verdict.Verdict.{Verdict}
+use Rattle.j39_tp.specs.declared.packet.Packet.{Packet}
+use Rattle.j39_audit.specs.AuditText.{AuditPast, AuditsLines, AuditsShort, accusation_count, nothing_read, text_by, verdict_by, past_with_frame}
+use Rattle.j39_audit.specs.Looking.{IsPacketOf}
+use Rattle.j39_audit.specs.Settings.{Settings}
+use Rattle.j39_audit.specs.declared.audit_log.AuditLog.{AuditLog}
+use Rattle.j39_audit.specs.inside.Recalling.{AreCounted, KnowsClaims, tallied, settings_of}
+
+-- the claims, what was noted and the newest time are these
+pub record AccordsWith (log : AuditLog) (past : AuditPast) : Type 0 where
+  pub knows : KnowsClaims (settings_of log.basis) log.known past.claims
+  pub counted : AreCounted log.tally past.noted
+  pub newest_is : log.newest ≡ past.newest
+
+-- what was read so far is this
+pub record RecallsAudit (log : AuditLog) (past : AuditPast) : Type 0 where
+  pub follows : AccordsWith log past
+  pub number_is : log.number ≡ past.number
+  pub interface_is : interface_of log.interface ≡ past.interface
+  pub frames_are : log.counts.frames ≡ past.frames
+  pub skipped_are : log.counts.skipped ≡ past.skipped
+  pub bad_are : log.counts.bad ≡ past.bad
+  pub elsewhere_are : log.counts.elsewhere ≡ past.elsewhere
+
+-- a frame of this time and of a line of this interface, as some packet or none, leads to what is followed now
+pub record TakesFrame (new : AuditLog) (past : AuditPast) (time : Option ℕ) (named : Option (List ℕ)) (f : Frame) : Type 0 where
+  pub packet : Option Packet
+  pub packet_is : IsPacketOf f packet
+  pub follows : AccordsWith new (past_with_frame (settings_of new.basis) past time named f packet)
+
+-- and to what is recalled now
+pub record TakesFrameLine (new : AuditLog) (past : AuditPast) (time : Option ℕ) (named : Option (List ℕ)) (f : Frame) : Type 0 where
+  pub packet : Option Packet
+  pub packet_is : IsPacketOf f packet
+  pub recalls : RecallsAudit new (past_with_frame (settings_of new.basis) past time named f packet)
+
+-- a line leads to a past that is recalled
+pub record TakesLine (new : AuditLog) (past : AuditPast) (line : List ℕ) : Type 0 where
+  pub next : AuditPast
+  pub reads : AuditsShort (settings_of new.basis) past line next
+  pub recalls : RecallsAudit new next
+  pub number_is : next.number ≡ past.number
+
+-- these lines were read by these settings
+pub record HasAudited (s : Settings) (log : AuditLog) (ls : List Line) : Type 0 where
+  pub past : AuditPast
+  pub read : AuditsLines s nothing_read ls past
+  pub recalls : RecallsAudit log past
+  pub number_is : past.number ≡ length ls
+  pub settings_are : settings_of log.basis ≡ s
+
+-- no more lines were counted than this
+pub record IsWithinLines (log : AuditLog) (most : ℕ) : Type 0 where
+  pub number : log.number ≤ most
+  pub counts : AreWithin log.counts most
+
+-- all that was left was read, to its end
+pub record HasReadLog (s : Settings) (log : AuditLog) (old new : Option (List ℕ)) : Type 0 where
+  pub input : List ℕ
+  pub consumed : Consumes old new input
+  pub end : IsAtEnd new
+  pub audited : HasAudited s log (lines input)
+
+-- what is written of the log that was read, with the verdict
+pub record IsAuditReport (log : AuditLog) (text : List ℕ) (verdict : Verdict) : Type 0 where
+  pub text_is : text ≡ text_by (settings_of log.basis) log.counts (tallied log.tally)
+  pub verdict_is : verdict ≡ verdict_by (accusation_count (settings_of log.basis) (tallied log.tally))

@@ -1,0 +1,73 @@
+-- What an audit keeps of what came so far.
+use Rattle.std.specs.Prelude.{◌≡◌, ℕ, ◌++◌, ◌*◌, ◌≤◌, ◌<◌, ◌==◌, ◌&&◌, Bool, false, List, length, slice_index_or, unwrap_or, nat_eq, Option, Some, None}
+use Rattle.std.specs.HashMap.{get}
+use Rattle.std.specs.Option.{option_copied}
+use Rattle.j39_network.specs.declared.plan.Plan.{Plan}
+use Rattle.j39_audit.specs.Claiming.{HeardClaims, Knowledge, knowledge}
+use Rattle.j39_audit.specs.Counting.{Key, Noted, is_same_key, key_of, never, told_at}
+use Rattle.j39_audit.specs.SentMessages.{SentMessage}
+use Rattle.j39_audit.specs.Settings.{Settings}
+use Rattle.j39_audit.specs.declared.basis.Basis.{Basis}
+use Rattle.j39_audit.specs.declared.known.Known.{Known}
+use Rattle.j39_audit.specs.declared.mark.Mark.{Mark}
+use Rattle.j39_audit.specs.declared.messages.UnitMessage.{UnitMessage}
+use Rattle.j39_audit.specs.declared.senders.SureSender.{SureSender}
+use Rattle.j39_audit.specs.declared.senders.SureSender.TheVariants.{Unit as OfUnit, Nobody, Unknown}
+use Rattle.j39_audit.specs.declared.tally.MarkTally.{MarkTally}
+use Rattle.j39_audit.specs.declared.tally.Told.{Told}
+
+abbrev pub settings_of : Basis → Settings
+settings_of basis = record { plan = basis.plan.now; moving = basis.moving.items; part = basis.part; stamps = basis.stamps }
+
+-- ---- counts
+
+-- what was found of a mark
+abbrev pub tallied_at : MarkTally → Key → Told
+tallied_at tally key = unwrap_or (get is_same_key tally.found key) never
+
+abbrev pub tallied : MarkTally → Mark → Told
+tallied tally m = tallied_at tally (key_of m)
+
+-- what was noted is counted
+abbrev pub AreCounted : MarkTally → List Noted → Type 0
+AreCounted tally noted = (key : Key) → tallied_at tally key ≡ told_at noted key
+
+-- what is counted behind a call is these more
+pub record Notes (old new : MarkTally) (more : List Noted) : Type 0 where
+  pub counts : (noted : List Noted) → AreCounted old noted → AreCounted new (noted ++ more)
+
+-- ---- claims
+
+abbrev pub last_in : Known → ℕ → Option ℕ
+last_in known u = slice_index_or known.last.items u None
+
+abbrev pub taken_in : Known → ℕ → Bool
+taken_in known a = slice_index_or known.taken.items a false
+
+abbrev pub known_by : Known → Knowledge
+known_by known = record { last = last_in known; taken = taken_in known }
+
+-- what these claims tell is known
+pub record KnowsClaims (s : Settings) (known : Known) (claims : HeardClaims) : Type 0 where
+  pub last_size : length known.last.items ≡ length s.plan.units.items
+  pub taken_size : length known.taken.items ≡ 256
+  pub last : (u : ℕ) → last_in known u ≡ (knowledge s claims).last u
+  pub taken : (a : ℕ) → taken_in known a ≡ (knowledge s claims).taken a
+
+abbrev pub IsWithinUnits : Plan → SureSender → Type 0
+IsWithinUnits plan (OfUnit u) = u < length plan.units.items
+IsWithinUnits plan Nobody = Unit {0}
+IsWithinUnits plan Unknown = Unit {0}
+
+-- ---- messages
+
+abbrev pub sent_as : UnitMessage → SentMessage
+sent_as m = record {
+  unit = m.unit;
+  number = m.number;
+  destination = m.destination;
+  unaddressed = m.unaddressed;
+  priority = m.priority;
+  size = m.size;
+  bytes = option_copied m.bytes;
+}

@@ -1,0 +1,54 @@
+//! What the audit command writes.
+ghost use Rattle.std.specs.Prelude.{IfOk};
+ghost use Rattle.j39_audit.specs.AuditText.{IsAudit};
+ghost use Rattle.j39_audit.specs.inside.Auditing.{IsAuditReport};
+ghost use Rattle.j39_stream.specs.CommandEnds.{AnswersWhole, IsOfAny, PutsText};
+ghost use Rattle.j39_stream.specs.Streams.{log_limits};
+
+use crate::audit_log::AuditLog;
+use crate::reading::read_log;
+use crate::summary::write_audit;
+use j39_network::Plan;
+use j39_stream::{Fault, Sink, Source, Verdict, put_all};
+use j39_text::TextBuffer;
+use std::alloc::{AllocError, Global};
+
+// What is written of a log that was read, with the verdict.
+fn report(alloc: Global, log: &AuditLog<'_>) -> Result<(TextBuffer, Verdict), AllocError>
+    ensures { IfOk result (λ r. IsAuditReport log.now r.0 r.1) }
+{
+    let mut text = TextBuffer::new(alloc);
+    let count = write_audit(&mut text, log)?;
+    if count == 0 {
+        Ok((text, Verdict::Done))
+    } else {
+        Ok((text, Verdict::Findings))
+    }
+}
+
+// Writes it.
+fn put_report<W: Sink>(alloc: Global, log: &AuditLog<'_>, sink: &mut W) -> Result<Verdict, Fault>
+    ensures { PutsText (IsAuditReport log.now) W.state sink.old sink.new result }
+{
+    let (text, verdict) = report(alloc, log)?;
+    put_all(sink, text.as_slice())?;
+    Ok(verdict)
+}
+
+/// Writes which premises of a plan a log of its bus refutes, of which unit or flow, and at which lines, once the log
+/// was read to its end.
+pub fn audit_text<S: Source, W: Sink>(
+    alloc: Global,
+    plan: &Plan,
+    part: bool,
+    stamps: u64,
+    source: &mut S,
+    sink: &mut W,
+) -> Result<Verdict, Fault>
+    ensures { AnswersWhole (IsAudit plan.now part stamps) (IsOfAny (IsAudit plan.now part stamps)) log_limits
+        (S.state source.old) (S.state source.new) W.state sink.old sink.new result }
+{
+    let mut log = AuditLog::new(alloc, plan, part, stamps)?;
+    read_log(&mut log, source)?;
+    put_report(alloc, &log, sink)
+}

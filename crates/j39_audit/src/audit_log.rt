@@ -1,0 +1,193 @@
+//! What an audit keeps of a log.
+ghost use Rattle.std.specs.Prelude.{◌≡◌, ◌≤◌, ◌<◌, ◌^◌, ◌++◌, ℕ, List, [], Option, IfOk, OnOk};
+ghost use Rattle.std.specs.Option.{option_copied};
+ghost use Rattle.j39_id.specs.Lines.{Line, tells};
+ghost use Rattle.j39_log.specs.LineCounting.{AreWithin, IsLineMore};
+ghost use Rattle.j39_audit.specs.AuditText.{AuditPast, passed_by};
+ghost use Rattle.j39_audit.specs.Claiming.{HeardClaims, broken_off};
+ghost use Rattle.j39_audit.specs.Looking.{break_noted};
+ghost use Rattle.j39_audit.specs.Settings.{AreMoving, Settings};
+ghost use Rattle.j39_audit.specs.inside.Auditing.{AccordsWith, HasAudited, IsWithinLines, RecallsAudit, TakesFrame, TakesFrameLine, TakesLine};
+ghost use Rattle.j39_audit.specs.inside.Recalling.{KnowsClaims, Notes, settings_of};
+
+use crate::basis::Basis;
+use crate::frame_marks::take_frame;
+use crate::known::Known;
+use crate::mark::{Word, make_mark};
+use crate::tally::MarkTally;
+use crate::times::{breaks, line_time, newest_behind};
+use j39_follow::{interface, is_elsewhere, keep_interface, kept_interface, read_part, time_text};
+use j39_id::{Cut, Frame, LineError, read_frame};
+use j39_log::{LineCounts, transport_packet};
+use j39_network::Plan;
+use std::alloc::{AllocError, Global};
+
+/// What an audit keeps of a log.
+#[derive(Drop)]
+pub(crate) struct AuditLog<'a> {
+    pub alloc: Global,
+    pub basis: Basis<'a>,
+    // The number of the last line that was read, counted from 1.
+    pub number: u64,
+    // That of the first line that names one.
+    pub interface: Option<Vec<u8>>,
+    pub newest: Option<u64>,
+    pub known: Known,
+    pub tally: MarkTally,
+    pub counts: LineCounts,
+}
+
+// Notes that the log breaks off, where it does, and forgets where units stood that may have moved.
+fn take_break(
+    tally: &mut MarkTally,
+    basis: &Basis<'_>,
+    known: &mut Known,
+    line: u64,
+    broken: bool,
+) -> Result<(), AllocError>
+    ensures known { (claims : HeardClaims) → KnowsClaims (settings_of basis.now) known.old claims
+        → KnowsClaims (settings_of basis.now) known.new (broken_off broken claims) }
+    ensures noted { OnOk result (Notes tally.old tally.new (break_noted line broken)) }
+{
+    if broken {
+        known.break_off(basis);
+        tally.note(make_mark(Word::Break, 0), line, 0)
+    } else {
+        Ok(())
+    }
+}
+
+impl<'a> AuditLog<'a> {
+    pub fn new(alloc: Global, plan: &'a Plan, part: bool, stamps: u64) -> Result<Self, AllocError>
+        ensures plan { IfOk result (λ log. log.basis.plan.now ≡ plan.entry.now) }
+        ensures moving { IfOk result (λ log. AreMoving plan.entry.now log.basis.moving.items) }
+        ensures part { IfOk result (λ log. log.basis.part ≡ part) }
+        ensures stamps { IfOk result (λ log. log.basis.stamps ≡ stamps) }
+        ensures nothing { IfOk result (λ log. HasAudited (settings_of log.basis) log []) }
+        ensures within { IfOk result (λ log. IsWithinLines log 0) }
+    {
+        let basis = Basis::new(alloc, plan, part, stamps)?;
+        let known = Known::new(alloc, &basis)?;
+        Ok(AuditLog {
+            alloc,
+            basis,
+            number: 0,
+            interface: None,
+            newest: None,
+            known,
+            tally: MarkTally::new(alloc),
+            counts: LineCounts::new(),
+        })
+    }
+
+    // Takes the frame of a line of this time.
+    fn take_timed(&mut self, time: Option<u64>, frame: &Frame) -> Result<(), AllocError>
+        ensures basis { self.new.basis ≡ self.old.basis }
+        ensures number { self.new.number ≡ self.old.number }
+        ensures interface { self.new.interface ≡ self.old.interface }
+        ensures counts { self.new.counts ≡ self.old.counts }
+        ensures frame { OnOk result ((past : AuditPast) (named : Option (List ℕ)) → AccordsWith self.old past → self.old.number ≡ past.number
+            → TakesFrame self.new past time named frame.now) }
+    {
+        let broken = breaks(self.basis.stamps, self.newest, time);
+        self.newest = newest_behind(self.basis.stamps, self.newest, time);
+        take_break(
+            &mut self.tally,
+            &self.basis,
+            &mut self.known,
+            self.number,
+            broken,
+        )?;
+        take_frame(
+            &mut self.tally,
+            &self.basis,
+            &mut self.known,
+            frame,
+            transport_packet(frame),
+            self.number,
+        )?;
+        Ok(())
+    }
+
+    // Takes a line that spells no frame.
+    fn take_fault(&mut self, error: LineError) -> Result<(), AllocError>
+        requires { AreWithin self.old.counts (2 ^ 62) }
+        ensures basis { self.new.basis ≡ self.old.basis }
+        ensures fault { OnOk result ((past : AuditPast) → RecallsAudit self.old past → RecallsAudit self.new (passed_by error past)) }
+        ensures number { self.new.number ≡ self.old.number }
+        ensures counted { IsLineMore self.old.counts self.new.counts }
+    {
+        let short = error == LineError::ShortIdent && self.counts.frames > 0;
+        self.counts.pass_over(error);
+        if short {
+            self.tally.note(make_mark(Word::Short, 0), self.number, 0)
+        } else {
+            Ok(())
+        }
+    }
+
+    // Takes a line that spells this frame, and names this interface.
+    fn take_frame_line(
+        &mut self,
+        time: Option<u64>,
+        named: Option<&[u8]>,
+        frame: &Frame,
+    ) -> Result<(), AllocError>
+        requires { AreWithin self.old.counts (2 ^ 62) }
+        ensures basis { self.new.basis ≡ self.old.basis }
+        ensures frame { OnOk result ((past : AuditPast) → RecallsAudit self.old past
+            → TakesFrameLine self.new past time (option_copied named.entry) frame.now) }
+        ensures number { self.new.number ≡ self.old.number }
+        ensures counted { IsLineMore self.old.counts self.new.counts }
+    {
+        self.take_timed(time, frame)?;
+        keep_interface(self.alloc, &mut self.interface, named)?;
+        self.counts.frames += 1;
+        Ok(())
+    }
+
+    // Takes a line.
+    fn take_line(&mut self, line: &[u8]) -> Result<(), AllocError>
+        requires { AreWithin self.old.counts (2 ^ 62) }
+        ensures basis { self.new.basis ≡ self.old.basis }
+        ensures line { OnOk result ((past : AuditPast) → RecallsAudit self.old past → TakesLine self.new past line.now) }
+        ensures number { self.new.number ≡ self.old.number }
+        ensures counted { IsLineMore self.old.counts self.new.counts }
+    {
+        let part = read_part(line);
+        let read = read_frame(part);
+        let named = interface(part, &read);
+        if is_elsewhere(kept_interface(&self.interface), part, &read, named) {
+            self.counts.elsewhere += 1;
+            return Ok(());
+        }
+        match read {
+            Ok(frame) => {
+                let time = line_time(self.basis.plan, time_text(line));
+                self.take_frame_line(time, named, &frame)
+            }
+            Err(error) => self.take_fault(error),
+        }
+    }
+
+    /// Reads what a cutter tells: a line, a line that is too long, or nothing yet.
+    pub fn read(&mut self, cut: Cut, line: &[u8]) -> Result<(), AllocError>
+        requires room { (most : ℕ) × IsWithinLines self.old most × (most ≤ 2 ^ 62) }
+        ensures lines { OnOk result ((s : Settings) (ls : List Line) → HasAudited s self.old ls
+            → HasAudited s self.new (ls ++ tells cut line.now)) }
+        ensures count { OnOk result ((most more : ℕ) → IsWithinLines self.old most → most < more → IsWithinLines self.new more) }
+    {
+        match cut {
+            Cut::More => Ok(()),
+            Cut::Line => {
+                self.number += 1;
+                self.take_line(line)
+            }
+            Cut::Long => {
+                self.number += 1;
+                self.counts.bad += 1;
+                Ok(())
+            }
+        }
+    }
+}

@@ -1,0 +1,91 @@
+//! What an audit goes by.
+ghost use Rattle.std.specs.Prelude.{◌≡◌, ◌<◌, IfOk};
+ghost use Rattle.j39_audit.specs.Settings.{AreMoving, moves};
+ghost use Rattle.j39_audit.specs.Claiming.{has_strangers, is_address_of, is_free_for};
+ghost use Rattle.j39_audit.specs.inside.Recalling.{settings_of};
+
+use j39_findings::Standing;
+use j39_id::Address;
+use j39_id::addresses::is_in_pool;
+use j39_network::Plan;
+use std::alloc::{AllocError, Global};
+
+/// The plan, which of its units may move to other addresses, whether frames of the bus may be missing in the log, and
+/// by how many microseconds the time of a line may differ from the end of its frame.
+#[derive(Drop)]
+pub(crate) struct Basis<'a> {
+    pub plan: &'a Plan,
+    pub moving: Vec<bool>,
+    pub part: bool,
+    pub stamps: u64,
+}
+
+// Which units may choose an address and don't stay at the planned one.
+fn moving_of(alloc: Global, plan: &Plan) -> Result<Vec<bool>, AllocError>
+    ensures { IfOk result (λ moving. AreMoving plan.now moving.items) }
+{
+    let standing = Standing::new(plan);
+    let mut moving = Vec::new(alloc);
+    for unit in &plan.units {
+        moving.push(unit.name.is_arbitrary() && !standing.stays(unit))?;
+    }
+    Ok(moving)
+}
+
+impl<'a> Basis<'a> {
+    pub fn new(alloc: Global, plan: &'a Plan, part: bool, stamps: u64) -> Result<Self, AllocError>
+        ensures plan { IfOk result (λ basis. basis.plan.now ≡ plan.entry.now) }
+        ensures moving { IfOk result (λ basis. AreMoving plan.entry.now basis.moving.items) }
+        ensures part { IfOk result (λ basis. basis.part ≡ part) }
+        ensures stamps { IfOk result (λ basis. basis.stamps ≡ stamps) }
+    {
+        let moving = moving_of(alloc, plan)?;
+        Ok(Basis {
+            plan,
+            moving,
+            part,
+            stamps,
+        })
+    }
+
+    /// Whether a unit may move to other addresses.
+    pub fn moves(&self, unit: usize) -> bool
+        ensures { result ≡ moves (settings_of self.now) unit }
+    {
+        if unit < self.moving.len() {
+            self.moving[unit]
+        } else {
+            false
+        }
+    }
+
+    /// Whether units may come that aren't in the plan.
+    pub fn has_strangers(&self) -> bool
+        ensures { result ≡ has_strangers (settings_of self.now) }
+    {
+        self.plan.strangers > 0
+    }
+
+    // Whether a unit that moves may go to an address.
+    fn is_free(&self, address: u8) -> bool
+        ensures { result ≡ is_free_for (settings_of self.now) address }
+    {
+        let Some(free) = Address::new(address) else {
+            return false;
+        };
+        is_in_pool(address) && (self.has_strangers() || !self.plan.keep_free.has(free))
+    }
+
+    /// Whether an address is one of a unit.
+    #[tactic(auto, unfolding(crate::specs::Claiming::is_address_of))]
+    pub fn is_address(&self, unit: usize, address: u8) -> bool
+        ensures { result ≡ is_address_of (settings_of self.now) unit address }
+    {
+        match self.plan.units.get(unit) {
+            Some(planned) => {
+                planned.address.number() == address || self.moves(unit) && self.is_free(address)
+            }
+            None => false,
+        }
+    }
+}

@@ -1,0 +1,398 @@
+//! What is noted at a frame.
+ghost use Rattle.std.specs.Prelude.{◌≡◌, ◌∷◌, [], ◌||◌, ◌<◌, ◌≤◌, true, false, IfSome, IsSome, length, OnOk, Some};
+ghost use Rattle.std.specs.Option.{option_map};
+ghost use Rattle.j39_id.specs.Addresses.{is_address};
+ghost use Rattle.j39_id.specs.FrameMeaning.{name_in};
+ghost use Rattle.j39_id.specs.Ident.{pgn_of};
+ghost use Rattle.j39_audit.specs.Claiming.{HeardClaims};
+ghost use Rattle.j39_audit.specs.Looking.{announced_message, announced_by as message_announced, claim_noted};
+ghost use Rattle.j39_audit.specs.Looking.{claim_of_unit, claim_place, claims_behind, counted, frame_noted, is_above_unplanned as is_above};
+ghost use Rattle.j39_audit.specs.Looking.{is_claim, is_claiming as claims_addresses, is_of_transport as is_for_transport, may_be_transport, is_of_own_group};
+ghost use Rattle.j39_audit.specs.Looking.{is_single as is_single_number, is_urgent as is_urgent_frame, mark_noted, message_noted};
+ghost use Rattle.j39_audit.specs.Looking.{message_sent, noted_if, request_noted, sent_noted, single as single_message};
+ghost use Rattle.j39_audit.specs.inside.Recalling.{IsWithinUnits, KnowsClaims, Notes, known_by, sent_as, settings_of};
+
+use crate::basis::Basis;
+use crate::flow_marks::{note_flows, note_requests};
+use crate::known::Known;
+use crate::mark::{Mark, Word, make_mark};
+use crate::messages::{UnitMessage, Test, deviation, first_group};
+use crate::senders::{SureSender, sender_at};
+use crate::tally::MarkTally;
+use j39_follow::unit_named;
+use j39_id::addresses::NULL_ADDRESS;
+use j39_id::services::{ADDRESS_CLAIMED, CONNECTION_MANAGEMENT, DATA_TRANSFER, REQUEST};
+use j39_id::{Frame, cannot_claim, carried_name, claims_address, requested_group, requests_group};
+use j39_tp::Packet;
+use std::alloc::AllocError;
+
+// Whether the priority of a frame is above that of all that isn't planned.
+fn is_above_unplanned(basis: &Basis<'_>, frame: &Frame) -> bool
+    ensures { result ≡ is_above (settings_of basis.now) frame.now }
+{
+    match basis.plan.timing {
+        Some(timing) => frame.ident.priority < timing.unplanned_priority,
+        None => false,
+    }
+}
+
+// Whether frames of long messages may have the priority of a frame.
+fn has_transport_priority(basis: &Basis<'_>, frame: &Frame) -> bool
+    ensures { result ≡ may_be_transport (settings_of basis.now) frame.now }
+{
+    match basis.plan.timing {
+        Some(timing) => timing.transport_priority <= frame.ident.priority,
+        None => false,
+    }
+}
+
+// Whether a frame is one of long messages, and its priority one of these.
+fn is_of_transport(basis: &Basis<'_>, frame: &Frame) -> bool
+    ensures { result ≡ is_for_transport (settings_of basis.now) frame.now }
+{
+    let pgn = frame.ident.pgn();
+    (pgn == CONNECTION_MANAGEMENT || pgn == DATA_TRANSFER) && has_transport_priority(basis, frame)
+}
+
+// Notes a mark where a frame is one.
+fn note_if(
+    tally: &mut MarkTally,
+    is: bool,
+    mark: Mark,
+    line: u64,
+    detail: u64,
+) -> Result<(), AllocError>
+    ensures { OnOk result (Notes tally.old tally.new (noted_if is (record { mark = mark; line = line; detail = detail }))) }
+{
+    if is {
+        tally.note(mark, line, detail)?;
+    }
+    Ok(())
+}
+
+// Whether a unit claims addresses at all.
+fn is_claiming(basis: &Basis<'_>, unit: usize) -> bool
+    ensures { result ≡ claims_addresses (settings_of basis.now) unit }
+{
+    match basis.plan.units.get(unit) {
+        Some(planned) => planned.claims,
+        None => false,
+    }
+}
+
+// Notes what is wrong with where a unit claims.
+fn note_place(
+    tally: &mut MarkTally,
+    basis: &Basis<'_>,
+    frame: &Frame,
+    line: u64,
+    unit: usize,
+) -> Result<(), AllocError>
+    ensures { OnOk result (Notes tally.old tally.new (claim_place (settings_of basis.now) frame.now line unit)) }
+{
+    let source = frame.ident.sa;
+    if source == NULL_ADDRESS {
+        tally.note(make_mark(Word::Cannot, unit), line, 0)?;
+        return Ok(());
+    }
+    let own = basis.is_address(unit, source) && is_claiming(basis, unit);
+    let mark = make_mark(Word::Address, unit);
+    note_if(tally, !own, mark, line, u64::from(source))
+}
+
+// Notes what is wrong with a claim of a unit.
+fn note_claim_of_unit(
+    tally: &mut MarkTally,
+    basis: &Basis<'_>,
+    frame: &Frame,
+    line: u64,
+    unit: usize,
+) -> Result<(), AllocError>
+    ensures { OnOk result (Notes tally.old tally.new (claim_of_unit (settings_of basis.now) frame.now line unit)) }
+{
+    note_place(tally, basis, frame, line, unit)?;
+    let urgent = is_above_unplanned(basis, frame);
+    note_if(tally, urgent, make_mark(Word::Urgent, unit), line, 0)?;
+    Ok(())
+}
+
+// Notes what is wrong with a claim of this unit, if it is of one.
+fn note_claim(
+    tally: &mut MarkTally,
+    basis: &Basis<'_>,
+    frame: &Frame,
+    name: u64,
+    line: u64,
+    claimant: Option<usize>,
+) -> Result<(), AllocError>
+    requires { name ≡ name_in frame.now }
+    ensures { OnOk result (Notes tally.old tally.new (claim_noted (settings_of basis.now) frame.now line claimant)) }
+{
+    match claimant {
+        Some(unit) => note_claim_of_unit(tally, basis, frame, line, unit),
+        None => {
+            let stranger = make_mark(Word::Stranger, usize::from(frame.ident.sa));
+            note_if(tally, !basis.has_strangers(), stranger, line, name)
+        }
+    }
+}
+
+// Whether a frame is none of the network itself and of long messages.
+fn is_single(frame: &Frame) -> bool
+    ensures { result ≡ is_single_number (pgn_of frame.now.ident) }
+{
+    let pgn = frame.ident.pgn();
+    !(pgn == ADDRESS_CLAIMED
+        || (pgn == REQUEST || (pgn == CONNECTION_MANAGEMENT || pgn == DATA_TRANSFER)))
+}
+
+// The message that a frame is.
+fn single(unit: usize, frame: &Frame) -> UnitMessage<'_>
+    ensures { sent_as result ≡ single_message unit frame.now }
+{
+    let pgn = frame.ident.pgn();
+    UnitMessage {
+        unit,
+        number: pgn.number(),
+        destination: frame.ident.ps,
+        unaddressed: !pgn.is_pdu1(),
+        priority: Some(frame.ident.priority),
+        size: frame.payload.len(),
+        bytes: Some(frame.payload.as_slice()),
+    }
+}
+
+// A message of this size and number that a frame announces.
+fn announced(unit: usize, frame: &Frame, size: usize, number: u32) -> UnitMessage<'static>
+    ensures { sent_as result ≡ announced_message unit frame.now size number }
+{
+    UnitMessage {
+        unit,
+        number,
+        destination: frame.ident.ps,
+        unaddressed: false,
+        priority: None,
+        size,
+        bytes: None,
+    }
+}
+
+// The message that a packet announces.
+fn announced_by(unit: usize, frame: &Frame, packet: &Packet) -> Option<UnitMessage<'static>>
+    ensures { option_map sent_as result ≡ message_announced unit frame.now (Some packet.now) }
+{
+    match packet {
+        Packet::Rts { size, pgn, .. } => {
+            Some(announced(unit, frame, usize::from(size.bytes()), pgn.number()))
+        }
+        Packet::Bam { size, pgn } => {
+            Some(announced(unit, frame, usize::from(size.bytes()), pgn.number()))
+        }
+        _ => None,
+    }
+}
+
+// Notes how a message differs.
+fn note_deviation(tally: &mut MarkTally, mark: Option<Mark>, line: u64) -> Result<(), AllocError>
+    ensures { OnOk result (Notes tally.old tally.new (mark_noted line mark)) }
+{
+    match mark {
+        Some(mark) => tally.note(mark, line, 0),
+        None => Ok(()),
+    }
+}
+
+// Notes what a message is, and how it differs.
+fn note_message(
+    tally: &mut MarkTally,
+    basis: &Basis<'_>,
+    known: &Known,
+    message: &UnitMessage<'_>,
+    line: u64,
+) -> Result<(), AllocError>
+    ensures { OnOk result (Notes tally.old tally.new (message_noted (settings_of basis.now) (known_by known.now) line (Some (sent_as message.now)))) }
+{
+    note_deviation(tally, deviation(basis, known, message), line)?;
+    note_flows(tally, basis, known, message, line)?;
+    Ok(())
+}
+
+// Notes the message that a packet announces.
+fn note_announced(
+    tally: &mut MarkTally,
+    basis: &Basis<'_>,
+    known: &Known,
+    frame: &Frame,
+    packet: Option<Packet>,
+    line: u64,
+    unit: usize,
+) -> Result<(), AllocError>
+    ensures { OnOk result (Notes tally.old tally.new (message_noted (settings_of basis.now) (known_by known.now) line (message_announced unit frame.now packet))) }
+{
+    let Some(packet) = packet else {
+        return Ok(());
+    };
+    match announced_by(unit, frame, &packet) {
+        Some(message) => note_message(tally, basis, known, &message, line),
+        None => Ok(()),
+    }
+}
+
+// Notes the message that a frame is or announces.
+fn note_messages(
+    tally: &mut MarkTally,
+    basis: &Basis<'_>,
+    known: &Known,
+    frame: &Frame,
+    packet: Option<Packet>,
+    line: u64,
+    unit: usize,
+) -> Result<(), AllocError>
+    ensures { OnOk result (Notes tally.old tally.new (message_noted (settings_of basis.now) (known_by known.now) line (message_sent unit frame.now packet))) }
+{
+    if is_single(frame) {
+        note_message(tally, basis, known, &single(unit, frame), line)
+    } else {
+        note_announced(tally, basis, known, frame, packet, line, unit)
+    }
+}
+
+// Notes the request that a frame is.
+fn note_request(
+    tally: &mut MarkTally,
+    basis: &Basis<'_>,
+    known: &Known,
+    frame: &Frame,
+    line: u64,
+    unit: usize,
+) -> Result<(), AllocError>
+    ensures { OnOk result (Notes tally.old tally.new (request_noted (settings_of basis.now) (known_by known.now) unit frame.now line)) }
+{
+    if !requests_group(frame) {
+        return Ok(());
+    }
+    let message = announced(unit, frame, 0, requested_group(frame));
+    note_requests(tally, basis, known, &message, line)
+}
+
+// Whether a frame is of the number of a group of a unit.
+fn is_of_group(basis: &Basis<'_>, frame: &Frame, unit: usize) -> bool
+    ensures { result ≡ is_of_own_group (settings_of basis.now) unit frame.now }
+{
+    is_single(frame) && first_group(basis, &single(unit, frame), Test::Any).is_some()
+}
+
+// Whether the priority of a frame of a unit is above what such frames may have.
+fn is_urgent(basis: &Basis<'_>, frame: &Frame, unit: usize) -> bool
+    ensures { result ≡ is_urgent_frame (settings_of basis.now) unit frame.now }
+{
+    is_above_unplanned(basis, frame)
+        && (!is_of_transport(basis, frame) && !is_of_group(basis, frame, unit))
+}
+
+// Notes a frame of a unit.
+#[tactic(auto, unfolding(crate::specs::Looking::counted))]
+fn note_counted(
+    tally: &mut MarkTally,
+    basis: &Basis<'_>,
+    known: &Known,
+    frame: &Frame,
+    packet: Option<Packet>,
+    line: u64,
+    unit: usize,
+) -> Result<(), AllocError>
+    ensures { OnOk result (Notes tally.old tally.new (counted (settings_of basis.now) (known_by known.now) frame.now packet line unit)) }
+{
+    tally.note(make_mark(Word::Counted, unit), line, 0)?;
+    note_messages(tally, basis, known, frame, packet, line, unit)?;
+    note_request(tally, basis, known, frame, line, unit)?;
+    let urgent = is_urgent(basis, frame, unit);
+    note_if(tally, urgent, make_mark(Word::Urgent, unit), line, 0)?;
+    Ok(())
+}
+
+// Notes a frame that is no claim, of this sender.
+fn note_sent(
+    tally: &mut MarkTally,
+    basis: &Basis<'_>,
+    known: &Known,
+    frame: &Frame,
+    packet: Option<Packet>,
+    line: u64,
+    sender: SureSender,
+) -> Result<(), AllocError>
+    ensures { OnOk result (Notes tally.old tally.new (sent_noted (settings_of basis.now) (known_by known.now) frame.now packet line sender)) }
+{
+    match sender {
+        SureSender::Unit(unit) => note_counted(tally, basis, known, frame, packet, line, unit),
+        SureSender::Nobody => tally.note(
+            make_mark(Word::Nobody, usize::from(frame.ident.sa)),
+            line,
+            0,
+        ),
+        SureSender::Unknown => tally.note(make_mark(Word::Unsure, 0), line, 0),
+    }
+}
+
+// Notes a claim, and keeps what it tells.
+fn take_claim(
+    tally: &mut MarkTally,
+    basis: &Basis<'_>,
+    known: &mut Known,
+    frame: &Frame,
+    packet: Option<Packet>,
+    line: u64,
+) -> Result<(), AllocError>
+    requires { is_claim frame.now ≡ true }
+    ensures { OnOk result ((claims : HeardClaims) → KnowsClaims (settings_of basis.now) known.old claims
+        → KnowsClaims (settings_of basis.now) known.new (claims_behind (settings_of basis.now) frame.now claims)
+        × Notes tally.old tally.new (frame_noted (settings_of basis.now) claims frame.now packet line)) }
+{
+    let name = carried_name(frame).to_bits();
+    let claimant = unit_named(basis.plan, name);
+    known.hear(basis, claimant, frame.ident.sa);
+    note_claim(tally, basis, frame, name, line, claimant)
+}
+
+// Notes a frame that is no claim.
+fn take_other(
+    tally: &mut MarkTally,
+    basis: &Basis<'_>,
+    known: &Known,
+    frame: &Frame,
+    packet: Option<Packet>,
+    line: u64,
+) -> Result<(), AllocError>
+    requires { is_claim frame.now ≡ false }
+    ensures { OnOk result ((claims : HeardClaims) → KnowsClaims (settings_of basis.now) known.now claims
+        → Notes tally.old tally.new (frame_noted (settings_of basis.now) claims frame.now packet line)) }
+{
+    let source = frame.ident.sa;
+    if source >= NULL_ADDRESS {
+        return Ok(());
+    }
+    let sender = sender_at(basis, known, source);
+    note_sent(tally, basis, known, frame, packet, line, sender)
+}
+
+/// Notes what there is to a frame that is this transport packet, if it is one, and keeps what it claims.
+pub(crate) fn take_frame(
+    tally: &mut MarkTally,
+    basis: &Basis<'_>,
+    known: &mut Known,
+    frame: &Frame,
+    packet: Option<Packet>,
+    line: u64,
+) -> Result<(), AllocError>
+    ensures { OnOk result ((claims : HeardClaims) → KnowsClaims (settings_of basis.now) known.old claims
+        → KnowsClaims (settings_of basis.now) known.new (claims_behind (settings_of basis.now) frame.now claims)
+        × Notes tally.old tally.new (frame_noted (settings_of basis.now) claims frame.now packet line)) }
+{
+    if claims_address(frame) {
+        return take_claim(tally, basis, known, frame, packet, line);
+    }
+    if cannot_claim(frame) {
+        return take_claim(tally, basis, known, frame, packet, line);
+    }
+    take_other(tally, basis, known, frame, packet, line)
+}

@@ -1,0 +1,85 @@
+//! What is counted of a log.
+ghost use Rattle.std.specs.Prelude.{◌≡◌};
+
+/// What is said of a line or a frame. The first nine accuse.
+#[derive(Clone, Copy, PartialEq, Eq)]
+pub enum Word {
+    /// A line of an 11-bit identifier.
+    Short,
+    /// A claim by a NAME of no unit.
+    Stranger,
+    /// A frame from an address at which no unit may be.
+    Nobody,
+    /// A claim of a unit at an address that isn't its own.
+    Address,
+    /// A unit says that it can't claim an address.
+    Cannot,
+    /// A message of a group's number that isn't as the group.
+    Layout,
+    /// A message of a group that no flow sends there.
+    NoFlow,
+    /// A message of another priority than its group's.
+    Priority,
+    /// A frame of a priority that only planned ones have.
+    Urgent,
+    /// A message of one flow.
+    Seen,
+    /// A message of one of several flows.
+    Unclear,
+    /// A request of the plan.
+    Asked,
+    /// A frame of a unit.
+    Counted,
+    /// A frame whose sender isn't known.
+    Unsure,
+    /// A frame before which the log breaks off.
+    Break,
+}
+
+impl Word {
+    ghost use Rattle.std.specs.Prelude.{◌≡◌};
+    ghost use Rattle.j39_audit.specs.Counting.{word_number};
+
+    /// Its place among the words.
+    pub fn number(self) -> u8
+        ensures { result ≡ word_number self }
+    {
+        match self {
+            Word::Short => 0,
+            Word::Stranger => 1,
+            Word::Nobody => 2,
+            Word::Address => 3,
+            Word::Cannot => 4,
+            Word::Layout => 5,
+            Word::NoFlow => 6,
+            Word::Priority => 7,
+            Word::Urgent => 8,
+            Word::Seen => 9,
+            Word::Unclear => 10,
+            Word::Asked => 11,
+            Word::Counted => 12,
+            Word::Unsure => 13,
+            Word::Break => 14,
+        }
+    }
+}
+
+/// What is counted: a word, the address or the place from 0 of what it speaks of, and that of a group where it names
+/// one.
+#[derive(Clone, Copy, PartialEq, Eq)]
+pub struct Mark {
+    pub word: Word,
+    pub subject: usize,
+    pub group: usize,
+}
+
+/// A word that names no group.
+pub(crate) fn make_mark(word: Word, subject: usize) -> Mark
+    ensures { result ≡ record { word = word; subject = subject; group = 0 } }
+{
+    Mark {
+        word,
+        subject,
+        group: 0,
+    }
+}

@@ -1,0 +1,428 @@
+//! What is written of a log that was read.
+ghost use Rattle.std.specs.Prelude.{◌≡◌, ◌≤◌, ◌<◌, ◌++◌, length, IfOk, OnOk};
+ghost use Rattle.j39_audit.specs.AuditText.{accusation_count, accusations, accusing_at, accusing_line, sorts_text, deviations_line, flow_seen_line};
+ghost use Rattle.j39_audit.specs.AuditText.{flow_seen, flows_seen, groups_named, line_of_mark, lines_told, request_seen_line, request_seen};
+ghost use Rattle.j39_audit.specs.AuditText.{requests_seen, sending_text, stranger_text, subject_count, subject_lines, subject_of};
+ghost use Rattle.j39_audit.specs.AuditText.{subjects, text_by, times_of, times_text, unit_and_group_text, unit_at_text, unit_frames_line};
+ghost use Rattle.j39_audit.specs.AuditText.{unit_seen, unit_text, units_seen, word_count, word_lines, word_text};
+ghost use Rattle.j39_audit.specs.inside.Recalling.{tallied, settings_of};
+
+use crate::audit_log::AuditLog;
+use crate::basis::Basis;
+use crate::mark::{Mark, Word, make_mark};
+use crate::tally::{MarkTally, Told};
+use j39_follow::{write_name, write_to};
+use j39_network::{FlowPlan, Plan, RequestPlan, To};
+use j39_text::{TextBuffer, group_label, unit_label};
+use std::alloc::AllocError;
+
+// The words that accuse, in the order in which they are written.
+const ACCUSING: [Word; 9] = [
+    Word::Short,
+    Word::Stranger,
+    Word::Nobody,
+    Word::Address,
+    Word::Cannot,
+    Word::Layout,
+    Word::NoFlow,
+    Word::Priority,
+    Word::Urgent,
+];
+
+const ADDRESSES: usize = 256;
+
+// The word at a place among those that accuse.
+fn accusing_at(place: usize) -> Word
+    ensures { result ≡ accusing_at place }
+{
+    if place < ACCUSING.len() {
+        ACCUSING[place]
+    } else {
+        Word::Urgent
+    }
+}
+
+// Of how many addresses or units a word speaks.
+fn subjects(basis: &Basis<'_>, word: Word) -> usize
+    ensures value { result ≡ subjects (settings_of basis.now) word }
+    ensures few { result ≤ 256 }
+{
+    match word {
+        Word::Short => 1,
+        Word::Stranger | Word::Nobody => ADDRESSES,
+        _ => basis.plan.units.len(),
+    }
+}
+
+// Of how many groups of each.
+fn groups_named(basis: &Basis<'_>, word: Word) -> usize
+    ensures value { result ≡ groups_named (settings_of basis.now) word }
+    ensures few { result ≤ 256 }
+{
+    match word {
+        Word::Layout | Word::NoFlow | Word::Priority => basis.plan.groups.len(),
+        _ => 1,
+    }
+}
+
+fn word_text(word: Word) -> &'static str
+    ensures { result.now ≡ word_text word }
+{
+    match word {
+        Word::Short => "short",
+        Word::Stranger => "stranger",
+        Word::Nobody => "nobody",
+        Word::Address => "address",
+        Word::Cannot => "cannot",
+        Word::Layout => "layout",
+        Word::NoFlow => "no_flow",
+        Word::Priority => "priority",
+        _ => "urgent",
+    }
+}
+
+#[tactic(auto, unfolding(crate::specs::AuditText::unit_text))]
+fn write_unit(text: &mut TextBuffer, plan: &Plan, unit: usize) -> Result<(), AllocError>
+    ensures { OnOk result (text.new ≡ text.old ++ unit_text plan.now unit) }
+{
+    text.word(" unit ")?;
+    text.word(unit_label(plan, unit))
+}
+
+#[tactic(auto, unfolding(crate::specs::AuditText::unit_and_group_text))]
+fn write_unit_and_group(
+    text: &mut TextBuffer,
+    plan: &Plan,
+    unit: usize,
+    group: usize,
+) -> Result<(), AllocError>
+    ensures { OnOk result (text.new ≡ text.old ++ unit_and_group_text plan.now unit group) }
+{
+    write_unit(text, plan, unit)?;
+    text.word(" group ")?;
+    text.word(group_label(plan, group))
+}
+
+#[tactic(auto, unfolding(crate::specs::AuditText::stranger_text))]
+fn write_stranger(text: &mut TextBuffer, address: usize, name: u64) -> Result<(), AllocError>
+    ensures { OnOk result (text.new ≡ text.old ++ stranger_text address name) }
+{
+    text.field(" address ", address)?;
+    text.word(" ")?;
+    write_name(text, name)
+}
+
+#[tactic(auto, unfolding(crate::specs::AuditText::unit_at_text))]
+fn write_unit_at(
+    text: &mut TextBuffer,
+    plan: &Plan,
+    unit: usize,
+    address: u64,
+) -> Result<(), AllocError>
+    ensures { OnOk result (text.new ≡ text.old ++ unit_at_text plan.now unit address) }
+{
+    write_unit(text, plan, unit)?;
+    text.field(" at ", address)
+}
+
+// Writes whom or what a word speaks of, and what belongs to the first line.
+fn write_subject(
+    text: &mut TextBuffer,
+    plan: &Plan,
+    mark: Mark,
+    detail: u64,
+) -> Result<(), AllocError>
+    ensures { OnOk result (text.new ≡ text.old ++ subject_of plan.now mark.word mark.subject mark.group detail) }
+{
+    match mark.word {
+        Word::Short => Ok(()),
+        Word::Stranger => write_stranger(text, mark.subject, detail),
+        Word::Nobody => text.field(" address ", mark.subject),
+        Word::Address => write_unit_at(text, plan, mark.subject, detail),
+        Word::Layout | Word::NoFlow | Word::Priority => {
+            write_unit_and_group(text, plan, mark.subject, mark.group)
+        }
+        _ => write_unit(text, plan, mark.subject),
+    }
+}
+
+#[tactic(auto, unfolding(crate::specs::AuditText::times_text))]
+fn write_times(text: &mut TextBuffer, told: Told) -> Result<(), AllocError>
+    ensures { OnOk result (text.new ≡ text.old ++ times_text told) }
+{
+    text.field(" times ", told.times)?;
+    text.field(" first ", told.first)?;
+    text.end_line()
+}
+
+#[tactic(auto, unfolding(crate::specs::AuditText::accusing_line))]
+fn write_accusing(
+    text: &mut TextBuffer,
+    plan: &Plan,
+    mark: Mark,
+    told: Told,
+) -> Result<(), AllocError>
+    ensures { OnOk result (text.new ≡ text.old ++ accusing_line plan.now mark told) }
+{
+    text.word(word_text(mark.word))?;
+    write_subject(text, plan, mark, told.detail)?;
+    write_times(text, told)
+}
+
+// Writes the line of a mark where it was found, and answers how many lines that is.
+#[tactic(auto, unfolding(crate::specs::AuditText::line_of_mark, crate::specs::AuditText::lines_told))]
+fn write_line(
+    text: &mut TextBuffer,
+    plan: &Plan,
+    tally: &MarkTally,
+    mark: Mark,
+) -> Result<u64, AllocError>
+    ensures text { OnOk result (text.new ≡ text.old ++ line_of_mark plan.now mark (tallied tally.now mark)) }
+    ensures count { IfOk result (λ n. n ≡ lines_told (tallied tally.now mark)) }
+    ensures few { IfOk result (λ n. n ≤ 1) }
+{
+    let told = tally.told(mark);
+    if told.times == 0 {
+        return Ok(0);
+    }
+    write_accusing(text, plan, mark, told)?;
+    Ok(1)
+}
+
+// Writes the lines of a word and a subject.
+fn write_subject_lines(
+    text: &mut TextBuffer,
+    basis: &Basis<'_>,
+    tally: &MarkTally,
+    word: Word,
+    subject: usize,
+) -> Result<u64, AllocError>
+    ensures text { OnOk result (text.new ≡ text.old ++ subject_lines (settings_of basis.now) (tallied tally.now) word subject) }
+    ensures count { IfOk result (λ n. n ≡ subject_count (settings_of basis.now) (tallied tally.now) word subject) }
+    ensures few { IfOk result (λ n. n ≤ 256) }
+{
+    let mut count = 0;
+    for group in 0..groups_named(basis, word) {
+        let mark = Mark {
+            word,
+            subject,
+            group,
+        };
+        count += write_line(text, basis.plan, tally, mark)?;
+    }
+    Ok(count)
+}
+
+// Writes the lines of a word.
+fn write_word_lines(
+    text: &mut TextBuffer,
+    basis: &Basis<'_>,
+    tally: &MarkTally,
+    word: Word,
+) -> Result<u64, AllocError>
+    ensures text { OnOk result (text.new ≡ text.old ++ word_lines (settings_of basis.now) (tallied tally.now) word) }
+    ensures count { IfOk result (λ n. n ≡ word_count (settings_of basis.now) (tallied tally.now) word) }
+    ensures few { IfOk result (λ n. n ≤ 65536) }
+{
+    let mut count = 0;
+    for subject in 0..subjects(basis, word) {
+        count += write_subject_lines(text, basis, tally, word, subject)?;
+    }
+    Ok(count)
+}
+
+// Writes the lines that accuse, and answers how many they are.
+fn write_accusations(
+    text: &mut TextBuffer,
+    basis: &Basis<'_>,
+    tally: &MarkTally,
+) -> Result<u64, AllocError>
+    ensures text { OnOk result (text.new ≡ text.old ++ accusations (settings_of basis.now) (tallied tally.now)) }
+    ensures count { IfOk result (λ n. n ≡ accusation_count (settings_of basis.now) (tallied tally.now)) }
+{
+    let mut count = 0;
+    for place in 0..ACCUSING.len() {
+        count += write_word_lines(text, basis, tally, accusing_at(place))?;
+    }
+    Ok(count)
+}
+
+#[tactic(auto, unfolding(crate::specs::AuditText::sending_text))]
+fn write_sending(
+    text: &mut TextBuffer,
+    plan: &Plan,
+    group: usize,
+    sender: usize,
+    to: To,
+) -> Result<(), AllocError>
+    ensures { OnOk result (text.new ≡ text.old ++ sending_text plan.now group sender to) }
+{
+    text.word(" ")?;
+    text.word(group_label(plan, group))?;
+    text.word(" ")?;
+    text.word(unit_label(plan, sender))?;
+    text.word(" ")?;
+    write_to(text, plan, to)
+}
+
+#[tactic(auto, unfolding(crate::specs::AuditText::flow_seen_line))]
+fn write_flow(
+    text: &mut TextBuffer,
+    plan: &Plan,
+    place: usize,
+    flow: &FlowPlan,
+    seen: u64,
+    unclear: u64,
+) -> Result<(), AllocError>
+    ensures { OnOk result (text.new ≡ text.old ++ flow_seen_line plan.now place flow.now seen unclear) }
+{
+    text.place("flow ", place)?;
+    write_sending(text, plan, flow.group, flow.sender, flow.to)?;
+    text.field(" seen ", seen)?;
+    text.field(" unclear ", unclear)?;
+    text.end_line()
+}
+
+#[tactic(auto, unfolding(crate::specs::AuditText::request_seen_line))]
+fn write_request(
+    text: &mut TextBuffer,
+    plan: &Plan,
+    place: usize,
+    request: &RequestPlan,
+    seen: u64,
+) -> Result<(), AllocError>
+    ensures { OnOk result (text.new ≡ text.old ++ request_seen_line plan.now place request.now seen) }
+{
+    text.place("request ", place)?;
+    write_sending(text, plan, request.group, request.sender, request.to)?;
+    text.field(" seen ", seen)?;
+    text.end_line()
+}
+
+#[tactic(auto, unfolding(crate::specs::AuditText::unit_frames_line))]
+fn write_frames(
+    text: &mut TextBuffer,
+    plan: &Plan,
+    unit: usize,
+    frames: u64,
+) -> Result<(), AllocError>
+    ensures { OnOk result (text.new ≡ text.old ++ unit_frames_line plan.now unit frames) }
+{
+    text.word("unit ")?;
+    text.word(unit_label(plan, unit))?;
+    text.field(" frames ", frames)?;
+    text.end_line()
+}
+
+fn times_of(tally: &MarkTally, word: Word, subject: usize) -> u64
+    ensures { result ≡ times_of (tallied tally.now) word subject }
+{
+    tally.told(make_mark(word, subject)).times
+}
+
+fn write_flow_seen(
+    text: &mut TextBuffer,
+    plan: &Plan,
+    tally: &MarkTally,
+    place: usize,
+) -> Result<(), AllocError>
+    ensures { OnOk result (text.new ≡ text.old ++ flow_seen plan.now (tallied tally.now) place) }
+{
+    let seen = times_of(tally, Word::Seen, place);
+    let unclear = times_of(tally, Word::Unclear, place);
+    match plan.flows.get(place) {
+        Some(flow) => write_flow(text, plan, place, flow, seen, unclear),
+        None => Ok(()),
+    }
+}
+
+fn write_flows(text: &mut TextBuffer, plan: &Plan, tally: &MarkTally) -> Result<(), AllocError>
+    ensures { OnOk result (text.new ≡ text.old ++ flows_seen plan.now (tallied tally.now)) }
+{
+    for place in 0..plan.flows.len() {
+        write_flow_seen(text, plan, tally, place)?;
+    }
+    Ok(())
+}
+
+fn write_request_seen(
+    text: &mut TextBuffer,
+    plan: &Plan,
+    tally: &MarkTally,
+    place: usize,
+) -> Result<(), AllocError>
+    ensures { OnOk result (text.new ≡ text.old ++ request_seen plan.now (tallied tally.now) place) }
+{
+    let seen = times_of(tally, Word::Asked, place);
+    match plan.requests.get(place) {
+        Some(request) => write_request(text, plan, place, request, seen),
+        None => Ok(()),
+    }
+}
+
+fn write_requests(text: &mut TextBuffer, plan: &Plan, tally: &MarkTally) -> Result<(), AllocError>
+    ensures { OnOk result (text.new ≡ text.old ++ requests_seen plan.now (tallied tally.now)) }
+{
+    for place in 0..plan.requests.len() {
+        write_request_seen(text, plan, tally, place)?;
+    }
+    Ok(())
+}
+
+fn write_unit_seen(
+    text: &mut TextBuffer,
+    plan: &Plan,
+    tally: &MarkTally,
+    unit: usize,
+) -> Result<(), AllocError>
+    ensures { OnOk result (text.new ≡ text.old ++ unit_seen plan.now (tallied tally.now) unit) }
+{
+    let frames = times_of(tally, Word::Counted, unit);
+    write_frames(text, plan, unit, frames)
+}
+
+fn write_units(text: &mut TextBuffer, plan: &Plan, tally: &MarkTally) -> Result<(), AllocError>
+    ensures { OnOk result (text.new ≡ text.old ++ units_seen plan.now (tallied tally.now)) }
+{
+    for place in 0..plan.units.len() {
+        write_unit_seen(text, plan, tally, place)?;
+    }
+    Ok(())
+}
+
+// Writes how many lines there were of each sort.
+#[tactic(auto, unfolding(crate::specs::AuditText::sorts_text))]
+fn write_counts(text: &mut TextBuffer, log: &AuditLog<'_>) -> Result<(), AllocError>
+    ensures { OnOk result (text.new ≡ text.old ++ sorts_text log.now.basis.stamps log.now.counts (tallied log.now.tally)) }
+{
+    log.counts.write(text)?;
+    text.field(" elsewhere ", log.counts.elsewhere)?;
+    text.field(" unsure ", times_of(&log.tally, Word::Unsure, 0))?;
+    text.field(" breaks ", times_of(&log.tally, Word::Break, 0))?;
+    text.field(" stamps ", log.basis.stamps)?;
+    text.end_line()
+}
+
+#[tactic(auto, unfolding(crate::specs::AuditText::deviations_line))]
+fn write_deviations(text: &mut TextBuffer, count: u64) -> Result<(), AllocError>
+    ensures { OnOk result (text.new ≡ text.old ++ deviations_line count) }
+{
+    text.field("deviations ", count)?;
+    text.end_line()
+}
+
+/// Writes what was found in a log, and answers how many lines accuse.
+#[tactic(auto, unfolding(crate::specs::AuditText::text_by))]
+pub(crate) fn write_audit(text: &mut TextBuffer, log: &AuditLog<'_>) -> Result<u64, AllocError>
+    ensures text { OnOk result (text.new ≡ text.old ++ text_by (settings_of log.now.basis) log.now.counts (tallied log.now.tally)) }
+    ensures count { IfOk result (λ n. n ≡ accusation_count (settings_of log.now.basis) (tallied log.now.tally)) }
+{
+    let plan = log.basis.plan;
+    let count = write_accusations(text, &log.basis, &log.tally)?;
+    write_flows(text, plan, &log.tally)?;
+    write_requests(text, plan, &log.tally)?;
+    write_units(text, plan, &log.tally)?;
+    write_counts(text, log)?;
+    write_deviations(text, count)?;
+    Ok(count)
+}
