@@ -20,7 +20,11 @@ impl LineReport for AddressesReport {
 
     ghost says = { λ _. IsOfOnePlan IsAddressesReport };
 
-    fn report(&self, alloc: Global, line: ProductLine) -> Result<(TextBuffer, Verdict), AllocError> {
+    fn report(
+        &self,
+        alloc: Global,
+        line: ProductLine,
+    ) -> Result<(TextBuffer, Verdict), AllocError> {
         if line.has_choices() {
             return Ok((choices_refused(alloc)?, Verdict::Refused));
         }

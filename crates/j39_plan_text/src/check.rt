@@ -3,8 +3,8 @@ ghost use Rattle.j39_plan_text.specs.CheckText.{IsCheckText};
 ghost use Rattle.j39_stream.specs.CommandEnds.{AnswersWhole, IsOfAny};
 ghost use Rattle.j39_stream.specs.Streams.{plan_limits};
 
-use crate::plan_report::report;
 use crate::plan_file::choices_refused;
+use crate::plan_report::report;
 use crate::report_text::{LineReport, report_text};
 use j39_stream::{Fault, Sink, Source, Verdict};
 use j39_text::TextBuffer;
@@ -20,7 +20,11 @@ impl LineReport for CheckReport {
 
     ghost says = { λ _. IsOfOnePlan IsReport };
 
-    fn report(&self, alloc: Global, line: ProductLine) -> Result<(TextBuffer, Verdict), AllocError> {
+    fn report(
+        &self,
+        alloc: Global,
+        line: ProductLine,
+    ) -> Result<(TextBuffer, Verdict), AllocError> {
         if line.has_choices() {
             return Ok((choices_refused(alloc)?, Verdict::Refused));
         }

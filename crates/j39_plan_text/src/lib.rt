@@ -24,8 +24,9 @@ pub use addresses::addresses_text;
 pub use certificate::clean_plans_are_certified;
 pub use check::check_text;
 pub use laws::{
-    addresses_have_one_text, check_has_one_text, load_has_one_text, plans_without_choices_are_shown_alone,
-    serial_numbers_change_no_text, show_has_one_text, written_runs_read_back, written_runs_show_the_conflict,
+    addresses_have_one_text, check_has_one_text, load_has_one_text,
+    plans_without_choices_are_shown_alone, serial_numbers_change_no_text, show_has_one_text,
+    written_runs_read_back, written_runs_show_the_conflict,
 };
 pub use live_identifiers::live_flows_have_different_identifiers;
 pub use load::load_text;

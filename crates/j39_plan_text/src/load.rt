@@ -21,7 +21,11 @@ impl LineReport for LoadReport {
 
     ghost says = { λ _. IsOfOnePlan (λ plan. IsLoadReport plan (timing_of plan)) };
 
-    fn report(&self, alloc: Global, line: ProductLine) -> Result<(TextBuffer, Verdict), AllocError> {
+    fn report(
+        &self,
+        alloc: Global,
+        line: ProductLine,
+    ) -> Result<(TextBuffer, Verdict), AllocError> {
         if line.has_choices() {
             return Ok((choices_refused(alloc)?, Verdict::Refused));
         }

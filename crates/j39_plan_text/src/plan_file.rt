@@ -9,13 +9,17 @@ mod refusals;
 use j39_plan::PlanError;
 use j39_stream::{Fault, Sink, Source, put_all, read_whole};
 use j39_variants::{ProductLine, read_product_line};
-pub use refusals::{refuse_choices, write_choices_refused, write_refusal};
 use refusals::refusal;
+pub use refusals::{refuse_choices, write_choices_refused, write_refusal};
 pub(crate) use refusals::{choices_refused, write_table};
 use std::alloc::Global;
 
 // Writes the line that says why a file describes no plan.
-fn refuse<W: Sink>(alloc: Global, error: &PlanError, sink: &mut W) -> Result<Option<ProductLine>, Fault>
+fn refuse<W: Sink>(
+    alloc: Global,
+    error: &PlanError,
+    sink: &mut W,
+) -> Result<Option<ProductLine>, Fault>
     ensures { PutsText (RefusesPlan error.now) W.state sink.old sink.new result }
 {
     let text = refusal(alloc, error)?;

@@ -18,7 +18,11 @@ impl LineReport for ShowReport {
 
     ghost says = { λ _. IsShowReport };
 
-    fn report(&self, alloc: Global, line: ProductLine) -> Result<(TextBuffer, Verdict), AllocError> {
+    fn report(
+        &self,
+        alloc: Global,
+        line: ProductLine,
+    ) -> Result<(TextBuffer, Verdict), AllocError> {
         let mut text = TextBuffer::new(alloc);
         write_line(&mut text, &line)?;
         Ok((text, Verdict::Done))

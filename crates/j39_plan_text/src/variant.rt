@@ -74,7 +74,11 @@ impl LineReport for VariantReport<'_> {
 
     ghost says = { λ r. IsVariantReport (map string_bytes r.labels.now) };
 
-    fn report(&self, alloc: Global, line: ProductLine) -> Result<(TextBuffer, Verdict), AllocError> {
+    fn report(
+        &self,
+        alloc: Global,
+        line: ProductLine,
+    ) -> Result<(TextBuffer, Verdict), AllocError> {
         let wanted = match named_by(alloc, &line.choices, self.labels)? {
             Some(wanted) => wanted,
             None => return refused(alloc, "UnknownLabel"),

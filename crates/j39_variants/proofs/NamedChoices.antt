@@ -15,7 +15,7 @@ use Rattle.j39_variants.specs.ChoiceTables.{choice_labels}
 use Rattle.j39_variants.specs.ListTables.{IsNamedBy, NamesAlternative, named_in, place_in, label_text_in}
 use Rattle.std.proofs.lemmas.Option.{none-some, same_Some}
 use Rattle.j39_variants.specs.declared.line.Alternative.{Alternative}
-use Rattle.j39_variants.specs.NeverTables.{choice_named, choices_named, others, others_of, size_of}
+use Rattle.j39_variants.specs.NeverTables.{choice_named, choices_named, others, alternatives_left, size_of}
 
 pub any_view : (cs : List Choice) (label : List ℕ)
     → list_any (λ labels. is_label_among labels label) (map choice_labels cs) ≡ list_any (λ c. is_label_among (choice_labels c) label) cs
@@ -89,7 +89,7 @@ choices_view (n ∷ others) c = rw (choices_view others c)
 
 -- the alternatives that the first of some leaves
 pub others_first : (choices : List (List (List ℕ))) (but : List Alternative) (b : Alternative) → slice_get but 0 ≡ Some b
-    → others choices but ≡ others_of choices but b.choice
+    → others choices but ≡ alternatives_left choices but b.choice
 unfolding others
 others_first choices [] b is = absurd (none-some b is)
-others_first choices (a ∷ but) b is = ap (λ (x : Alternative). others_of choices (a ∷ but) x.choice) (same_Some a b is)
+others_first choices (a ∷ but) b is = ap (λ (x : Alternative). alternatives_left choices (a ∷ but) x.choice) (same_Some a b is)

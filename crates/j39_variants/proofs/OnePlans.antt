@@ -142,20 +142,20 @@ module _ (line : ProductLine) (v : List ℕ) (none : HasNoLists line) where
     has_units = sym (picked_whole v line.lists.units.items line.plan.units.items none.units line.unit_lists);
     has_groups = rw (picked_whole v line.lists.groups.items line.plan.groups.items none.groups line.group_lists) (same_groups line.plan.groups.items);
     has_flows =
-      rw (picked_whole v line.lists.flows.items line.plan.flows.items none.flows line.flow_lists)
-      (sym
-      (flows_stay (unit_places line v) (group_places line v) (length line.plan.units.items) (length line.plan.groups.items) units_stay groups_stay
-      line.plan.flows.items line.plan.flow_groups line.plan.flow_senders line.plan.flow_receivers));
+        rw (picked_whole v line.lists.flows.items line.plan.flows.items none.flows line.flow_lists)
+        (sym
+        (flows_stay (unit_places line v) (group_places line v) (length line.plan.units.items) (length line.plan.groups.items) units_stay groups_stay
+        line.plan.flows.items line.plan.flow_groups line.plan.flow_senders line.plan.flow_receivers));
     has_needs =
-      rw (picked_whole v line.lists.needs.items line.plan.needs.items none.needs line.need_lists)
-      (sym
-      (needs_stay (unit_places line v) (group_places line v) (length line.plan.units.items) (length line.plan.groups.items) units_stay groups_stay
-      line.plan.needs.items line.plan.need_units line.plan.need_groups line.plan.need_senders));
+        rw (picked_whole v line.lists.needs.items line.plan.needs.items none.needs line.need_lists)
+        (sym
+        (needs_stay (unit_places line v) (group_places line v) (length line.plan.units.items) (length line.plan.groups.items) units_stay groups_stay
+        line.plan.needs.items line.plan.need_units line.plan.need_groups line.plan.need_senders));
     has_requests =
-      rw (picked_whole v line.lists.requests.items line.plan.requests.items none.requests line.request_lists)
-      (sym
-      (requests_stay (unit_places line v) (group_places line v) (length line.plan.units.items) (length line.plan.groups.items) units_stay groups_stay
-      line.plan.requests.items line.plan.request_groups line.plan.request_senders line.plan.request_receivers));
+        rw (picked_whole v line.lists.requests.items line.plan.requests.items none.requests line.request_lists)
+        (sym
+        (requests_stay (unit_places line v) (group_places line v) (length line.plan.units.items) (length line.plan.groups.items) units_stay groups_stay
+        line.plan.requests.items line.plan.request_groups line.plan.request_senders line.plan.request_receivers));
   }
 
 -- ---- no choices, no lists

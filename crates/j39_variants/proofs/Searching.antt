@@ -184,8 +184,8 @@ first_taken line wanted taken all is = record {
   is_taking = is;
   begins = ([], sym (append_nothing taken [] refl));
   first = λ rest other earlier.
-    let same : taken ++ rest ≡ taken = append_nothing taken rest (no_more taken rest (length line.choices.items) all other.is_variant.of_each) in
-    not_before_itself taken (subst (λ v. IsEarlier v taken) same earlier);
+      let same : taken ++ rest ≡ taken = append_nothing taken rest (no_more taken rest (length line.choices.items) all other.is_variant.of_each) in
+      not_before_itself taken (subst (λ v. IsEarlier v taken) same earlier);
 }
 
 earlier_behind : (taken v w : List ℕ) → IsEarlier (taken ++ v) (taken ++ w) → IsEarlier v w
@@ -211,11 +211,11 @@ none_earlier line wanted taken longer variant place more long here few none foun
     omega (arith, e, all, few)
 none_earlier line wanted taken longer variant place more long here few none found (q ∷ rest) is earlier =
     let at : IsEarlier (q ∷ rest) (place ∷ more) =
-        earlier_behind taken (q ∷ rest) (place ∷ more) (subst (λ v. IsEarlier (taken ++ q ∷ rest) v) here earlier) in
+    earlier_behind taken (q ∷ rest) (place ∷ more) (subst (λ v. IsEarlier (taken ++ q ∷ rest) v) here earlier) in
     elim (eq-or-lt_of_le (first_place q place rest more at)) [
       | inl same ↦
           let join : taken ++ q ∷ rest ≡ longer ++ rest =
-              ap (λ p. taken ++ p ∷ rest) same ∙ sym (ap (λ xs. xs ++ rest) long ∙ append_assoc taken (place ∷ []) rest) in
+          ap (λ p. taken ++ p ∷ rest) same ∙ sym (ap (λ xs. xs ++ rest) long ∙ append_assoc taken (place ∷ []) rest) in
           let P : List ℕ → Type 0 = λ v. IsTaking line wanted v in
           let Q : List ℕ → Type 0 = λ v. IsEarlier v variant in
           found.first rest (subst P join is) (subst Q join earlier)

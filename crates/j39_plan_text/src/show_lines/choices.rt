@@ -2,7 +2,7 @@
 ghost use Rattle.std.specs.Prelude.{◌≡◌, ◌++◌, ◌==◌, ◌&&◌, OnOk};
 ghost use Rattle.std.specs.List.{list_any};
 ghost use Rattle.j39_load.specs.LineLists.{lines_of_each};
-ghost use Rattle.j39_plan_text.specs.ChoiceLines.{alternative_line, choices_lines, items_lines, list_lines, lists_lines, named_line, nevers_lines};
+ghost use Rattle.j39_plan_text.specs.ChoiceLines.{alternative_line, choices_lines, items_lines, list_lines, lists_lines, named_line};
 
 use super::each::{WriteLines, write_each};
 use super::values::write_word;
@@ -37,7 +37,12 @@ impl WriteLines<Choice> for Choices {
     ghost lines = { λ _. choice_lines };
 
     #[tactic(auto, unfolding(crate::specs::ChoiceLines::choice_lines))]
-    fn write(&self, text: &mut TextBuffer, place: usize, choice: &Choice) -> Result<(), AllocError> {
+    fn write(
+        &self,
+        text: &mut TextBuffer,
+        place: usize,
+        choice: &Choice,
+    ) -> Result<(), AllocError> {
         write_each(text, &OfChoice(place), &choice.alternatives)
     }
 }
@@ -54,8 +59,7 @@ struct NamedInChoice<'a> {
 fn is_named(list: &[Alternative], choice: usize, place: usize) -> bool
     ensures { result ≡ list_any (λ a. (a.choice == choice) && (a.place == place)) list.now }
 {
-    list.iter()
-        .any(|alternative| alternative.choice == choice && alternative.place == place)
+    list.iter().any(|alternative| alternative.choice == choice && alternative.place == place)
 }
 
 impl WriteLines<Label> for NamedInChoice<'_> {
@@ -87,7 +91,12 @@ impl WriteLines<Choice> for NamedInChoices<'_> {
     ghost lines = { λ w. named_alternative_lines w.table w.key w.list.now };
 
     #[tactic(auto, unfolding(crate::specs::ChoiceLines::named_alternative_lines))]
-    fn write(&self, text: &mut TextBuffer, place: usize, choice: &Choice) -> Result<(), AllocError> {
+    fn write(
+        &self,
+        text: &mut TextBuffer,
+        place: usize,
+        choice: &Choice,
+    ) -> Result<(), AllocError> {
         let writer = NamedInChoice {
             table: self.table,
             key: self.key,
@@ -152,13 +161,7 @@ impl WriteLines<Vec<Alternative>> for Items<'_> {
         place: usize,
         list: &Vec<Alternative>,
     ) -> Result<(), AllocError> {
-        write_list(
-            text,
-            self.choices,
-            self.item.table(place),
-            Key::With,
-            list,
-        )
+        write_list(text, self.choices, self.item.table(place), Key::With, list)
     }
 }
 

@@ -5,7 +5,7 @@ ghost use Rattle.toml.specs.View.{table_view};
 ghost use Rattle.j39_toml.specs.Outcome.{Gives, GivesGrowing};
 ghost use Rattle.j39_variants.specs.ChoiceTables.{choice_labels};
 ghost use Rattle.j39_variants.specs.ListTables.{IsNamed, named_in};
-ghost use Rattle.j39_variants.specs.NeverTables.{DescribesNever, but_label_faults, is_misplaced, is_of_another, never_table_faults, others, others_of, size_of};
+ghost use Rattle.j39_variants.specs.NeverTables.{DescribesNever, but_label_faults, is_misplaced, is_of_another, never_table_faults, others, alternatives_left, size_of};
 
 use super::labels::{label_of, named};
 use super::lists::{ElementReader, NamedAlternative, alternatives, is_among_named, listed};
@@ -149,13 +149,13 @@ fn is_place_among(list: &[Alternative], place: usize) -> bool
 }
 
 // The alternatives of a choice whose places none of a list has.
-fn others_of(
+fn alternatives_left(
     alloc: Global,
     choices: &[Choice],
     but: &[Alternative],
     choice: usize,
 ) -> Result<Vec<Alternative>, AllocError>
-    ensures { IfOk result (λ v. v.items ≡ others_of (map choice_labels choices.now) but.now choice) }
+    ensures { IfOk result (λ v. v.items ≡ alternatives_left (map choice_labels choices.now) but.now choice) }
 {
     (0..size_of(choices, choice))
         .filter(|place| !is_place_among(but, *place))
@@ -174,7 +174,7 @@ fn others(
 {
     match but.first() {
         None => Ok(Vec::new(alloc)),
-        Some(first) => others_of(alloc, choices, but, first.choice),
+        Some(first) => alternatives_left(alloc, choices, but, first.choice),
     }
 }
 

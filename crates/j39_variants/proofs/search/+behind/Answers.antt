@@ -13,7 +13,7 @@ returns-then-takes_all t c =
     let same : c.in_ok-to_vec.field-0.items ≡ c.args.taken.now = search rules in
     let all : length c.args.taken.now ≡ length c.args.line.now.choices.items = omega arith in
     let possible : is_possible c.args.line.now.nevers.items c.args.taken.now ≡ true =
-        rw c.deref.ensures.value at (sym c.is_possible.ensures ∙ c.if-not-is_possible.false) in
+    rw c.deref.ensures.value at (sym c.is_possible.ensures ∙ c.if-not-is_possible.false) in
     let these : takes_all c.args.taken.now c.args.wanted.now ≡ true = sym c.takes_all.ensures ∙ c.if-takes_all.true in
     rw same
     (first_taken c.args.line.now c.args.wanted.now c.args.taken.now all
@@ -22,10 +22,10 @@ returns-then-takes_all t c =
 pub returns-in-Some : goal.returns-in-Some
 returns-in-Some t c =
     let longer : c.deref-then-is_allowed.result.now ≡ c.args.taken.now ++ c.loop-place.place ∷ [] =
-        c.deref-then-is_allowed.ensures.value ∙ c.in_ok-longer.ensures in
+    c.deref-then-is_allowed.ensures.value ∙ c.in_ok-longer.ensures in
     let few : length c.args.taken.now < length c.args.line.now.choices.items = omega arith in
     let found : IsFirstBehind c.args.line.now c.args.wanted.now c.deref-then-is_allowed.result.now c.in-Some.found.items =
-        rw c.in-Some.is at c.in_ok-found.ensures in
+    rw c.in-Some.is at c.in_ok-found.ensures in
     first_longer c.args.line.now c.args.wanted.now c.args.taken.now c.deref-then-is_allowed.result.now c.in-Some.found.items c.loop-place.place longer few
     c.loop-place.invariant found
 
@@ -34,7 +34,7 @@ loop-place-preserved t c =
     elim c.if-is_allowed.branch [
       | then-is_allowed+in_ok-longer+in_ok-found+in_default w ↦
           let longer : w.deref-then-is_allowed.result.now ≡ c.args.taken.now ++ c.loop-place.place ∷ [] =
-              w.deref-then-is_allowed.ensures.value ∙ w.in_ok-longer.ensures in
+          w.deref-then-is_allowed.ensures.value ∙ w.in_ok-longer.ensures in
           let P : List ℕ → Type 0 = λ xs. NoneTakes c.args.line.now c.args.wanted.now xs in
           let none : P w.deref-then-is_allowed.result.now = rw w.in_default.is at w.in_ok-found.ensures in
           below_more _ _ c.loop-place.invariant (subst P longer none)

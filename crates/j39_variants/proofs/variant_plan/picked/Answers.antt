@@ -15,7 +15,7 @@ loop-index-preserved g c =
       | then-flag_at+in_ok-push w ↦
           let flag : flag_at bs i ≡ true = sym c.flag_at.ensures ∙ w.if-flag_at.true in
           let items : c.if-flag_at.picked.items ≡ c.loop-index.picked.items ++ get_or xs i x ∷ [] =
-              rw w.picked-is (rw c.index-values-index.is at w.in_ok-push.ensures.items) in
+          rw w.picked-is (rw c.index-values-index.is at w.in_ok-push.ensures.items) in
           rw items (picks bs xs c.loop-index.picked.items _ i x (omega arith) flag c.loop-index.invariant)
       | else-flag_at w ↦
           let flag : flag_at bs i ≡ false = sym c.flag_at.ensures ∙ w.if-flag_at.false in

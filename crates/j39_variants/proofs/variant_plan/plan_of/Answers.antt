@@ -19,29 +19,29 @@ invariant_of-result c =
     let unit_places_are = rw (c.deref-3.ensures.value, there) at c.in_ok-unit_places.ensures in
     let group_places_are = rw (c.deref-4.ensures.value, groups_there) at c.in_ok-group_places.ensures in
     let units : AreUnits c.args.line.now c.args.variant.now c.in_ok-units.units.items =
-        rw (c.deref-5.ensures.value, there, c.deref-6.ensures.value) at c.in_ok-units.ensures in
+    rw (c.deref-5.ensures.value, there, c.deref-6.ensures.value) at c.in_ok-units.ensures in
     let groups : AreGroups c.args.line.now c.args.variant.now c.in_ok-groups.groups.items =
-        rw (c.deref-7.ensures.value, groups_there, c.deref-8.ensures.value) at c.in_ok-groups.ensures in
+    rw (c.deref-7.ensures.value, groups_there, c.deref-8.ensures.value) at c.in_ok-groups.ensures in
     let flows : AreFlows c.args.line.now c.args.variant.now c.in_ok-flows.flows.items =
-        rw (c.deref-9.ensures.value, unit_places_are, c.deref-10.ensures.value, group_places_are) at c.in_ok-flows.ensures in
+    rw (c.deref-9.ensures.value, unit_places_are, c.deref-10.ensures.value, group_places_are) at c.in_ok-flows.ensures in
     let needs : AreNeeds c.args.line.now c.args.variant.now c.in_ok-needs.needs.items =
-        rw (c.deref-11.ensures.value, unit_places_are, c.deref-12.ensures.value, group_places_are) at c.in_ok-needs.ensures in
+    rw (c.deref-11.ensures.value, unit_places_are, c.deref-12.ensures.value, group_places_are) at c.in_ok-needs.ensures in
     let requests : AreRequests c.args.line.now c.args.variant.now c.in_ok-requests.requests.items =
-        rw (c.deref-13.ensures.value, unit_places_are, c.deref-14.ensures.value, group_places_are) at c.in_ok-requests.ensures in
+    rw (c.deref-13.ensures.value, unit_places_are, c.deref-14.ensures.value, group_places_are) at c.in_ok-requests.ensures in
     record {
       keep_free_range = rw c.copy.ensures line.plan.keep_free_range;
       strangers_range = line.plan.strangers_range;
       unit_count = few_units line v us units;
       group_count = few_groups line v gs groups;
       flow_count =
-        few_moved line v (moved_flow (unit_places line v) (group_places line v)) (flags v line.lists.flows.items) line.plan.flows.items fs flow_limit flows
-        line.plan.flow_count;
+          few_moved line v (moved_flow (unit_places line v) (group_places line v)) (flags v line.lists.flows.items) line.plan.flows.items fs flow_limit flows
+          line.plan.flow_count;
       need_count =
-        few_moved line v (moved_need (unit_places line v) (group_places line v)) (flags v line.lists.needs.items) line.plan.needs.items ds need_limit needs
-        line.plan.need_count;
+          few_moved line v (moved_need (unit_places line v) (group_places line v)) (flags v line.lists.needs.items) line.plan.needs.items ds need_limit needs
+          line.plan.need_count;
       request_count =
-        few_moved line v (moved_request (unit_places line v) (group_places line v)) (flags v line.lists.requests.items) line.plan.requests.items rs request_limit
-        requests line.plan.request_count;
+          few_moved line v (moved_request (unit_places line v) (group_places line v)) (flags v line.lists.requests.items) line.plan.requests.items rs request_limit
+          requests line.plan.request_count;
       unit_labels = labels_of_units line v us units;
       group_labels = labels_of_groups line v gs groups;
       flow_groups = groups_of_flows line v us gs units groups fs flows;

@@ -25,7 +25,7 @@ invariant_of-result c =
       signal_divisors = rw signals g.signal_divisors;
       signal_labels = rw signals g.signal_labels;
       meaning_count =
-        rw signals (sym (length_all_zip IsCopyOfMeaning c.args.group.now.meanings.items c.in_ok-meanings.field-0.items copied) ∙ g.meaning_count);
+          rw signals (sym (length_all_zip IsCopyOfMeaning c.args.group.now.meanings.items c.in_ok-meanings.field-0.items copied) ∙ g.meaning_count);
       text_count = rw texts g.text_count;
       text_labels = rw texts g.text_labels;
       other_labels = rw (signals, texts) g.other_labels;
