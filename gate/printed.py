@@ -225,8 +225,14 @@ def options() -> str:
         "`./dev options` writes this page.\n",
         f"\n## `j39plan`\n\n```text\n{help_of([program])}```\n",
     ]
+    sys.path.insert(0, f"{crates.TOP}/tools")
+    from j39plan.log.checks import kinds
+
     for tool in tools:
-        parts.append(f"\n## `{os.path.basename(tool).removesuffix('.py')}`\n\n```text\n{help_of([sys.executable, tool] if tool.endswith('.py') else [tool])}```\n")
+        name = os.path.basename(tool).removesuffix(".py")
+        parts.append(f"\n## `{name}`\n\n```text\n{help_of([sys.executable, tool] if tool.endswith('.py') else [tool])}```\n")
+        if name == "against":
+            parts.append("\n### Kinds of deviations\n\n" + "".join(f"- `{kind}`: {said}\n" for kind, said in kinds.MEANINGS.items()))
     return "".join(parts)
 
 

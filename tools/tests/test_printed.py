@@ -6,6 +6,7 @@ import unittest
 from unittest import mock
 
 from j39plan import program
+from j39plan.log.checks import deviations, kinds
 from tests.support import TOP, text_of
 
 import printed
@@ -27,6 +28,9 @@ class Printed(unittest.TestCase):
     def test_options(self) -> None:
         with mock.patch.dict(os.environ, J39PLAN=program.path()):
             self.is_as_printed("options")
+
+    def test_each_kind_of_a_deviation_is_said(self) -> None:
+        self.assertEqual(set(kinds.MEANINGS), set(deviations.KINDS))
 
     def test_each_part_of_a_contract_is_seen(self) -> None:
         lines = ["/// Whether it is.", "#[inline]", "pub fn is(", "    one: u8,", ") -> bool", "    ensures yes { one ≡ 1 }", "{", "    ensures no { never }", "}"]
