@@ -25,6 +25,10 @@ from crates import text_of
 # Crates that are tests: nothing of the program stands on them.
 TESTS = ("library_vectors", "j39_vectors", "examples_check")
 
+# What has a case in many files: a step and a finding as examples; and how a comment at the top of a file begins, by the file's ending.
+CASES = (("Where a step has a case", "Down"), ("Where a finding has a case", "KeptAddress"))
+MARKS = {".rt": "//!", "ntt": "--"}
+
 # The head of a function, of a block that has functions, and of what a library hands out.
 FUNCTION = re.compile(r"^( *)(?:pub )?fn (\w+)")
 BLOCK = re.compile(r"^(?:pub )?(impl|trait)(?:<[^>]*>)? (\w+)(?:<.*?>)?(?: for (\w+))?")
@@ -192,6 +196,13 @@ def module_rows(crate: str) -> Iterator[str]:
             yield f"- `{os.path.splitext(file.partition(f'/{part}/')[2])[0]}`: {head_of(file, mark)}\n"
 
 
+def having(word: str) -> list[str]:
+    """The files of the crates that name a word, in the order of crates.txt."""
+    files = [file for crate in crates.listed() for part in ("src", "specs", "proofs")
+             for file in sorted(glob.glob(f"{crate}/{part}/**/*.*t", root_dir=f"{crates.TOP}/crates", recursive=True))]
+    return [file for file in files if re.search(rf"\b{word}\b", text_of(f"{crates.TOP}/crates/{file}"))]
+
+
 def module_map() -> str:
     """Each module of the crates and of the tools."""
     parts = [
@@ -201,6 +212,9 @@ def module_map() -> str:
     ]
     for crate in crates.listed():
         parts += module_rows(crate)
+    for heading, word in CASES:
+        parts.append(f"\n## {heading}\n\nFiles that name `{word}`.\n\n")
+        parts += [f"- `{file}`: {head_of(f'crates/{file}', MARKS[file[-3:]])}\n" for file in having(word)]
     parts.append("\n## The tools\n\nModules of `tools/j39plan/`, by their docstrings.\n\n")
     for file in sorted(glob.glob("**/*.py", root_dir=f"{crates.TOP}/tools/j39plan", recursive=True)):
         name = file[:-3].removesuffix("/__init__")

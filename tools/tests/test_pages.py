@@ -74,7 +74,7 @@ class Shown(InFolder):
         return ended.stdout.replace(self.folder + "/", "/tmp/")
 
     def test_commands_write_what_is_shown(self) -> None:
-        least = {"README.md": 7, "docs/guide/PROMISES.md": 3, "docs/guide/PLAN.md": 3, "docs/guide/TIMING.md": 8, "docs/guide/SIMULATOR.md": 11, "docs/guide/LOGS.md": 9,
+        least = {"README.md": 4, "docs/guide/PROMISES.md": 3, "docs/guide/PLAN.md": 3, "docs/guide/TIMING.md": 8, "docs/guide/SIMULATOR.md": 11, "docs/guide/LOGS.md": 9,
                  "docs/guide/TOOLS.md": 11, "docs/guide/VEHICLES.md": 1, "docs/guide/EXAMPLES.md": 2}
         for name in PAGES:
             commands = [(command, shown) for command, shown in blocks(page(name)) if COMMAND.search(command)]
@@ -279,22 +279,22 @@ class Names(InFolder):
         """The lists of docs/internals/ARCHITECTURE.md on what is added where name files and folders that are there."""
         names = re.findall(r"`([\w.-]+(?:/[\w.-]*)*)`", page("docs/internals/ARCHITECTURE.md").split("## To add a step")[1])
         files = [name for name in names if "/" in name]
-        self.assertGreaterEqual(len(files), 40)
+        self.assertGreaterEqual(len(files), 30)
         for name in files:
             self.assertTrue(any(os.path.exists(os.path.join(TOP, below, name)) for below in ("crates", "")), name)
 
     def test_files_to_change_are_all_that_have_a_case(self) -> None:
-        """The lists of docs/internals/ARCHITECTURE.md on what is added name each source that has a case of the step or finding that they show."""
-        text = page("docs/internals/ARCHITECTURE.md")
-        for heading, word in (("To add a step", "Down"), ("To add a finding", "KeptAddress")):
-            section = text.split(f"## {heading}\n")[1].split("\n## ")[0]
-            self.assertIn(f"`git grep -w {word} -- crates`", section)
-            named = tuple(name for name in re.findall(r"`([\w./-]+)`", section) if "/" in name)
+        """docs/reference/MODULES.md lists each source that has a case of the step or finding that it shows, and docs/internals/ARCHITECTURE.md
+        leads there."""
+        text = page("docs/reference/MODULES.md")
+        for heading, word in (("Where a step has a case", "Down"), ("Where a finding has a case", "KeptAddress")):
+            self.assertIn(f"(../reference/MODULES.md#{heading.lower().replace(' ', '-')})", page("docs/internals/ARCHITECTURE.md"))
+            named = re.findall(r"^- `(\S+)`: ", text.split(f"## {heading}\n")[1].split("\n## ")[0], re.MULTILINE)
             files = [name for part in ("src", "specs", "proofs")
                      for name in glob.glob(f"*/{part}/**/*.*t", root_dir=os.path.join(TOP, "crates"), recursive=True)]
             having = [name for name in files if re.search(rf"\b{word}\b", text_of(os.path.join(TOP, "crates", name)))]
             self.assertGreaterEqual(len(having), 10)
-            self.assertEqual(sorted(name for name in having if not name.startswith(named)), [], heading)
+            self.assertEqual(sorted(having), sorted(named), heading)
 
     def test_files_in_backticks_are_there(self) -> None:
         """Each name of a file that a page has in backticks is a file or a folder of the repository, but for those of the reader."""
