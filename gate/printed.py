@@ -179,11 +179,15 @@ def proofs() -> str:
     return "".join(parts)
 
 
+def root_of(crate: str) -> str:
+    """The file that a crate begins with."""
+    return f"crates/{crate}/src/{'main.rt' if crates.is_program(crate) else 'lib.rt'}"
+
+
 def module_rows(crate: str) -> Iterator[str]:
     """The modules of a crate's specs/ and src/, each with its first line."""
-    below = crates.below()[crate]
-    root = "main.rt" if crates.is_program(crate) else "lib.rt"
-    yield f"\n## `{crate}`\n\n{head_of(f'crates/{crate}/src/{root}', '//!')}"
+    below, root = crates.below()[crate], os.path.basename(root_of(crate))
+    yield f"\n## `{crate}`\n\n{head_of(root_of(crate), '//!')}"
     yield f" It stands on {listed(below)}.\n" if below else " It stands on no other crate.\n"
     for part, mark, files in (
         ("specs", "-- ", sorted(glob.glob(f"crates/{crate}/specs/*.antt", root_dir=crates.TOP))),
@@ -210,6 +214,8 @@ def module_map() -> str:
         "first lines of its file; then the modules of the tools. [ARCHITECTURE](../internals/ARCHITECTURE.md) says how they go together.\n"
         "`./dev map` writes this page.\n"
     ]
+    parts.append("\n## Crates\n\n")
+    parts += [f"- `{crate}`: {head_of(root_of(crate), '//!')}\n" for crate in crates.listed()]
     for crate in crates.listed():
         parts += module_rows(crate)
     for heading, word in CASES:
