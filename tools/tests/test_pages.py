@@ -147,6 +147,11 @@ class Form(unittest.TestCase):
             with self.subTest(name):
                 self.assertEqual([cell for cell in cells(page(name)) if len(cell.split()) > 50], [])
 
+    def test_pages_have_at_most_50000_words(self) -> None:
+        """Those that a person writes, code and shown answers included; a word has a letter or a digit, so marks of tables and lists are none."""
+        count = sum(1 for name in PAGES for word in page(name).split() if re.search(r"[A-Za-z0-9]", word))
+        self.assertLess(count, 50_000)
+
     def test_decisions_are_short(self) -> None:
         """Each is an item of at most 60 words: what was chosen, in place of what, and why."""
         items = [" ".join(it.split()) for it in re.split(r"\n(?=- |\n)", page("docs/internals/DECISIONS.md")) if it.startswith("- ")]
