@@ -74,7 +74,7 @@ class Shown(InFolder):
         return ended.stdout.replace(self.folder + "/", "/tmp/")
 
     def test_commands_write_what_is_shown(self) -> None:
-        least = {"README.md": 4, "docs/guide/PROMISES.md": 3, "docs/guide/PLAN.md": 3, "docs/guide/TIMING.md": 8, "docs/guide/SIMULATOR.md": 9, "docs/guide/LOGS.md": 9,
+        least = {"README.md": 4, "docs/guide/PROMISES.md": 3, "docs/guide/PLAN.md": 3, "docs/guide/TIMING.md": 8, "docs/guide/SIMULATOR.md": 8, "docs/guide/LOGS.md": 8,
                  "docs/guide/TOOLS.md": 11, "docs/guide/VEHICLES.md": 1, "docs/guide/EXAMPLES.md": 2}
         for name in PAGES:
             commands = [(command, shown) for command, shown in blocks(page(name)) if COMMAND.search(command)]
