@@ -3,13 +3,14 @@
 
 proofs   docs/reference/CONTRACTS.md: the public functions of each library, by their doc comments, clauses and premises
 map      docs/reference/MODULES.md: the modules of the crates and of the tools, by the first lines of their files
-options  docs/reference/OPTIONS.md: the options of the commands, by their --help
+options  docs/reference/OPTIONS.md: the options of the commands, by their --help, and the Python module, by its docstrings
 """
 
 from __future__ import annotations
 
 import ast
 import glob
+import inspect
 import os
 import re
 import subprocess
@@ -236,6 +237,16 @@ def help_of(words: list[str]) -> str:
     return subprocess.run([*words, "--help"], cwd=crates.TOP, stdin=subprocess.DEVNULL, capture_output=True, text=True, check=True, env=environment).stdout
 
 
+def module_items() -> Iterator[str]:
+    """What the Python module hands out, by its docstrings: functions with their parameters, then classes."""
+    import j39plan
+
+    found = [(name, getattr(j39plan, name)) for name in j39plan.__all__]
+    for name, it in sorted(found, key=lambda pair: (not inspect.isfunction(pair[1]), pair[0])):
+        parameters = f"({', '.join(inspect.signature(it).parameters)})" if inspect.isfunction(it) else ""
+        yield f"- `{name}{parameters}`: {' '.join((inspect.getdoc(it) or '').split())}\n"
+
+
 def options() -> str:
     """The options of each command."""
     program = os.environ.get("J39PLAN") or "./j39plan"
@@ -253,7 +264,7 @@ def options() -> str:
         parts.append(f"\n## `{name}`\n\n```text\n{help_of([sys.executable, tool] if tool.endswith('.py') else [tool])}```\n")
         if name == "against":
             parts.append("\n### Kinds of deviations\n\n" + "".join(f"- `{kind}`: {said}\n" for kind, said in kinds.MEANINGS.items()))
-    return "".join(parts)
+    return "".join([*parts, "\n## The Python module\n\nWhat `import j39plan` hands out.\n\n", *module_items()])
 
 
 PAGES = {"proofs": ("CONTRACTS.md", proofs), "map": ("MODULES.md", module_map), "options": ("OPTIONS.md", options)}
