@@ -9,6 +9,12 @@ TOP = os.path.dirname(os.path.dirname(os.path.realpath(__file__)))
 CRATE_BYTES = 10_000
 
 
+def text_of(name: str) -> str:
+    """Returns the text of a file."""
+    with open(name, encoding="utf-8") as file:
+        return file.read()
+
+
 def listed() -> dict[str, list[str]]:
     """Returns the libraries that each crate names, by its name."""
     named = {}

@@ -20,6 +20,9 @@ TOOLS = os.path.dirname(os.path.dirname(os.path.realpath(__file__)))
 TOP = os.path.dirname(TOOLS)
 EXAMPLES = os.path.join(TOP, "examples")
 
+# Tests import what the gate has of pages and laws.
+sys.path.append(os.path.join(TOP, "gate"))
+
 # A plan that TOML 1.1 allows and TOML 1.0 doesn't, and the same in other words behind a byte order mark.
 NEWER = """version = 0b10
 keep_free = [0xC9, 2_02,]

@@ -65,7 +65,7 @@ class Grammar(unittest.TestCase):
 
     def test_each_finding_of_the_page(self) -> None:
         """The grammar has the findings of docs/guide/FINDINGS.md, with as many labels and numbers each."""
-        listed = re.findall(r"^\| \[?`(F\d+ \w+(?: \w+)*)`", text_of(os.path.join(TOP, "docs", "guide", "FINDINGS.md")), re.MULTILINE)
+        listed = re.findall(r"^`(F\d+ \w+(?: \w+)*)`: ", text_of(os.path.join(TOP, "docs", "guide", "FINDINGS.md")), re.MULTILINE)
         self.assertGreaterEqual(len(listed), 27)
         self.assertEqual([form.split()[:2] + [len(form.split())] for form in answer_grammar.FINDINGS],
                          [line.split()[:2] + [len(line.split())] for line in listed])

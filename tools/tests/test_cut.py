@@ -53,6 +53,7 @@ class Parts(InFolder):
     def test_what_is_refused(self) -> None:
         self.assertEqual(run("cut.py", "--plan", PLAN, "--unit", "NONE", LOG)[0], 2)
         self.assertEqual(run("cut.py", "--plan", PLAN, "--group", "NONE", LOG)[0], 2)
+        self.assertEqual(run("cut.py", "--unit", "ENGINE", LOG)[2], "cut: --unit ENGINE: labels are those of a plan, which --plan names; it may be an address or a NAME too\n")
         self.assertEqual(run("cut.py", "--begin", "x", LOG)[0], 2)
         self.assertEqual(run("cut.py", "--begin", "+1", "--end", "5", LOG)[0], 2)
         self.assertEqual(run("cut.py", "--unit", "0", PLAN)[0], 2)

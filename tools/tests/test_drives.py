@@ -191,6 +191,11 @@ class NoFrames(Deviations):
             self.assertEqual(self.told((1, BRAKES), (1.5, HITCH), (2, frame), (2.1, frame), words=("--silence", "0")), [f"L:3: {text}  (2 times)"])
             self.assertEqual(self.said, "")
 
+    def test_a_claim_to_one_address(self) -> None:
+        """It is told as that, whatever its priority is."""
+        to_one = HITCH.replace("EEFF80", "EE0B80")
+        self.assertEqual(self.told((1, BRAKES), (1.5, HITCH), (2, "18EAFF0B#00EE00"), (2.1, to_one), (2.15, BRAKES)), ["L:4: a claim from HITCH goes to address 11, by the standard to all"])
+
     def test_a_line_that_spells_nothing(self) -> None:
         self.told_of("(1.0) can0 123#00\n\n(1.0) can0 18FEF100#0\n(1.1) can0 18F0010B#0\n(1.2) can0 18F0010B#FFFFFFFFFFFFFFFF\n")
         self.assertEqual(self.said, f"against: 2 lines spell no frame, as {self.path('drive.log')}:3\n")

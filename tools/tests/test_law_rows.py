@@ -1,12 +1,12 @@
-"""The rows of docs/internals/PROOFS.md that name laws have the premises of these laws."""
+"""The items of docs/reference/CONTRACTS.md that name laws have the premises of these laws."""
 
 import os
-import re
 import unittest
 
-from tests.law_text import premises_of_laws
 from tests.support import TOP, InFolder
-from tests.test_pages import proved_sections, rows_of
+from tests.test_pages import contracts
+
+from law_text import premises_of_laws
 
 SPECS = """-- premises
 pub record Keeps (s : Bus) : Type 0 where
@@ -52,18 +52,13 @@ pub fn with_a_parameter(bus: &Bus)
 
 
 class LawRows(InFolder):
-    def test_rows_of_laws_name_their_premises(self) -> None:
-        """Behind the link to the contract stand the premises of its laws; what is compared is the statements in the crates."""
-        laws, missing, named = premises_of_laws(TOP), [], 0
-        for crates, body in proved_sections():
-            for names, _, contract in rows_of(body):
-                those = [laws.get((crate, name), []) for name in re.findall(r"`(\w+)`", names) for crate in crates]
-                asked = list(dict.fromkeys(it for law in those for it in law))
-                named += bool(asked)
-                if re.findall(r"`(\w+)`", contract) != asked:
-                    missing.append(f"{names} has to have: {', '.join(f'`{it}`' for it in asked)}")
-        self.assertGreaterEqual(named, 100)
-        self.assertEqual(missing, [])
+    def test_laws_name_their_premises(self) -> None:
+        """Behind a law stand its premises; what is compared is the statements in the crates."""
+        laws = premises_of_laws(TOP)
+        shown = {(it.crate, it.name): it.premises for it in contracts()}
+        self.assertGreaterEqual(sum(map(bool, laws.values())), 100)
+        self.assertEqual({law: shown.get(law) for law, asked in laws.items() if shown.get(law) != asked}, {})
+        self.assertEqual({it for it, premises in shown.items() if premises} - set(laws), set())
 
     def test_each_form_of_a_premise_is_seen(self) -> None:
         """A premise is found where a law asks for it, and inside of what it promises; but not inside of what is a premise elsewhere or what

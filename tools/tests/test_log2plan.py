@@ -74,6 +74,12 @@ class Units(FromLogs):
         self.assertEqual([unit.window for unit in tables.units], [255, 2])
         self.assertEqual([(flow.what, group.length) for flow, group in zip(tables.flows, tables.groups)], [("PGN_65260 from ECU_0 to ECU_11", 17)])
 
+    def test_more_units_than_a_plan_has(self) -> None:
+        """One note for all of them."""
+        tables, _, said = self.plan(self.log(*(f"18FEEE{address:02X}#7DFFFFFFFFFFFFFF" for address in range(140)), step=0.01))
+        self.assertEqual(len(tables.units), 128)
+        self.assertIn("12 units, at addresses 128, 129, 130, 131, 132 and 7 more: a plan has at most 128 units\n", said)
+
     def test_what_no_plan_has(self) -> None:
         _, text, said = self.plan(self.log("18FEEEFE#7DFFFFFFFFFFFFFF", "1AFEEE00#7DFFFFFFFFFFFFFF", "1CC8FF00#0102030405060708"))
         for what in ("PGN 51200: 1 frames of a service of the network, which isn't planned", "PGN 196334: 1 frames of the extended data page, which no plan has",

@@ -285,12 +285,13 @@ class Logs(InFolder):
 
 class Documents(unittest.TestCase):
     def test_each_name_is_said(self) -> None:
-        """What the module hands out has a docstring; of what the page has in its table the words are those of the code."""
+        """What the module hands out has a docstring, and an item of the printed page with its parameters."""
         for name in j39plan.__all__:
             self.assertTrue(inspect.getdoc(getattr(j39plan, name)), name)
-        table = PAGE.partition("## A Python module")[2].partition("\n## ")[0]
-        for name, words in re.findall(r"^\| `(\w+)(?:\((.*?)\))?` \|", table, re.MULTILINE):
-            self.assertIn(name, j39plan.__all__)
+        items = text_of(os.path.join(TOP, "docs", "reference", "OPTIONS.md")).partition("## The Python module")[2]
+        shown = re.findall(r"^- `(\w+)(?:\((.*?)\))?`: \S", items, re.MULTILINE)
+        self.assertEqual(sorted(name for name, _ in shown), sorted(j39plan.__all__))
+        for name, words in shown:
             if words:
                 self.assertEqual(list(inspect.signature(getattr(j39plan, name)).parameters), words.split(", "), name)
 

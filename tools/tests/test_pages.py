@@ -1,5 +1,5 @@
 """What the pages claim: each command that they show writes what is shown, each file that they show is that file, each name of
-docs/internals/PROOFS.md is there, each link leads somewhere, and the README stays short."""
+docs/reference/ is there, each link leads somewhere, and the pages stay short."""
 
 import glob
 import importlib.util
@@ -9,12 +9,15 @@ import shutil
 import subprocess
 import unittest
 from collections.abc import Iterator
-from typing import Any
+from typing import Any, NamedTuple
 
 from j39plan import program
 from tests.support import TOP, InFolder, example, text_of
 
-PAGES = ["README.md", "CONTRIBUTING.md", "SECURITY.md", "CHANGELOG.md", *sorted(glob.glob("docs/*/*.md", root_dir=TOP))]
+PAGES = ["README.md", "CONTRIBUTING.md", "SECURITY.md", "CHANGELOG.md", *sorted(glob.glob("docs/[gi]*/*.md", root_dir=TOP))]
+
+# Pages that are printed from the sources (tests/test_printed.py).
+PRINTED = sorted(glob.glob("docs/reference/*.md", root_dir=TOP))
 
 # A command that can be run here: the program or a tool, at the beginning or behind another command.
 COMMAND = re.compile(r"(?:^|[\n;|] ?)(?:\./j39plan|tools/(?!package)[\w.-]+)(?: |$)")
@@ -25,6 +28,9 @@ FILE = re.compile(r"`examples/([\w./]+)`[^`]*(?:`(?!examples/)[^`\n]+`[^`]*)*?``
 # Kinds of files that pages name, and those names among them that are of files of the reader or that a command makes.
 KINDS = "rt|antt|py|toml|md|json|check|load|run|read|follow|addresses|schedule|log|dbc|txt|c|sh|html|edit|show"
 OTHERS = {"gate/times.md", ".taplo.toml", ".vscode/tasks.json", "drive.log", "j1939.dbc"}
+
+# Names of two words that are of plans and logs, and no functions.
+OF_PLANS = {"on_request", "transport_priority"}
 
 # A definition, by the head of its line: an abbreviation, a function, a record or a family. Fields and constructors have no such head.
 DEFINITION = re.compile(r"^(?: *(?:abbrev|unfoldable)(?: pub)?| *pub (?:record|data)|record|data) ([^\s({:]+)", re.MULTILINE)
@@ -68,7 +74,7 @@ class Shown(InFolder):
         return ended.stdout.replace(self.folder + "/", "/tmp/")
 
     def test_commands_write_what_is_shown(self) -> None:
-        least = {"README.md": 7, "docs/guide/PROMISES.md": 3, "docs/guide/PLAN.md": 3, "docs/guide/TIMING.md": 8, "docs/guide/SIMULATOR.md": 11, "docs/guide/LOGS.md": 9,
+        least = {"README.md": 4, "docs/guide/PROMISES.md": 3, "docs/guide/PLAN.md": 3, "docs/guide/TIMING.md": 8, "docs/guide/SIMULATOR.md": 8, "docs/guide/LOGS.md": 8,
                  "docs/guide/TOOLS.md": 11, "docs/guide/VEHICLES.md": 1, "docs/guide/EXAMPLES.md": 2}
         for name in PAGES:
             commands = [(command, shown) for command, shown in blocks(page(name)) if COMMAND.search(command)]
@@ -82,7 +88,7 @@ class Shown(InFolder):
     def test_plans_are_answered_as_shown(self) -> None:
         pages = page("docs/guide/PLAN.md") + page("docs/guide/TIMING.md")
         shown = re.findall(r"```toml\n([^`]*)```\n(?:(?!```).)*```text\n([^`]*)```", pages, re.DOTALL)
-        self.assertGreaterEqual(len(shown), 14)
+        self.assertGreaterEqual(len(shown), 13)
         for plan, answer in shown:
             self.assertEqual(program.call(["check", self.write("plan.toml", plan)])[1], answer, plan)
 
@@ -141,10 +147,15 @@ class Form(unittest.TestCase):
             with self.subTest(name):
                 self.assertEqual([cell for cell in cells(page(name)) if len(cell.split()) > 50], [])
 
+    def test_pages_have_at_most_50000_words(self) -> None:
+        """Those that a person writes, code and shown answers included; a word has a letter or a digit, so marks of tables and lists are none."""
+        count = sum(1 for name in PAGES for word in page(name).split() if re.search(r"[A-Za-z0-9]", word))
+        self.assertLess(count, 50_000)
+
     def test_decisions_are_short(self) -> None:
         """Each is an item of at most 60 words: what was chosen, in place of what, and why."""
         items = [" ".join(it.split()) for it in re.split(r"\n(?=- |\n)", page("docs/internals/DECISIONS.md")) if it.startswith("- ")]
-        self.assertGreaterEqual(len(items), 120)
+        self.assertGreaterEqual(len(items), 85)
         self.assertEqual([item for item in items if len(item.split()) > 61], [])
 
     def test_what_was_tried_and_left_has_a_line_each(self) -> None:
@@ -165,7 +176,7 @@ def crates_of(files: list[str]) -> tuple[str, ...]:
 
 class Names(InFolder):
     def test_links_lead_somewhere(self) -> None:
-        for name in PAGES:
+        for name in [*PAGES, *PRINTED]:
             for link in re.findall(r"\]\((?!https:)([^)\s]+)\)", page(name)):
                 file, _, heading = link.partition("#")
                 target = os.path.normpath(os.path.join(os.path.dirname(name), file)) if file else name
@@ -174,36 +185,38 @@ class Names(InFolder):
                     self.assertIn(heading, anchors(page(target)), f"{name}: {link}")
 
     def test_what_is_called_proved_is_there(self) -> None:
-        """A row of docs/internals/PROOFS.md: names, at most 40 words with clauses in brackets, and the files that have the names' contracts."""
-        sections = proved_sections()
-        self.assertGreaterEqual(len(sections), 10)
-        self.assertGreaterEqual(sum(len(rows_of(body)) for _, body in sections), 150)
-        for crates, body in sections:
-            heading, source = ", ".join(crates), "\n".join(source_of(crate) for crate in crates)
-            promised = promises(source)
-            for names, proved, links in rows_of(body):
-                self.assertLessEqual(len(words_of(proved).split()), 40, names)
-                linked = "\n".join(public(text_of(os.path.join(TOP, "docs", "internals", link))) for link in re.findall(r"\]\(([^)]*)\)", links))
-                for name in re.findall(r"`([\w:]+)`", names):
-                    pattern = rf"pub (?:fn|struct|enum|trait|type) {name.split('::')[-1]}\b"
-                    self.assertTrue(re.search(pattern, linked), f"{heading}: {name}")
-                for name in re.findall(r"\(((?:`\w+`(?:, )?)+)\)", proved):
-                    for clause in re.findall(r"\w+", name):
-                        self.assertIn(clause, promised, heading)
+        """An item of docs/reference/CONTRACTS.md names what stands in the file above it, with clauses that its contract has."""
+        shown = contracts()
+        self.assertGreaterEqual(len(shown), 500)
+        facts = facts_of_ends()
+        for it in shown:
+            source = public(text_of(os.path.join(TOP, it.file)))
+            name = it.name.split("::")[-1]
+            self.assertRegex(source, rf"pub (?:fn|struct|enum|trait) {name}\b", it.name)
+            if it.ends:
+                self.assertIn(it.ends, facts)
+                self.assertRegex(source, rf"ensures .*\b{it.ends}\b", it.name)
+            self.assertEqual([clause for clause in it.clauses if not re.search(rf"ensures {clause}\b", source)], [], it.name)
 
     def test_each_law_is_called_proved(self) -> None:
-        """The section of a library in docs/internals/PROOFS.md names each law that it hands out: a public function with an empty body."""
-        sections = proved_sections()
-        named = {(crate, name) for crates, body in sections for crate in crates for name in re.findall(r"`(\w+)`", body)}
+        """docs/reference/CONTRACTS.md has each law that a library hands out: a public function with an empty body."""
+        named = {(it.crate, it.name) for it in contracts()}
         laws = {(crate, law) for crate in os.listdir(os.path.join(TOP, "crates")) for law in laws_of(crate)}
         self.assertGreaterEqual(len(laws), 30)
         self.assertEqual(sorted(laws - named), [])
 
+    def test_laws_that_pages_name_are_there(self) -> None:
+        """A name of two words or more that stands in code in what is said of proofs is one of the contracts."""
+        text = page("docs/reference/CONTRACTS.md")
+        for name in ("docs/internals/PROOFS.md", "docs/guide/PROMISES.md"):
+            named = set(re.findall(r"`([a-z]\w*_\w*)`", without_code(page(name)))) - OF_PLANS - set(os.listdir(os.path.join(TOP, "crates")))
+            self.assertEqual(sorted(it for it in named if not re.search(rf"`(?:\w+::)?{it}`", text)), [], name)
+
     def test_each_module_of_definitions_has_its_place(self) -> None:
-        """The table of rules in docs/internals/ARCHITECTURE.md has each module of specs/, and no other; specs/inside/ are for proofs."""
-        table = page("docs/internals/ARCHITECTURE.md").split("## Where each rule lives")[1]
-        rows = re.findall(r"\n\| [^|]* \| `(j39_\w+)` \| ([^|]*) \|", table)
-        shown = {(crate, module) for crate, cell in rows for module in re.findall(r"`(\w+)`", cell)}
+        """docs/reference/MODULES.md has each module of specs/, and no other; specs/inside/ are for proofs."""
+        sections = re.findall(r"\n## `(\w+)`\n(.*?)(?=\n## |\Z)", page("docs/reference/MODULES.md"), re.DOTALL)
+        parts = [(crate, found[1]) for crate, body in sections if (found := re.search(r"\n`specs/`\n\n((?:- .*\n)+)", body))]
+        shown = {(crate, module) for crate, items in parts for module in re.findall(r"^- `(\w+)`: \S", items, re.MULTILINE)}
         files = glob.glob(os.path.join(TOP, "crates", "*", "specs", "*.antt"))
         there = {(crate, name[:-5]) for *_, crate, _, name in (file.split(os.sep) for file in files)}
         there = {(crate, module) for crate, module in there if module not in ("Lib", "inside")}
@@ -261,9 +274,9 @@ class Names(InFolder):
         })
 
     def test_each_module_of_the_tools_is_named(self) -> None:
-        """The table of docs/internals/ARCHITECTURE.md has each module of tools/j39plan/ once, and no other."""
-        section = page("docs/internals/ARCHITECTURE.md").split("## The tools\n")[1].split("\n## ")[0]
-        named = [folder + name for folder, cell in re.findall(r"\n\| (?:`(\w[\w/]*/)`: )?(`.*?) \|", section) for name in re.findall(r"`(\w+)`", cell)]
+        """docs/reference/MODULES.md has each module of tools/j39plan/ once, and no other."""
+        section = page("docs/reference/MODULES.md").split("## The tools\n")[1]
+        named = [name for name in re.findall(r"^- `((?:\w+/)*[a-z]\w*)`: \S", section, re.MULTILINE) if os.path.isfile(os.path.join(TOP, "tools", "j39plan", f"{name}.py"))]
         modules = glob.glob("**/[!_]*.py", root_dir=os.path.join(TOP, "tools", "j39plan"), recursive=True)
         self.assertEqual(sorted(named), sorted(name[:-3] for name in modules))
 
@@ -271,22 +284,22 @@ class Names(InFolder):
         """The lists of docs/internals/ARCHITECTURE.md on what is added where name files and folders that are there."""
         names = re.findall(r"`([\w.-]+(?:/[\w.-]*)*)`", page("docs/internals/ARCHITECTURE.md").split("## To add a step")[1])
         files = [name for name in names if "/" in name]
-        self.assertGreaterEqual(len(files), 40)
+        self.assertGreaterEqual(len(files), 30)
         for name in files:
             self.assertTrue(any(os.path.exists(os.path.join(TOP, below, name)) for below in ("crates", "")), name)
 
     def test_files_to_change_are_all_that_have_a_case(self) -> None:
-        """The lists of docs/internals/ARCHITECTURE.md on what is added name each source that has a case of the step or finding that they show."""
-        text = page("docs/internals/ARCHITECTURE.md")
-        for heading, word in (("To add a step", "Down"), ("To add a finding", "KeptAddress")):
-            section = text.split(f"## {heading}\n")[1].split("\n## ")[0]
-            self.assertIn(f"`git grep -w {word} -- crates`", section)
-            named = tuple(name for name in re.findall(r"`([\w./-]+)`", section) if "/" in name)
+        """docs/reference/MODULES.md lists each source that has a case of the step or finding that it shows, and docs/internals/ARCHITECTURE.md
+        leads there."""
+        text = page("docs/reference/MODULES.md")
+        for heading, word in (("Where a step has a case", "Down"), ("Where a finding has a case", "KeptAddress")):
+            self.assertIn(f"(../reference/MODULES.md#{heading.lower().replace(' ', '-')})", page("docs/internals/ARCHITECTURE.md"))
+            named = re.findall(r"^- `(\S+)`: ", text.split(f"## {heading}\n")[1].split("\n## ")[0], re.MULTILINE)
             files = [name for part in ("src", "specs", "proofs")
                      for name in glob.glob(f"*/{part}/**/*.*t", root_dir=os.path.join(TOP, "crates"), recursive=True)]
             having = [name for name in files if re.search(rf"\b{word}\b", text_of(os.path.join(TOP, "crates", name)))]
             self.assertGreaterEqual(len(having), 10)
-            self.assertEqual(sorted(name for name in having if not name.startswith(named)), [], heading)
+            self.assertEqual(sorted(having), sorted(named), heading)
 
     def test_files_in_backticks_are_there(self) -> None:
         """Each name of a file that a page has in backticks is a file or a folder of the repository, but for those of the reader."""
@@ -340,23 +353,34 @@ def homes_of_types(top: str) -> dict[str, list[str]]:
     return homes
 
 
-def proved_sections() -> list[tuple[list[str], str]]:
-    """The sections of docs/internals/PROOFS.md on what is proved, each as its crates and its text."""
-    sections = re.findall(r"\n## ((?:`j39_\w+`(?:, )?)+):.*?\n(.*?)(?=\n## )", page("docs/internals/PROOFS.md"), re.DOTALL)
-    return [(re.findall(r"j39_\w+", heading), body) for heading, body in sections]
+class Contract(NamedTuple):
+    """An item of docs/reference/CONTRACTS.md."""
+
+    crate: str
+    file: str
+    name: str
+    clauses: list[str]
+    ends: str
+    premises: list[str]
 
 
-def promises(source: str) -> set[str]:
-    """What clauses of a source promise: the names of its clauses, and the facts of the records of commands that it cites."""
+def contracts() -> list[Contract]:
+    """The items of docs/reference/CONTRACTS.md, each of a function or a type, with what stands behind its words."""
+    found = []
+    for crate, body in re.findall(r"\n## `(j39_\w+)`\n(.*?)(?=\n## |\Z)", page("docs/reference/CONTRACTS.md"), re.DOTALL):
+        for file, items in re.findall(r"\n\[\S+\]\(\.\./\.\./(\S+)\)\n\n((?:- .*\n)+)", body):
+            for name, rest in re.findall(r"^- `([\w:]+)`(.*)$", items, re.MULTILINE):
+                clauses, ends, premises = (re.search(rf" {word}: ((?:`\w+`(?:, )?)+)\.", rest) for word in ("Clauses", "Ends", "Premises"))
+                names = [re.findall(r"\w+", it[1]) if it else [] for it in (clauses, ends, premises)]
+                found.append(Contract(crate, file, name, names[0], "".join(names[1]), names[2]))
+    return found
+
+
+def facts_of_ends() -> dict[str, list[str]]:
+    """The facts of the records that say how a command ends."""
     commands = text_of(os.path.join(TOP, "crates", "j39_stream", "specs", "CommandEnds.antt"))
     records = re.findall(r"\npub record (\w+) (.*?)(?=\n\n|$)", commands, re.DOTALL)
-    facts = [re.findall(r"^  pub (\w+) :", body, re.MULTILINE) for name, body in records if re.search(rf"ensures .*\b{name}\b", source)]
-    return set(re.findall(r"ensures (\w+)\b", source)).union(*facts)
-
-
-def rows_of(section: str) -> list[tuple[str, str, str]]:
-    """The rows of a section's table: the calls, what is proved of them, and links to the files of their contracts."""
-    return re.findall(r"\n\| (`[^|]*) \| (.*) \| (\[[^|]*) \|", section)
+    return {name: re.findall(r"^  pub (\w+) :", body, re.MULTILINE) for name, body in records}
 
 
 def public(source: str) -> str:

@@ -111,6 +111,12 @@ class Compared(InFolder):
         status, answer, _ = run("where.py", "--json", "--reference", reference, self.write("same.toml", PLAN))
         self.assertEqual(json.loads(answer)["hints"], [])
 
+    def test_what_is_not_in_it(self) -> None:
+        """How many signals are compared is said, where some aren't there."""
+        reference = self.write("reference.toml", PLAN)
+        plan = self.write("plan.toml", PLAN.replace("spn = 190", "spn = 191"))
+        self.assertEqual(run("where.py", "--reference", reference, plan)[2], f"where: of 2 signals with an SPN 1 are in {reference}\n")
+
     def test_what_is_no_reference(self) -> None:
         plan = self.write("plan.toml", PLAN)
         for name, status, why in ((example("first_plan.toml"), 0, ""), (self.write("none.toml", "version = 4\n"), 2, "no signal in it has an SPN"),

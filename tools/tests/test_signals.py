@@ -210,10 +210,11 @@ class Signals(InFolder):
         """What docs/guide/TOOLS.md shows runs on the table that it names, and has the columns that it asks for."""
         page = text_of(os.path.join(os.path.dirname(TOOLS), "docs", "guide", "TOOLS.md"))
         lines = there(re.search(r"```python\n(import pandas\n.*?)```", page, re.DOTALL)).group(1)
-        self.write("drive.csv", run("signals.py", "--wide", PLAN, LOG)[1])
-        ended = subprocess.run([sys.executable, "-c", lines + "print(len(speed), speed.iloc[0], len(joined))"], cwd=self.folder, capture_output=True,
+        log = self.write("drive.log", text_of(LOG).replace("(1764230400.000000)", "(1764230400.238012)"))
+        self.write("drive.csv", run("signals.py", "--wide", PLAN, log)[1])
+        ended = subprocess.run([sys.executable, "-c", lines + "print(len(speed), speed.iloc[0], len(joined), speed.index[0])"], cwd=self.folder, capture_output=True,
                                text=True, check=False)
-        self.assertEqual((ended.returncode, ended.stdout.splitlines()[-1]), (0, "1 800.0 2"), ended.stderr)
+        self.assertEqual((ended.returncode, ended.stdout.splitlines()[-1]), (0, "1 800.0 2 2025-11-27 08:00:00.238012"), ended.stderr)
         self.assertIn("fault 65024", ended.stdout)
 
     def test_what_is_chosen(self) -> None:

@@ -99,8 +99,9 @@ class Slips(InFolder):
                 self.assertEqual((first.line, first.hint[-len(hint):]), (line, hint), first)
 
     def test_a_vehicle_in_a_plans_place(self) -> None:
-        first = self.told('version = 1\n[[bus]]\nlabel = "P"\nplan = "p.toml"\n')[0]
-        self.assertEqual((first.line, first.hint), (2, "this is the file of a vehicle: j39plan vehicle takes it, and of the tools where, report and against"))
+        for needs in ("", '[[need]]\nunit = "P.A"\n'):
+            first = self.told('version = 1\n[[bus]]\nlabel = "P"\nplan = "p.toml"\n' + needs)[0]
+            self.assertEqual((first.line, first.hint), (2, "this is the file of a vehicle: j39plan vehicle takes it, and of the tools where, report and against"))
 
     def test_a_late_flow(self) -> None:
         """The key is the one by which its time is short: its deadline, else its jitter, else its period."""

@@ -72,11 +72,9 @@ class Keys(unittest.TestCase):
 class Findings(unittest.TestCase):
     def test_each_finding_has_its_row(self) -> None:
         """With as many words as its line has."""
-        for name in ("VEHICLES.md", "FINDINGS.md"):
-            text = text_of(os.path.join(TOP, "docs", "guide", name))
-            shown = [line.split() for line in re.findall(r"`(G\d+ \w+ [\w ]+)`", text)]
-            known = [line.split() for line in answer_grammar.FINDINGS]
-            self.assertEqual([(line[:2], len(line)) for line in shown], [(line[:2], len(line)) for line in known], name)
+        shown = [line.split() for line in re.findall(r"`(G\d+ \w+ [\w ]+)`", page())]
+        known = [line.split() for line in answer_grammar.FINDINGS]
+        self.assertEqual([(line[:2], len(line)) for line in shown], [(line[:2], len(line)) for line in known])
 
 
 if __name__ == "__main__":

@@ -1,10 +1,12 @@
 -- Where reading a line asks for room: not of an empty tree.
-use Rattle.std.proofs.Common.{◌≡◌, ◌⊎◌, List, [], Some, length, inl, inr, refl, sym, ap, subst, ◌∙◌}
+use Rattle.std.proofs.Common.{◌≡◌, ◌⊎◌, List, [], Some, Result, Ok, Err, length, inl, inr, refl, sym, ap, subst, ◌∙◌}
 use Rattle.toml.specs.Data.{Data, Items, Members, no_members}
 use Rattle.j39_plan.specs.declared.reading.top_table.TopTable.{TopTable}
+use Rattle.j39_toml.specs.declared.file_error.FileError.{FileError}
 use Rattle.j39_toml.specs.declared.file_error.FileError.TheVariants as errors
 use Rattle.j39_toml.specs.InOrder.{Each}
-use Rattle.j39_toml.specs.Outcome.{FailsGrowing, first}
+use Rattle.j39_toml.proofs.FirstFaults.{fails_on}
+use Rattle.j39_toml.specs.Outcome.{FailsGrowing, GivesGrowing, first}
 use Rattle.j39_toml.specs.Rules.{items_count, number_of}
 use Rattle.j39_toml.specs.TableFaults.{unknown_faults, key_faults}
 use Rattle.j39_plan.specs.Described.{DescribesTop}
@@ -38,3 +40,9 @@ pub never_fails : (e : PlanError) (fs : List PlanFault) → fs ≡ [] → FailsG
 never_fails errors.Text fs none fails = fails
 never_fails (errors.Fault f) fs none fails = let told : first [] ≡ Some f = subst (λ (gs : List PlanFault). first gs ≡ Some f) none fails in cc told
 never_fails errors.Memory fs none fails = fails
+
+-- what may want memory under a condition may want it
+pub given_room : {X F : Type 0} (Inner : Type 0) (r : Result X (FileError F)) (faults : List F) (Is : X → Type 0)
+    → GivesGrowing Inner r faults Is → GivesGrowing (Unit {0}) r faults Is
+given_room Inner (Ok x) faults Is gives = gives
+given_room Inner (Err e) faults Is gives = fails_on Inner (Unit {0}) e faults faults (λ grows. tt) (λ f is. is) gives

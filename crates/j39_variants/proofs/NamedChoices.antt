@@ -13,7 +13,9 @@ use Rattle.j39_variants.specs.declared.line.Choice.{Choice}
 use Rattle.j39_variants.specs.declared.reading.lists.NamedAlternative.{NamedAlternative}
 use Rattle.j39_variants.specs.ChoiceTables.{choice_labels}
 use Rattle.j39_variants.specs.ListTables.{IsNamedBy, NamesAlternative, named_in, place_in, label_text_in}
-use Rattle.j39_variants.specs.NeverTables.{choice_named, choices_named, size_of}
+use Rattle.std.proofs.lemmas.Option.{none-some, same_Some}
+use Rattle.j39_variants.specs.declared.line.Alternative.{Alternative}
+use Rattle.j39_variants.specs.NeverTables.{choice_named, choices_named, others, alternatives_left, size_of}
 
 pub any_view : (cs : List Choice) (label : List ℕ)
     → list_any (λ labels. is_label_among labels label) (map choice_labels cs) ≡ list_any (λ c. is_label_among (choice_labels c) label) cs
@@ -84,3 +86,10 @@ pub choices_view : (others : List NamedAlternative) (c : ℕ)
     → list_any (λ (d : ℕ). d == c) (map (λ n. n.at.choice) others) ≡ list_any (λ n. n.at.choice == c) others
 choices_view [] c = refl
 choices_view (n ∷ others) c = rw (choices_view others c)
+
+-- the alternatives that the first of some leaves
+pub others_first : (choices : List (List (List ℕ))) (but : List Alternative) (b : Alternative) → slice_get but 0 ≡ Some b
+    → others choices but ≡ alternatives_left choices but b.choice
+unfolding others
+others_first choices [] b is = absurd (none-some b is)
+others_first choices (a ∷ but) b is = ap (λ (x : Alternative). alternatives_left choices (a ∷ but) x.choice) (same_Some a b is)

@@ -1,16 +1,17 @@
 -- The search for a possible variant: what begins with places that no variant may have is none.
-use Rattle.std.proofs.Common.{◌≡◌, ℕ, zero, suc, ◌+◌, ◌<◌, ◌≤◌, ◌==◌, List, [], ◌∷◌, ◌++◌, Bool, true, false, ◌&&◌, ◌||◌, not, Option, Some, None, length, get_or, refl, sym, ap, ◌∙◌, arith, subst, append_assoc}
+use Rattle.std.proofs.Common.{◌≡◌, ℕ, zero, suc, ◌+◌, ◌<◌, ◌≤◌, ◌⊎◌, ◌==◌, List, [], ◌∷◌, ◌++◌, Bool, true, false, ◌&&◌, ◌||◌, not, Option, Some, None, length, get_or, refl, sym, ap, ◌∙◌, arith, subst, append_assoc}
 use Rattle.std.specs.declared.alloc.Global.{Global}
 use Rattle.std.specs.Prelude.{Vec, slice_index}
 use Rattle.std.specs.List.{list_all, list_any, slice_get}
 use Rattle.std.specs.Option.{option_map_or}
 use Rattle.std.proofs.Common.{inl, inr}
 use Rattle.std.proofs.Math.Nat.{eq-or-lt_of_le}
-use Rattle.std.proofs.lemmas.Bool.{false≢true, and_parts, eqb-true}
+use Rattle.std.proofs.lemmas.Bool.{cases_order, false≢true, and_parts, eqb-true}
 use Rattle.std.proofs.lemmas.List.{length-append}
 use Rattle.j39_variants.specs.declared.line.Alternative.{Alternative}
 use Rattle.j39_variants.specs.declared.line.Choice.{Choice}
 use Rattle.j39_variants.specs.declared.line.ProductLine.{ProductLine}
+use Rattle.j39_variants.specs.LineLaws.{HasOneFirst}
 use Rattle.j39_variants.specs.Variants.{FitChoices, IsEarlier, IsFirstBehind, IsFirstTaking, IsTaking, IsVariant, NoneTakes, is_allowed, is_in, is_possible, size_at, takes_alternative, takes_all}
 
 -- ---- what is taken stays taken behind more places
@@ -239,3 +240,28 @@ first_longer line wanted taken longer variant place long few none found =
 -- of those that begin with no place
 pub first_of_all : (line : ProductLine) (wanted : List Alternative) (variant : List ℕ) → IsFirstBehind line wanted [] variant → IsFirstTaking line wanted variant
 first_of_all line wanted variant found = record { is_taking = found.is_taking; first = λ other is earlier. found.first other is earlier }
+
+-- ---- one is the first
+
+in_order : (v w : List ℕ) → length v ≡ length w → IsEarlier v w ⊎ ((v ≡ w) ⊎ IsEarlier w v)
+in_order [] [] same = inr (inl refl)
+in_order [] (q ∷ w) same = absurd (omega (arith, same))
+in_order (p ∷ v) [] same = absurd (omega (arith, same))
+in_order (p ∷ v) (q ∷ w) same = elim (cases_order p q) [
+  | inl e ↦ elim (in_order v w (omega (arith, same))) [
+    | inl earlier ↦ inl (inr (e, earlier))
+    | inr (inl all) ↦ inr (inl (rw (e, all)))
+    | inr (inr later) ↦ inr (inr (inr (sym e, later)))
+  ]
+  | inr (inl less) ↦ inl (inl less)
+  | inr (inr more) ↦ inr (inr (inl more))
+]
+
+pub one_first : (line : ProductLine) (wanted : List Alternative) → HasOneFirst line wanted
+one_first line wanted v w first other =
+    let same : length v ≡ length w = first.is_taking.is_variant.of_each ∙ sym other.is_taking.is_variant.of_each in
+    elim (in_order v w same) [
+      | inl earlier ↦ absurd (other.first v first.is_taking earlier)
+      | inr (inl is) ↦ is
+      | inr (inr later) ↦ absurd (first.first w other.is_taking later)
+    ]

@@ -78,12 +78,15 @@ unfoldable pub never_faults : List (List (List ℕ)) → ℕ → Data → List P
 never_faults choices i d =
     table_only_faults (at.Never i) d ++ option_map_or (never_table_faults choices i) (as_table d) []
 
+-- the alternatives of a choice whose places none of a list has
+abbrev pub alternatives_left : List (List (List ℕ)) → List Alternative → ℕ → List Alternative
+alternatives_left choices but c =
+    map (λ p. record { choice = c; place = p }) (filter (λ p. not (list_any (λ a. a.place == p) but)) (range_with_len 0 (size_of choices c)))
+
 -- the alternatives of one choice that some alternatives of it aren't
 unfoldable pub others : List (List (List ℕ)) → List Alternative → List Alternative
 others choices [] = []
-others choices (b ∷ but) =
-    map (λ p. record { choice = b.choice; place = p })
-    (filter (λ p. not (list_any (λ a. a.place == p) (b ∷ but))) (range_with_len 0 (size_of choices b.choice)))
+others choices (b ∷ but) = alternatives_left choices (b ∷ but) b.choice
 
 -- the box that a table tells: what its `of` names, and of the choice of its `but` each alternative that this doesn't name
 pub record DescribesNever (choices : List (List (List ℕ))) (ms : Members) (list : List Alternative) : Type 0 where

@@ -95,11 +95,16 @@ def chosen_of(given: argparse.Namespace, tables: Tables) -> Chosen:
     units, groups = {unit.label for unit in tables.units}, {group.label for group in tables.groups}
     for name in given.unit:
         if name not in units and not name.isdecimal() and not is_name(name):
-            raise program.Refused(program.UNREADABLE, f"--unit {name}: no unit is called so; it may be an address or a NAME too")
+            raise program.Refused(program.UNREADABLE, f"--unit {name}: {unknown(given, 'unit')}; it may be an address or a NAME too")
     for name in given.group:
         if name not in groups and not name.isdecimal():
-            raise program.Refused(program.UNREADABLE, f"--group {name}: no group is called so; it may be a PGN too")
+            raise program.Refused(program.UNREADABLE, f"--group {name}: {unknown(given, 'group')}; it may be a PGN too")
     return Chosen(frozenset(name.upper() if is_name(name) else name for name in given.unit), frozenset(given.group))
+
+
+def unknown(given: argparse.Namespace, what: str) -> str:
+    """Why a label is of no unit or group."""
+    return f"no {what} is called so" if given.plan else "labels are those of a plan, which --plan names"
 
 
 def is_name(text: str) -> bool:

@@ -88,7 +88,7 @@ def main(words: list[str] | None = None) -> int:
     """Writes what differs; 0 where nothing does, 1 where something does."""
     given = words_of(words)
     tables, drives = drives_of(given)
-    found = list(Drift(tables, *drives, given.share).all())
+    found = list(Drift(tables, drives[0], drives[1], given.share).all())
     if given.json:
         print(json.dumps({"before": row_of(drives[0]), "after": row_of(drives[1]), "differences": [one.row() for one in found]}, ensure_ascii=False))
     else:

@@ -12,7 +12,7 @@ import sys
 import tempfile
 from collections.abc import Callable, Iterable, Iterator, Sequence
 from functools import lru_cache
-from itertools import chain
+from itertools import chain, islice
 from typing import Any, Generic
 
 from j39plan import program
@@ -31,6 +31,9 @@ HEADS = ("time", "line", *ENDS, "group", "signal", "state", "value", "unit", "de
 
 # How many ends of messages, labels and names of logs are kept as they are written.
 WRITTEN = 1 << 14
+
+# The lines of so many messages are written at once.
+AT_ONCE = 256
 
 # A number as JSON spells it.
 NUMBER = re.compile(r"-?(?:0|[1-9]\d*)(?:\.\d+)?")
@@ -223,7 +226,7 @@ def put_all(head: str, lines: Iterator[str], is_live: bool) -> None:
             sys.stdout.write(text)
             sys.stdout.flush()
     else:
-        sys.stdout.writelines(chain([head + next(lines, "")], lines))
+        sys.stdout.writelines(chain([head + next(lines, "")], iter(lambda: "".join(islice(lines, AT_ONCE)), "")))
 
 
 def words_of(words: list[str] | None) -> argparse.Namespace:

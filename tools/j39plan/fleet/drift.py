@@ -30,6 +30,12 @@ class Difference(NamedTuple):
     after: Any
     unit: str = ""
 
+    @classmethod
+    def of(cls, kind: str, what: str, values: list[Any], unit: str = "") -> Difference:
+        """What the first drive has, and the other one."""
+        before, after = values
+        return cls(kind, what, before, after, unit)
+
     def spelled(self) -> tuple[str, str, str, str]:
         """The same in words."""
         return self.kind, self.what, self._in_words(self.before), self._in_words(self.after)
@@ -75,12 +81,12 @@ class Drift:
         claims = [drive["claims"] for drive in (self._before, self._after)]
         for label in (unit.label for unit in self._tables.units):
             if (label in heard[0]) != (label in heard[1]):
-                yield Difference("sender", label, *("heard" if label in labels else None for labels in heard))
+                yield Difference.of("sender", label, ["heard" if label in labels else None for labels in heard])
             elif label in claims[0] and label in claims[1]:
-                yield from differing("address", label, *(sorted_of(claim[label].addresses) for claim in claims))
-                yield from differing("box", label, *(sorted(claim[label].numbers) for claim in claims), "identity")
+                yield from differing("address", label, [sorted_of(claim[label].addresses) for claim in claims])
+                yield from differing("box", label, [sorted(claim[label].numbers) for claim in claims], "identity")
         for name in sorted((claims[0].keys() ^ claims[1].keys()) - {unit.label for unit in self._tables.units}):
-            yield Difference("sender", f"NAME {name}", *(sorted_of(claim[name].addresses) if name in claim else None for claim in claims))
+            yield Difference.of("sender", f"NAME {name}", [sorted_of(claim[name].addresses) if name in claim else None for claim in claims])
 
     def _deviations(self) -> Iterator[Difference]:
         """What isn't as planned in one drive alone, by how often; of those whom the plan doesn't have as senders."""
@@ -88,14 +94,14 @@ class Drift:
         for key in dict.fromkeys((*times[0], *times[1])):
             if (key in times[0]) != (key in times[1]) and key[0] not in TOLD:
                 kind = "sender" if key[0] == "stranger" else key[0]
-                yield Difference(kind, key[1], *(counted(known.get(key)) for known in times))
+                yield Difference.of(kind, key[1], [counted(known.get(key)) for known in times])
 
     def _flows(self) -> Iterator[Difference]:
         """Flows that were sent in one drive alone, or at another usual distance."""
         for before, after in zip(whole_of(self._before)["flows"], whole_of(self._after)["flows"]):
             what = f"{before['flow']} {before['group']} from {before['from']} to {before['to']}"
             if not before["count"] or not after["count"]:
-                yield from differing("flow", what, *(counted(row["count"] or None) for row in (before, after)))
+                yield from differing("flow", what, [counted(row["count"] or None) for row in (before, after)])
             elif min(before["count"], after["count"]) >= FEW and "median" in before and "median" in after:
                 if self._differ(before["median"], after["median"]):
                     yield Difference("period", what, before["median"], after["median"], "ms")
@@ -114,11 +120,10 @@ class Drift:
             for signal in group.signals if group.label in came[0] & came[1] else ():
                 spreads = [drive["signals"].get(f"{group.label}.{signal.label}") for drive in (self._before, self._after)]
                 ranges, what = [range_of(spread) for spread in spreads], f"{group.label}.{signal.label}"
-                if self._is_other(*ranges):
-                    yield Difference("range", what, *ranges, measure_of(signal.unit).unit)
+                if self._is_other(ranges[0], ranges[1]):
+                    yield Difference.of("range", what, ranges, measure_of(signal.unit).unit)
                 if all(spreads):
-                    states = [sorted(spread.states) for spread in spreads if spread]
-                    yield from differing("states", what, *states)
+                    yield from differing("states", what, [sorted(spread.states) for spread in spreads if spread])
 
     def _is_other(self, before: Range | None, after: Range | None) -> bool:
         """Whether an end of a range lies elsewhere, by more than the share of the greater range."""
@@ -132,7 +137,7 @@ class Drift:
         codes = [{code[:4]: code.times for code in drive["codes"]} for drive in (self._before, self._after)]
         for key in sorted(codes[0].keys() ^ codes[1].keys()):
             spn, fmi, group, unit = key
-            yield Difference("code", f"spn {spn} fmi {fmi} in {group} from {unit}", *(counted(known.get(key)) for known in codes))
+            yield Difference.of("code", f"spn {spn} fmi {fmi} in {group} from {unit}", [counted(known.get(key)) for known in codes])
 
 
 def whole_of(drive: Drive) -> dict[str, Any]:
@@ -140,9 +145,9 @@ def whole_of(drive: Drive) -> dict[str, Any]:
     return drive["whole"]
 
 
-def differing(kind: str, what: str, before: Any, after: Any, unit: str = "") -> Iterable[Difference]:
-    """Two values that differ, if they do."""
-    return [Difference(kind, what, before, after, unit)] if before != after else []
+def differing(kind: str, what: str, values: list[Any], unit: str = "") -> Iterable[Difference]:
+    """What both drives have, if that differs."""
+    return [Difference.of(kind, what, values, unit)] if values[0] != values[1] else []
 
 
 def sorted_of(addresses: list[int | None]) -> list[int | str]:

@@ -119,10 +119,15 @@ class Reference:
             raise program.Refused(program.UNREADABLE, f"{name}: no signal in it has an SPN")
 
     def differences(self, plan: Source) -> list[Placed]:
-        """What is otherwise in a plan, each with its line: of signals, and once of each group."""
+        """What is otherwise in a plan, each with its line: of signals, and once of each group. Where not all of its signals are there, it is said how many
+        are."""
         found: list[Placed] = []
         seen: set[str] = set()
-        for group, signal, number in signals_in(plan):
+        signals = list(signals_in(plan))
+        there = sum(number in self._known for *_, number in signals)
+        if there < len(signals):
+            program.say(f"of {len(signals)} signals with an SPN {there} are in {self.name}")
+        for group, signal, number in signals:
             others = self._known.get(number)
             if others is None:
                 continue

@@ -1,11 +1,11 @@
 //! What isn't built.
-ghost use Rattle.std.specs.Prelude.{◌≡◌, ◌==◌, ◌||◌, map, not, IfOk};
-ghost use Rattle.std.specs.List.{filter, list_any, range_with_len};
+ghost use Rattle.std.specs.Prelude.{◌≡◌, ◌==◌, map, IfOk};
+ghost use Rattle.std.specs.List.{list_any};
 ghost use Rattle.toml.specs.View.{table_view};
 ghost use Rattle.j39_toml.specs.Outcome.{Gives, GivesGrowing};
 ghost use Rattle.j39_variants.specs.ChoiceTables.{choice_labels};
 ghost use Rattle.j39_variants.specs.ListTables.{IsNamed, named_in};
-ghost use Rattle.j39_variants.specs.NeverTables.{DescribesNever, but_label_faults, is_misplaced, is_of_another, never_table_faults, others, size_of};
+ghost use Rattle.j39_variants.specs.NeverTables.{DescribesNever, but_label_faults, is_misplaced, is_of_another, never_table_faults, others, alternatives_left, size_of};
 
 use super::labels::{label_of, named};
 use super::lists::{ElementReader, NamedAlternative, alternatives, is_among_named, listed};
@@ -142,6 +142,27 @@ impl ReadElement<NamedAlternative, PlanFault> for ButReader<'_> {
     }
 }
 
+fn is_place_among(list: &[Alternative], place: usize) -> bool
+    ensures { result ≡ list_any (λ a. a.place == place) list.now }
+{
+    list.iter().any(|alternative| alternative.place == place)
+}
+
+// The alternatives of a choice whose places none of a list has.
+fn alternatives_left(
+    alloc: Global,
+    choices: &[Choice],
+    but: &[Alternative],
+    choice: usize,
+) -> Result<Vec<Alternative>, AllocError>
+    ensures { IfOk result (λ v. v.items ≡ alternatives_left (map choice_labels choices.now) but.now choice) }
+{
+    (0..size_of(choices, choice))
+        .filter(|place| !is_place_among(but, *place))
+        .map(|place| Alternative { choice, place })
+        .collect(alloc)
+}
+
 // The alternatives of one choice that some alternatives of it aren't.
 #[tactic(auto, unfolding(crate::specs::NeverTables::others))]
 fn others(
@@ -153,13 +174,7 @@ fn others(
 {
     match but.first() {
         None => Ok(Vec::new(alloc)),
-        Some(first) => {
-            let choice = first.choice;
-            (0..size_of(choices, choice))
-                .filter(|place| !but.iter().any(|other| other.place == *place))
-                .map(|place| Alternative { choice, place })
-                .collect(alloc)
-        }
+        Some(first) => alternatives_left(alloc, choices, but, first.choice),
     }
 }
 

@@ -1,10 +1,10 @@
 """Which units claim addresses as they have to: before they send, and where claims are asked for (SAE J1939-81)."""
 
-from j39plan.j1939 import NULL_ADDRESS
+from j39plan.j1939 import GLOBAL_ADDRESS, NULL_ADDRESS
 from j39plan.log.checks.deviations import Found, Place
 from j39plan.log.checks.hands import ANSWER, Hands
 from j39plan.log.clock import milliseconds
-from j39plan.log.reports import Request
+from j39plan.log.reports import Request, Who
 from j39plan.plan.tables import Unit
 
 # So many units at least begin with their claims in a log that begins with the drive.
@@ -34,6 +34,11 @@ class Claims:
             self._asked_first.add(label)
         else:
             self._began[label] = line
+
+    def goes_to(self, line: int, at: int | None, who: Who, to: int) -> None:
+        """A claim goes to an address, which has to be that of all."""
+        if to != GLOBAL_ADDRESS:
+            self._found.tell("claim-to-one", f"a claim from {who.shown} goes to address {to}, by the standard to all", line, at, unit=who.label)
 
     def asked(self, line: int, at: int | None, request: Request) -> None:
         """Claims are asked for: who is on answers."""

@@ -466,6 +466,7 @@ class Comparison:
             self.single(line, at, Frame(line, report.time, ACKNOWLEDGEMENT, report.sender, whole, noted.priority, noted.data))
         elif isinstance(report, Claim):
             self.passes(line, at, noted.identifier, f"PGN {ADDRESS_CLAIMED}", report.who)
+            self.claims.goes_to(line, at, report.who, destination_in(noted.identifier))
         elif isinstance(report, Request):
             self.passes(line, at, noted.identifier, f"PGN {REQUEST}", report.sender)
 

@@ -24,9 +24,9 @@ FIRST = Measure(str, lambda number, known: False)
 SHORTEST, LONGEST = Measure(milliseconds, operator.lt), Measure(milliseconds, operator.gt)
 LEAST, MOST = Measure(str, operator.lt), Measure(str, operator.gt)
 
-# The kinds of deviations (docs/guide/TOOLS.md says what each is), and what is measured of them; times are in nanoseconds.
+# The kinds of deviations (kinds.py says what each is), and what is measured of them; times are in nanoseconds.
 KINDS: dict[str, Measure | None] = {
-    "stranger": None, "absent": None, "identity": FIRST, "exchanged": None, "address": None, "displaced": None, "commanded": None, "restart": None, "early-message": SHORTEST,
+    "stranger": None, "absent": None, "identity": FIRST, "exchanged": None, "address": None, "displaced": None, "commanded": None, "claim-to-one": None, "restart": None, "early-message": SHORTEST,
     "two-boxes": None, "unclaimed": None, "claims-unanswered": None, "not-defended": None, "too-early": None, "hands": MOST, "no-group": None, "layout": None, "length": None, "priority": None, "no-flow": None,
     "not-whole": LEAST, "given-up": None, "not-acknowledged": None, "near": SHORTEST, "silent": LONGEST, "stopped": LONGEST, "never-sent": None,
     "unmet": None, "unanswered": None, "refused": None, "late": LONGEST, "asked-early": SHORTEST, "gap": LONGEST, "ignition": LONGEST, "bus-off": None,

@@ -6,9 +6,9 @@ from __future__ import annotations
 import re
 from collections import deque
 from collections.abc import Iterator
-from typing import BinaryIO, NamedTuple
+from typing import NamedTuple, Protocol
 
-from j39plan.j1939 import ACKNOWLEDGEMENT, ADDRESS_CLAIMED, REQUEST, pgn_in
+from j39plan.j1939 import ACKNOWLEDGEMENT, ADDRESS_CLAIMED, GLOBAL_ADDRESS, REQUEST, destination_in, pgn_in
 from j39plan.log.checks.meter import Meter
 from j39plan.log.files import LINE_MOST, interface_of
 from j39plan.plan.tables import Timing
@@ -27,8 +27,19 @@ ODD_KINDS = {REMOTE: "a remote frame", FD: "a CAN FD frame"}
 ERROR = re.compile(rb"(?:^|[ \t\r])(2[0-9A-Fa-f]{7})#((?:[0-9A-Fa-f]{2}){8})(?:[ \t\r]+[RT])?[ \t\r]*\n?$")
 ERROR_FLAG = 1 << 29
 
-# What parts words, and words that may stand behind a frame.
+# What parts words, words that may stand behind a frame, and digits.
 BLANKS, DIRECTIONS = b" \t\r\n", (b"R", b"T")
+HEX = b"0123456789ABCDEFabcdef"
+
+# So much of a log is looked at at once.
+BLOCK = 1 << 16
+
+
+class Read(Protocol):
+    """A log that hands out what has come of it."""
+
+    def read1(self, size: int, /) -> bytes:
+        """So many bytes at most, at least one until it ends."""
 
 
 class Noted(NamedTuple):
@@ -77,16 +88,21 @@ class Feed:
         """The first word of the last line that has a frame."""
         return first_word(self._last)
 
-    def pieces(self, log: BinaryIO) -> Iterator[bytes]:
-        """The lines of a log; one that is too long in pieces."""
-        number, is_begun = 1, False
-        while piece := log.readline(LINE_MOST):
-            was_begun, is_begun = is_begun, len(piece) == LINE_MOST and not piece.endswith(b"\n")
-            if not is_begun:
-                if not was_begun:
-                    self._take(number, piece)
-                number += 1
-            yield piece
+    def pieces(self, log: Read) -> Iterator[bytes]:
+        """What comes of a log, as soon as it is there, when its lines were looked at; one that is too long isn't."""
+        number, rest, is_long = 1, b"", False
+        while block := log.read1(BLOCK):
+            *lines, rest = (rest + block).split(b"\n")
+            if lines and is_long:
+                number, is_long = number + 1, False
+                del lines[0]
+            self._take_all(number, lines)
+            number += len(lines)
+            if is_long or len(rest) >= LINE_MOST:
+                rest, is_long = b"", True
+            yield block
+        if rest:
+            self._take(number, rest)
 
     def unheard(self, line: float) -> Iterator[Noted]:
         """The frames of the lines before this one of which `follow` says nothing, on the interface that it reads."""
@@ -101,6 +117,20 @@ class Feed:
             self._beside.popleft()
         return self._beside[0] if self._beside and self._beside[0].line == line else None
 
+    def _take_all(self, number: int, lines: list[bytes]) -> None:
+        """Lines come. Most have a frame of which nothing is noted, and hexadecimal digits up to their end."""
+        plain, meter, take = self._plain, self._meter, self._take
+        for line in lines:
+            at = line.rfind(b"#")
+            digits = len(line) - at
+            if digits & 1 and digits > 1 and line[at - 8:at] in plain and line[-1] in HEX and line[at + 1] in HEX and len(line) < LINE_MOST:
+                if meter:
+                    meter.take(line, at - 8, digits)
+                self._last = line
+            elif len(line) < LINE_MOST:
+                take(number, line)
+            number += 1
+
     def _take(self, number: int, line: bytes) -> None:
         """A line comes."""
         end = line.rstrip(BLANKS)
@@ -109,14 +139,14 @@ class Feed:
         if self._meter:
             is_last = end[-1:] not in DIRECTIONS
             self._meter.take(line, at - 8, len(end) - at if is_last else len(end[at:].split(maxsplit=1)[0]))
-        if spelled in self._plain and self._interface and end[at:at + 2] != REMOTE_MARK and ((len(end) - at) & 1 or end[-2:-1] == b" "):
+        if spelled in self._plain and end[at:at + 2] != REMOTE_MARK and ((len(end) - at) & 1 or end[-2:-1] == b" "):
             self._last = line
         elif found := FRAME.search(line):
             self._last = line
             self._interface = self._interface or interface_of(line)
             if self._is_noted(int(found.group(1), 16)):
                 self._beside.append(noted_of(number, line, found))
-            else:
+            elif self._interface:
                 self._plain.add(spelled)
         elif found := ERROR.search(line) or ODD.search(line) or SHORT.search(line):
             if found.re is not SHORT or self._timing:
@@ -128,7 +158,8 @@ class Feed:
         """Whether a frame of which `follow` says who sent it, and no more, is to be looked at."""
         pgn = pgn_in(identifier)
         is_urgent = self._timing is not None and identifier >> 26 < self._timing.unplanned_priority
-        return pgn == ACKNOWLEDGEMENT or is_urgent and pgn in (ADDRESS_CLAIMED, REQUEST)
+        is_to_one = pgn == ADDRESS_CLAIMED and destination_in(identifier) != GLOBAL_ADDRESS
+        return pgn == ACKNOWLEDGEMENT or is_to_one or is_urgent and pgn in (ADDRESS_CLAIMED, REQUEST)
 
 
 def noted_of(number: int, line: bytes, found: re.Match[bytes]) -> Noted:

@@ -48,7 +48,7 @@ class Reader:
             words = line.split(" ", 2)
             head, _, data = words[-1].rpartition(" ")
             plain = plain_of(head)
-            if plain is not None and len(data) <= DIGITS and not unheard and not beside:
+            if plain is not None and len(data) <= DIGITS and (not unheard and not beside or self._is_before(int(words[0]))):
                 flow, pgn, sender, to, key, box, address = plain
                 number = int(words[0])
                 at = see(number, words[1])
@@ -65,6 +65,10 @@ class Reader:
                 self._report(line, lines, head)
             else:
                 self._counts.take(line)
+
+    def _is_before(self, line: int) -> bool:
+        """Whether a line comes before all of which something is noted."""
+        return all(line < noted[0].line for noted in (self._unheard, self._beside) if noted)
 
     def _report(self, line: str, lines: Iterator[str], head: str) -> None:
         """A report."""

@@ -8,7 +8,7 @@ from typing import Any
 
 from j39plan import program
 from j39plan.j1939 import ADDRESS_CLAIMED
-from j39plan.left_out import Notes
+from j39plan.left_out import Notes, some_of
 from j39plan.log.checks.feed import Feed
 from j39plan.log.checks.other_requests import Asked
 from j39plan.log.clock import nanoseconds
@@ -132,8 +132,8 @@ class Draft:
                 continue
             for group in groups:
                 found.setdefault((group.label, sender.label, receiver.label if receiver else "all"), Flow(group, sender, receiver, Sent()))
-        for way in list(found)[FLOWS:]:
-            self._notes.say(f"flow of {way[0]} from {way[1]} to {way[2]}", f"a plan has at most {FLOWS} flows")
+        if others := [f"{group} from {sender} to {to}" for group, sender, to in list(found)[FLOWS:]]:
+            self._notes.say(f"{len(others)} flows, {some_of(others)}", f"a plan has at most {FLOWS} flows")
         return list(found.values())[:FLOWS]
 
     def _measure(self) -> None:

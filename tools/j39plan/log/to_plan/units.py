@@ -9,7 +9,7 @@ from typing import Any
 
 from j39plan.dbc.reader import KINDS
 from j39plan.j1939 import IDENTITY_BITS, NAME_FIELDS, identity_in, kind_of
-from j39plan.left_out import Notes, plain
+from j39plan.left_out import Notes, plain, some_of
 from j39plan.log.to_plan.survey import WINDOW, Box, Survey
 from j39plan.plan.parts import Part, Source
 from j39plan.plan.schema import Value, most_of
@@ -80,8 +80,8 @@ class Units:
         self._taken: dict[int, str] = {}  # identity numbers of units without a claim
         self.units: dict[Box, Unit] = {}
         boxes = [*self._claimed(), *self._silent()]
-        for unit in boxes[UNITS:]:
-            notes.say(f"unit at address {unit.address}", f"a plan has at most {UNITS} units")
+        if others := [str(unit.address) for unit in boxes[UNITS:]]:
+            notes.say(f"{len(others)} units, at addresses {some_of(others)}", f"a plan has at most {UNITS} units")
         for unit in boxes[:UNITS]:
             unit.label = self._label(unit)
         self._number(boxes[:UNITS])

@@ -18,8 +18,8 @@ from j39plan.plan.toml_places import Place, place_of, table_of
 # How TOML spells numbers with a point or a power of ten that aren't too long to be meant.
 DECIMAL = re.compile(r"[+-]?[0-9_]{1,20}(?:\.[0-9_]{1,20})?(?:[eE][+-]?[0-9]{1,2})?")
 
-# The tables by which a file is one of a vehicle, and not of a plan.
-OF_VEHICLES = ("bus", "gateway", "forward")
+# The tables by which a file is one of a vehicle, and not of a plan, and those that both have.
+OF_VEHICLES, OF_BOTH = ("bus", "gateway", "forward"), ("need",)
 
 # The keys that a trouble code can't have but with their defaults.
 SCALE = ("step", "per", "offset", "unit")
@@ -106,7 +106,7 @@ def unknown_key(plan: Source, place: Place) -> Told:
 
 def unlisted_key(plan: Source, place: Place, key: str) -> Told:
     """Line and hint of a key that isn't listed, or not by the plan's version."""
-    if not place and key in OF_VEHICLES and not any((array,) in plan.places.lines for array in arrays()):
+    if not place and key in OF_VEHICLES and not any((array,) in plan.places.lines for array in arrays() if array not in OF_BOTH):
         return plan.line((key,)), "this is the file of a vehicle: j39plan vehicle takes it, and of the tools where, report and against"
     if first := since().get((table_of(place) or None, key)):
         if plan.places.number(("version",)) not in VERSIONS:

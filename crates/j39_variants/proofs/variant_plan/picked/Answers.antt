@@ -1,4 +1,4 @@
-use Rattle.std.proofs.Common.{◌≡◌, ◌∷◌, [], ◌++◌, true, false, get_or, arith, drop}
+use Rattle.std.proofs.Common.{◌≡◌, ◌∷◌, [], ◌++◌, true, false, get_or, arith, drop, sym, ◌∙◌}
 use Rattle.std.proofs.lemmas.List.{append-nil, drop_all}
 use Rattle.j39_variants.specs.VariantPlans.{flag_at}
 use Rattle.j39_variants.proofs.Picking.{passes, picked_nothing, picks}
@@ -13,12 +13,13 @@ loop-index-preserved g c =
     let x = c.index-values-index.result in
     elim c.if-flag_at.branch [
       | then-flag_at+in_ok-push w ↦
-          let flag : flag_at bs i ≡ true = cc in
-          let items : c.if-flag_at.picked.items ≡ c.loop-index.picked.items ++ get_or xs i x ∷ [] = cc in
+          let flag : flag_at bs i ≡ true = sym c.flag_at.ensures ∙ w.if-flag_at.true in
+          let items : c.if-flag_at.picked.items ≡ c.loop-index.picked.items ++ get_or xs i x ∷ [] =
+          rw w.picked-is (rw c.index-values-index.is at w.in_ok-push.ensures.items) in
           rw items (picks bs xs c.loop-index.picked.items _ i x (omega arith) flag c.loop-index.invariant)
       | else-flag_at w ↦
-          let flag : flag_at bs i ≡ false = cc in
-          let items : c.if-flag_at.picked.items ≡ c.loop-index.picked.items = cc in
+          let flag : flag_at bs i ≡ false = sym c.flag_at.ensures ∙ w.if-flag_at.false in
+          let items : c.if-flag_at.picked.items ≡ c.loop-index.picked.items = rw w.picked-is in
           rw items (passes bs xs c.loop-index.picked.items _ i x (omega arith) flag c.loop-index.invariant)
     ]
 

@@ -10,7 +10,7 @@ import os
 import re
 from collections.abc import Iterator
 
-from tests.support import text_of
+from crates import text_of
 
 # A law: a public function without parameters, and its clauses.
 LAW = re.compile(r"^pub fn (\w+)\(\)\n((?:    .*\n)+)\{", re.MULTILINE)
