@@ -55,6 +55,7 @@ commands =
     (with_subcommand
     (with_subcommand
     (with_subcommand
+    (with_subcommand
     (with_subcommand program (one_value (codes "frame") (codes "LINE")).top)
     (one_value (codes "show") (codes "PLAN")).top)
     (value_and_values (codes "variant") (codes "PLAN") (codes "LABEL")).top)

@@ -2,8 +2,8 @@
 use crate::Command;
 use j39_app::{
     Fault, Sink, Source, Verdict, addresses_text, audit_planned, bus_plan, check_text, follow_text,
-    input_text, line_text, load_text, read_text, refuse_choices, run_planned, show_text, vehicle_file,
-    vehicle_text,
+    input_text, line_text, load_text, read_text, refuse_choices, run_planned, show_text,
+    vehicle_file, vehicle_text,
 };
 use j39_id::Label;
 use j39_network::Plan;
