@@ -8,4 +8,5 @@ pub mod StaysTexts
 pub mod UnitLists
 pub mod VehicleReports
 pub mod VehicleTexts
+pub mod Wanted
 pub mod WrittenRuns

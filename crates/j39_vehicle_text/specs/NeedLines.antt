@@ -78,16 +78,16 @@ need_age_text None (Some ms) = codes " old" ++ (limit_text (Some ms) ++ codes " 
 need_age_text None None = []
 
 -- which flow's age it is, where several meet the need
-unfoldable pub age_flow_text : Vehicle → VehicleNeed → ℕ → Option ℕ → List ℕ
-age_flow_text v d flow (Some age) = if nat_lt 1 (need_flow_count v d) then place_field (codes " flow ") flow else []
-age_flow_text v d flow None = []
+unfoldable pub told_flow_text : Vehicle → VehicleNeed → ℕ → Option ℕ → List ℕ
+told_flow_text v d flow (Some age) = if nat_lt 1 (need_flow_count v d) then place_field (codes " flow ") flow else []
+told_flow_text v d flow None = []
 
 -- ---- the line
 
 -- of the flow that meets the need what its origin sends, by which forwards, how old it is, and which flow it is, where several meet the need
 unfoldable pub told_text : Vehicle → VehicleNeed → NeedFlow → List ℕ
 told_text v d told = let p = point_on d.unit.bus told.flow d.signal in
-    origin_text v p ++ (told_way_text (way_back v p) ++ (need_age_text told.age d.within ++ age_flow_text v d told.flow told.age))
+    origin_text v p ++ (told_way_text (way_back v p) ++ (need_age_text told.age d.within ++ told_flow_text v d told.flow told.age))
 
 unfoldable pub met_text : Vehicle → VehicleNeed → Option NeedFlow → List ℕ
 met_text v d (Some told) = told_text v d told

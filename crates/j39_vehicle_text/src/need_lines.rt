@@ -2,7 +2,7 @@
 ghost use Rattle.std.specs.Prelude.{◌≡◌, ◌++◌, Some, None, OnOk};
 ghost use Rattle.j39_load.specs.LineLists.{lines_of_each};
 ghost use Rattle.j39_vehicle_times.specs.declared.needs.NeedFlow.{NeedFlow as ToldFlows};
-ghost use Rattle.j39_vehicle_text.specs.NeedLines.{age_flow_text, content_text, group_of_flow, limit_text, meant_text, met_text};
+ghost use Rattle.j39_vehicle_text.specs.NeedLines.{told_flow_text, content_text, group_of_flow, limit_text, meant_text, met_text};
 ghost use Rattle.j39_vehicle_text.specs.NeedLines.{need_age_text, origin_content, origin_text, told_text};
 ghost use Rattle.j39_vehicle_text.specs.NeedLines.{vehicle_need_line, vehicle_need_lines, vehicle_need_text};
 
@@ -156,14 +156,14 @@ fn write_age(text: &mut TextBuffer, age: Option<u64>, within: Option<u16>) -> Re
 }
 
 // Which flow's age it is, where several meet the need.
-#[tactic(auto, unfolding(crate::specs::NeedLines::age_flow_text))]
+#[tactic(auto, unfolding(crate::specs::NeedLines::told_flow_text))]
 fn write_age_flow(
     text: &mut TextBuffer,
     routes: &Routes<'_>,
     need: &VehicleNeed,
     told: NeedFlow,
 ) -> Result<(), AllocError>
-    ensures { OnOk result (text.new ≡ text.old ++ age_flow_text routes.now.vehicle.now need.now told.flow told.age) }
+    ensures { OnOk result (text.new ≡ text.old ++ told_flow_text routes.now.vehicle.now need.now told.flow told.age) }
 {
     match told.age {
         Some(_) if 1 < need_flow_count(routes, need) => text.place(" flow ", told.flow),

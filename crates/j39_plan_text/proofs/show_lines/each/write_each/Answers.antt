@@ -1,7 +1,12 @@
 use Rattle.std.proofs.Common.{◌++◌, ℕ, List, take, append_assoc, sym, ap, ◌∙◌}
+use Rattle.std.proofs.lemmas.List.{append-nil}
 use Rattle.j39_load.proofs.Before.{more}
 use Rattle.j39_load.specs.LineLists.{lines_of_each}
 use Rattle.j39_plan_text.proofs.show_lines.each.write_each.Goals as goal
+
+pub loop-place-init : goal.loop-place-init
+unfolding lines_of_each
+loop-place-init g c = sym (append-nil c.args.text.now)
 
 pub loop-place-preserved : goal.loop-place-preserved
 loop-place-preserved g c =
