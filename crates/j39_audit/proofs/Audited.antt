@@ -41,3 +41,13 @@ audited s log input text verdict has is =
 pub is_audit : (s : Settings) (log : AuditLog) (input text : List ℕ) (verdict : Verdict) → HasAudited s log (lines input)
     → AreMoving s.plan s.moving → IsAuditReport log text verdict → IsAudit s.plan s.part s.stamps input text verdict
 is_audit s log input text verdict has moving is = record { moving = s.moving; moving_are = moving; audited = audited s log input text verdict has is }
+
+-- by these settings
+pub is_audit_of : (plan : Plan) (part : Bool) (stamps : ℕ) (s : Settings) (log : AuditLog) (input text : List ℕ) (verdict : Verdict) → s.plan ≡ plan
+    → s.part ≡ part → s.stamps ≡ stamps → AreMoving plan s.moving → HasAudited s log (lines input) → IsAuditReport log text verdict
+    → IsAudit plan part stamps input text verdict
+is_audit_of plan part stamps s log input text verdict same_plan same_part same_stamps moving has is =
+    subst (λ (n : ℕ). IsAudit plan part n input text verdict) same_stamps
+    (subst (λ (b : Bool). IsAudit plan b s.stamps input text verdict) same_part
+    (subst (λ (x : Plan). IsAudit x s.part s.stamps input text verdict) same_plan
+    (is_audit s log input text verdict has (subst (λ (x : Plan). AreMoving x s.moving) (sym same_plan) moving) is)))

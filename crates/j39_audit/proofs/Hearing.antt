@@ -3,7 +3,10 @@ use Rattle.std.proofs.Common.{◌≡◌, ◌+◌, ◌<◌, ◌≤◌, ◌++◌, 
 use Rattle.std.specs.Prelude.{IfNone, IfSome}
 use Rattle.std.specs.Option.{option_copied}
 use Rattle.j39_follow.specs.LogLines.{IsInterface, NamesInterface}
-use Rattle.j39_id.specs.Lines.{Line}
+use Rattle.j39_id.proofs.CutLines.{tells_lines}
+use Rattle.j39_id.specs.Lines.{Line, Pending, answer_to_end, at_start, behind_all, cutter_line, lines, tells, told, told_at_end}
+use Rattle.j39_id.specs.declared.cut.Cut.{Cut}
+use Rattle.j39_id.specs.declared.cut.Cut.TheVariants as cuts
 use Rattle.j39_id.specs.declared.frame.Frame.{Frame}
 use Rattle.j39_id.specs.declared.line_error.LineError.{LineError}
 use Rattle.j39_id.specs.declared.line_error.LineError.TheVariants.{Empty, NoHash, ShortIdent, BadIdent, TooLong, BadData}
@@ -54,3 +57,16 @@ pub names_it : (part : List ℕ) (found : Option (Bor (List ℕ))) → IfSome fo
     → IfNone found ((i : List ℕ) → ¬ IsInterface part i) → NamesInterface part (option_copied found)
 names_it part None some none = none
 names_it part (Some i) some none = some
+
+tells_given : (cut : Cut) (p : Pending) → tells cut (cutter_line cut p) ≡ tells cut p.held
+tells_given cuts.More p = refl
+tells_given cuts.Line p = refl
+tells_given cuts.Long p = refl
+
+-- with what a cutter tells at the end all lines are told
+pub all_lines_told : (input : List ℕ) (cut : Cut) (p : Pending) (line : List ℕ) → p ≡ behind_all at_start input → cut ≡ answer_to_end p
+    → line ≡ cutter_line cut p → told at_start input ++ tells cut line ≡ lines input
+all_lines_told input cut p line at answered gave =
+    let end : tells cut line ≡ told_at_end p = ap (tells cut) gave ∙ tells_given cut p ∙ ap (λ (k : Cut). tells k p.held) answered in
+    ap (λ (l : List Line). told at_start input ++ l) end
+    ∙ ap (λ (r : Pending). told at_start input ++ told_at_end r) at ∙ tells_lines input

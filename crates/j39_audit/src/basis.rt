@@ -1,5 +1,7 @@
 //! What an audit goes by.
-ghost use Rattle.std.specs.Prelude.{◌≡◌, ◌<◌, IfOk};
+ghost use Rattle.std.specs.Prelude.{◌≡◌, ◌<◌, ◌&&◌, not, IfOk};
+ghost use Rattle.j39_findings.specs.Standing.{stays_of};
+ghost use Rattle.j39_id.specs.Name.{is_arbitrary};
 ghost use Rattle.j39_audit.specs.Settings.{AreMoving, moves};
 ghost use Rattle.j39_audit.specs.Claiming.{has_strangers, is_address_of, is_free_for};
 ghost use Rattle.j39_audit.specs.inside.Recalling.{settings_of};
@@ -7,7 +9,7 @@ ghost use Rattle.j39_audit.specs.inside.Recalling.{settings_of};
 use j39_findings::Standing;
 use j39_id::Address;
 use j39_id::addresses::is_in_pool;
-use j39_network::Plan;
+use j39_network::{Plan, UnitPlan};
 use std::alloc::{AllocError, Global};
 
 /// The plan, which of its units may move to other addresses, whether frames of the bus may be missing in the log, and
@@ -20,14 +22,21 @@ pub(crate) struct Basis<'a> {
     pub stamps: u64,
 }
 
-// Which units may choose an address and don't stay at the planned one.
+// Whether a unit may choose an address, and doesn't stay at the planned one.
+fn may_move(standing: &Standing, unit: &UnitPlan) -> bool
+    ensures { result ≡ (is_arbitrary unit.now.name && not (stays_of standing.now unit.now)) }
+{
+    unit.name.is_arbitrary() && !standing.stays(unit)
+}
+
+// Which units do.
 fn moving_of(alloc: Global, plan: &Plan) -> Result<Vec<bool>, AllocError>
     ensures { IfOk result (λ moving. AreMoving plan.now moving.items) }
 {
     let standing = Standing::new(plan);
     let mut moving = Vec::new(alloc);
     for unit in &plan.units {
-        moving.push(unit.name.is_arbitrary() && !standing.stays(unit))?;
+        moving.push(may_move(&standing, unit))?;
     }
     Ok(moving)
 }

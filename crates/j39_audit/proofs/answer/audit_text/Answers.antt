@@ -1,6 +1,7 @@
-use Rattle.std.proofs.Common.{rules, ◌≡◌, ℕ, List, refl, sym, ap, subst, ◌∙◌}
+use Rattle.std.proofs.Common.{rules}
 use Rattle.j39_stream.proofs.Answering.{not_read, read_and_put}
-use Rattle.j39_audit.proofs.Audited.{is_audit}
+use Rattle.j39_audit.specs.inside.Recalling.{settings_of}
+use Rattle.j39_audit.proofs.Audited.{is_audit_of}
 use Rattle.j39_audit.proofs.answer.audit_text.Goals as goal
 
 pub returns-in_err-log : goal.returns-in_err-log
@@ -11,6 +12,12 @@ returns-in_err-read_log g c = not_read _ (search rules) (search rules) (search r
 
 pub returns : goal.returns
 returns g c =
-    let read = c.in_ok-read_log.ensures.read _ c.in_ok-log.ensures.nothing in
-    read_and_put read.input ?
-    c.put_report.result read.consumed read.end c.in_ok-read_log.ensures.limits ? c.put_report.ensures
+    let begun = c.in_ok-log.ensures in
+    let s = settings_of c.in_ok-log.log.basis in
+    let read = c.in_ok-read_log.ensures.read s begun.nothing in
+    read_and_put read.input
+    (λ text verdict is.
+    let audit = is_audit_of c.args.plan.now c.args.part c.args.stamps s c.read_log.new.log read.input text verdict begun.plan begun.part begun.stamps
+    begun.moving read.audited is in
+    (audit, (verdict, audit)))
+    c.put_report.result read.consumed read.end c.in_ok-read_log.ensures.limits (c.in_ok-read_log.ensures.calm (λ e. cc e)) c.put_report.ensures

@@ -8,14 +8,14 @@ use Rattle.j39_audit.proofs.Writing.{count_more, text_more, text_none}
 use Rattle.j39_audit.proofs.summary.write_accusations.Goals as goal
 
 pub loop-place-init : goal.loop-place-init
-loop-place-init c = record { text = text_none _ _; count = sym (sum_none _); few = omega arith }
+loop-place-init c = record { text = text_none _ _; count = sym (sum_none _); few = omega arith; within = omega arith }
 
 pub loop-place-preserved : goal.loop-place-preserved
 loop-place-preserved c =
     let s = settings_of c.args.basis.now in
     let look = tallied c.args.tally.now in
     let before = c.loop-place.invariant in
-    let more = c.in_ok-write_word_lines.ensures in
+    let more = c.in_ok-count.ensures in
     let few = before.few in
     let one = more.few in
     let word = c.accusing_at.ensures in
@@ -25,6 +25,7 @@ loop-place-preserved c =
       count = count_more (λ n. word_count s look (accusing_at n)) c.loop-place.place _ _ before.count
           (more.count ∙ ap (λ (w : Word). word_count s look w) word);
       few = omega (arith, few, one);
+      within = let less = c.loop-place-test.true in omega (arith, less);
     }
 
 pub returns : goal.returns
@@ -33,9 +34,9 @@ returns c =
     let s = settings_of c.args.basis.now in
     let look = tallied c.args.tally.now in
     let before = c.loop-place.invariant in
-    let count = c.len-place-end.ensures in
     let done = c.loop-place-test.false in
-    let end : c.loop-place.place ≡ 9 = ? in
+    let within = before.within in
+    let end : c.loop-place.place ≡ 9 = omega (arith, done, within) in
     record {
       text = before.text ∙ ap (λ (n : ℕ). c.args.text.now ++ each_below (λ k. word_lines s look (accusing_at k)) n) end;
       count = before.count ∙ ap (λ (n : ℕ). sum_below (λ k. word_count s look (accusing_at k)) n) end;

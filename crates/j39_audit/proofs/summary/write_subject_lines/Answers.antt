@@ -12,7 +12,7 @@ loop-group-init c = record { text = text_none _ _; count = sym (sum_none _); few
 pub loop-group-preserved : goal.loop-group-preserved
 loop-group-preserved c =
     let before = c.loop-group.invariant in
-    let more = c.in_ok-write_line.ensures in
+    let more = c.in_ok-count.ensures in
     let few = before.few in
     let one = more.few in
     record {

@@ -12,7 +12,7 @@ loop-subject-init c = record { text = text_none _ _; count = sym (sum_none _); f
 pub loop-subject-preserved : goal.loop-subject-preserved
 loop-subject-preserved c =
     let before = c.loop-subject.invariant in
-    let more = c.in_ok-write_subject_lines.ensures in
+    let more = c.in_ok-count.ensures in
     let few = before.few in
     let one = more.few in
     record {

@@ -1,7 +1,10 @@
 use Rattle.std.proofs.Common.{◌≡◌, ◌+◌, ℕ, List, Option, refl, sym, ap, subst, ◌∙◌}
 use Rattle.std.specs.Option.{option_copied}
+use Rattle.std.specs.declared.alloc.Global.{Global}
+use Rattle.std.specs.declared.vec.Vec.{Vec}
 use Rattle.j39_log.specs.declared.line_counts.LineCounts.{LineCounts}
 use Rattle.j39_follow.specs.LogLines.{interface_behind}
+use Rattle.j39_follow.specs.inside.FollowedSoFar.{interface_of}
 use Rattle.j39_audit.specs.AuditText.{AuditPast, past_with_frame}
 use Rattle.j39_audit.proofs.audit_log.AuditLog.take_frame_line.Goals as goal
 
@@ -17,7 +20,8 @@ returns-clause-frame c = λ past recalls.
       recalls = record {
         follows = record { knows = took.follows.knows; counted = took.follows.counted; newest_is = took.follows.newest_is };
         number_is = timed.number ∙ recalls.number_is;
-        interface_is = c.in_ok-keep_interface.ensures ∙ ap (λ (i : Option (List ℕ)). interface_behind i named) ?;
+        interface_is = c.in_ok-keep_interface.ensures ∙ ap (λ (i : Option (List ℕ)). interface_behind i named)
+            (ap (λ (i : Option (Vec ℕ Global)). interface_of i) timed.interface ∙ recalls.interface_is);
         frames_are = ap (λ (k : LineCounts). k.frames + 1) timed.counts ∙ ap (λ (n : ℕ). n + 1) recalls.frames_are;
         skipped_are = ap (λ (k : LineCounts). k.skipped) timed.counts ∙ recalls.skipped_are;
         bad_are = ap (λ (k : LineCounts). k.bad) timed.counts ∙ recalls.bad_are;

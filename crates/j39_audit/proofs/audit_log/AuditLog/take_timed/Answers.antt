@@ -1,0 +1,44 @@
+use Rattle.std.proofs.Common.{◌≡◌, ◌++◌, ℕ, Bool, Option, Some, None, sym, ap, subst, ◌∙◌}
+use Rattle.std.specs.Prelude.{IfNone, IfSome}
+use Rattle.j39_id.specs.declared.frame.Frame.{Frame}
+use Rattle.j39_log.specs.LogFrames.{IsPacket}
+use Rattle.j39_tp.specs.Packets.{InRange}
+use Rattle.j39_tp.specs.declared.packet.Packet.{Packet}
+use Rattle.j39_audit.specs.AuditText.{claims_before, past_with_frame}
+use Rattle.j39_audit.specs.Breaks.{breaks, newest_behind}
+use Rattle.j39_audit.specs.Claiming.{broken_off}
+use Rattle.j39_audit.specs.Looking.{IsPacketOf, break_noted, frame_noted}
+use Rattle.j39_audit.specs.inside.Recalling.{AreCounted, KnowsClaims, Notes, settings_of}
+use Rattle.j39_audit.proofs.Noting.{notes_both}
+use Rattle.j39_audit.proofs.audit_log.AuditLog.take_timed.Goals as goal
+
+packet_of : (f : Frame) (found : Option Packet) → IfSome found (λ p. IsPacket f p × InRange p) → IfNone found ((p : Packet) → ¬ IsPacket f p) → IsPacketOf f found
+packet_of f None some none = none
+packet_of f (Some p) some none = some.0
+
+pub returns-clause-frame : goal.returns-clause-frame
+unfolding past_with_frame
+returns-clause-frame c = λ past named accords number.
+    let s = settings_of c.args.self.now.basis in
+    let time = c.args.time in
+    let f = c.args.frame.now in
+    let packet = c.transport_packet.result in
+    let broken : c.breaks-broken.result ≡ breaks s.stamps past.newest time =
+    c.breaks-broken.ensures ∙ ap (λ (n : Option ℕ). breaks s.stamps n time) accords.newest_is in
+    let before = claims_before s past time in
+    let known = subst (λ (b : Bool). KnowsClaims s c.take_break.new.known (broken_off b past.claims)) broken
+    (c.take_break.ensures.known past.claims accords.knows) in
+    let took = c.in_ok-take_frame.ensures before known in
+    let noted = subst (λ (b : Bool). Notes c.args.self.now.tally c.take_break.new.tally (break_noted c.args.self.now.number b)) broken
+    c.in_ok-take_break.ensures.noted in
+    let both = notes_both noted took.1 in
+    record {
+      packet = packet;
+      packet_is = packet_of f packet c.transport_packet.ensures.found c.transport_packet.ensures.none;
+      follows = record {
+        knows = took.0;
+        counted = subst (λ (n : ℕ). AreCounted c.take_frame.new.tally (past.noted ++ (break_noted n (breaks s.stamps past.newest time) ++ frame_noted s before f packet n)))
+            number (both.counts past.noted accords.counted);
+        newest_is = c.newest_behind-self.ensures ∙ ap (λ (n : Option ℕ). newest_behind s.stamps n time) accords.newest_is;
+      };
+    }

@@ -1,0 +1,91 @@
+use Rattle.std.proofs.Common.{rules, ◌≡◌, ◌<◌, ◌≤◌, ◌++◌, [], ℕ, List, length, take, refl, sym, ap, subst, ◌∙◌, arith}
+use Rattle.std.proofs.lemmas.List.{length-append}
+use Rattle.j39_id.specs.Lines.{Line, Pending, at_start, behind_all, told}
+use Rattle.j39_id.proofs.CutLines.{behind_all-append, told-append}
+use Rattle.j39_stream.specs.Intakes.{Counts}
+use Rattle.j39_stream.specs.Streams.{log_limits}
+use Rattle.j39_stream.specs.declared.limits.Limits.{Limits}
+use Rattle.j39_stream.proofs.Parts.{none_read}
+use Rattle.j39_audit.specs.inside.Auditing.{HasAudited, IsWithinLines}
+use Rattle.j39_audit.proofs.Hearing.{all_lines_told}
+use Rattle.j39_audit.proofs.reading.read_log.Goals as goal
+
+pub loop-count-init : goal.loop-count-init
+loop-count-init g c =
+    let bytes = ap (λ (counts : Counts). counts.bytes) c.new-intake.ensures in
+    let calls = ap (λ (counts : Counts). counts.calls) c.new-intake.ensures in
+    let limits = ap (λ (counts : Counts). counts.limits) c.new-intake.ensures in
+    record {
+      seen = [];
+      read = record {
+        limits_are = limits;
+        consumed = none_read (g.S.Source.state c.args.source.now).left;
+        bytes_are = bytes;
+        within = omega arith;
+        calls_gave = omega (arith, calls);
+        pulls_are = omega (arith, calls);
+      };
+      calls = omega (arith, calls);
+      pending = c.new-cutter.ensures.pending;
+      audited = λ s audited. audited;
+      count = c.requires.within;
+      calm = refl;
+    }
+
+pub returns-in_err-count-clause-long : goal.returns-in_err-count-clause-long
+returns-in_err-count-clause-long g c = λ e.
+    let before = c.loop-count.invariant in
+    c.pull.ensures.long (search rules) log_limits (g.S.Source.state c.args.source.now) before.seen before.read
+
+pub returns-then-count-eq0-clause-read : goal.returns-then-count-eq0-clause-read
+returns-then-count-eq0-clause-read g c = λ s audited.
+    let before = c.loop-count.invariant in
+    let last = c.in_ok-count.ensures.last log_limits (g.S.Source.state c.args.source.now) before.seen before.read c.if-count-eq0.true in
+    let all = all_lines_told before.seen c.end-cut.result c.loop-count.cutter.pending c.line.result.now before.pending c.end-cut.ensures.answer
+    (c.line.ensures ∙ c.end-cut.ensures.line) in
+    record {
+      input = before.seen;
+      consumed = last.0;
+      end = c.in_ok-count.ensures.end c.if-count-eq0.true;
+      audited = subst (λ (ls : List Line). HasAudited s c.read.new.self ls) all
+          (c.in_ok-read.ensures.lines s (told at_start before.seen) (before.audited s audited));
+    }
+
+pub returns-then-count-eq0-clause-limits : goal.returns-then-count-eq0-clause-limits
+returns-then-count-eq0-clause-limits g c =
+    let before = c.loop-count.invariant in
+    let last = c.in_ok-count.ensures.last log_limits (g.S.Source.state c.args.source.now) before.seen before.read c.if-count-eq0.true in
+    last.1
+
+pub read_piece-requires : goal.read_piece-requires
+read_piece-requires g c =
+    let before = c.loop-count.invariant in
+    let part : List ℕ = take c.in_ok-count.count c.pull.new.piece in
+    let some : 0 < c.in_ok-count.count = search rules in
+    let next = c.in_ok-count.ensures.more log_limits (g.S.Source.state c.args.source.now) before.seen before.read some in
+    let within = next.within in
+    let len = length-append before.seen part in
+    record { room = (length before.seen, before.count, omega (arith, within, len)) }
+
+pub loop-count-preserved : goal.loop-count-preserved
+loop-count-preserved g c =
+    let before = c.loop-count.invariant in
+    let seen : List ℕ = before.seen in
+    let part : List ℕ = take c.in_ok-count.count c.pull.new.piece in
+    let some : 0 < c.in_ok-count.count = search rules in
+    let next = c.in_ok-count.ensures.more log_limits (g.S.Source.state c.args.source.now) seen before.read some in
+    let len = length-append seen part in
+    let calls = ap (λ (l : Limits). l.calls) next.limits_are in
+    let most = c.in_ok-count.ensures.fewer.1 in
+    let whole : told at_start seen ++ told c.loop-count.cutter.pending part ≡ told at_start (seen ++ part) =
+    ap (λ (r : Pending). told at_start seen ++ told r part) before.pending ∙ sym (told-append at_start seen part) in
+    record {
+      seen = seen ++ part;
+      read = next;
+      calls = omega (arith, calls, most);
+      pending = c.in_ok-read_piece.ensures.pending ∙ ap (λ p. behind_all p part) before.pending ∙ sym (behind_all-append at_start seen part);
+      audited = λ s audited. subst (λ (ls : List Line). HasAudited s c.read_piece.new.log ls) whole
+          (c.in_ok-read_piece.ensures.lines s (told at_start seen) (before.audited s audited));
+      count = subst (IsWithinLines c.read_piece.new.log) (sym len) (c.in_ok-read_piece.ensures.count (length seen) before.count);
+      calm = c.in_ok-count.ensures.calm (λ e. cc e) ∙ before.calm;
+    }
