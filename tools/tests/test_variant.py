@@ -61,7 +61,8 @@ class Variants(unittest.TestCase):
 
 class Written(InFolder):
     def test_the_plan_of_each_variant_is_written(self) -> None:
-        for labels in ([], ["DETROIT"], ["DETROIT", "RETARDER"], ["EATON"], ["CUMMINS", "ALLISON"]):
+        chosen: list[list[str]] = [[], ["DETROIT"], ["DETROIT", "RETARDER"], ["EATON"], ["CUMMINS", "ALLISON"]]
+        for labels in chosen:
             status, written, _ = run("variant.py", example("line.toml"), *labels)
             self.assertEqual(status, 0, labels)
             self.assertEqual(program.shown(self.write("one.toml", written)), program.call(["variant", example("line.toml"), *labels])[1], labels)
