@@ -6,6 +6,7 @@ pub mod OneText
 pub mod Reported
 pub mod StaysTexts
 pub mod UnitLists
+pub mod VariantReports
 pub mod VehicleReports
 pub mod VehicleTexts
 pub mod Wanted
