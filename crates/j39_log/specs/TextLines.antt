@@ -4,13 +4,13 @@ use Rattle.j39_network.specs.declared.plan.text_plan.TextPlan.{TextPlan}
 use Rattle.j39_text.specs.Quotations.{quotation}
 
 -- so many of the bytes, or all of them
-abbrev pub first_bytes : Option ℕ → List ℕ → List ℕ
-first_bytes None bytes = bytes
-first_bytes (Some count) bytes = take count bytes
+abbrev pub bytes_up_to : Option ℕ → List ℕ → List ℕ
+bytes_up_to None bytes = bytes
+bytes_up_to (Some count) bytes = take count bytes
 
 -- the bytes of a text, those of them that came
 unfoldable pub text_bytes : TextPlan → List ℕ → List ℕ
-text_bytes t bytes = first_bytes t.bytes (drop (t.byte - 1) bytes)
+text_bytes t bytes = bytes_up_to t.bytes (drop (t.byte - 1) bytes)
 
 unfoldable pub text_line : TextPlan → List ℕ → List ℕ
 text_line t bytes = codes "  " ++ (t.label.bytes ++ (codes " text " ++ (quotation (text_bytes t bytes) ++ 10 ∷ [])))
