@@ -16,7 +16,12 @@ use j39_network::{FlowPlan, RequestPlan};
 use std::alloc::AllocError;
 
 // Whether a flow may bring a message to who may be at its destination.
-fn is_near_flow(basis: &Basis<'_>, known: &Known, message: &UnitMessage<'_>, flow: &FlowPlan) -> bool
+fn is_near_flow(
+    basis: &Basis<'_>,
+    known: &Known,
+    message: &UnitMessage<'_>,
+    flow: &FlowPlan,
+) -> bool
     ensures { result ≡ (is_of (settings_of basis.now) (known_by known.now) (sent_as message.now) flow.now && is_near (settings_of basis.now) (known_by known.now) (sent_as message.now) flow.now.to) }
 {
     is_of(basis, known, message, flow) && is_near(basis, known, message, flow.to)
@@ -48,7 +53,12 @@ fn is_nearest_flow(
 }
 
 // Of how many flows a message is.
-fn count_flows(basis: &Basis<'_>, known: &Known, message: &UnitMessage<'_>, some_near: bool) -> usize
+fn count_flows(
+    basis: &Basis<'_>,
+    known: &Known,
+    message: &UnitMessage<'_>,
+    some_near: bool,
+) -> usize
     ensures { result ≡ count_by (λ (f : AFlow). is_of (settings_of basis.now) (known_by known.now) (sent_as message.now) f && (is_near (settings_of basis.now) (known_by known.now) (sent_as message.now) f.to || not some_near)) basis.now.plan.now.flows.items }
 {
     basis
@@ -165,7 +175,12 @@ fn is_nearest_request(
 }
 
 // How many requests of the plan a request is.
-fn count_requests(basis: &Basis<'_>, known: &Known, message: &UnitMessage<'_>, some_near: bool) -> usize
+fn count_requests(
+    basis: &Basis<'_>,
+    known: &Known,
+    message: &UnitMessage<'_>,
+    some_near: bool,
+) -> usize
     ensures { result ≡ count_by (λ (r : ARequest). asks_by_plan (settings_of basis.now) (known_by known.now) (sent_as message.now) r && (is_near (settings_of basis.now) (known_by known.now) (sent_as message.now) r.to || not some_near)) basis.now.plan.now.requests.items }
 {
     basis

@@ -16,7 +16,7 @@ use crate::basis::Basis;
 use crate::flow_marks::{note_flows, note_requests};
 use crate::known::Known;
 use crate::mark::{Mark, Word, make_mark};
-use crate::messages::{UnitMessage, Test, deviation, first_group};
+use crate::messages::{Test, UnitMessage, deviation, first_group};
 use crate::senders::{SureSender, sender_at};
 use crate::tally::MarkTally;
 use j39_follow::unit_named;

@@ -24,9 +24,9 @@ two_values name value other = with_rule (one_value name value) (value_rule other
 abbrev pub two_values_and_flag : Text → Text → Text → Text → App
 two_values_and_flag name value other flag = with_rule (two_values name value other) (flag_rule flag)
 
--- a value that may be given behind a name with two hyphens
+-- a value that may be given behind a name with two hyphens, which the help calls otherwise
 abbrev pub option_rule : Text → Rule
-option_rule name = record (new_rule name) { long = Some name }
+option_rule name = record (new_rule name) { long = Some name; value_names = 1 }
 
 -- the audit of a log by a plan, of a part of what the bus carried, and by a logger of this error
 abbrev pub audit_command : App
