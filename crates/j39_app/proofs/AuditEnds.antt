@@ -24,21 +24,21 @@ ends_said says (Ok verdict) ends =
 ends_said says (Err fault) ends =
     record { written = tt; calm = tt; cut = ends.cut; at_once = ends.at_once; long = ends.long; device = ends.device }
 
-module _ {W : Type 0} {most : Limits} {old new : SourceState} {state : W → SinkState} {told ended : W} {AtOnce : Type 0} (plan : Plan) (part : Bool)
+module _ {W : Type 0} {most : Limits} {old new : SourceState} {state : W → SinkState} {told ended : W} (plan : Plan) (part : Bool)
     (stamps : ℕ) (known : Option (List ℕ)) (IsBroken : Type 0) (opened : AreLeft known old.left)
     (breaks : HasFailed old.failures new.failures → IsBroken) (r : Result Verdict Fault) where
-  abbrev AuditEnds : Type 0
-  AuditEnds = Ends (IsAuditOf part stamps plan known) (IsOfSome (IsAuditOf part stamps plan known)) AtOnce (MayBeTooLong most known) IsBroken state told ended r
-
   ends_where : (b : Bool) → is_hindered plan ≡ b → (b ≡ true → PutsText (IsReport plan) state told ended r)
-      → (b ≡ false → AnswersWhole (IsAudit plan part stamps) (IsOfAny (IsAudit plan part stamps)) most old new state told ended r) → AuditEnds
+      → (b ≡ false → AnswersWhole (IsAudit plan part stamps) (IsOfAny (IsAudit plan part stamps)) most old new state told ended r)
+      → Ends (IsAuditOf part stamps plan known) (IsOfSome (IsAuditOf part stamps plan known)) (Unit {0}) (MayBeTooLong most known) IsBroken state told ended r
   ends_where true is puts answers =
-      ends_said (λ text verdict report. inl (is, report)) r (put_ends (λ text verdict report. (verdict, inl (is, report))) r (puts refl))
+      ends_said {IsOther = IsAuditOf part stamps plan known} (λ text verdict report. inl (is, report)) r
+      (put_ends (λ text verdict report. (verdict, inl (is, report))) r (puts refl))
   ends_where false is puts answers =
-      ends_said (λ text verdict audit. inr (is, audit)) r
+      ends_said {IsOther = IsAuditOf part stamps plan known} (λ text verdict audit. inr (is, audit)) r
       (whole_ends known (IsOfSome (IsAuditOf part stamps plan known)) IsBroken opened
       (λ log text of audit. (audit.0, inr (is, (log, of, audit.1)))) breaks r (answers refl))
 
   pub audit_ends : (is_hindered plan ≡ true → PutsText (IsReport plan) state told ended r)
-      → (is_hindered plan ≡ false → AnswersWhole (IsAudit plan part stamps) (IsOfAny (IsAudit plan part stamps)) most old new state told ended r) → AuditEnds
+      → (is_hindered plan ≡ false → AnswersWhole (IsAudit plan part stamps) (IsOfAny (IsAudit plan part stamps)) most old new state told ended r)
+      → Ends (IsAuditOf part stamps plan known) (IsOfSome (IsAuditOf part stamps plan known)) (Unit {0}) (MayBeTooLong most known) IsBroken state told ended r
   audit_ends = ends_where (is_hindered plan) refl

@@ -50,11 +50,11 @@ pub record Knowledge : Type 0 where
 abbrev pub last_claim_of : Settings → HeardClaims → ℕ → Option ℕ
 last_claim_of s claims u = if s.part then None else newest_of u (if moves s u then claims.recent else claims.all)
 
-abbrev pub is_taken : HeardClaims → ℕ → Bool
-is_taken claims a = is_address a && list_any (λ (h : Heard). is_none h.unit && h.source == a) claims.all
+abbrev pub is_strangers : HeardClaims → ℕ → Bool
+is_strangers claims a = is_address a && list_any (λ (h : Heard). is_none h.unit && h.source == a) claims.all
 
 abbrev pub knowledge : Settings → HeardClaims → Knowledge
-knowledge s claims = record { last = last_claim_of s claims; taken = is_taken claims }
+knowledge s claims = record { last = last_claim_of s claims; taken = is_strangers claims }
 
 -- ---- addresses
 
