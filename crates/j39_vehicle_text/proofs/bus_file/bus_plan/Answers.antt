@@ -10,8 +10,8 @@ pub returns-in_err-input-clause-answers : goal.returns-in_err-input-clause-answe
 returns-in_err-input-clause-answers g c =
     not_read _ c.from_residual.ensures.0 (λ e. c.read_whole.ensures.long (search rules)) (λ e. c.read_whole.ensures.device (search rules))
 
-pub returns-else-has_choices-clause-answers : goal.returns-else-has_choices-clause-answers
-returns-else-has_choices-clause-answers g c =
+pub returns-in-Ok-clause-answers : goal.returns-in-Ok-clause-answers
+returns-in-Ok-clause-answers g c =
     let input : List ℕ = c.in_ok-input.input.items in
     let read = c.in_ok-input.ensures.whole in
     let reads : ReadsProductLine (Ok c.in-Ok.line) (tree_of input) = rw c.as_slice.ensures.value at c.in-Ok.ensures.reads in
@@ -29,8 +29,8 @@ returns-then-has_choices-clause-answers g c =
     (λ text plan is. let refused : IsRefusedBus label input text = inr (has, is.0) in (rw is.1 refused, refused))
     c.refuse_choices.result read.0 read.1 c.in_ok-input.ensures.limits (c.in_ok-input.ensures.calm (λ e. cc e)) c.refuse_choices.ensures
 
-pub returns-in-Err-clause-answers : goal.returns-in-Err-clause-answers
-returns-in-Err-clause-answers g c =
+pub returns-clause-answers : goal.returns-clause-answers
+returns-clause-answers g c =
     let input : List ℕ = c.in_ok-input.input.items in
     let label : List ℕ = c.args.label.now.bytes in
     let read = c.in_ok-input.ensures.whole in
