@@ -167,7 +167,7 @@ module _ {W : Type 0} {IsText : List ℕ → List ℕ → Verdict → Type 0} {m
 -- what ends so ends as another one that writes such texts
 pub ends_weaker : {V W : Type 0} {IsText Was : List ℕ → V → Type 0} {IsPart WasPart : List ℕ → Type 0}
     {AtOnce WasAtOnce IsTooLong WasTooLong IsBroken : Type 0} {state : W → SinkState} {told ended : W} (weaker : (text : List ℕ) (answer : V) → IsText text answer → Was text answer) (parts : (text : List ℕ) → IsPart text → WasPart text)
-    (sooner : AtOnce → WasAtOnce) (longer : IsTooLong → WasTooLong) (r : Result V Fault)
+    (sooner : WasAtOnce → AtOnce) (longer : IsTooLong → WasTooLong) (r : Result V Fault)
     → Ends IsText IsPart AtOnce IsTooLong IsBroken state told ended r → Ends Was WasPart WasAtOnce WasTooLong IsBroken state told ended r
 ends_weaker weaker parts sooner longer (Ok answer) ends =
     let (text, is, put) = ends.written in
@@ -175,7 +175,7 @@ ends_weaker weaker parts sooner longer (Ok answer) ends =
       written = (text, weaker text answer is, put);
       calm = ends.calm;
       cut = tt;
-      at_once = λ e. sooner (ends.at_once e);
+      at_once = λ e. ends.at_once (sooner e);
       long = λ e. longer (ends.long e);
       device = ends.device;
     }
@@ -186,7 +186,7 @@ ends_weaker weaker parts sooner longer (Err fault) ends = record {
     | inl same ↦ inl same
     | inr (text, is, part) ↦ inr (text, parts text is, part)
   ];
-  at_once = λ e. sooner (ends.at_once e);
+  at_once = λ e. ends.at_once (sooner e);
   long = λ e. longer (ends.long e);
   device = ends.device;
 }

@@ -61,7 +61,7 @@ pub(crate) fn refuse_opened<F: Folder, W: Sink>(
     name: &str,
     sink: &mut W,
 ) -> Result<Verdict, Fault>
-    ensures { Ends RefusesChoices (IsOfSome RefusesChoices) ⊥ ⊥ (HasFileFailed (F.stays_shut files.now) (F.bytes_of files.now) F.File.state name.now)
+    ensures { Ends RefusesChoices (IsOfSome RefusesChoices) (Unit {0}) ⊥ (HasFileFailed (F.stays_shut files.now) (F.bytes_of files.now) F.File.state name.now)
         W.state sink.old sink.new result }
 {
     let _opened = files.open(name)?;

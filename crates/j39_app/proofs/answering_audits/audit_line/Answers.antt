@@ -5,7 +5,7 @@ use Rattle.j39_app.proofs.answering_audits.audit_line.Goals as goal
 pub returns-then-has_choices : goal.returns-then-has_choices
 returns-then-has_choices g c =
     let some = c.has_choices.ensures.some c.if-has_choices.true in
-    ends_weaker (λ text verdict is. inr (some, is)) (λ text is. (is.0, inr (some, is.1))) (λ never. tt) (λ never. absurd never)
+    ends_weaker (λ text verdict is. inr (some, is)) (λ text is. (is.0, inr (some, is.1))) (λ now. now) (λ never. absurd never)
     c.refuse_opened.result c.refuse_opened.ensures
 
 pub returns-else-has_choices : goal.returns-else-has_choices
