@@ -18,8 +18,10 @@ pub mod KeepingAnyOrder
 pub mod KeepingApart
 pub mod KeepingBroadcasts
 pub mod KeepingErrors
+pub mod KeepingFirst
 pub mod KeepingFrames
 pub mod KeepingPlan
+pub mod KeepingSources
 pub mod KeepingTurns
 pub mod KeepingWithout
 pub mod KeptDeadlines
