@@ -17,6 +17,7 @@ pub mod KeepingAnyErrors
 pub mod KeepingAnyOrder
 pub mod KeepingApart
 pub mod KeepingBroadcasts
+pub mod KeepingDeadlines
 pub mod KeepingErrors
 pub mod KeepingFirst
 pub mod KeepingFrames

@@ -22,7 +22,7 @@ ghost use Rattle.j39_load.specs.KeepsErrors.{AreInTimeWithErrors, AreInTimeWithE
 ghost use Rattle.j39_load.specs.KeepsErrors.{origins_with, planned_with};
 ghost use Rattle.j39_load.specs.KeepsPlan.{AreFramesInTime, CanBeKept, IsSingleFlow, KeepsQueues, KeepsToPlan};
 ghost use Rattle.j39_load.specs.KeepsPlan.{origins_of};
-ghost use Rattle.j39_load.specs.KeptDeadlines.{AreEachInTime};
+ghost use Rattle.j39_load.specs.KeptDeadlines.{AreEachInTime, CanBeSentWhole};
 ghost use Rattle.j39_load.specs.KeptReceivers.{AreNotGivenUp};
 ghost use Rattle.j39_load.specs.KeptTogether.{CanBeKeptTogether, CanSendAll};
 ghost use Rattle.j39_load.specs.KeptWithout.{CanBeKeptWithout};
@@ -250,6 +250,17 @@ pub fn plans_can_be_kept_without_a_unit()
         → slice_get plan.groups.items other.group ≡ Some second → second.most ≤ 8
         → IsPgn second.pgn → other.sender ≢ u
         → (first : ℕ → Bool) (n : ℕ) → CanBeKeptWithout plan timing u f g first n }
+{}
+
+/// And where no two units have one planned address, a long message to all of a flow can be sent to its end on a bus that
+/// keeps to the plan, whether its units keep order or not, and on which units take turns.
+pub fn long_messages_can_be_sent_whole()
+    ensures { (plan : Plans) (timing : Timings) → ArePlannedApart (units_of plan)
+        → (f : ℕ) (flow : PlannedFlows) (pace : PlannedPaces) (group : PlannedGroups)
+        → slice_get plan.flows.items f ≡ Some flow → flow.pace ≡ Some pace
+        → slice_get plan.groups.items flow.group ≡ Some group → 8 < group.most → flow.to ≡ ToAllUnits
+        → (packets : ℕ) → 2 ≤ packets → group.length ≤ 7 * packets → 7 * packets < group.most + 7
+        → CanBeSentWhole plan timing f flow.sender packets }
 {}
 
 /// What `load` counts bounds the planned frames of a bus: on each bus that keeps to a clean plan in the plan's own words
