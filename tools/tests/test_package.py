@@ -262,7 +262,7 @@ class Completions(InFolder):
         self.assertEqual(self.complete_bash("j39plan", ""), COMMANDS + ["--help", "--version"])
         self.assertEqual(self.complete_bash("j39plan", "r"), ["run", "read"])
         self.assertEqual(self.complete_bash("j39plan", "check", "plan.s", cwd=os.path.join(TOOLS, "j39plan")), ["plan.schema.json"])
-        self.assertEqual(self.complete_bash("j39plan", "v"), ["vehicle"])
+        self.assertEqual(self.complete_bash("j39plan", "v"), ["variant", "vehicle"])
         self.assertEqual(self.complete_bash("j39plan", "help", "f"), ["follow", "frame"])
         self.assertEqual(self.complete_bash("j39plan", "follow", "--"), ["--all"])
         self.assertEqual(self.complete_bash("j39plan", "audit", "--"), ["--part", "--stamps"])

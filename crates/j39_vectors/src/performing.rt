@@ -3,7 +3,7 @@ use crate::Command;
 use j39_app::{
     Fault, Sink, Source, Verdict, addresses_text, audit_planned, bus_plan, check_text, follow_text,
     input_text, line_text, load_text, read_text, refuse_choices, run_planned, show_text,
-    vehicle_file, vehicle_text,
+    variant_text, vehicle_file, vehicle_text,
 };
 use j39_id::Label;
 use j39_network::Plan;
@@ -55,6 +55,7 @@ pub fn perform<P: Source, S: Source, W: Sink>(
         Command::Frame => return input_text(alloc, input, sink),
         Command::Check => return check_text(alloc, plan, sink),
         Command::Show => return show_text(alloc, plan, sink),
+        Command::Variant => return variant_text(alloc, &[], plan, sink),
         Command::Addresses => return addresses_text(alloc, plan, sink),
         Command::Load => return load_text(alloc, plan, sink),
         Command::Vehicle => return perform_vehicle(alloc, plan, input, sink),

@@ -10,6 +10,8 @@ pub enum Command {
     Check,
     /// The plan's values.
     Show,
+    /// The values of the first variant of the plan's line of vehicles.
+    Variant,
     /// Which units of the plan stay.
     Addresses,
     /// The plan's load and delays.

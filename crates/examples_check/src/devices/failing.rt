@@ -103,7 +103,7 @@ fn wanted_reads(row: &Row, piece: usize) -> (u64, u64)
     };
     let is_of_the_plan = matches!(
         row.command,
-        Command::Check | Command::Show | Command::Addresses | Command::Load
+        Command::Check | Command::Show | Command::Variant | Command::Addresses | Command::Load
     );
     let input = if is_of_the_plan || row.verdict == Verdict::Unreadable {
         0

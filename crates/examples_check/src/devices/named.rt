@@ -56,7 +56,7 @@ const CHECK: [&str; 32] = [
     "F26", "F27", "F28", "", "refused",
 ];
 
-// Those of show.
+// Those of show and of variant.
 const SHOW: [&str; 8] = [
     "top", "timing", "unit", "group", "flow", "need", "request", "refused",
 ];
@@ -111,7 +111,7 @@ fn word(line: &str, place: usize) -> &str {
 // The verdict that a line behind `refused` tells.
 fn refused(line: &str) -> Option<Verdict> {
     match word(line, 1) {
-        "plan" => Some(Verdict::Refused),
+        "plan" | "variant" => Some(Verdict::Refused),
         "line" if UNREADABLE_LINE.contains(&word(line, 3)) => Some(Verdict::Unreadable),
         "line" if REFUSED_STEP.contains(&word(line, 3)) => Some(Verdict::Refused),
         "UnknownLabel" => Some(Verdict::Unreadable),
@@ -155,7 +155,7 @@ fn is_line_of(command: Command, line: &str) -> bool {
     match command {
         Command::Frame => FRAME.contains(&first),
         Command::Check => CHECK.contains(&first),
-        Command::Show => SHOW.contains(&first),
+        Command::Show | Command::Variant => SHOW.contains(&first),
         Command::Addresses => ADDRESSES.contains(&first) || CHECK.contains(&first),
         Command::Load => LOAD.contains(&first) || CHECK.contains(&first),
         Command::Run => RUN.contains(&first) || first.contains('#'),

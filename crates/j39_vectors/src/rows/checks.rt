@@ -1,5 +1,7 @@
 //! Rows of what is said of a plan: frames, checks, values, addresses, loads.
-use crate::rows::plans::{AWAITED, CONTEST, HURRIED, NOTHING, SENDING, SHARED, TEMPERATURE};
+use crate::rows::plans::{
+    AWAITED, CONTEST, HURRIED, NOTHING, OF_TWO_MAKERS, SENDING, SHARED, TEMPERATURE,
+};
 use crate::{Command, Row};
 use j39_app::Verdict;
 
@@ -76,6 +78,33 @@ group 1 signal 1 offset -40
 group 1 signal 1 unit degC
 group 1 signal 1 repeated false
 group 1 signal 1 optional false
+",
+    verdict: Verdict::Done,
+};
+
+/// The values of a variant: of the first one.
+pub const VALUES_OF_A_VARIANT: Row = Row {
+    name: "the values of a variant",
+    command: Command::Variant,
+    plan: OF_TWO_MAKERS,
+    input: "",
+    text: "top strangers 0
+top live false
+unit 1 label B
+unit 1 address 0
+unit 1 chooser lowest
+unit 1 window 255
+unit 1 queue priority
+unit 1 name identity 2
+unit 1 name manufacturer 0
+unit 1 name ecu 0
+unit 1 name function_instance 0
+unit 1 name function 0
+unit 1 name system 0
+unit 1 name system_instance 0
+unit 1 name industry 0
+unit 1 name arbitrary false
+unit 1 claims true
 ",
     verdict: Verdict::Done,
 };

@@ -27,6 +27,22 @@ address = 128
 name = { identity = 2, arbitrary = true }
 ";
 
+/// Two fixed units at one address, of which each vehicle has one.
+pub const OF_TWO_MAKERS: &str = "version = 4
+[[choice]]
+of = [\"M\", \"N\"]
+[[unit]]
+label = \"A\"
+address = 0
+name = { identity = 1 }
+with = [\"N\"]
+[[unit]]
+label = \"B\"
+address = 0
+name = { identity = 2 }
+with = [\"M\"]
+";
+
 /// Two fixed units, A at 0 and B at 3, and a group of 17 bytes, which A sends to all by flow 1 and to B by flow 2.
 pub const SENDING: &str = "version = 1
 [[unit]]
