@@ -83,11 +83,19 @@ def checked(plan: str) -> str:
     return answer
 
 
-def shown(plan: str) -> str:
-    """What `show` answers of a plan's file; one that can't be read is refused by it."""
+def values(plan: str) -> str:
+    """What `show` answers of a plan's file, its choices included; one that can't be read is refused by it."""
     status, answer = call(["show", "--", plan])
     if status != 0:
         raise Refused(status, answer.strip())
+    return answer
+
+
+def shown(plan: str) -> str:
+    """What `show` answers of a plan's file; one that can't be read is refused, and so is a plan with choices, as other commands do it."""
+    answer = values(plan)
+    if "\nchoice " in answer:
+        raise Refused(1, "refused plan Choices")
     return answer
 
 

@@ -125,7 +125,11 @@ class Report(InFolder):
 
     def test_each_example_has_a_sound_page(self) -> None:
         for plan in plans():
-            self.page(plan)
+            if plan != example("line.toml"):
+                self.page(plan)
+
+    def test_a_plan_with_choices_has_none(self) -> None:
+        self.assertEqual(run("report.py", example("line.toml")), (1, "", "report: refused plan Choices\n"))
 
     def test_plans_in_other_words_have_one_page(self) -> None:
         pages = [run("report.py", self.write("plan.toml", text))[1] for text in (NEWER, MARKED)]

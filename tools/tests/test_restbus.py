@@ -12,6 +12,7 @@ import time
 import unittest
 from collections import Counter
 from fractions import Fraction
+from typing import Any
 
 from j39plan import program
 from j39plan.bench.rest import Rest, Settings
@@ -381,8 +382,25 @@ class OnBuses(InFolder):
 
     def test_another_program(self) -> None:
         """SEAT is played by frames that are written here byte by byte after SAE J1939-21 and -81, over python-can alone: the units claim and defend, send to it
-        in sessions of two packets, answer its requests or refuse them; the log of the bus has no deviation but the claim by which ENGINE is contested."""
-        plan, channel = self.write("plan.toml", PLAN), "239.74.163.40"
+        in sessions of two packets, answer its requests or refuse them; the log of the bus has no deviation but the claim by which ENGINE is contested. On a
+        busy machine times run out: then it is played again."""
+        plan = self.write("plan.toml", PLAN)
+        for _ in range(3):
+            row, seat = self.with_seat(plan)
+            if row["long"]["given_up"] == 0:
+                break
+        self.assertGreaterEqual(len(seat.whole), 2)
+        self.assertEqual(set(seat.whole), {b"\xff" * 30})
+        self.assertEqual((seat.defended, seat.refused, seat.claimed >= {0, 249}), (1, 1, True))
+        self.assertEqual((row["long"]["given_up"], row["flows"][2]["sent"]), (0, len(seat.whole)))
+        lines = run("against.py", "--jitter", "80", plan, self.path("bench.log"))[1].splitlines()
+        self.assertEqual([line.partition(") ")[2] for line in lines[:-1]], [
+            "NAME 8000000026E00009 (identity 9, manufacturer 311, function 0) claims address 0: no unit has it",
+            "request for PGN 65245 by SEAT to ENGINE, which the plan doesn't have: is refused"])
+
+    def with_seat(self, plan: str) -> tuple[dict[str, Any], Seat]:
+        """What the planned units but SEAT have sent and heard, and SEAT, which is played for 8 s."""
+        channel = "239.74.163.40"
         words = [sys.executable, os.path.join(TOOLS, "restbus.py"), plan, "--interface", "udp_multicast", "--channel", channel, "--without", "SEAT", "--json", "--log", self.path("bench.log")]
         played = subprocess.Popen(words, env={**os.environ, "J39PLAN": program.path()}, stdout=subprocess.PIPE, stderr=subprocess.PIPE, text=True)
         try:
@@ -396,15 +414,8 @@ class OnBuses(InFolder):
         if "udp" in said and played.returncode == 4:
             self.skipTest("this machine has no multicast")
         self.assertEqual(played.returncode, 0, said)
-        self.assertGreaterEqual(len(seat.whole), 2)
-        self.assertEqual(set(seat.whole), {b"\xff" * 30})
-        self.assertEqual((seat.defended, seat.refused, seat.claimed >= {0, 249}), (1, 1, True))
-        row = json.loads(answer)
-        self.assertEqual((row["long"]["given_up"], row["flows"][2]["sent"]), (0, len(seat.whole)))
-        lines = run("against.py", "--jitter", "80", plan, self.path("bench.log"))[1].splitlines()
-        self.assertEqual([line.partition(") ")[2] for line in lines[:-1]], [
-            "NAME 8000000026E00009 (identity 9, manufacturer 311, function 0) claims address 0: no unit has it",
-            "request for PGN 65245 by SEAT to ENGINE, which the plan doesn't have: is refused"])
+        row: dict[str, Any] = json.loads(answer)
+        return row, seat
 
     def test_what_is_refused(self) -> None:
         plan = self.write("plan.toml", PLAN)

@@ -28,7 +28,7 @@ def main(words: list[str] | None = None) -> int:
     given = parser.parse_args(words)
     with program.copied(given.plan) as plan:
         wanted = shown_variant(plan, given.labels)
-        line = Line(program.shown(plan))
+        line = Line(program.values(plan))
         with open(plan, encoding="utf-8") as file:
             text = file.read()
     taken = line.first(set(given.labels))
