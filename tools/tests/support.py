@@ -86,8 +86,8 @@ def examples(ending: str) -> list[str]:
 
 
 def plans() -> list[str]:
-    """The file names of the plans of the examples."""
-    return [name for name in examples(".toml") if name not in vehicles()]
+    """The file names of the plans of the examples, each of one vehicle."""
+    return [name for name in examples(".toml") if name not in vehicles() and "\n[[choice]]" not in text_of(name)]
 
 
 @functools.cache

@@ -125,8 +125,7 @@ class Report(InFolder):
 
     def test_each_example_has_a_sound_page(self) -> None:
         for plan in plans():
-            if plan != example("line.toml"):
-                self.page(plan)
+            self.page(plan)
 
     def test_a_plan_with_choices_has_none(self) -> None:
         self.assertEqual(run("report.py", example("line.toml")), (1, "", "report: refused plan Choices\n"))
