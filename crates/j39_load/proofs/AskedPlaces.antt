@@ -24,6 +24,22 @@ module _ (flows : List (Option FlowLoad)) (units : List (Option UnitLoad)) (requ
       (slice_get-map frames_of_flow flows f ∙ ap (option_map frames_of_flow) its) in
       front ∙ (there ∙ own)
 
+  -- behind the flows stand, in as many places, single frames of those that have long messages too
+  pub singles_read : (f : ℕ) (load : FlowLoad) (frames : FlowFrames) → slice_get flows f ≡ Some (Some load) → load.singles ≡ Some frames
+      → get_or (all_frames flows units requests) (length flows + f) None ≡ Some frames
+  singles_read f load frames its own =
+      let below = slice_get_within flows f (Some load) its in
+      let there : get_or (map singles_of_flow flows) f None ≡ singles_of_flow (Some load) =
+      get_or_from_slice_get (map singles_of_flow flows) f (singles_of_flow (Some load)) None
+      (slice_get-map singles_of_flow flows f ∙ ap (option_map singles_of_flow) its) in
+      let place : length (map frames_of_flow flows) + f ≡ length flows + f = omega (arith, length-map flows frames_of_flow) in
+      ap (λ (k : ℕ). get_or (all_frames flows units requests) k None) (sym place)
+      ∙ (get_or-append-add (map frames_of_flow flows)
+      (map singles_of_flow flows ++ (map packets_of_unit units ++ (map announcements_of_unit units ++ map frames_of_request requests))) f None
+      ∙ (get_or_append_left (map singles_of_flow flows) (map packets_of_unit units ++ (map announcements_of_unit units ++ map frames_of_request requests)) None f
+      (omega (arith, below, length-map flows singles_of_flow))
+      ∙ (there ∙ own)))
+
   -- behind the lists of flows and units stand those of requests
   pub request_read : (r : ℕ) (load : RequestLoad) → slice_get requests r ≡ Some (Some load)
       → get_or (all_frames flows units requests) (2 * length flows + (2 * length units + r)) None ≡ Some load.frames

@@ -1,15 +1,16 @@
--- Two flows of a clean plan whose messages go in one frame have two identifiers, while units hold different addresses, unless they are twins;
--- and no request has that of such a flow.
-use Rattle.std.proofs.Common.{◌≡◌, ◌≢◌, ℕ, ◌+◌, ◌*◌, ◌^◌, ◌%◌, ◌<◌, ◌≤◌, Bool, true, false, if◌then◌else◌, inl, inr, Option, Some, None}
+-- Two flows of a clean plan whose messages go in one frame have two identifiers, while units hold different addresses, unless they are twins; so
+-- has one that sends some messages in one frame, and others that are long; and no request has that of such a flow.
+use Rattle.std.proofs.Common.{◌≡◌, ◌≢◌, ℕ, ◌+◌, ◌*◌, ◌^◌, ◌%◌, ◌<◌, ◌≤◌, ◌⊎◌, Bool, true, false, if◌then◌else◌, inl, inr, Option, Some, None}
 use Rattle.std.proofs.Common.{refl, sym, ap, ◌∙◌, subst, arith}
 use Rattle.std.proofs.lemmas.Bool.{cases_eq, cases_lt, leb-false, leb-true, true≢false}
-use Rattle.std.proofs.lemmas.Option.{get_or_from_slice_get, slice_get_within}
+use Rattle.std.proofs.lemmas.Option.{get_or_from_slice_get, same_Some, slice_get_within}
 use Rattle.std.specs.List.{slice_get}
 use Rattle.j39_id.specs.Ident.{identifier_of}
 use Rattle.j39_id.specs.Pgn.{is_pdu2, pf_of}
 use Rattle.j39_findings.specs.CleanParts.{CanBePlanned}
 use Rattle.j39_findings.specs.Findings.{Clean}
 use Rattle.j39_search.specs.ListPlaces.{SomeMeets}
+use Rattle.j39_network.specs.PlannedFlows.{IsToOne, MayBeOneFrameToAll}
 use Rattle.j39_network.specs.PrivateGroups.{Fits}
 use Rattle.j39_signal.specs.Selectors.{DifferInValue}
 use Rattle.j39_signal.specs.declared.selector.Selector.{Selector}
@@ -79,25 +80,42 @@ module _ (plan : Plan) (clean : Clean plan) (named : ℕ → Bool) (held : ℕ �
   few ToAll known = omega arith
   few (One v) known = let low = apart.range v (known v refl) in omega (arith, low)
 
-  module _ (f : ℕ) (flow : FlowPlan) (group : GroupPlan) (is : IsShortFlow plan named f flow group) where
-    -- where its frame names no destination it goes to all
-    to_all : is_pdu2 group.pgn ≡ true → (to : To) → flow.to ≡ to → to ≡ ToAll
-    to_all pdu2 ToAll same = refl
-    to_all pdu2 (One v) same = absurd (clean (FlowToOne f) (record {
-      value = flow;
-      value_is = is.its;
-      meets = (
-        (v, same),
-        record {
-          value = group;
-          value_is = is.sent;
-          meets = (leb-true 240 (pf_of group.pgn) pdu2, leb-true group.most 8 is.short);
-        },
-      );
-    }))
+  -- the flow at this place, between units that are named, sends some messages of this group in one frame
+  pub record SendsOneFrame (place : ℕ) (flow : FlowPlan) (group : GroupPlan) : Type 0 where
+    pub its : slice_get plan.flows.items place ≡ Some flow
+    pub sent : slice_get plan.groups.items flow.group ≡ Some group
+    pub short : group.length ≤ 8
+    pub sender : named flow.sender ≡ true
+    pub receiver : (v : ℕ) → flow.to ≡ One v → named v ≡ true
 
-  module _ (f h : ℕ) (flow other : FlowPlan) (group second : GroupPlan) (is : IsShortFlow plan named f flow group)
-      (its : IsShortFlow plan named h other second) (same : group_ident held group flow ≡ group_ident held second other) where
+  pub sends_one : (f : ℕ) (flow : FlowPlan) (group : GroupPlan) → IsShortFlow plan named f flow group → SendsOneFrame f flow group
+  sends_one f flow group is = record {
+    its = is.its;
+    sent = is.sent;
+    short = let most = leb-true group.most 8 is.short in let least = group.most_least in omega (arith, most, least);
+    sender = is.sender;
+    receiver = is.receiver;
+  }
+
+  -- where its frame names no destination it goes to all, unless others of the group are long
+  to_all : (f : ℕ) (flow : FlowPlan) (group : GroupPlan) → IsShortFlow plan named f flow group → is_pdu2 group.pgn ≡ true → (to : To) → flow.to ≡ to
+      → to ≡ ToAll
+  to_all f flow group is pdu2 ToAll same = refl
+  to_all f flow group is pdu2 (One v) same = absurd (clean (FlowToOne f) (record {
+    value = flow;
+    value_is = is.its;
+    meets = (
+      (v, same),
+      record {
+        value = group;
+        value_is = is.sent;
+        meets = (leb-true 240 (pf_of group.pgn) pdu2, leb-true group.most 8 is.short);
+      },
+    );
+  }))
+
+  module _ (f h : ℕ) (flow other : FlowPlan) (group second : GroupPlan) (is : SendsOneFrame f flow group) (its : SendsOneFrame h other second)
+      (same : group_ident held group flow ≡ group_ident held second other) where
     told : (group.priority ≡ second.priority) × (group.pgn ≡ second.pgn) × (held flow.sender ≡ held other.sender)
         × (is_pdu2 group.pgn ≡ false → destination_at held flow.to ≡ destination_at held other.to)
     told =
@@ -109,20 +127,16 @@ module _ (plan : Plan) (clean : Clean plan) (named : ℕ → Bool) (held : ℕ �
         (held other.sender) can.page may.page (few flow.to is.receiver) (few other.to its.receiver) (omega (arith, low)) (omega (arith, less))
         can.group.low may.group.low same
 
-    to_one_place : flow.to ≡ other.to
-    to_one_place = go (is_pdu2 group.pgn) refl
-      where
-        go : (b : Bool) → is_pdu2 group.pgn ≡ b → flow.to ≡ other.to
-        go true pdu2 = to_all f flow group is pdu2 flow.to refl
-            ∙ sym (to_all h other second its (ap is_pdu2 (sym told.1) ∙ pdu2) other.to refl)
-        go false pdu1 = one_receiver flow.to other.to is.receiver its.receiver (told.3 pdu1)
-
     pub senders : flow.sender ≡ other.sender
     senders = one_unit flow.sender other.sender is.sender its.sender told.2
 
-    sent : (at : ℕ) (one : FlowPlan) (its_group : GroupPlan) → IsShortFlow plan named at one its_group → one.sender ≡ flow.sender → one.to ≡ flow.to
-        → SomeMeets (Fits plan its_group flow.sender flow.to) plan.flows.items
-    sent at one its_group short from goes = (
+    -- to one destination, where the frame names one
+    one_place : is_pdu2 group.pgn ≡ false → flow.to ≡ other.to
+    one_place pdu1 = one_receiver flow.to other.to is.receiver its.receiver (told.3 pdu1)
+
+    sent : (at : ℕ) (one : FlowPlan) (its_group : GroupPlan) (to : To) → SendsOneFrame at one its_group → one.sender ≡ flow.sender
+        → (one.to ≡ to) ⊎ (IsToOne one × (to ≡ ToAll) × MayBeOneFrameToAll its_group) → SomeMeets (Fits plan its_group flow.sender to) plan.flows.items
+    sent at one its_group to short from reaches = (
       at,
       record {
         value = one;
@@ -130,19 +144,32 @@ module _ (plan : Plan) (clean : Clean plan) (named : ℕ → Bool) (held : ℕ �
         meets = record {
           sends = record { value = its_group; value_is = short.sent; meets = refl };
           from = from;
-          reaches = inl goes;
+          reaches = reaches;
         };
       },
     )
 
+    -- a frame that names no destination can be one to all
+    reach_all : (at : ℕ) (one : FlowPlan) (its_group : GroupPlan) → SendsOneFrame at one its_group → is_pdu2 its_group.pgn ≡ true → (to : To) → one.to ≡ to
+        → (one.to ≡ ToAll) ⊎ (IsToOne one × (ToAll ≡ ToAll) × MayBeOneFrameToAll its_group)
+    reach_all at one its_group short pdu2 ToAll goes = inl goes
+    reach_all at one its_group short pdu2 (One v) goes = inr ((v, goes), refl, (leb-true 240 (pf_of its_group.pgn) pdu2, short.short))
+
     -- unless both groups are told by their data they are one
     groups : ¬ DifferInValue group.when second.when → ¬ DifferInValue second.when group.when → flow.group ≡ other.group
-    groups alike likewise =
-        one_unless_apart plan clean flow.sender flow.to flow.group other.group group second is.sent its.sent told.1 alike likewise
-        (sent f flow group is refl refl) (sent h other second its (sym senders) (sym to_one_place))
+    groups alike likewise = go (is_pdu2 group.pgn) refl
+      where
+        go : (b : Bool) → is_pdu2 group.pgn ≡ b → flow.group ≡ other.group
+        go true pdu2 =
+            one_unless_apart plan clean flow.sender ToAll flow.group other.group group second is.sent its.sent told.1 alike likewise
+            (sent f flow group ToAll is refl (reach_all f flow group is pdu2 flow.to refl))
+            (sent h other second ToAll its (sym senders) (reach_all h other second its (ap is_pdu2 (sym told.1) ∙ pdu2) other.to refl))
+        go false pdu1 =
+            one_unless_apart plan clean flow.sender flow.to flow.group other.group group second is.sent its.sent told.1 alike likewise
+            (sent f flow group flow.to is refl (inl refl)) (sent h other second flow.to its (sym senders) (inl (sym (one_place pdu1))))
 
     -- and their frames have one identifier, whatever addresses the units hold
-    same_twins : (v w : Selector) → group.when ≡ Some v → second.when ≡ Some w → AreTwinFlows group flow second other
+    pub same_twins : (v w : Selector) → group.when ≡ Some v → second.when ≡ Some w → AreTwinFlows group flow second other
     same_twins v w first_when second_when = record {
       number = group_ident (λ u. u) group flow;
       first_is = rw (first_when) refl;
@@ -150,49 +177,96 @@ module _ (plan : Plan) (clean : Clean plan) (named : ℕ → Bool) (held : ℕ �
       alike = one_identifier;
     }
       where
+        to_either : (n d e s : ℕ) → is_pdu2 second.pgn ≡ true → identifier_of n second.pgn d s ≡ identifier_of n second.pgn e s
+        to_either n d e s pdu2 = rw (pdu2) refl
+
+        to_there : (at : ℕ → ℕ) (b : Bool) → is_pdu2 group.pgn ≡ b
+            → identifier_of second.priority second.pgn (destination_at at flow.to) (at flow.sender)
+            ≡ identifier_of second.priority second.pgn (destination_at at other.to) (at flow.sender)
+        to_there at true pdu2 = to_either second.priority (destination_at at flow.to) (destination_at at other.to) (at flow.sender) (ap is_pdu2 (sym told.1) ∙ pdu2)
+        to_there at false pdu1 = ap (λ (to : To). identifier_of second.priority second.pgn (destination_at at to) (at flow.sender)) (one_place pdu1)
+
         one_identifier : (at : ℕ → ℕ) → group_ident at group flow ≡ group_ident at second other
         one_identifier at =
             ap (λ (n : ℕ). identifier_of n group.pgn (destination_at at flow.to) (at flow.sender)) told.0
             ∙ ap (λ (n : ℕ). identifier_of second.priority n (destination_at at flow.to) (at flow.sender)) told.1
-            ∙ ap (λ (to : To). identifier_of second.priority second.pgn (destination_at at to) (at flow.sender)) to_one_place
+            ∙ to_there at (is_pdu2 group.pgn) refl
             ∙ ap (λ (u : ℕ). identifier_of second.priority second.pgn (destination_at at other.to) (at u)) senders
 
-    -- one flow isn't planned twice
-    only_twins : f ≢ h → AreTwinFlows group flow second other
-    only_twins differ = go group.when second.when refl refl
+    pub one_group_or_twins : (flow.group ≡ other.group) ⊎ AreTwinFlows group flow second other
+    one_group_or_twins = go group.when second.when refl refl
       where
-        planned_twice : (v w : Option Selector) → group.when ≡ v → second.when ≡ w → ¬ DifferInValue v w → ¬ DifferInValue w v → ⊥
-        planned_twice v w first_when second_when alike likewise =
-            let one_group : flow.group ≡ other.group =
+        one_group : (v w : Option Selector) → group.when ≡ v → second.when ≡ w → ¬ DifferInValue v w → ¬ DifferInValue w v → flow.group ≡ other.group
+        one_group v w first_when second_when alike likewise =
             groups (subst (λ (o : Option Selector). ¬ DifferInValue o second.when) (sym first_when) (subst (λ (o : Option Selector). ¬ DifferInValue v o) (sym second_when) alike))
-            (subst (λ (o : Option Selector). ¬ DifferInValue o group.when) (sym second_when) (subst (λ (o : Option Selector). ¬ DifferInValue w o) (sym first_when) likewise)) in
-            elim (cases_lt f h) [
-              | inl before ↦ clean (FlowRepeated f h) (record {
-                first = flow;
-                second = other;
-                below = before;
-                first_is = is.its;
-                second_is = its.its;
-                related = (one_group, senders, to_one_place);
-              })
-              | inr after ↦ clean (FlowRepeated h f) (record {
-                first = other;
-                second = flow;
-                below = omega (arith, after, differ);
-                first_is = its.its;
-                second_is = is.its;
-                related = (sym one_group, sym senders, sym to_one_place);
-              })
-            ]
+            (subst (λ (o : Option Selector). ¬ DifferInValue o group.when) (sym second_when) (subst (λ (o : Option Selector). ¬ DifferInValue w o) (sym first_when) likewise))
 
-        go : (v w : Option Selector) → group.when ≡ v → second.when ≡ w → AreTwinFlows group flow second other
-        go (Some v) (Some w) first_when second_when = same_twins v w first_when second_when
-        go None w first_when second_when = absurd (planned_twice None w first_when second_when (λ none. none) (λ none. no_second w none))
-        go (Some v) None first_when second_when = absurd (planned_twice (Some v) None first_when second_when (λ none. none) (λ none. none))
+        go : (v w : Option Selector) → group.when ≡ v → second.when ≡ w → (flow.group ≡ other.group) ⊎ AreTwinFlows group flow second other
+        go (Some v) (Some w) first_when second_when = inr (same_twins v w first_when second_when)
+        go None w first_when second_when = inl (one_group None w first_when second_when (λ none. none) (λ none. no_second w none))
+        go (Some v) None first_when second_when = inl (one_group (Some v) None first_when second_when (λ none. none) (λ none. none))
 
+    one_kind : flow.group ≡ other.group → group ≡ second
+    one_kind one_group = same_Some _ _ (sym is.sent ∙ (ap (slice_get plan.groups.items) one_group ∙ its.sent))
+
+    -- a flow of short messages alone and one with long ones don't send one group
+    pub short_and_long : group.most ≤ 8 → 8 < second.most → AreTwinFlows group flow second other
+    short_and_long short long = elim one_group_or_twins [
+      | inr twins ↦ twins
+      | inl one_group ↦ absurd (let most = ap (λ (g : GroupPlan). g.most) (one_kind one_group) in omega (arith, short, long, most))
+    ]
+
+    -- and where the one is told by its data the other is too
+    pub twins_if_told : (v : Selector) → group.when ≡ Some v → AreTwinFlows group flow second other
+    twins_if_told v first_when = elim one_group_or_twins [
+      | inr twins ↦ twins
+      | inl one_group ↦ same_twins v v first_when (sym (ap (λ (g : GroupPlan). g.when) (one_kind one_group)) ∙ first_when)
+    ]
+
+  -- one flow isn't planned twice
   pub different : (f h : ℕ) (flow other : FlowPlan) (group second : GroupPlan) → f ≢ h → IsShortFlow plan named f flow group
       → IsShortFlow plan named h other second → group_ident held group flow ≡ group_ident held second other → AreTwinFlows group flow second other
-  different f h flow other group second differ is its same = only_twins f h flow other group second is its same differ
+  different f h flow other group second differ is its same =
+      elim (one_group_or_twins f h flow other group second one two same) [
+        | inr twins ↦ twins
+        | inl one_group ↦ elim (cases_lt f h) [
+          | inl before ↦ absurd (clean (FlowRepeated f h) (record {
+            first = flow;
+            second = other;
+            below = before;
+            first_is = is.its;
+            second_is = its.its;
+            related = (one_group, from, to_one_place);
+          }))
+          | inr after ↦ absurd (clean (FlowRepeated h f) (record {
+            first = other;
+            second = flow;
+            below = omega (arith, after, differ);
+            first_is = its.its;
+            second_is = is.its;
+            related = (sym one_group, sym from, sym to_one_place);
+          }))
+        ]
+      ]
+    where
+      one : SendsOneFrame f flow group
+      one = sends_one f flow group is
+
+      two : SendsOneFrame h other second
+      two = sends_one h other second its
+
+      from : flow.sender ≡ other.sender
+      from = senders f h flow other group second one two same
+
+      number : group.pgn ≡ second.pgn
+      number = (told f h flow other group second one two same).1
+
+      to_one_place : flow.to ≡ other.to
+      to_one_place = go (is_pdu2 group.pgn) refl
+        where
+          go : (b : Bool) → is_pdu2 group.pgn ≡ b → flow.to ≡ other.to
+          go true pdu2 = to_all f flow group is pdu2 flow.to refl ∙ sym (to_all h other second its (ap is_pdu2 (sym number) ∙ pdu2) other.to refl)
+          go false pdu1 = one_place f h flow other group second one two same pdu1
 
   -- requests are a service of the network, which no group of the plan is
   pub other_than_requests : (f : ℕ) (flow : FlowPlan) (group : GroupPlan) → IsShortFlow plan named f flow group → (request : RequestPlan)

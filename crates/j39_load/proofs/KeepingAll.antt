@@ -2,8 +2,8 @@
 -- behind the other.
 use Rattle.std.proofs.Common.{◌≡◌, ℕ, zero, suc, ◌+◌, ◌*◌, ◌^◌, ◌<◌, ◌≤◌, Bool, true, not, if◌then◌else◌, ltb, length, Option, Some, eqb, cond, ◌-◌, false}
 use Rattle.std.proofs.Common.{refl, sym, ap, ◌∙◌, subst, inl, inr, arith}
-use Rattle.std.proofs.Math.Nat.{mul-le-mul_left, mul-le-mul_right}
-use Rattle.std.proofs.lemmas.Bool.{cases_eq, cases_lt, eq-eqb, eqb-true, le-ltb, lt-ltb, true≢false}
+use Rattle.std.proofs.Math.Nat.{mul-le-mul_right}
+use Rattle.std.proofs.lemmas.Bool.{cases_lt, eq-eqb, eqb-true, le-ltb, lt-ltb, true≢false}
 use Rattle.std.proofs.lemmas.Option.{same_Some, slice_get_within}
 use Rattle.std.specs.List.{slice_get}
 use Rattle.std.specs.Option.{option_map_or}
@@ -28,13 +28,13 @@ use Rattle.j39_load.specs.Loads.{bits_per_ms, is_any}
 use Rattle.j39_load.specs.Ranks.{AreHeldApart}
 use Rattle.j39_load.specs.SentFrames.{Broadcasts, IsBroadcastFrame, FrameSources, Held, IsFrameOf, IsPart, IsSentByUnit, IsRequestFrame, IsSessionFrame}
 use Rattle.j39_load.specs.SentFrames.{IsSingleFrame, Part, SendsPart, Source, bit_time, goes_to, part_identifier}
-use Rattle.j39_load.specs.SentFrames.{Announcing, Carrying, Single, InSession, Asking, RequestToSend, Packet, ClearToSend, EndAcknowledged}
+use Rattle.j39_load.specs.SentFrames.{Announcing, Carrying, Single, First, InSession, Asking, RequestToSend, Packet, ClearToSend, EndAcknowledged}
 use Rattle.j39_load.proofs.KeepingApart as alone
 use Rattle.j39_load.proofs.KeepingFrames.{one_to}
 use Rattle.j39_load.proofs.Slots.{ends_before, slots, slots_any_order, slots_legal}
-use Rattle.j39_timing.specs.AnyOrder.{Controllers, IsLegalInAnyOrder}
+use Rattle.j39_timing.specs.AnyOrder.{Controllers}
 use Rattle.j39_timing.specs.Rounds.{all_planned}
-use Rattle.j39_timing.specs.TimedFrames.{Schedule, IsLegal}
+use Rattle.j39_timing.specs.TimedFrames.{Schedule}
 use Rattle.j39_world.specs.HeldAddresses.{ArePlannedApart}
 
 -- ---- what is sent in a slot
@@ -69,6 +69,7 @@ source_of f g r w (Sends k) = Carrying w 0 k
 -- the slot of a source
 abbrev slot_of : ℕ → Source → ℕ
 slot_of packets (Single f) = 0
+slot_of packets (First f) = 0
 slot_of packets (Asking r) = 1
 slot_of packets (InSession g RequestToSend) = 2
 slot_of packets (InSession g (ClearToSend k)) = 3

@@ -7,6 +7,8 @@ use Rattle.std.specs.Option.{option_map_or}
 use Rattle.j39_findings.specs.Findings.{Clean}
 use Rattle.j39_findings.specs.Standing.{DecidesWhoStays}
 use Rattle.j39_network.specs.declared.plan.Plan.{Plan}
+use Rattle.j39_network.specs.declared.plan.flow_plan.FlowPlan.{FlowPlan}
+use Rattle.j39_network.specs.declared.plan.group_plan.GroupPlan.{GroupPlan}
 use Rattle.j39_network.specs.declared.plan.timing.Timing.{Timing}
 use Rattle.j39_network.specs.declared.plan.unit_plan.UnitPlan.{UnitPlan}
 use Rattle.j39_load.specs.declared.frames.flow_frames.FlowFrames.{FlowFrames}
@@ -15,12 +17,12 @@ use Rattle.j39_load.specs.Asked.{asked_of, frames_asked}
 use Rattle.j39_load.specs.KeepsPlan.{IsSingleFlow, KeepsQueues, KeepsToPlan, origins_of, source_place}
 use Rattle.j39_load.specs.Loads.{any_unit}
 use Rattle.j39_load.specs.PlannedFrames.{AreFramesInAnyOrder, AreFramesOfPlan, KeepToQueueGroup, queue_group_of, no_frames, planned_at}
-use Rattle.j39_load.specs.SentFrames.{FrameSources, Held, IsFrameOf, IsRequestFrame, IsSessionFrame, IsSingleFrame, Part, Source}
-use Rattle.j39_load.specs.SentFrames.{Single, InSession, Asking, Announcing, Carrying}
+use Rattle.j39_load.specs.SentFrames.{FrameSources, Held, IsFirstFrame, IsFrameOf, IsRequestFrame, IsSessionFrame, IsSingleFrame, Part, Source}
+use Rattle.j39_load.specs.SentFrames.{Single, First, InSession, Asking, Announcing, Carrying}
 use Rattle.j39_load.proofs.KeepingFrames.{IsKnown, TakesAny, any_known, queue_cases}
-use Rattle.j39_load.proofs.PlacedFrames.{own, read, request_frames_read, session_read}
+use Rattle.j39_load.proofs.PlacedFrames.{first_read, read, request_frames_read, session_read}
 use Rattle.j39_load.proofs.KeepingPlan.{keeps_premises, of_source}
-use Rattle.j39_load.proofs.SharedIdentifiers.{AreAlike, broadcast_made, broadcast_or_part, no_broadcast, no_part, no_request, one_asks, one_or_alike, one_sends}
+use Rattle.j39_load.proofs.SharedIdentifiers.{IsGroupFrame, broadcast_made, broadcast_or_part, no_broadcast, no_part, no_request, of_first, of_single, one_asks, one_sender, one_sends}
 use Rattle.j39_load.proofs.SharedIdentifiers.{part_made, parts_between, request_made, request_or_broadcast, request_or_part}
 use Rattle.j39_timing.specs.AnyOrder.{Controllers, IsLegalInAnyOrder, IsUnordered}
 use Rattle.j39_timing.specs.TimedFrames.{Schedule}
@@ -70,17 +72,14 @@ module _ (plan : Plan) (timing : Timing) (stays : UnitPlan → Bool) (tells : De
     abbrev counts : ℕ → Bool
     counts u = option_map_or member (any_unit plan.units.items u) false
 
-    -- two alike are both of the queue group, or none is
-    queue_group_alike : (a b : FlowFrames) → AreAlike a b → is_of a ≡ true → is_of b ≡ true
-    queue_group_alike a b are is =
-        subst (λ (u : Option ℕ). (option_map_or member b.any_sender false || option_map_or member u false) ≡ true) are.receivers
-        (subst (λ (u : Option ℕ). (option_map_or member u false || option_map_or member a.any_receiver false) ≡ true) are.senders is)
-
     -- at the place of a source stand these frames
-    at_single : (f release p : ℕ) (x : IsSingleFrame plan timing s held f release p)
-        → has f ≡ is_of (own plan timing stays f x.flow x.pace x.group x.its x.paced x.of)
+    at_single : (f release p : ℕ) (x : IsSingleFrame plan timing s held f release p) → has f ≡ (counts x.flow.sender || false)
     at_single f release p x = ap (λ (o : Option FlowFrames). is_of (unwrap_or o no_frames))
         (read plan timing stays f x.flow x.pace x.group x.its x.paced x.of x.short)
+
+    at_first : (f release p : ℕ) (x : IsFirstFrame plan timing s held f release p) → has (source_place plan (First f)) ≡ (counts x.flow.sender || false)
+    at_first f release p x = ap (λ (o : Option FlowFrames). is_of (unwrap_or o no_frames))
+        (first_read plan timing stays f x.flow x.pace x.group x.its x.paced x.of x.short x.long)
 
     at_session : (f : ℕ) (part : Part) (release p : ℕ) (x : IsSessionFrame plan timing s held f part release p)
         → has f ≡ (counts x.flow.sender || counts x.receiver)
@@ -91,24 +90,65 @@ module _ (plan : Plan) (timing : Timing) (stays : UnitPlan → Bool) (tells : De
     at_request r release p x = ap (λ (o : Option FlowFrames). is_of (unwrap_or o no_frames))
         (request_frames_read plan timing stays r x.asked x.ms x.its x.paced)
 
+    abbrev IsMadeOf : ℕ → ℕ → ℕ → FlowPlan → GroupPlan → Type 0
+    IsMadeOf f p t flow group = IsGroupFrame plan timing clean s held t (keeps.held_apart t) f p flow group
+
+    single_made : (f release p t : ℕ) (x : IsSingleFrame plan timing s held f release p) → IsQueuedAt s p t → IsMadeOf f p t x.flow x.group
+    single_made f release p t x queued = of_single plan timing clean s held t (keeps.held_apart t) f release p x queued
+
+    first_made : (f release p t : ℕ) (x : IsFirstFrame plan timing s held f release p) → IsQueuedAt s p t → IsMadeOf f p t x.flow x.group
+    first_made f release p t x queued = of_first plan timing clean s held t (keeps.held_apart t) f release p x queued
+
+    -- two messages of one frame are of one unit
+    of_sender : {a b : Bool} {flow other : FlowPlan} {group second : GroupPlan} (f g p q t : ℕ) → IsMadeOf f p t flow group → IsMadeOf g q t other second
+        → s.ident p ≡ s.ident q → a ≡ (counts flow.sender || false) → b ≡ (counts other.sender || false) → a ≡ true → b ≡ true
+    of_sender f g p q t x y same at_x at_y is =
+        at_y
+        ∙ subst (λ (u : ℕ). (counts u || false) ≡ true) (one_sender plan timing clean s held t (keeps.held_apart t) f g p q x y same) (sym at_x ∙ is)
+
     -- of two frames with one identifier both are of the queue group, or none is
     both_of : (a b : Source) (release other p q t : ℕ) → IsFrameOf plan timing s held sent.broadcasts a release p → IsFrameOf plan timing s held sent.broadcasts b other q
         → IsQueuedAt s p t → IsQueuedAt s q t → s.ident p ≡ s.ident q → has (source_place plan a) ≡ true → has (source_place plan b) ≡ true
     both_of (Single f) (Single g) release other p q t x y at_p at_q same is =
-        elim (one_or_alike plan timing clean s held t (keeps.held_apart t) stays f g release other p q x y at_p at_q same) [
-          | inl one_flow ↦ subst (λ (h : ℕ). has h ≡ true) one_flow is
-          | inr are ↦ at_single g other q y
-              ∙ queue_group_alike (own plan timing stays f x.flow x.pace x.group x.its x.paced x.of) (own plan timing stays g y.flow y.pace y.group y.its y.paced y.of) are
-              (sym (at_single f release p x) ∙ is)
-        ]
+        of_sender f g p q t (single_made f release p t x at_p) (single_made g other q t y at_q) same (at_single f release p x) (at_single g other q y) is
+    both_of (Single f) (First g) release other p q t x y at_p at_q same is =
+        of_sender f g p q t (single_made f release p t x at_p) (first_made g other q t y at_q) same (at_single f release p x) (at_first g other q y) is
+    both_of (First f) (Single g) release other p q t x y at_p at_q same is =
+        of_sender f g p q t (first_made f release p t x at_p) (single_made g other q t y at_q) same (at_first f release p x) (at_single g other q y) is
+    both_of (First f) (First g) release other p q t x y at_p at_q same is =
+        of_sender f g p q t (first_made f release p t x at_p) (first_made g other q t y at_q) same (at_first f release p x) (at_first g other q y) is
+    both_of (First f) (InSession g part) release other p q t x y at_p at_q same is =
+        absurd (no_part plan timing clean s held t (keeps.held_apart t) f p (first_made f release p t x at_p) (s.ident q) y.flow.sender y.receiver
+        (part_made plan timing clean s held t (keeps.held_apart t) g part other q y at_q) same)
+    both_of (First f) (Asking r) release other p q t x y at_p at_q same is =
+        absurd (no_request plan timing clean s held t (keeps.held_apart t) f p (first_made f release p t x at_p) (s.ident q) y.asked.sender y.asked.to
+        (request_made plan timing clean s held t (keeps.held_apart t) r other q y at_q) same)
+    both_of (First f) (Announcing u m) release other p q t x y at_p at_q same is =
+        absurd (no_broadcast plan timing clean s held t (keeps.held_apart t) f p (first_made f release p t x at_p) (s.ident q) 60416 u (inl refl)
+        (broadcast_made plan timing clean s held t (keeps.held_apart t) sent.broadcasts 60416 u m other q (inl refl) y at_q) same)
+    both_of (First f) (Carrying u m i) release other p q t x y at_p at_q same is =
+        absurd (no_broadcast plan timing clean s held t (keeps.held_apart t) f p (first_made f release p t x at_p) (s.ident q) 60160 u (inr refl)
+        (broadcast_made plan timing clean s held t (keeps.held_apart t) sent.broadcasts 60160 u m other q (inr refl) y.0 at_q) same)
+    both_of (InSession f part) (First g) release other p q t x y at_p at_q same is =
+        absurd (no_part plan timing clean s held t (keeps.held_apart t) g q (first_made g other q t y at_q) (s.ident p) x.flow.sender x.receiver
+        (part_made plan timing clean s held t (keeps.held_apart t) f part release p x at_p) (sym same))
+    both_of (Asking r) (First g) release other p q t x y at_p at_q same is =
+        absurd (no_request plan timing clean s held t (keeps.held_apart t) g q (first_made g other q t y at_q) (s.ident p) x.asked.sender x.asked.to
+        (request_made plan timing clean s held t (keeps.held_apart t) r release p x at_p) (sym same))
+    both_of (Announcing u m) (First g) release other p q t x y at_p at_q same is =
+        absurd (no_broadcast plan timing clean s held t (keeps.held_apart t) g q (first_made g other q t y at_q) (s.ident p) 60416 u (inl refl)
+        (broadcast_made plan timing clean s held t (keeps.held_apart t) sent.broadcasts 60416 u m release p (inl refl) x at_p) (sym same))
+    both_of (Carrying u m i) (First g) release other p q t x y at_p at_q same is =
+        absurd (no_broadcast plan timing clean s held t (keeps.held_apart t) g q (first_made g other q t y at_q) (s.ident p) 60160 u (inr refl)
+        (broadcast_made plan timing clean s held t (keeps.held_apart t) sent.broadcasts 60160 u m release p (inr refl) x.0 at_p) (sym same))
     both_of (Single f) (InSession g part) release other p q t x y at_p at_q same is =
-        absurd (no_part plan timing clean s held t (keeps.held_apart t) f release p x at_p (s.ident q) y.flow.sender y.receiver
+        absurd (no_part plan timing clean s held t (keeps.held_apart t) f p (single_made f release p t x at_p) (s.ident q) y.flow.sender y.receiver
         (part_made plan timing clean s held t (keeps.held_apart t) g part other q y at_q) same)
     both_of (Single f) (Asking r) release other p q t x y at_p at_q same is =
-        absurd (no_request plan timing clean s held t (keeps.held_apart t) f release p x at_p (s.ident q) y.asked.sender y.asked.to
+        absurd (no_request plan timing clean s held t (keeps.held_apart t) f p (single_made f release p t x at_p) (s.ident q) y.asked.sender y.asked.to
         (request_made plan timing clean s held t (keeps.held_apart t) r other q y at_q) same)
     both_of (InSession f part) (Single g) release other p q t x y at_p at_q same is =
-        absurd (no_part plan timing clean s held t (keeps.held_apart t) g other q y at_q (s.ident p) x.flow.sender x.receiver
+        absurd (no_part plan timing clean s held t (keeps.held_apart t) g q (single_made g other q t y at_q) (s.ident p) x.flow.sender x.receiver
         (part_made plan timing clean s held t (keeps.held_apart t) f part release p x at_p) (sym same))
     both_of (InSession f a) (InSession g b) release other p q t x y at_p at_q same is =
         at_session g b other q y
@@ -120,7 +160,7 @@ module _ (plan : Plan) (timing : Timing) (stays : UnitPlan → Bool) (tells : De
         (request_made plan timing clean s held t (keeps.held_apart t) r other q y at_q)
         (part_made plan timing clean s held t (keeps.held_apart t) f part release p x at_p) (sym same))
     both_of (Asking r) (Single g) release other p q t x y at_p at_q same is =
-        absurd (no_request plan timing clean s held t (keeps.held_apart t) g other q y at_q (s.ident p) x.asked.sender x.asked.to
+        absurd (no_request plan timing clean s held t (keeps.held_apart t) g q (single_made g other q t y at_q) (s.ident p) x.asked.sender x.asked.to
         (request_made plan timing clean s held t (keeps.held_apart t) r release p x at_p) (sym same))
     both_of (Asking r) (InSession g part) release other p q t x y at_p at_q same is =
         absurd (request_or_part plan clean (held.named t) (held.address t) (keeps.held_apart t) (s.ident p) (s.ident q) x.asked.sender y.flow.sender y.receiver x.asked.to
@@ -133,7 +173,7 @@ module _ (plan : Plan) (timing : Timing) (stays : UnitPlan → Bool) (tells : De
         (request_made plan timing clean s held t (keeps.held_apart t) r release p x at_p)
         (request_made plan timing clean s held t (keeps.held_apart t) k other q y at_q) same) (sym (at_request r release p x) ∙ is)
     both_of (Single f) (Announcing u m) release other p q t x y at_p at_q same is =
-        absurd (no_broadcast plan timing clean s held t (keeps.held_apart t) f release p x at_p (s.ident q) 60416 u (inl refl)
+        absurd (no_broadcast plan timing clean s held t (keeps.held_apart t) f p (single_made f release p t x at_p) (s.ident q) 60416 u (inl refl)
         (broadcast_made plan timing clean s held t (keeps.held_apart t) sent.broadcasts 60416 u m other q (inl refl) y at_q) same)
     both_of (InSession f part) (Announcing u m) release other p q t x y at_p at_q same is =
         absurd (broadcast_or_part plan clean (held.named t) (held.address t) (keeps.held_apart t) (s.ident q) (s.ident p) u x.flow.sender x.receiver 60416
@@ -144,7 +184,7 @@ module _ (plan : Plan) (timing : Timing) (stays : UnitPlan → Bool) (tells : De
         (request_made plan timing clean s held t (keeps.held_apart t) r release p x at_p)
         (broadcast_made plan timing clean s held t (keeps.held_apart t) sent.broadcasts 60416 u m other q (inl refl) y at_q) same)
     both_of (Announcing u m) (Single g) release other p q t x y at_p at_q same is =
-        absurd (no_broadcast plan timing clean s held t (keeps.held_apart t) g other q y at_q (s.ident p) 60416 u (inl refl)
+        absurd (no_broadcast plan timing clean s held t (keeps.held_apart t) g q (single_made g other q t y at_q) (s.ident p) 60416 u (inl refl)
         (broadcast_made plan timing clean s held t (keeps.held_apart t) sent.broadcasts 60416 u m release p (inl refl) x at_p) (sym same))
     both_of (Announcing u m) (InSession g part) release other p q t x y at_p at_q same is =
         absurd (broadcast_or_part plan clean (held.named t) (held.address t) (keeps.held_apart t) (s.ident p) (s.ident q) u y.flow.sender y.receiver 60416
@@ -155,7 +195,7 @@ module _ (plan : Plan) (timing : Timing) (stays : UnitPlan → Bool) (tells : De
         (request_made plan timing clean s held t (keeps.held_apart t) r other q y at_q)
         (broadcast_made plan timing clean s held t (keeps.held_apart t) sent.broadcasts 60416 u m release p (inl refl) x at_p) (sym same))
     both_of (Single f) (Carrying u m i) release other p q t x y at_p at_q same is =
-        absurd (no_broadcast plan timing clean s held t (keeps.held_apart t) f release p x at_p (s.ident q) 60160 u (inr refl)
+        absurd (no_broadcast plan timing clean s held t (keeps.held_apart t) f p (single_made f release p t x at_p) (s.ident q) 60160 u (inr refl)
         (broadcast_made plan timing clean s held t (keeps.held_apart t) sent.broadcasts 60160 u m other q (inr refl) y.0 at_q) same)
     both_of (InSession f part) (Carrying u m i) release other p q t x y at_p at_q same is =
         absurd (broadcast_or_part plan clean (held.named t) (held.address t) (keeps.held_apart t) (s.ident q) (s.ident p) u x.flow.sender x.receiver 60160
@@ -166,7 +206,7 @@ module _ (plan : Plan) (timing : Timing) (stays : UnitPlan → Bool) (tells : De
         (request_made plan timing clean s held t (keeps.held_apart t) r release p x at_p)
         (broadcast_made plan timing clean s held t (keeps.held_apart t) sent.broadcasts 60160 u m other q (inr refl) y.0 at_q) same)
     both_of (Carrying u m i) (Single g) release other p q t x y at_p at_q same is =
-        absurd (no_broadcast plan timing clean s held t (keeps.held_apart t) g other q y at_q (s.ident p) 60160 u (inr refl)
+        absurd (no_broadcast plan timing clean s held t (keeps.held_apart t) g q (single_made g other q t y at_q) (s.ident p) 60160 u (inr refl)
         (broadcast_made plan timing clean s held t (keeps.held_apart t) sent.broadcasts 60160 u m release p (inr refl) x.0 at_p) (sym same))
     both_of (Carrying u m i) (InSession g part) release other p q t x y at_p at_q same is =
         absurd (broadcast_or_part plan clean (held.named t) (held.address t) (keeps.held_apart t) (s.ident p) (s.ident q) u y.flow.sender y.receiver 60160

@@ -114,15 +114,61 @@ one_at_most : (f : ℕ → ℕ) → f 0 ≤ 1 → total 1 f ≤ 1
 unfolding total
 one_at_most f few = omega (arith, few)
 
+-- ---- the units of a plan
+
+module _ (plan : Plan) (apart : ArePlannedApart (units_of plan)) where
+  -- each unit holds its planned address
+  abbrev pub planned_address : ℕ → ℕ
+  planned_address u = (unit_at (units_of plan) u).preferred
+
+  abbrev pub planned_held : Held
+  planned_held = record { named = λ t u. ltb u (length plan.units.items); address = λ t. planned_address }
+
+  pub planned_apart : (t : ℕ) → AreHeldApart (planned_held.named t) (planned_held.address t)
+  planned_apart t = record {
+    range = λ u named.
+        let below = ltb-true u (length plan.units.items) named in
+        let (unit, at, is) = placed plan.keep_free plan.units.items u (omega (arith, below, length-map plan.units.items (planned_unit plan.keep_free))) in
+        let same : planned_address u ≡ unit.address = ap (λ (c : PlannedUnit). c.preferred) is in
+        let low = unit.address_range in
+        omega (arith, same, low);
+    apart = λ u v other named_u named_v.
+        let below_u = ltb-true u (length plan.units.items) named_u in
+        let below_v = ltb-true v (length plan.units.items) named_v in
+        let size = length-map plan.units.items (planned_unit plan.keep_free) in
+        apart u v (omega (arith, below_u, size)) (omega (arith, below_v, size)) other;
+  }
+
+  named_unit : (u : ℕ) → u < length plan.units.items → ltb u (length plan.units.items) ≡ true
+  named_unit u below = lt-ltb u (length plan.units.items) below
+
+  pub planned_sender : (f : ℕ) (flow : FlowPlan) → slice_get plan.flows.items f ≡ Some flow → ltb flow.sender (length plan.units.items) ≡ true
+  planned_sender f flow its =
+      named_unit flow.sender (all_at (λ (g : FlowPlan). g.sender < length plan.units.items) plan.flows.items plan.flow_senders f flow its)
+
+  pub planned_receiver : (f : ℕ) (flow : FlowPlan) → slice_get plan.flows.items f ≡ Some flow → (v : ℕ) → flow.to ≡ One v
+      → ltb v (length plan.units.items) ≡ true
+  planned_receiver f flow its v goes = named_unit v
+      (all_at (λ (g : FlowPlan). (u : ℕ) → g.to ≡ One u → u < length plan.units.items) plan.flows.items plan.flow_receivers f flow its v goes)
+
+-- the period of a flow
+pub period_is : (plan : Plan) (f : ℕ) (flow : FlowPlan) (pace : Pace) → slice_get plan.flows.items f ≡ Some flow → flow.pace ≡ Some pace → (ms : ℕ)
+    → HasPeriodMs plan f ms → pace.period ≡ ms
+period_is plan f flow pace its paced ms every =
+    let same : flow ≡ every.flow = same_Some _ _ (sym its ∙ every.its) in
+    let paces : pace ≡ every.pace = same_Some _ _ (sym paced ∙ (ap (λ (g : FlowPlan). g.pace) same ∙ every.paced)) in
+    ap (λ (x : Pace). x.period) paces ∙ every.is
+
+-- ---- a flow each message of which goes in one frame
+
 module _ (plan : Plan) (timing : Timing) (apart : ArePlannedApart (units_of plan)) (f : ℕ) (flow : FlowPlan) (pace : Pace) (group : GroupPlan)
     (its : slice_get plan.flows.items f ≡ Some flow) (paced : flow.pace ≡ Some pace) (of : slice_get plan.groups.items flow.group ≡ Some group)
     (short : group.most ≤ 8) (n : ℕ) where
-  -- each unit holds its planned address
   abbrev pub address : ℕ → ℕ
-  address u = (unit_at (units_of plan) u).preferred
+  address = planned_address plan apart
 
   abbrev pub held : Held
-  held = record { named = λ t u. ltb u (length plan.units.items); address = λ t. address }
+  held = planned_held plan apart
 
   -- from one frame to the next is a period, and a frame
   abbrev step : ℕ
@@ -159,30 +205,14 @@ module _ (plan : Plan) (timing : Timing) (apart : ArePlannedApart (units_of plan
       let more : step * (p + 1) ≤ step * q = mul-le-mul_left step (omega (arith, less)) in
       in_ms_behind timing.bitrate pace.period (p * step) (q * step) (omega (arith, more))
 
-  units_named : (u : ℕ) → u < length plan.units.items → ltb u (length plan.units.items) ≡ true
-  units_named u below = lt-ltb u (length plan.units.items) below
-
   pub held_apart : (t : ℕ) → AreHeldApart (held.named t) (held.address t)
-  held_apart t = record {
-    range = λ u named.
-        let below = ltb-true u (length plan.units.items) named in
-        let (unit, at, is) = placed plan.keep_free plan.units.items u (omega (arith, below, length-map plan.units.items (planned_unit plan.keep_free))) in
-        let same : address u ≡ unit.address = ap (λ (c : PlannedUnit). c.preferred) is in
-        let low = unit.address_range in
-        omega (arith, same, low);
-    apart = λ u v other named_u named_v.
-        let below_u = ltb-true u (length plan.units.items) named_u in
-        let below_v = ltb-true v (length plan.units.items) named_v in
-        let size = length-map plan.units.items (planned_unit plan.keep_free) in
-        apart u v (omega (arith, below_u, size)) (omega (arith, below_v, size)) other;
-  }
+  held_apart t = planned_apart plan apart t
 
   pub sender_named : ltb flow.sender (length plan.units.items) ≡ true
-  sender_named = units_named flow.sender (all_at (λ (g : FlowPlan). g.sender < length plan.units.items) plan.flows.items plan.flow_senders f flow its)
+  sender_named = planned_sender plan apart f flow its
 
   pub receiver_named : (v : ℕ) → flow.to ≡ One v → ltb v (length plan.units.items) ≡ true
-  receiver_named v goes = units_named v
-      (all_at (λ (g : FlowPlan). (u : ℕ) → g.to ≡ One u → u < length plan.units.items) plan.flows.items plan.flow_receivers f flow its v goes)
+  receiver_named v goes = planned_receiver plan apart f flow its v goes
 
   frame : (p : ℕ) → IsSingleFrame plan timing bus held f (p * step) p
   frame p = record {
@@ -202,10 +232,7 @@ module _ (plan : Plan) (timing : Timing) (apart : ArePlannedApart (units_of plan
   }
 
   pub same_period : (ms : ℕ) → HasPeriodMs plan f ms → pace.period ≡ ms
-  same_period ms every =
-      let same : flow ≡ every.flow = same_Some _ _ (sym its ∙ every.its) in
-      let paces : pace ≡ every.pace = same_Some _ _ (sym paced ∙ (ap (λ (g : FlowPlan). g.pace) same ∙ every.paced)) in
-      ap (λ (x : Pace). x.period) paces ∙ every.is
+  same_period ms every = period_is plan f flow pace its paced ms every
 
   keeps : KeepsToPlan plan timing bus all_planned sent held
   keeps = record {
@@ -225,7 +252,7 @@ module _ (plan : Plan) (timing : Timing) (apart : ArePlannedApart (units_of plan
     few_others = λ p from to in_p is source seen waits wait. absurd (let behind = waits.0 in let before = waits.1 in omega (arith, behind, before));
   }
 
-  pub can_be_kept : CanBeKept plan timing f n
+  pub can_be_kept : CanBeKept plan timing (Single f) n
   can_be_kept = record {
     s = bus;
     planned = all_planned;
@@ -235,7 +262,7 @@ module _ (plan : Plan) (timing : Timing) (apart : ArePlannedApart (units_of plan
     keeps = keeps;
     frames = refl;
     all_planned = λ p. refl;
-    of_flow = λ p. refl;
+    of_source = λ p. refl;
   }
 
   -- ---- each frame as late as the jitter allows, and the first damaged once, or behind one that is left half sent

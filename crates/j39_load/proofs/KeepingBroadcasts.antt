@@ -21,10 +21,11 @@ use Rattle.j39_load.specs.Demands.{announcements_demand, demand_by, demands_of, 
 use Rattle.j39_load.specs.Loads.{bits_of_ms}
 use Rattle.j39_load.specs.KeepsBroadcasts.{IsMessageToAll, KeepsBroadcasts}
 use Rattle.j39_load.specs.KeepsPlan.{source_place}
-use Rattle.j39_load.specs.SentFrames.{Broadcasts, FrameSources, Held, IsFrameOf, Source, Single, InSession, Asking, Announcing, Carrying}
+use Rattle.j39_load.specs.SentFrames.{Broadcasts, FrameSources, Held, IsFrameOf, Source, Single, First, InSession, Asking, Announcing, Carrying}
 use Rattle.j39_load.proofs.AskedPlaces.{flow_read}
 use Rattle.j39_load.proofs.EachFrames.{each_fits}
-use Rattle.j39_load.proofs.KeepingFrames.{IsPaced, of_announcements, of_packets}
+use Rattle.j39_load.proofs.KeepingFrames.{IsPaced}
+use Rattle.j39_load.proofs.KeepingSources.{of_announcements, of_packets}
 use Rattle.j39_load.proofs.Milliseconds.{behind_bits, some_bits, within_bits}
 use Rattle.j39_load.proofs.PlacedFrames.{all, asked, at_place, its_broadcast, load, to_all_units, traffic, unit_planned}
 use Rattle.j39_load.proofs.StreamsBefore.{get_or_inside}
@@ -101,6 +102,7 @@ one_counts (suc n) counts some = elim (cases_Bool (counts n)) [
 -- what a frame is of a unit's messages
 abbrev pub message_of : Source → ℕ
 message_of (Single f) = 0
+message_of (First f) = 0
 message_of (InSession f part) = 0
 message_of (Asking r) = 0
 message_of (Announcing u m) = m
@@ -108,6 +110,7 @@ message_of (Carrying u m k) = m
 
 abbrev number_of : Source → ℕ
 number_of (Single f) = 0
+number_of (First f) = 0
 number_of (InSession f part) = 0
 number_of (Asking r) = 0
 number_of (Announcing u m) = 0
@@ -421,6 +424,7 @@ module _ (plan : Plan) (timing : Timing) (stays : UnitPlan → Bool) (s : Schedu
           → (t span : ℕ) (demand : Demand) → demand_of (demands_of whole) (stream (source_place plan x)) ≡ Some demand
           → releases_in w plans of (source_place plan x) t span ≤ frames_wanted span demand
       of_source (Single f) release p frame paced t span demand is = absurd (demand_none f demand paced.unwanted is)
+      of_source (First f) release p frame paced t span demand is = absurd (demand_none (source_place plan (First f)) demand paced.unwanted is)
       of_source (InSession f part) release p frame paced t span demand is = absurd (demand_none f demand paced.unwanted is)
       of_source (Asking r) release p frame paced t span demand is = absurd (demand_none (source_place plan (Asking r)) demand paced.unwanted is)
       of_source (Announcing u m) release p frame paced t span demand is =

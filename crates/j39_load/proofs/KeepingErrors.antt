@@ -14,6 +14,8 @@ use Rattle.j39_network.specs.declared.plan.to.To.{To}
 use Rattle.j39_network.specs.declared.plan.to.To.TheVariants.{All as ToAll, One}
 use Rattle.j39_network.specs.declared.plan.Plan.{Plan}
 use Rattle.j39_network.specs.declared.plan.timing.ErrorRate.{ErrorRate}
+use Rattle.j39_network.specs.declared.plan.flow_plan.FlowPlan.{FlowPlan}
+use Rattle.j39_network.specs.declared.plan.group_plan.GroupPlan.{GroupPlan}
 use Rattle.j39_network.specs.declared.plan.timing.Timing.{Timing}
 use Rattle.j39_network.specs.declared.plan.unit_plan.UnitPlan.{UnitPlan}
 use Rattle.j39_load.specs.declared.frames.flow_frames.FlowFrames.{FlowFrames}
@@ -22,9 +24,9 @@ use Rattle.j39_load.specs.Asked.{announcements_of_unit, asked_of, frames_asked, 
 use Rattle.j39_load.specs.Damage.{damage_frames, damage_stream, first_frames}
 use Rattle.j39_load.specs.KeepsErrors.{KeepsErrors, origins_with, planned_with}
 use Rattle.j39_load.specs.KeepsPlan.{IsSingleFlow, KeepsToPlan, origins_of, source_place, source_turn}
-use Rattle.j39_load.specs.Loads.{bits_of_ms, load_of_flow}
+use Rattle.j39_load.specs.Loads.{bits_of_ms, destination_at, load_of_flow}
 use Rattle.j39_load.specs.PlannedFrames.{AreFramesOfPlan, no_frames, planned_at}
-use Rattle.j39_load.specs.SentFrames.{FrameSources, Announcing, Carrying, HasTime, Held, IsBroadcastFrame, IsFrameOf, IsSingleFrame, Part, Single, InSession}
+use Rattle.j39_load.specs.SentFrames.{FrameSources, Announcing, Carrying, HasTime, Held, IsBroadcastFrame, IsFrameOf, Part, Single, First, InSession}
 use Rattle.j39_load.specs.SentFrames.{Asking, Source, goes_to, part_identifier}
 use Rattle.j39_load.specs.SentFrames.{RequestToSend, Packet, ClearToSend, EndAcknowledged}
 use Rattle.j39_findings.specs.Standing.{DecidesWhoStays}
@@ -35,6 +37,7 @@ use Rattle.j39_load.proofs.KeepingFrames.{IsBelowGreatest, inside_asked}
 use Rattle.j39_load.proofs.PlacedFrames.{traffic}
 use Rattle.j39_load.proofs.KeepingPlan.{at_its_place, keeps_stream, of_flow, of_source, of_streams, own_identifier, told_stream}
 use Rattle.j39_load.proofs.Milliseconds.{behind_bits}
+use Rattle.j39_load.proofs.SharedIdentifiers.{IsGroupFrame, of_first, of_single}
 use Rattle.j39_timing.specs.Errors.{Damaged, IsBusWithErrors, IsLegalWithErrors, with_errors}
 use Rattle.j39_timing.specs.FrameBits.{error_frame, longest_frame}
 use Rattle.j39_timing.specs.FrameStreams.{Origins, AreOfStreams, KeepsStream}
@@ -344,20 +347,18 @@ module _ (plan : Plan) (timing : Timing) (stays : UnitPlan → Bool) (tells : De
   -- ---- identifiers
 
   -- no unit sends to itself, so no frame has the identifier 0
-  single_above_zero : (f release p : ℕ) → s.queued p ≤ s.start p → IsSingleFrame plan timing s held f release p → s.ident p ≡ 0 → ⊥
-  single_above_zero f release p ready one none =
-      let t = s.queued p in
-      let queued : IsQueuedAt s p t = (omega arith, ready) in
-      let (there, here) = zero_parts one.group.priority one.group.pgn (goes_to (held.address t) one.flow.to) (held.address t one.flow.sender)
-      (sym (one.identifier t queued) ∙ none) in
-      to_itself t queued one.flow.to refl there here
+  group_above_zero : {flow : FlowPlan} {group : GroupPlan} (f p t : ℕ) → IsGroupFrame plan timing clean s held t (keeps.held_apart t) f p flow group
+      → s.ident p ≡ 0 → ⊥
+  group_above_zero {flow} {group} f p t one none =
+      let (there, here) = zero_parts group.priority group.pgn (destination_at (held.address t) flow.to) (held.address t flow.sender)
+      (sym one.is ∙ none) in
+      to_itself flow.to refl there here
     where
-      to_itself : (t : ℕ) → IsQueuedAt s p t → (to : To) → one.flow.to ≡ to → goes_to (held.address t) to ≡ 0 → held.address t one.flow.sender ≡ 0 → ⊥
-      to_itself t queued ToAll is there here = omega (arith, there)
-      to_itself t queued (One v) is there here = elim (cases_eq v one.flow.sender) [
-        | inl same ↦ clean (FlowToSelf f) (record { value = one.flow; value_is = one.its; meets = is ∙ ap One same })
-        | inr other ↦
-            (keeps.held_apart t).apart v one.flow.sender other (one.receiver_named t v queued is) (one.sender_named t queued) (there ∙ sym here)
+      to_itself : (to : To) → flow.to ≡ to → destination_at (held.address t) to ≡ 0 → held.address t flow.sender ≡ 0 → ⊥
+      to_itself ToAll is there here = omega (arith, there)
+      to_itself (One v) is there here = elim (cases_eq v flow.sender) [
+        | inl same ↦ clean (FlowToSelf f) (record { value = flow; value_is = one.sends.its; meets = is ∙ ap One same })
+        | inr other ↦ (keeps.held_apart t).apart v flow.sender other (one.sends.receiver v is) one.sends.sender (there ∙ sym here)
       ]
 
   part_above_zero : (part : Part) (from to : ℕ) → 0 < part_identifier timing part from to
@@ -377,7 +378,13 @@ module _ (plan : Plan) (timing : Timing) (stays : UnitPlan → Bool) (tells : De
   above_zero_of : (source : Source) (release p : ℕ) → s.queued p ≤ s.start p → IsFrameOf plan timing s held sent.broadcasts source release p → 0 < s.ident p
   above_zero_of (Single f) release p ready one = elim (cases_lt 0 (s.ident p)) [
     | inl some ↦ some
-    | inr none ↦ absurd (single_above_zero f release p ready one (omega (arith, none)))
+    | inr none ↦ absurd (group_above_zero f p (s.queued p)
+        (of_single plan timing clean s held (s.queued p) (keeps.held_apart (s.queued p)) f release p one (omega arith, ready)) (omega (arith, none)))
+  ]
+  above_zero_of (First f) release p ready one = elim (cases_lt 0 (s.ident p)) [
+    | inl some ↦ some
+    | inr none ↦ absurd (group_above_zero f p (s.queued p)
+        (of_first plan timing clean s held (s.queued p) (keeps.held_apart (s.queued p)) f release p one (omega arith, ready)) (omega (arith, none)))
   ]
   above_zero_of (InSession f part) release p ready one =
       let is = one.identifier (s.queued p) (omega arith, ready) in

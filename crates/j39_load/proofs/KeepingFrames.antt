@@ -1,9 +1,9 @@
 -- What is told of a frame by its source: it is one of the frames that stand at its place among all that a plan asks for.
 use Rattle.std.proofs.Common.{◌≡◌, ℕ, ◌+◌, ◌*◌, ◌^◌, ◌<◌, ◌≤◌, ◌⊎◌, Bool, true, false, ◌||◌, eqb, List, length, get_or, if◌then◌else◌, Option, Some, None}
 use Rattle.std.proofs.Common.{refl, sym, ap, ◌∙◌, subst, inl, inr, arith}
-use Rattle.std.proofs.lemmas.Bool.{eq-eqb, false≢true, le-leb, or_cases, or_right}
+use Rattle.std.proofs.lemmas.Bool.{eq-eqb, false≢true, le-leb, lt-leb, or_cases, or_right}
 use Rattle.std.proofs.lemmas.List.{length-append}
-use Rattle.std.proofs.lemmas.Option.{same_Some, slice_get_within}
+use Rattle.std.proofs.lemmas.Option.{slice_get_within}
 use Rattle.std.specs.Int.{div_ceil}
 use Rattle.std.specs.List.{slice_get}
 use Rattle.std.specs.Option.{option_map_or}
@@ -11,7 +11,6 @@ use Rattle.j39_id.specs.Ident.{identifier_of}
 use Rattle.j39_findings.specs.Standing.{DecidesWhoStays}
 use Rattle.j39_network.specs.declared.plan.Plan.{Plan}
 use Rattle.j39_network.specs.declared.plan.flow_plan.FlowPlan.{FlowPlan}
-use Rattle.j39_network.specs.declared.plan.group_plan.GroupPlan.{GroupPlan}
 use Rattle.j39_network.specs.declared.plan.queue.Queue.{Queue}
 use Rattle.j39_network.specs.declared.plan.queue.Queue.TheVariants.{Any, Priority}
 use Rattle.j39_network.specs.declared.plan.request_plan.RequestPlan.{RequestPlan}
@@ -25,16 +24,16 @@ use Rattle.j39_load.specs.AnyQueues.{are_of_unit}
 use Rattle.j39_load.specs.Asked.{frames_asked}
 use Rattle.j39_load.specs.Broadcasts.{broadcasts_by}
 use Rattle.j39_load.specs.Damage.{damage_frames}
-use Rattle.j39_load.specs.KeepsPlan.{packets_at, source_place, source_turn, turn_of_part, units_told}
+use Rattle.j39_load.specs.KeepsPlan.{packets_at, source_place, source_turn, turn_of_part}
 use Rattle.j39_load.specs.Loads.{any_unit, bits_of_ms, destination_at, greatest_address, group_ident, is_any, least_address, of_unit}
 use Rattle.j39_load.specs.PlannedFrames.{planned_at}
 use Rattle.j39_load.specs.Ranks.{AreHeldApart, AreHeldByPlan, AreUnitsPlanned}
 use Rattle.j39_load.specs.RequestLoads.{request_ident}
-use Rattle.j39_load.specs.SentFrames.{Held, IsFrameOf, IsPart, IsRequestFrame, IsSentByUnit, IsSentEvery, IsSessionFrame, IsSingleFrame, Part, SendsPart}
-use Rattle.j39_load.specs.SentFrames.{Source, TakesPart, goes_to, part_identifier}
-use Rattle.j39_load.specs.SentFrames.{Single, InSession, Asking, RequestToSend, Packet, ClearToSend, EndAcknowledged}
-use Rattle.j39_load.proofs.PlacedFrames.{all, announcing_read, asked, carrying_read, in_request, in_session, own, read, request_frames_read, session_read}
-use Rattle.j39_load.proofs.PlacedFrames.{unit_asks, unit_planned, unit_told}
+use Rattle.j39_load.specs.SentFrames.{Held, IsFrameOf, IsRequestFrame, IsSentByUnit, IsSentEvery, IsSessionFrame, IsSingleFrame, Part, SendsPart}
+use Rattle.j39_load.specs.SentFrames.{HasOwnIdentifier, HasTime, IsFirstFrame, Source, TakesPart, goes_to, part_identifier}
+use Rattle.j39_load.specs.SentFrames.{Single, First, InSession, Asking, RequestToSend, Packet, ClearToSend, EndAcknowledged}
+use Rattle.j39_load.proofs.PlacedFrames.{all, announcing_read, asked, carrying_read, first_read, in_request, in_session, own, read, request_frames_read, session_read}
+use Rattle.j39_load.proofs.PlacedFrames.{unit_asks, unit_planned}
 use Rattle.j39_load.proofs.Milliseconds.{within_bits, within_both}
 use Rattle.j39_load.proofs.Ranks as ranks
 use Rattle.j39_load.specs.declared.loads.unit_load.UnitLoad.{UnitLoad}
@@ -44,7 +43,7 @@ use Rattle.j39_load.specs.KeepsBroadcasts.{IsMessageToAll}
 use Rattle.j39_load.specs.Loads.{broadcast_ident}
 use Rattle.j39_load.specs.SentFrames.{Announcing, Broadcasts, Carrying, IsBroadcastFrame}
 use Rattle.j39_timing.specs.declared.stream.Stream.{Stream}
-use Rattle.j39_load.proofs.SessionParts.{one_part, turn_below}
+use Rattle.j39_load.proofs.SessionParts.{turn_below}
 use Rattle.j39_load.proofs.StreamsBefore.{get_or_inside, with_damage}
 use Rattle.j39_timing.specs.TimedFrames.{Schedule}
 use Rattle.j39_timing.specs.Traffic.{IsQueuedAt}
@@ -93,6 +92,11 @@ pub single_ident : (plan : Plan) (timing : Timing) (s : Schedule) (held : Held) 
 single_ident plan timing s held f release p t one queued = one.identifier t queued
     ∙ ap (λ (d : ℕ). identifier_of one.group.priority one.group.pgn d (held.address t one.flow.sender)) (same_place (held.address t) one.flow.to)
 
+pub first_ident : (plan : Plan) (timing : Timing) (s : Schedule) (held : Held) (f release p t : ℕ) (one : IsFirstFrame plan timing s held f release p)
+    → IsQueuedAt s p t → s.ident p ≡ group_ident (held.address t) one.group one.flow
+first_ident plan timing s held f release p t one queued = one.identifier t queued
+    ∙ ap (λ (d : ℕ). identifier_of one.group.priority one.group.pgn d (held.address t one.flow.sender)) (same_place (held.address t) one.flow.to)
+
 pub asking_ident : (plan : Plan) (s : Schedule) (held : Held) (r release p t : ℕ) (one : IsRequestFrame plan s held r release p)
     → IsQueuedAt s p t → s.ident p ≡ request_ident (held.address t) one.asked
 asking_ident plan s held r release p t one queued = one.identifier t queued
@@ -103,8 +107,18 @@ abbrev pub IsBelowGreatest : Source → ℕ → ℕ → Type 0
 IsBelowGreatest (Announcing u m) ident greatest = ident ≤ greatest
 IsBelowGreatest (Carrying u m k) ident greatest = ident ≤ greatest
 IsBelowGreatest (Single f) ident greatest = ident ≤ greatest
+IsBelowGreatest (First f) ident greatest = Unit {0}
 IsBelowGreatest (InSession f part) ident greatest = Unit {0}
 IsBelowGreatest (Asking r) ident greatest = Unit {0}
+
+-- what has a time has its own identifier
+pub own_if_timed : (source : Source) → HasTime source → HasOwnIdentifier source
+own_if_timed (Single f) timed = tt
+own_if_timed (First f) timed = absurd timed
+own_if_timed (InSession f part) timed = absurd timed
+own_if_timed (Asking r) timed = absurd timed
+own_if_timed (Announcing u m) timed = tt
+own_if_timed (Carrying u m k) timed = tt
 
 -- a unit that keeps no order takes part in the source's message
 pub record TakesAny (plan : Plan) (source : Source) : Type 0 where
@@ -127,6 +141,7 @@ module _ (plan : Plan) (timing : Timing) (stays : UnitPlan → Bool) where
 
   abbrev pub IsPaced : Source → Stream → Type 0
   IsPaced (Single f) stream = IsPacedBy (Single f) stream
+  IsPaced (First f) stream = IsPacedBy (First f) stream
   IsPaced (InSession f part) stream = IsPacedBy (InSession f part) stream
   IsPaced (Asking r) stream = IsPacedBy (Asking r) stream
   IsPaced (Announcing u m) stream =
@@ -216,6 +231,47 @@ module _ (plan : Plan) (timing : Timing) (stays : UnitPlan → Bool) where
         least = single_between.0;
         last = single_between.1;
         greatest = single_between.1;
+        sender = one.flow.sender;
+        sends = (one.flow, one.its, refl);
+        planned_sender = (flow_units f one.flow one.its).sender;
+        of_sender = λ any. rw (any, eq-eqb one.flow.sender one.flow.sender refl) refl;
+        of_any = λ m told. elim (or_cases (option_map_or m (any_unit units one.flow.sender) false) false told) [
+          | inl is ↦
+              let (unit, at, any) = any_told units one.flow.sender m is in
+              record { place = one.flow.sender; takes = (one.flow, one.its, refl); unit = unit; at = at; any = any }
+          | inr never ↦ absurd (false≢true never)
+        ];
+      }
+
+    module _ (f release p : ℕ) (ready : s.queued p ≤ s.start p) (one : IsFirstFrame plan timing s held f release p) where
+      first_between : ((own plan timing stays f one.flow one.pace one.group one.its one.paced one.of).least_ident ≤ s.ident p)
+          × (s.ident p ≤ (own plan timing stays f one.flow one.pace one.group one.its one.paced one.of).last_ident)
+      first_between =
+          let t = s.queued p in
+          let is_ident = first_ident plan timing s held f release p t one (omega arith, ready) in
+          let lies = ranks.lie_between plan stays tells (held.address t) (by_plan t) one.flow (flow_units f one.flow one.its) timing one.group in
+          let least = lies.least in
+          let greatest = lies.greatest in
+          (omega (arith, least, is_ident), omega (arith, greatest, is_ident))
+
+      first_known : IsKnown s (First f) release p
+      first_known = record {
+        frames = own plan timing stays f one.flow one.pace one.group one.its one.paced one.of;
+        read = first_read plan timing stays f one.flow one.pace one.group one.its one.paced one.of one.short one.long;
+        at_most = one.length;
+        bits_at_most = rw (lt-leb one.group.most 8 one.long) (let few = one.length in omega (arith, few));
+        turns = omega arith;
+        release_first = one.release_first;
+        jitter_at_most = within_bits timing.bitrate one.pace.jitter release (s.queued p) one.jitter_at_most;
+        paced = record {
+          ms = one.pace.period;
+          every = record { flow = one.flow; its = one.its; pace = one.pace; paced = one.paced; is = refl };
+          period = refl;
+          unwanted = refl;
+        };
+        least = first_between.0;
+        last = first_between.1;
+        greatest = tt;
         sender = one.flow.sender;
         sends = (one.flow, one.its, refl);
         planned_sender = (flow_units f one.flow one.its).sender;
@@ -498,106 +554,8 @@ module _ (plan : Plan) (timing : Timing) (stays : UnitPlan → Bool) where
 
     pub known : (source : Source) (release p : ℕ) → s.queued p ≤ s.start p → IsFrameOf plan timing s held b source release p → IsKnown s source release p
     known (Single f) release p ready one = single_known f release p ready one
+    known (First f) release p ready one = first_known f release p ready one
     known (InSession f part) release p ready one = session_known f part release p ready one
     known (Asking r) release p ready one = request_known r release p ready one
     known (Announcing u m) release p ready one = announcing_known u m release p ready one
     known (Carrying u m k) release p ready one = carrying_known u m k release p ready one.0
-
-  -- ---- of two frames
-
-  -- what isn't a long message to all comes by its own pace
-  abbrev pub HasPace : Source → Type 0
-  HasPace (Single f) = Unit {0}
-  HasPace (InSession f part) = Unit {0}
-  HasPace (Asking r) = Unit {0}
-  HasPace (Announcing u m) = ⊥
-  HasPace (Carrying u m k) = ⊥
-
-  module _ (s : Schedule) (held : Held) (b : Broadcasts) (messages : (u m : ℕ) → m < b.count u → IsMessageToAll plan timing b u m) where
-    -- a flow has short messages alone or long ones
-    short_or_long : (f release other p q : ℕ) (part : Part) → IsSingleFrame plan timing s held f release p → IsSessionFrame plan timing s held f part other q → ⊥
-    short_or_long f release other p q part one two =
-        let flow : one.flow ≡ two.flow = same_Some _ _ (sym one.its ∙ two.its) in
-        let group : one.group ≡ two.group =
-        same_Some _ _ (sym one.of ∙ (ap (λ (g : FlowPlan). slice_get plan.groups.items g.group) flow ∙ two.of)) in
-        let most : one.group.most ≡ two.group.most = ap (λ (g : GroupPlan). g.most) group in
-        let short = one.short in
-        let long = two.long in
-        omega (arith, most, short, long)
-
-    -- flows stand before requests
-    flow_first : (f : ℕ) (flow : FlowPlan) (r n : ℕ) → slice_get plan.flows.items f ≡ Some flow → f ≡ 2 * length plan.flows.items + (n + r) → ⊥
-    flow_first f flow r n its same = let below = slice_get_within plan.flows.items f flow its in omega (arith, same, below)
-
-    single_first : (f r release p : ℕ) → IsSingleFrame plan timing s held f release p → f ≡ source_place plan (Asking r) → ⊥
-    single_first f r release p one same = flow_first f one.flow r (2 * units_told plan.flows.items units) one.its same
-
-    session_first : (f r : ℕ) (part : Part) (release p : ℕ) → IsSessionFrame plan timing s held f part release p → f ≡ source_place plan (Asking r) → ⊥
-    session_first f r part release p one same = flow_first f one.flow r (2 * units_told plan.flows.items units) one.its same
-
-    parts_alike : (f g : ℕ) (a b : Part) (release other p q : ℕ) → f ≡ g → IsSessionFrame plan timing s held f a release p
-        → IsSessionFrame plan timing s held g b other q → source_turn plan (InSession f a) ≡ source_turn plan (InSession g b) → a ≡ b
-    parts_alike f g a b release other p q place one two turn =
-        let flow : one.flow ≡ two.flow = same_Some _ _ (sym one.its ∙ (ap (slice_get plan.flows.items) place ∙ two.its)) in
-        let group : one.group ≡ two.group =
-        same_Some _ _ (sym one.of ∙ (ap (λ (h : FlowPlan). slice_get plan.groups.items h.group) flow ∙ two.of)) in
-        let most : two.group.most ≡ one.group.most = sym (ap (λ (h : GroupPlan). h.most) group) in
-        let first : packets_at plan f ≡ packets_of one.group.most = rw (one.its, one.of) refl in
-        let second : packets_at plan g ≡ packets_of one.group.most = ap (packets_at plan) (sym place) ∙ first in
-        one_part one.group.most one.unit.window two.unit.window a b one.is_part (subst (λ (n : ℕ). IsPart n two.unit.window b) most two.is_part)
-        (ap (λ (n : ℕ). turn_of_part n a) (sym first) ∙ (turn ∙ ap (λ (n : ℕ). turn_of_part n b) second))
-
-    -- packets stand behind flows
-    pub of_packets : (a : Source) (u m k release p : ℕ) → IsFrameOf plan timing s held b a release p → m < b.count u → source_place plan a ≡ source_place plan (Carrying u m k)
-        → (n : ℕ) × (j : ℕ) × (a ≡ Carrying u n j)
-    of_packets (Single f) u m k release p one below place = absurd (flow_first f one.flow 0 u one.its (place ∙ omega arith))
-    of_packets (InSession f part) u m k release p one below place = absurd (flow_first f one.flow 0 u one.its (place ∙ omega arith))
-    of_packets (Asking r) u m k release p one below place = absurd (let told = unit_told plan timing stays b u m (messages u m below) in omega (arith, place, told))
-    of_packets (Announcing v n) u m k release p one below place = absurd (let told = unit_told plan timing stays b u m (messages u m below) in omega (arith, place, told))
-    of_packets (Carrying v n j) u m k release p one below place = (n, j, ap (λ (x : ℕ). Carrying x n j) (omega (arith, place)))
-
-    -- and announcements behind them
-    pub of_announcements : (a : Source) (u m release p : ℕ) → IsFrameOf plan timing s held b a release p → m < b.count u
-        → source_place plan a ≡ source_place plan (Announcing u m) → (n : ℕ) × (a ≡ Announcing u n)
-    of_announcements (Single f) u m release p one below place =
-        absurd (flow_first f one.flow (units_told plan.flows.items units) u one.its (place ∙ omega arith))
-    of_announcements (InSession f part) u m release p one below place =
-        absurd (flow_first f one.flow (units_told plan.flows.items units) u one.its (place ∙ omega arith))
-    of_announcements (Asking r) u m release p one below place = absurd (let told = unit_told plan timing stays b u m (messages u m below) in omega (arith, place, told))
-    of_announcements (Announcing v n) u m release p one below place = (n, ap (λ (x : ℕ). Announcing x n) (omega (arith, place)))
-    of_announcements (Carrying v n j) u m release p one below place =
-        absurd (let told = unit_told plan timing stays b v n (messages v n one.0.known) in omega (arith, place, told))
-
-    never_announced : (a : Source) (u m release p : ℕ) → ((n : ℕ) → a ≡ Announcing u n → ⊥) → IsFrameOf plan timing s held b a release p → m < b.count u
-        → source_place plan a ≡ source_place plan (Announcing u m) → ⊥
-    never_announced a u m release p never one below place = let (n, is) = of_announcements a u m release p one below place in never n is
-
-    never_packet : (a : Source) (u m k release p : ℕ) → ((n j : ℕ) → a ≡ Carrying u n j → ⊥) → IsFrameOf plan timing s held b a release p → m < b.count u
-        → source_place plan a ≡ source_place plan (Carrying u m k) → ⊥
-    never_packet a u m k release p never one below place = let (n, j, is) = of_packets a u m k release p one below place in never n j is
-
-    -- two frames at one place with one turn are of one source, but those of long messages to all
-    pub one_source : (x y : Source) (release other p q : ℕ) → HasPace x → IsFrameOf plan timing s held b x release p → IsFrameOf plan timing s held b y other q
-        → source_place plan x ≡ source_place plan y → source_turn plan x ≡ source_turn plan y → x ≡ y
-    one_source (Single f) (Single g) release other p q paced one two place turn = ap Single place
-    one_source (Single f) (InSession g part) release other p q paced one two place turn =
-        absurd (short_or_long f release other p q part one (subst (λ (h : ℕ). IsSessionFrame plan timing s held h part other q) (sym place) two))
-    one_source (Single f) (Asking r) release other p q paced one two place turn = absurd (single_first f r release p one place)
-    one_source (InSession f part) (Single g) release other p q paced one two place turn =
-        absurd (short_or_long g other release q p part two (subst (λ (h : ℕ). IsSessionFrame plan timing s held h part release p) place one))
-    one_source (InSession f a) (InSession g b) release other p q paced one two place turn =
-        ap (λ (h : ℕ). InSession h a) place ∙ ap (InSession g) (parts_alike f g a b release other p q place one two turn)
-    one_source (InSession f part) (Asking r) release other p q paced one two place turn = absurd (session_first f r part release p one place)
-    one_source (Asking r) (Single g) release other p q paced one two place turn = absurd (single_first g r other q two (sym place))
-    one_source (Asking r) (InSession g part) release other p q paced one two place turn = absurd (session_first g r part other q two (sym place))
-    one_source (Asking r) (Asking k) release other p q paced one two place turn = ap Asking (omega (arith, place))
-    one_source (Announcing u m) y release other p q paced one two place turn = absurd paced
-    one_source (Carrying u m k) y release other p q paced one two place turn = absurd paced
-    one_source (Single f) (Announcing u m) release other p q paced one two place turn = absurd (never_announced (Single f) u m release p (λ n is. cc) one two.known place)
-    one_source (Single f) (Carrying u m k) release other p q paced one two place turn = absurd (never_packet (Single f) u m k release p (λ n j is. cc) one two.0.known place)
-    one_source (InSession f part) (Announcing u m) release other p q paced one two place turn =
-        absurd (never_announced (InSession f part) u m release p (λ n is. cc) one two.known place)
-    one_source (InSession f part) (Carrying u m k) release other p q paced one two place turn =
-        absurd (never_packet (InSession f part) u m k release p (λ n j is. cc) one two.0.known place)
-    one_source (Asking r) (Announcing u m) release other p q paced one two place turn = absurd (never_announced (Asking r) u m release p (λ n is. cc) one two.known place)
-    one_source (Asking r) (Carrying u m k) release other p q paced one two place turn = absurd (never_packet (Asking r) u m k release p (λ n j is. cc) one two.0.known place)

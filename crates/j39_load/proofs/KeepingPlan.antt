@@ -1,5 +1,5 @@
 -- A bus that keeps to a plan in the plan's own words keeps the premises of its delays.
-use Rattle.std.proofs.Common.{◌≡◌, ◌≢◌, ℕ, ◌+◌, ◌<◌, ◌≤◌, ◌⊎◌, Bool, true, eqb, length, get_or, None, Some, ◌*◌}
+use Rattle.std.proofs.Common.{◌≡◌, ◌≢◌, ℕ, ◌+◌, ◌<◌, ◌≤◌, ◌⊎◌, Bool, true, eqb, length, get_or, None, Option, Some, ◌*◌}
 use Rattle.std.proofs.Common.{refl, sym, ap, ◌∙◌, subst, inl, inr, arith}
 use Rattle.std.proofs.Math.Nat.{mul-le-mul_right}
 use Rattle.std.proofs.lemmas.Bool.{cases_Bool, cases_eq, cases_lt, eq-eqb, eqb-true, or_cases, or_left, or_right}
@@ -12,22 +12,24 @@ use Rattle.j39_network.specs.declared.plan.flow_plan.FlowPlan.{FlowPlan}
 use Rattle.j39_network.specs.declared.plan.group_plan.GroupPlan.{GroupPlan}
 use Rattle.j39_network.specs.declared.plan.timing.Timing.{Timing}
 use Rattle.j39_network.specs.declared.plan.unit_plan.UnitPlan.{UnitPlan}
+use Rattle.j39_signal.specs.declared.selector.Selector.{Selector}
 use Rattle.j39_load.specs.declared.frames.flow_frames.FlowFrames.{FlowFrames}
 use Rattle.j39_load.specs.Asked.{asked_of, frames_asked}
 use Rattle.j39_load.specs.Broadcasts.{broadcasts_by, least_packets}
 use Rattle.j39_load.specs.Loads.{bits_of_ms}
 use Rattle.j39_load.specs.KeepsPlan.{source_turn, IsSingleFlow, KeepsToPlan, origins_of, source_place, units_told}
 use Rattle.j39_load.specs.PlannedFrames.{AreFramesOfPlan, planned_at}
-use Rattle.j39_load.specs.SentFrames.{FrameSources, HasTime, Held, IsFrameOf, IsSessionFrame, IsSingleFrame, Part, Source}
-use Rattle.j39_load.specs.SentFrames.{Single, InSession, Asking, Announcing, Carrying}
+use Rattle.j39_load.specs.SentFrames.{FrameSources, HasOwnIdentifier, HasTime, Held, IsFirstFrame, IsFrameOf, IsSessionFrame, IsSingleFrame, Part, Source}
+use Rattle.j39_load.specs.SentFrames.{Single, First, InSession, Asking, Announcing, Carrying}
 use Rattle.j39_load.specs.Twins.{are_twins}
 use Rattle.j39_load.proofs.KeepingBroadcasts.{as_wanted as as_wanted_of}
-use Rattle.j39_load.proofs.KeepingFrames.{HasPace, IsBelowGreatest, IsKnown, IsPaced, IsPacedBy, here, inside, known, of_announcements, of_packets, one_source}
-use Rattle.j39_load.proofs.PlacedFrames.{all, announcing_read, asked, carrying_read, fewest, in_request, in_session, own, read, request_frames_read}
+use Rattle.j39_load.proofs.KeepingFrames.{IsBelowGreatest, IsKnown, IsPaced, IsPacedBy, here, inside, known}
+use Rattle.j39_load.proofs.KeepingSources.{HasPace, of_announcements, of_packets, one_source}
+use Rattle.j39_load.proofs.PlacedFrames.{all, announcing_read, asked, carrying_read, fewest, first_read, in_request, in_session, own, read, request_frames_read}
 use Rattle.j39_load.proofs.PlacedFrames.{session_read, traffic, unit_asks}
 use Rattle.j39_load.proofs.Milliseconds.{behind_bits, gaps_bits}
-use Rattle.j39_load.proofs.SharedIdentifiers.{AreAlike, broadcast_made, never_twin, no_broadcast, no_part, no_request, one_or_alike, own_twin, part_made}
-use Rattle.j39_load.proofs.SharedIdentifiers.{request_made, same_twin}
+use Rattle.j39_load.proofs.SharedIdentifiers.{AreAlike, IsGroupFrame, broadcast_made, firsts_alike, never_twin, no_broadcast, no_part, no_request, of_first, of_single}
+use Rattle.j39_load.proofs.SharedIdentifiers.{one_or_alike, own_twin, part_made, request_made, same_twin, single_or_first}
 use Rattle.j39_load.proofs.StreamsBefore.{with_damage}
 use Rattle.j39_timing.specs.FrameStreams.{AreOfStreams, KeepsStream}
 use Rattle.j39_timing.specs.TimedFrames.{Schedule, IsLegal}
@@ -141,6 +143,7 @@ module _ (plan : Plan) (timing : Timing) (stays : UnitPlan → Bool) (tells : De
     by_source : (x : Source) → sent.source p ≡ x → source_place plan x ≡ source_place plan (sent.source q) → source_turn plan x ≡ source_turn plan (sent.source q) → (stream : Stream)
         → IsPaced plan timing stays x stream → (sent.release p + stream.period ≤ sent.release q) ⊎ (sent.release q + stream.period ≤ sent.release p)
     by_source (Single f) first place turn stream paced = alike (Single f) tt first place turn stream paced
+    by_source (First f) first place turn stream paced = alike (First f) tt first place turn stream paced
     by_source (InSession f part) first place turn stream paced = alike (InSession f part) tt first place turn stream paced
     by_source (Asking r) first place turn stream paced = alike (Asking r) tt first place turn stream paced
     by_source (Announcing u m) first place turn stream paced =
@@ -191,10 +194,18 @@ module _ (plan : Plan) (timing : Timing) (stays : UnitPlan → Bool) (tells : De
       (own plan timing stays f one.flow one.pace one.group one.its one.paced one.of)
       (read plan timing stays f one.flow one.pace one.group one.its one.paced one.of one.short)
 
+  -- and behind the flows those of one with long messages
+  pub behind : (f release p : ℕ) (one : IsFirstFrame plan timing s held f release p)
+      → planned_at (all plan timing stays) (source_place plan (First f)) ≡ own plan timing stays f one.flow one.pace one.group one.its one.paced one.of
+  behind f release p one = with_damage timing (frames_asked (asked_of timing plan stays)) (source_place plan (First f))
+      (own plan timing stays f one.flow one.pace one.group one.its one.paced one.of)
+      (first_read plan timing stays f one.flow one.pace one.group one.its one.paced one.of one.short one.long)
+
   -- ---- all of it
 
   below_greatest : (x : Source) (a b : ℕ) → HasTime x → IsBelowGreatest x a b → a ≤ b
   below_greatest (Single f) a b timed below = below
+  below_greatest (First f) a b timed below = absurd timed
   below_greatest (InSession f part) a b timed below = absurd timed
   below_greatest (Asking r) a b timed below = absurd timed
   below_greatest (Announcing u m) a b timed below = below
@@ -274,64 +285,156 @@ module _ (plan : Plan) (timing : Timing) (stays : UnitPlan → Bool) (tells : De
               never_twin (planned_at (all plan timing stays) i) (planned_at (all plan timing stays) j) (ap (λ (x : FlowFrames). x.twin_ident) its ∙ none) twin
         ]
 
-    -- so it is a single one
-    pub of_single : (source : Source) (release p : ℕ) → IsFrameOf plan timing s held sent.broadcasts source release p
-        → may_share (traffic plan timing stays) i (source_place plan source) ≡ true → (f : ℕ) × (source ≡ Single f)
-    of_single (Single f) release p one shares = (f, refl)
-    of_single (InSession f part) release p one shares = absurd (no_session f part release p one shares)
-    of_single (Asking r) release p one shares = absurd (no_asking r release p one shares)
-    of_single (Announcing u m) release p one shares = absurd (no_unit (unit_asks plan timing stays sent.broadcasts u m (keeps.broadcasts.messages u m one.known)).announcements
+    -- so it is a single one, or one of a flow with long messages too
+    pub of_one_frame : (source : Source) (release p : ℕ) → IsFrameOf plan timing s held sent.broadcasts source release p
+        → may_share (traffic plan timing stays) i (source_place plan source) ≡ true → (f : ℕ) × ((source ≡ Single f) ⊎ (source ≡ First f))
+    of_one_frame (Single f) release p one shares = (f, inl refl)
+    of_one_frame (First f) release p one shares = (f, inr refl)
+    of_one_frame (InSession f part) release p one shares = absurd (no_session f part release p one shares)
+    of_one_frame (Asking r) release p one shares = absurd (no_asking r release p one shares)
+    of_one_frame (Announcing u m) release p one shares = absurd (no_unit (unit_asks plan timing stays sent.broadcasts u m (keeps.broadcasts.messages u m one.known)).announcements
         (source_place plan (Announcing u m)) (units_told plan.flows.items plan.units.items + u)
         (announcing_read plan timing stays sent.broadcasts u m (keeps.broadcasts.messages u m one.known)) refl refl shares)
-    of_single (Carrying u m k) release p one shares = absurd (no_unit (unit_asks plan timing stays sent.broadcasts u m (keeps.broadcasts.messages u m one.0.known)).packets
+    of_one_frame (Carrying u m k) release p one shares = absurd (no_unit (unit_asks plan timing stays sent.broadcasts u m (keeps.broadcasts.messages u m one.0.known)).packets
         (source_place plan (Carrying u m k)) u (carrying_read plan timing stays sent.broadcasts u m (keeps.broadcasts.messages u m one.0.known) k) refl refl shares)
 
-    -- what has the identifier of such a single frame is of the flow or a twin too
-    shared_by : (f release p other q t : ℕ) (second : Source) → IsSingleFrame plan timing s held f release p → IsFrameOf plan timing s held sent.broadcasts second other q
-        → IsQueuedAt s p t → IsQueuedAt s q t → s.ident p ≡ s.ident q → may_share (traffic plan timing stays) i f ≡ true
-        → may_share (traffic plan timing stays) i (source_place plan second) ≡ true
-    shared_by f release p other q t (Single g) one two at_p at_q same shares =
-        elim (one_or_alike plan timing clean s held t (keeps.held_apart t) stays f g release other p q one two at_p at_q same) [
-          | inl one_flow ↦ subst (λ (k : ℕ). may_share (traffic plan timing stays) i k ≡ true) one_flow shares
-          | inr are ↦ twins_share i f g
-              (subst (λ (x : FlowFrames). AreAlike x (planned_at (all plan timing stays) g)) (sym (there f release p one))
-              (subst (AreAlike (own plan timing stays f one.flow one.pace one.group one.its one.paced one.of)) (sym (there g other q two)) are)) shares
-        ]
-    shared_by f release p other q t (InSession g part) one two at_p at_q same shares =
-        absurd (no_part plan timing clean s held t (keeps.held_apart t) f release p one at_p (s.ident q) two.flow.sender two.receiver
+    -- what has the identifier of a message of one frame is one too
+    no_other : {flow : FlowPlan} {group : GroupPlan} (f p q t other : ℕ) (second : Source)
+        → IsGroupFrame plan timing clean s held t (keeps.held_apart t) f p flow group
+        → IsFrameOf plan timing s held sent.broadcasts second other q → IsQueuedAt s q t → s.ident p ≡ s.ident q
+        → (g : ℕ) × ((second ≡ Single g) ⊎ (second ≡ First g))
+    no_other f p q t other (Single g) one two at_q same = (g, inl refl)
+    no_other f p q t other (First g) one two at_q same = (g, inr refl)
+    no_other f p q t other (InSession g part) one two at_q same =
+        absurd (no_part plan timing clean s held t (keeps.held_apart t) f p one (s.ident q) two.flow.sender two.receiver
         (part_made plan timing clean s held t (keeps.held_apart t) g part other q two at_q) same)
-    shared_by f release p other q t (Asking r) one two at_p at_q same shares =
-        absurd (no_request plan timing clean s held t (keeps.held_apart t) f release p one at_p (s.ident q) two.asked.sender two.asked.to
+    no_other f p q t other (Asking r) one two at_q same =
+        absurd (no_request plan timing clean s held t (keeps.held_apart t) f p one (s.ident q) two.asked.sender two.asked.to
         (request_made plan timing clean s held t (keeps.held_apart t) r other q two at_q) same)
-    shared_by f release p other q t (Announcing u m) one two at_p at_q same shares =
-        absurd (no_broadcast plan timing clean s held t (keeps.held_apart t) f release p one at_p (s.ident q) 60416 u (inl refl)
+    no_other f p q t other (Announcing u m) one two at_q same =
+        absurd (no_broadcast plan timing clean s held t (keeps.held_apart t) f p one (s.ident q) 60416 u (inl refl)
         (broadcast_made plan timing clean s held t (keeps.held_apart t) sent.broadcasts 60416 u m other q (inl refl) two at_q) same)
-    shared_by f release p other q t (Carrying u m k) one two at_p at_q same shares =
-        absurd (no_broadcast plan timing clean s held t (keeps.held_apart t) f release p one at_p (s.ident q) 60160 u (inr refl)
+    no_other f p q t other (Carrying u m k) one two at_q same =
+        absurd (no_broadcast plan timing clean s held t (keeps.held_apart t) f p one (s.ident q) 60160 u (inr refl)
         (broadcast_made plan timing clean s held t (keeps.held_apart t) sent.broadcasts 60160 u m other q (inr refl) two.0 at_q) same)
 
-    pub own_identifier : (p q t : ℕ) → p < s.count → q < s.count → t < s.now → planned p ≡ true
-        → may_share (traffic plan timing stays) i (source_place plan (sent.source p)) ≡ true → IsQueuedAt s p t → IsQueuedAt s q t → s.ident p ≡ s.ident q
-        → (planned q ≡ true) × (may_share (traffic plan timing stays) i (source_place plan (sent.source q)) ≡ true)
-    own_identifier p q t in_p in_q seen is_p shares at_p at_q same =
-        let (f, source) = of_single (sent.source p) (sent.release p) p (keeps.frames p in_p is_p) shares in
-        elim (cases_Bool (planned q)) [
-          | inl is_q ↦ (
-            is_q,
-            shared_by f (sent.release p) p (sent.release q) q t (sent.source q)
-                (subst (λ (x : Source). IsFrameOf plan timing s held sent.broadcasts x (sent.release p) p) source (keeps.frames p in_p is_p)) (keeps.frames q in_q is_q) at_p at_q same
-                (subst (λ (x : Source). may_share (traffic plan timing stays) i (source_place plan x) ≡ true) source shares),
-          )
-          | inr not_q ↦ absurd (keeps.others_identifier p q t in_p in_q seen is_p (subst HasTime (sym source) tt) not_q at_p at_q same)
+    abbrev Shares : ℕ → Type 0
+    Shares j = may_share (traffic plan timing stays) i j ≡ true
+
+    alike_share : (j k : ℕ) (x y : FlowFrames) → planned_at (all plan timing stays) j ≡ x → planned_at (all plan timing stays) k ≡ y → AreAlike x y → Shares j → Shares k
+    alike_share j k x y at_j at_k are = twins_share i j k
+        (subst (λ (z : FlowFrames). AreAlike z (planned_at (all plan timing stays) k)) (sym at_j) (subst (AreAlike x) (sym at_k) are))
+
+    swapped : (x y : FlowFrames) → AreAlike x y → AreAlike y x
+    swapped x y are = record { number = are.number; first = are.second; second = are.first; senders = sym are.senders; receivers = sym are.receivers }
+
+    -- such a single frame is of the flow or a twin too
+    shared_by : (f release p other q t : ℕ) (second : Source) → IsSingleFrame plan timing s held f release p → IsFrameOf plan timing s held sent.broadcasts second other q
+        → IsQueuedAt s p t → IsQueuedAt s q t → s.ident p ≡ s.ident q → Shares f → Shares (source_place plan second)
+    shared_by f release p other q t second one two at_p at_q same shares =
+        let (g, either) = no_other f p q t other second (of_single plan timing clean s held t (keeps.held_apart t) f release p one at_p) two at_q same in
+        elim either [
+          | inl single_one ↦
+              subst (λ (x : Source). Shares (source_place plan x)) (sym single_one) (by_single g (subst (λ (x : Source). IsFrameOf plan timing s held sent.broadcasts x other q) single_one two))
+          | inr first_one ↦
+              subst (λ (x : Source). Shares (source_place plan x)) (sym first_one) (by_first g (subst (λ (x : Source). IsFrameOf plan timing s held sent.broadcasts x other q) first_one two))
         ]
+      where
+        by_single : (g : ℕ) → IsSingleFrame plan timing s held g other q → Shares g
+        by_single g two = elim (one_or_alike plan timing clean s held t (keeps.held_apart t) stays f g release other p q one two at_p at_q same) [
+          | inl one_flow ↦ subst Shares one_flow shares
+          | inr are ↦ alike_share f g (own plan timing stays f one.flow one.pace one.group one.its one.paced one.of)
+              (own plan timing stays g two.flow two.pace two.group two.its two.paced two.of) (there f release p one) (there g other q two) are shares
+        ]
+
+        by_first : (g : ℕ) → IsFirstFrame plan timing s held g other q → Shares (source_place plan (First g))
+        by_first g two = alike_share f (source_place plan (First g)) (own plan timing stays f one.flow one.pace one.group one.its one.paced one.of)
+            (own plan timing stays g two.flow two.pace two.group two.its two.paced two.of) (there f release p one) (behind g other q two)
+            (single_or_first plan timing clean s held t (keeps.held_apart t) stays f g release other p q one two at_p at_q same) shares
+
+    -- and so is one of a flow with long messages, where it is a twin
+    first_shared_by : (f release p other q t : ℕ) (second : Source) → IsFirstFrame plan timing s held f release p
+        → IsFrameOf plan timing s held sent.broadcasts second other q → IsQueuedAt s p t → IsQueuedAt s q t → s.ident p ≡ s.ident q
+        → Shares (source_place plan (First f)) → Shares (source_place plan second)
+    first_shared_by f release p other q t second one two at_p at_q same shares =
+        let (g, either) = no_other f p q t other second (of_first plan timing clean s held t (keeps.held_apart t) f release p one at_p) two at_q same in
+        elim either [
+          | inl single_one ↦
+              subst (λ (x : Source). Shares (source_place plan x)) (sym single_one) (by_single g (subst (λ (x : Source). IsFrameOf plan timing s held sent.broadcasts x other q) single_one two))
+          | inr first_one ↦
+              subst (λ (x : Source). Shares (source_place plan x)) (sym first_one) (by_first g (subst (λ (x : Source). IsFrameOf plan timing s held sent.broadcasts x other q) first_one two))
+        ]
+      where
+        its : FlowFrames
+        its = own plan timing stays f one.flow one.pace one.group one.its one.paced one.of
+
+        by_single : (g : ℕ) → IsSingleFrame plan timing s held g other q → Shares g
+        by_single g two =
+            let frames = own plan timing stays g two.flow two.pace two.group two.its two.paced two.of in
+            alike_share (source_place plan (First f)) g its frames (behind f release p one) (there g other q two)
+            (swapped frames its (single_or_first plan timing clean s held t (keeps.held_apart t) stays g f other release q p two one at_q at_p (sym same))) shares
+
+        is_told : (v : Option Selector) → one.group.when ≡ v → (w : Selector) × (one.group.when ≡ Some w)
+        is_told (Some w) is = (w, is)
+        is_told None is = absurd (elim (or_cases (eqb (source_place plan (First f)) i)
+            (are_twins (planned_at (all plan timing stays) i) (planned_at (all plan timing stays) (source_place plan (First f)))) shares) [
+              | inl same ↦
+                  let place : source_place plan (First f) ≡ i = eqb-true (source_place plan (First f)) i same in
+                  let below = slice_get_within plan.flows.items i single.flow single.its in
+                  omega (arith, place, below)
+              | inr twin ↦
+                  let none : its.twin_ident ≡ None = rw (is) refl in
+                  never_twin (planned_at (all plan timing stays) i) (planned_at (all plan timing stays) (source_place plan (First f)))
+                  (ap (λ (x : FlowFrames). x.twin_ident) (behind f release p one) ∙ none) twin
+            ])
+
+        by_first : (g : ℕ) → IsFirstFrame plan timing s held g other q → Shares (source_place plan (First g))
+        by_first g two =
+            let (w, told) = is_told one.group.when refl in
+            alike_share (source_place plan (First f)) (source_place plan (First g)) its (own plan timing stays g two.flow two.pace two.group two.its two.paced two.of)
+            (behind f release p one) (behind g other q two)
+            (firsts_alike plan timing clean s held t (keeps.held_apart t) stays f g release other p q one two at_p at_q same w told) shares
+
+    pub own_identifier : (p q t : ℕ) → p < s.count → q < s.count → t < s.now → planned p ≡ true
+        → Shares (source_place plan (sent.source p)) → IsQueuedAt s p t → IsQueuedAt s q t → s.ident p ≡ s.ident q
+        → (planned q ≡ true) × Shares (source_place plan (sent.source q))
+    own_identifier p q t in_p in_q seen is_p shares at_p at_q same =
+        let frame = keeps.frames p in_p is_p in
+        let (f, either) = of_one_frame (sent.source p) (sent.release p) p frame shares in
+        elim (cases_Bool (planned q)) [
+          | inl is_q ↦ elim either [
+            | inl source ↦ (
+              is_q,
+              shared_by f (sent.release p) p (sent.release q) q t (sent.source q)
+                  (subst (λ (x : Source). IsFrameOf plan timing s held sent.broadcasts x (sent.release p) p) source frame) (keeps.frames q in_q is_q) at_p at_q same
+                  (subst (λ (x : Source). Shares (source_place plan x)) source shares),
+            )
+            | inr source ↦ (
+              is_q,
+              first_shared_by f (sent.release p) p (sent.release q) q t (sent.source q)
+                  (subst (λ (x : Source). IsFrameOf plan timing s held sent.broadcasts x (sent.release p) p) source frame) (keeps.frames q in_q is_q) at_p at_q same
+                  (subst (λ (x : Source). Shares (source_place plan x)) source shares),
+            )
+          ]
+          | inr not_q ↦ absurd (keeps.others_identifier p q t in_p in_q seen is_p (has_own (sent.source p) f either) not_q at_p at_q same)
+        ]
+      where
+        has_own : (source : Source) (f : ℕ) → (source ≡ Single f) ⊎ (source ≡ First f) → HasOwnIdentifier source
+        has_own source f (inl is) = subst HasOwnIdentifier (sym is) tt
+        has_own source f (inr is) = subst HasOwnIdentifier (sym is) tt
 
     -- a frame at this place is one of the flow
     pub of_flow : (p : ℕ) (in_p : p < s.count) (is : planned p ≡ true) → source_place plan (sent.source p) ≡ i → sent.source p ≡ Single i
     of_flow p in_p is place =
-        let shares : may_share (traffic plan timing stays) i (source_place plan (sent.source p)) ≡ true =
-        or_left _ _ (eq-eqb (source_place plan (sent.source p)) i place) in
-        let (f, source) = of_single (sent.source p) (sent.release p) p (keeps.frames p in_p is) shares in
-        source ∙ ap Single (sym (ap (source_place plan) source) ∙ place)
+        let shares : Shares (source_place plan (sent.source p)) = or_left _ _ (eq-eqb (source_place plan (sent.source p)) i place) in
+        let (f, either) = of_one_frame (sent.source p) (sent.release p) p (keeps.frames p in_p is) shares in
+        elim either [
+          | inl source ↦ source ∙ ap Single (sym (ap (source_place plan) source) ∙ place)
+          | inr source ↦ absurd (
+              let there : source_place plan (First f) ≡ i = sym (ap (source_place plan) source) ∙ place in
+              let below = slice_get_within plan.flows.items i single.flow single.its in
+              omega (arith, there, below))
+        ]
 
     pub keeps_premises : AreFramesOfPlan timing (frames_asked (asked_of timing plan stays)) s planned (origins_of plan sent) i
     keeps_premises = premises_at i (λ p in_p is place. subst HasTime (sym (of_flow p in_p is place)) tt) own_identifier

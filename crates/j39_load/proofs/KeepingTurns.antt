@@ -18,13 +18,14 @@ use Rattle.j39_load.specs.KeepsPlan.{KeepsQueues, KeepsToPlan, origins_of, sourc
 use Rattle.j39_load.specs.Loads.{load_of_flow}
 use Rattle.j39_load.specs.PlannedFrames.{ComeInAnyOrder, ComeInTurn, planned_at}
 use Rattle.j39_load.specs.SentFrames.{FrameSources, HasTime, Held, IsBroadcastFrame, IsFrameOf, IsToAllBy, Source}
-use Rattle.j39_load.specs.SentFrames.{Single, InSession, Asking, Announcing, Carrying}
+use Rattle.j39_load.specs.SentFrames.{Single, First, InSession, Asking, Announcing, Carrying}
 use Rattle.j39_load.specs.Twins.{are_twins, is_same}
 use Rattle.j39_load.proofs.KeepingAnyOrder.{keeps_any}
-use Rattle.j39_load.proofs.KeepingFrames.{of_announcements, of_packets}
+use Rattle.j39_load.proofs.KeepingFrames.{own_if_timed}
+use Rattle.j39_load.proofs.KeepingSources.{of_announcements, of_packets}
 use Rattle.j39_load.proofs.KeepingPlan.{premises_at}
 use Rattle.j39_load.proofs.PlacedFrames.{all, announcing_read, carrying_read, same_units, traffic, unit_asks}
-use Rattle.j39_load.proofs.SharedIdentifiers.{broadcast_made, broadcast_or_part, no_broadcast, one_sends, part_made, request_made, request_or_broadcast}
+use Rattle.j39_load.proofs.SharedIdentifiers.{broadcast_made, broadcast_or_part, no_broadcast, of_first, of_single, one_sends, part_made, request_made, request_or_broadcast}
 use Rattle.j39_load.proofs.StreamsBefore.{with_damage}
 use Rattle.j39_timing.specs.AnyOrder.{Controllers, IsLegalInAnyOrder}
 use Rattle.j39_timing.specs.TimedFrames.{Schedule, IsLegal}
@@ -42,6 +43,7 @@ no_twin a b none twin =
 -- a frame of a unit's long messages to all, of this group number
 abbrev IsNumbered : ℕ → ℕ → Source → Type 0
 IsNumbered number u (Single f) = ⊥
+IsNumbered number u (First f) = ⊥
 IsNumbered number u (InSession f part) = ⊥
 IsNumbered number u (Asking r) = ⊥
 IsNumbered number u (Announcing v m) = (number ≡ 60416) × (u ≡ v)
@@ -49,6 +51,7 @@ IsNumbered number u (Carrying v m k) = (number ≡ 60160) × (u ≡ v)
 
 numbered_timed : (number u : ℕ) (x : Source) → IsNumbered number u x → HasTime x
 numbered_timed number u (Single f) is = absurd is
+numbered_timed number u (First f) is = absurd is
 numbered_timed number u (InSession f part) is = absurd is
 numbered_timed number u (Asking r) is = absurd is
 numbered_timed number u (Announcing v m) is = tt
@@ -56,6 +59,7 @@ numbered_timed number u (Carrying v m k) is = tt
 
 numbered_by : (number u : ℕ) (x : Source) → IsNumbered number u x → IsToAllBy u x
 numbered_by number u (Single f) is = absurd is
+numbered_by number u (First f) is = absurd is
 numbered_by number u (InSession f part) is = absurd is
 numbered_by number u (Asking r) is = absurd is
 numbered_by number u (Announcing v m) is = sym is.1
@@ -68,6 +72,7 @@ module _ (plan : Plan) (timing : Timing) (stays : UnitPlan → Bool) (tells : De
   ident_of : (number u : ℕ) (x : Source) (release p t : ℕ) → IsNumbered number u x → IsFrameOf plan timing s held sent.broadcasts x release p → IsQueuedAt s p t
       → s.ident p ≡ identifier_of timing.transport_priority number 255 (held.address t u)
   ident_of number u (Single f) release p t is one queued = absurd is
+  ident_of number u (First f) release p t is one queued = absurd is
   ident_of number u (InSession f part) release p t is one queued = absurd is
   ident_of number u (Asking r) release p t is one queued = absurd is
   ident_of number u (Announcing v m) release p t is one queued = one.identifier t queued
@@ -82,7 +87,10 @@ module _ (plan : Plan) (timing : Timing) (stays : UnitPlan → Bool) (tells : De
       → IsBroadcastFrame timing s held sent.broadcasts number u m release p → IsFrameOf plan timing s held sent.broadcasts y other q
       → IsQueuedAt s p t → IsQueuedAt s q t → s.ident p ≡ s.ident q → IsNumbered number u y
   shared number u m release p other q t (Single g) either one two at_p at_q same =
-      absurd (no_broadcast plan timing clean s held t (keeps.held_apart t) g other q two at_q (s.ident p) number u either
+      absurd (no_broadcast plan timing clean s held t (keeps.held_apart t) g q (of_single plan timing clean s held t (keeps.held_apart t) g other q two at_q) (s.ident p) number u either
+      (broadcast_made plan timing clean s held t (keeps.held_apart t) sent.broadcasts number u m release p either one at_p) (sym same))
+  shared number u m release p other q t (First g) either one two at_p at_q same =
+      absurd (no_broadcast plan timing clean s held t (keeps.held_apart t) g q (of_first plan timing clean s held t (keeps.held_apart t) g other q two at_q) (s.ident p) number u either
       (broadcast_made plan timing clean s held t (keeps.held_apart t) sent.broadcasts number u m release p either one at_p) (sym same))
   shared number u m release p other q t (InSession g part) either one two at_p at_q same =
       absurd (broadcast_or_part plan clean (held.named t) (held.address t) (keeps.held_apart t) (s.ident p) (s.ident q) u two.flow.sender two.receiver number
@@ -122,7 +130,7 @@ module _ (plan : Plan) (timing : Timing) (stays : UnitPlan → Bool) (tells : De
           | inl is_q ↦
               let place = there (sent.source q) (shared number u m (sent.release p) p (sent.release q) q t (sent.source q) either one (keeps.frames q in_q is_q) at_p at_q same) in
               (is_q, or_left _ _ (eq-eqb (source_place plan (sent.source q)) i place))
-          | inr not_q ↦ absurd (keeps.others_identifier p q t in_p in_q seen is_p (numbered_timed number u (sent.source p) is) not_q at_p at_q same)
+          | inr not_q ↦ absurd (keeps.others_identifier p q t in_p in_q seen is_p (own_if_timed (sent.source p) (numbered_timed number u (sent.source p) is)) not_q at_p at_q same)
         ]
 
     behind : AreQueuedBehind s planned (origins_of plan sent) i
@@ -180,6 +188,7 @@ module _ (plan : Plan) (timing : Timing) (stays : UnitPlan → Bool) (tells : De
 
     packets_there : (x : Source) → IsNumbered 60160 u x → source_place plan x ≡ source_place plan (Carrying u m 0)
     packets_there (Single f) is = absurd is
+    packets_there (First f) is = absurd is
     packets_there (InSession f part) is = absurd is
     packets_there (Asking r) is = absurd is
     packets_there (Announcing v n) is = absurd (let number = is.0 in omega (arith, number))
@@ -187,6 +196,7 @@ module _ (plan : Plan) (timing : Timing) (stays : UnitPlan → Bool) (tells : De
 
     announcements_there : (x : Source) → IsNumbered 60416 u x → source_place plan x ≡ source_place plan (Announcing u m)
     announcements_there (Single f) is = absurd is
+    announcements_there (First f) is = absurd is
     announcements_there (InSession f part) is = absurd is
     announcements_there (Asking r) is = absurd is
     announcements_there (Announcing v n) is = ap (λ (w : ℕ). source_place plan (Announcing w 0)) (sym is.1)

@@ -1,6 +1,6 @@
 -- A bus can keep to a plan in the plan's own words in a vehicle that lacks a unit: frames of two flows, one of them to this unit, come one behind
 -- the other, and it sends none.
-use Rattle.std.proofs.Common.{◌≡◌, ◌≢◌, ℕ, ◌+◌, ◌*◌, ◌^◌, ◌<◌, ◌≤◌, ◌⊎◌, Bool, true, false, not, cond, length, Option, Some}
+use Rattle.std.proofs.Common.{◌≡◌, ◌≢◌, ℕ, ◌+◌, ◌*◌, ◌^◌, ◌<◌, ◌≤◌, Bool, true, false, not, cond, Option, Some}
 use Rattle.std.proofs.Common.{refl, sym, ap, ◌∙◌, inl, inr, arith}
 use Rattle.std.proofs.Math.Nat.{mul-le-mul_right}
 use Rattle.std.proofs.lemmas.Bool.{cases_lt, true≢false}
@@ -21,8 +21,8 @@ use Rattle.j39_network.specs.declared.plan.unit_plan.UnitPlan.{UnitPlan}
 use Rattle.j39_load.specs.KeepsPlan.{KeepsQueues, KeepsToPlan}
 use Rattle.j39_load.specs.KeptWithout.{CanBeKeptWithout}
 use Rattle.j39_load.specs.Loads.{bits_per_ms, is_any}
-use Rattle.j39_load.specs.SentFrames.{Announcing, Broadcasts, Carrying, FrameSources, Held, IsFrameOf, IsMsBehind, IsSentByUnit, IsSentEvery, IsSingleFrame}
-use Rattle.j39_load.specs.SentFrames.{Single, Source, TakesPart, goes_to}
+use Rattle.j39_load.specs.SentFrames.{Announcing, Carrying, FrameSources, Held, IsFrameOf, IsMsBehind, IsSentByUnit, IsSentEvery, IsSingleFrame}
+use Rattle.j39_load.specs.SentFrames.{Single, TakesPart, goes_to}
 use Rattle.j39_load.proofs.KeepingApart as alone
 use Rattle.j39_load.proofs.Slots.{ends_before, slots, slots_any_order, slots_legal}
 use Rattle.j39_timing.specs.AnyOrder.{Controllers}

@@ -1,5 +1,5 @@
 -- On a bus that keeps to a plan with whose load nothing is wrong each long message to all that has a deadline is whole within it.
-use Rattle.std.proofs.Common.{◌≡◌, ◌≢◌, ℕ, zero, suc, ◌+◌, ◌-◌, ◌*◌, ◌<◌, ◌≤◌, ◌⊎◌, Bool, true, leb, if◌then◌else◌, List, [], ◌∷◌, All, length, get_or, sum_by}
+use Rattle.std.proofs.Common.{◌≡◌, ◌≢◌, ℕ, zero, suc, ◌+◌, ◌-◌, ◌*◌, ◌<◌, ◌≤◌, ◌⊎◌, Bool, true, leb, List, [], ◌∷◌, All, length, get_or, sum_by}
 use Rattle.std.proofs.Common.{Option, Some, None, refl, sym, ap, ◌∙◌, subst, inl, inr, arith, option_map}
 use Rattle.std.proofs.Math.Nat.{mul-le-mul_left}
 use Rattle.std.proofs.lemmas.Bool.{and_parts, cases_eq, cases_lt, leb-true}
@@ -12,13 +12,10 @@ use Rattle.std.specs.Option.{option_map_or}
 use Rattle.j39_findings.specs.Findings.{Clean}
 use Rattle.j39_network.specs.declared.plan.Plan.{Plan}
 use Rattle.j39_network.specs.declared.plan.flow_plan.FlowPlan.{FlowPlan}
-use Rattle.j39_network.specs.declared.plan.group_plan.GroupPlan.{GroupPlan}
 use Rattle.j39_network.specs.declared.plan.pace.Pace.{Pace}
 use Rattle.j39_network.specs.declared.plan.timing.Timing.{Timing}
 use Rattle.j39_network.specs.declared.plan.unit_plan.UnitPlan.{UnitPlan}
 use Rattle.j39_load.specs.declared.frames.broadcast.Broadcast.{Broadcast}
-use Rattle.j39_load.specs.declared.frames.flow_frames.FlowFrames.{FlowFrames}
-use Rattle.j39_load.specs.declared.frames.messages.Messages.{Messages}
 use Rattle.j39_load.specs.declared.frames.messages.Messages.TheVariants.{ToAll}
 use Rattle.j39_load.specs.declared.loads.flow_load.FlowLoad.{FlowLoad}
 use Rattle.j39_load.specs.declared.loads.unit_load.UnitLoad.{UnitLoad}
@@ -31,18 +28,18 @@ use Rattle.j39_load.specs.Asked.{Asked, asked_of, frames_asked, total_load}
 use Rattle.j39_load.specs.Broadcasts.{broadcast_by, broadcasts_by}
 use Rattle.j39_load.specs.Delays.{IsTurn, IsTurnBy, IsWaitIn, announcements_place, keeps_up, known_turn, longest_pause, packet_time, packets_place, flow_turn}
 use Rattle.j39_load.specs.Delays.{turn_time, whole_time}
-use Rattle.j39_load.specs.KeepsBroadcasts.{IsMessageToAll, KeepsTurns}
+use Rattle.j39_load.specs.KeepsBroadcasts.{KeepsTurns}
 use Rattle.j39_load.specs.KeepsPlan.{KeepsQueues, KeepsToPlan, origins_of, source_place}
-use Rattle.j39_load.specs.KeptDeadlines.{AreEachInTime, AreSentWhole, IsSentAs, TakeTurns, whole_from}
+use Rattle.j39_load.specs.KeptDeadlines.{AreEachInTime, AreSentWhole, TakeTurns, whole_from}
 use Rattle.j39_load.specs.LoadFindings.{AreLoadFindings, AsksOfBus, load_findings}
-use Rattle.j39_load.specs.Loads.{bits_of_ms, broadcast_of, load_of_flow}
-use Rattle.j39_load.specs.SentFrames.{Announcing, Broadcasts, Carrying, FrameSources, HasPeriodMs, Held, IsToAllBy, IsWithinMs, Source}
+use Rattle.j39_load.specs.Loads.{bits_of_ms, load_of_flow}
+use Rattle.j39_load.specs.SentFrames.{Announcing, Broadcasts, Carrying, FrameSources, Held, IsToAllBy, IsWithinMs}
 use Rattle.j39_load.proofs.BoundedFlows.{sent_in_any_order}
 use Rattle.j39_load.proofs.KeepingTurns.{broadcasts_in_any_order}
 use Rattle.j39_load.proofs.KeptInTime.{before_bits}
 use Rattle.j39_load.proofs.Milliseconds.{behind_bits, in_ms, within_bits}
 use Rattle.j39_load.proofs.OnceEach.{each_once, picked_sum, value_of}
-use Rattle.j39_load.proofs.PlacedFrames.{announcing_read, at_place, carrying_read, is_by, its_broadcast, load, same_units, to_all_units, unit_asks, unit_read}
+use Rattle.j39_load.proofs.PlacedFrames.{at_place, is_by, its_broadcast, load, same_units, to_all_units, unit_asks, unit_read}
 use Rattle.j39_load.proofs.PositivePeriods.{all_paced}
 use Rattle.j39_load.proofs.Sending.{all_sent}
 use Rattle.j39_load.proofs.StreamsBefore.{none_of_two}

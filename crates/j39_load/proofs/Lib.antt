@@ -17,9 +17,12 @@ pub mod KeepingAnyErrors
 pub mod KeepingAnyOrder
 pub mod KeepingApart
 pub mod KeepingBroadcasts
+pub mod KeepingDeadlines
 pub mod KeepingErrors
+pub mod KeepingFirst
 pub mod KeepingFrames
 pub mod KeepingPlan
+pub mod KeepingSources
 pub mod KeepingTurns
 pub mod KeepingWithout
 pub mod KeptDeadlines

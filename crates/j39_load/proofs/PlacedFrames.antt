@@ -27,7 +27,7 @@ use Rattle.j39_load.specs.Loads.{flow_load, load_of_flow, loads_of, long_message
 use Rattle.j39_load.specs.PlannedFrames.{traffic_of}
 use Rattle.j39_load.specs.RequestLoads.{load_of_request, request_load}
 use Rattle.j39_load.specs.SentFrames.{Asking}
-use Rattle.j39_load.proofs.AskedPlaces.{flow_read, request_read}
+use Rattle.j39_load.proofs.AskedPlaces.{flow_read, request_read, singles_read}
 use Rattle.j39_timing.specs.Traffic.{Traffic}
 use Rattle.j39_tp.specs.Chunks.{packets_of}
 use Rattle.std.proofs.lemmas.List.FromFn.{get_or-map-range_with_len}
@@ -79,6 +79,17 @@ module _ (plan : Plan) (timing : Timing) (stays : UnitPlan → Bool) where
 
     pub read : group.most ≤ 8 → get_or (frames_asked asked) f None ≡ Some own
     read short = flow_read asked.flows asked.units asked.requests f load own at_place (ap own_frames (of_one_frame short))
+
+    -- some messages of which go in one frame, while others are long
+    its_singles : group.length ≤ 8 → 8 < group.most → load.singles ≡ Some own
+    its_singles short long = rw (lt-leb group.most 8 long, le-leb group.length 8 short) refl
+
+    pub first_read : group.length ≤ 8 → 8 < group.most → get_or (frames_asked asked) (length plan.flows.items + f) None ≡ Some own
+    first_read short long =
+        let flows = length-map plan.flows.items (load_of_flow timing plan stays) in
+        let place : length plan.flows.items + f ≡ length asked.flows + f = omega (arith, flows) in
+        ap (λ (k : ℕ). get_or (frames_asked asked) k None) place
+        ∙ singles_read asked.flows asked.units asked.requests f load own at_place (its_singles short long)
 
     -- whose messages are long, to one unit
     abbrev pub in_session : ℕ → FlowFrames

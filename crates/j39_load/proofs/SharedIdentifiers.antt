@@ -7,19 +7,23 @@ use Rattle.j39_id.specs.Pgn.{is_pdu2, pf_of}
 use Rattle.j39_id.specs.Services.{service_groups}
 use Rattle.j39_findings.specs.Findings.{Clean}
 use Rattle.j39_network.specs.declared.plan.Plan.{Plan}
+use Rattle.j39_network.specs.declared.plan.flow_plan.FlowPlan.{FlowPlan}
+use Rattle.j39_network.specs.declared.plan.group_plan.GroupPlan.{GroupPlan}
+use Rattle.j39_network.specs.declared.plan.pace.Pace.{Pace}
 use Rattle.j39_network.specs.declared.plan.timing.Timing.{Timing}
 use Rattle.j39_network.specs.declared.plan.to.To.{To}
 use Rattle.j39_network.specs.declared.plan.to.To.TheVariants.{All as ToAllUnits, One}
 use Rattle.j39_network.specs.declared.plan.unit_plan.UnitPlan.{UnitPlan}
+use Rattle.j39_signal.specs.declared.selector.Selector.{Selector}
 use Rattle.j39_load.specs.declared.frames.flow_frames.FlowFrames.{FlowFrames}
 use Rattle.j39_load.specs.AnyQueues.{keep_order}
-use Rattle.j39_load.specs.Loads.{any_unit, destination_at, group_ident}
-use Rattle.j39_load.specs.Ranks.{AreHeldApart, IsShortFlow}
-use Rattle.j39_load.specs.SentFrames.{Broadcasts, Held, IsBroadcastFrame, IsRequestFrame, IsSessionFrame, IsSingleFrame, Part, part_identifier}
+use Rattle.j39_load.specs.Loads.{any_unit, destination_at, group_ident, single_frames}
+use Rattle.j39_load.specs.Ranks.{AreHeldApart, AreTwinFlows, IsShortFlow}
+use Rattle.j39_load.specs.SentFrames.{Broadcasts, Held, IsBroadcastFrame, IsFirstFrame, IsRequestFrame, IsSessionFrame, IsSingleFrame, Part, part_identifier}
 use Rattle.j39_load.specs.SentFrames.{RequestToSend, Packet, ClearToSend, EndAcknowledged}
 use Rattle.j39_load.specs.Twins.{are_twins, is_same}
 use Rattle.j39_load.proofs.Different as other_idents
-use Rattle.j39_load.proofs.KeepingFrames.{asking_ident, one_to, single_ident}
+use Rattle.j39_load.proofs.KeepingFrames.{asking_ident, first_ident, one_to, single_ident}
 use Rattle.j39_load.proofs.PlacedFrames.{own}
 use Rattle.j39_timing.specs.TimedFrames.{Schedule}
 use Rattle.j39_timing.specs.Traffic.{IsQueuedAt}
@@ -260,25 +264,54 @@ module _ (plan : Plan) (timing : Timing) (clean : Clean plan) (s : Schedule) (he
     pub part_made : IsPartMade (held.named t) (held.address t) (s.ident p) one.flow.sender one.receiver
     part_made = by_part part (one.identifier t queued)
 
-  module _ (f release p : ℕ) (one : IsSingleFrame plan timing s held f release p) (queued : IsQueuedAt s p t) where
-    single_made : IsMade (held.named t) (held.address t) (s.ident p) one.group.pgn one.flow.sender one.flow.to
-    single_made =
-        let can = other_idents.planned plan clean (held.named t) (held.address t) apart one.flow.group one.group one.of in
+  -- a message of one frame, of a flow at this place
+  pub record IsGroupFrame (f p : ℕ) (flow : FlowPlan) (group : GroupPlan) : Type 0 where
+    pub sends : other_idents.SendsOneFrame plan clean (held.named t) (held.address t) apart f flow group
+    pub is : s.ident p ≡ group_ident (held.address t) group flow
+
+  pub of_single : (f release p : ℕ) (one : IsSingleFrame plan timing s held f release p) → IsQueuedAt s p t → IsGroupFrame f p one.flow one.group
+  of_single f release p one queued = record {
+    sends = record {
+      its = one.its;
+      sent = one.of;
+      short = let most = one.short in let least = one.group.most_least in omega (arith, most, least);
+      sender = one.sender_named t queued;
+      receiver = λ v goes. one.receiver_named t v queued goes;
+    };
+    is = single_ident plan timing s held f release p t one queued;
+  }
+
+  pub of_first : (f release p : ℕ) (one : IsFirstFrame plan timing s held f release p) → IsQueuedAt s p t → IsGroupFrame f p one.flow one.group
+  of_first f release p one queued = record {
+    sends = record {
+      its = one.its;
+      sent = one.of;
+      short = one.short;
+      sender = one.sender_named t queued;
+      receiver = λ v goes. one.receiver_named t v queued goes;
+    };
+    is = first_ident plan timing s held f release p t one queued;
+  }
+
+  module _ (f p : ℕ) {flow : FlowPlan} {group : GroupPlan} (one : IsGroupFrame f p flow group) where
+    group_made : IsMade (held.named t) (held.address t) (s.ident p) group.pgn flow.sender flow.to
+    group_made =
+        let can = other_idents.planned plan clean (held.named t) (held.address t) apart flow.group group one.sends.sent in
         record {
-          priority = one.group.priority;
+          priority = group.priority;
           page = can.page;
           low = can.group.low;
-          from_named = one.sender_named t queued;
-          to_named = λ v goes. one.receiver_named t v queued goes;
-          is = single_ident plan timing s held f release p t one queued;
+          from_named = one.sends.sender;
+          to_named = one.sends.receiver;
+          is = one.is;
         }
 
     -- no service of the network has it
     no_service : (y number from : ℕ) (to : To) → Contains service_groups number → IsMade (held.named t) (held.address t) y number from to → s.ident p ≡ y → ⊥
     no_service y number from to service made same =
-        let can = other_idents.planned plan clean (held.named t) (held.address t) apart one.flow.group one.group one.of in
-        let is : one.group.pgn ≡ number =
-        (made_alike plan clean (held.named t) (held.address t) apart (s.ident p) y one.group.pgn number one.flow.sender from one.flow.to to single_made made same).0 in
+        let can = other_idents.planned plan clean (held.named t) (held.address t) apart flow.group group one.sends.sent in
+        let is : group.pgn ≡ number =
+        (made_alike plan clean (held.named t) (held.address t) apart (s.ident p) y group.pgn number flow.sender from flow.to to group_made made same).0 in
         can.not_service (subst (Contains service_groups) (sym is) service)
 
     -- so no request has it, and no part of a long message
@@ -296,13 +329,25 @@ module _ (plan : Plan) (timing : Timing) (clean : Clean plan) (s : Schedule) (he
         by_number number (inl is) = (3, omega arith, sym is)
         by_number number (inr is) = (2, omega arith, sym is)
 
-    short_flow : IsShortFlow plan (held.named t) f one.flow one.group
-    short_flow = record {
-      its = one.its;
-      sent = one.of;
-      short = le-leb one.group.most 8 one.short;
-      sender = one.sender_named t queued;
-      receiver = λ v goes. one.receiver_named t v queued goes;
+  -- ---- two messages of one frame with one identifier
+
+  module _ (f g p q : ℕ) {flow other : FlowPlan} {group second : GroupPlan} (one : IsGroupFrame f p flow group) (two : IsGroupFrame g q other second)
+      (same : s.ident p ≡ s.ident q) where
+    idents : group_ident (held.address t) group flow ≡ group_ident (held.address t) second other
+    idents = sym one.is ∙ (same ∙ two.is)
+
+    -- are of one unit
+    pub one_sender : flow.sender ≡ other.sender
+    one_sender = other_idents.senders plan clean (held.named t) (held.address t) apart f g flow other group second one.sends two.sends idents
+
+    alike : (stays : UnitPlan → Bool) (pace its_pace : Pace) → AreTwinFlows group flow second other
+        → AreAlike (single_frames timing plan.units.items stays flow pace group) (single_frames timing plan.units.items stays other its_pace second)
+    alike stays pace its_pace twins = record {
+      number = twins.number;
+      first = twins.first_is;
+      second = twins.second_is;
+      senders = ap (any_unit plan.units.items) one_sender;
+      receivers = refl;
     }
 
   -- two single frames are of one flow, or of two that are alike
@@ -313,17 +358,42 @@ module _ (plan : Plan) (timing : Timing) (clean : Clean plan) (s : Schedule) (he
   one_or_alike stays f g release other p q one two at_p at_q same = elim (cases_eq f g) [
     | inl one_flow ↦ inl one_flow
     | inr differ ↦
-        let idents : group_ident (held.address t) one.group one.flow ≡ group_ident (held.address t) two.group two.flow =
-        sym (single_ident plan timing s held f release p t one at_p) ∙ (same ∙ single_ident plan timing s held g other q t two at_q) in
-        let first = short_flow f release p one at_p in
-        let second = short_flow g other q two at_q in
-        let twins = other_idents.different plan clean (held.named t) (held.address t) apart f g one.flow two.flow one.group two.group differ first second idents in
-        let from = other_idents.senders plan clean (held.named t) (held.address t) apart f g one.flow two.flow one.group two.group first second idents in
-        inr (record {
-          number = twins.number;
-          first = twins.first_is;
-          second = twins.second_is;
-          senders = ap (any_unit plan.units.items) from;
-          receivers = refl;
-        })
+        let a = of_single f release p one at_p in
+        let b = of_single g other q two at_q in
+        inr (alike f g p q a b same stays one.pace two.pace
+        (other_idents.different plan clean (held.named t) (held.address t) apart f g one.flow two.flow one.group two.group differ (short_flow f release p one at_p)
+        (short_flow g other q two at_q) (idents f g p q a b same)))
   ]
+    where
+      short_flow : (f release p : ℕ) (one : IsSingleFrame plan timing s held f release p) → IsQueuedAt s p t → IsShortFlow plan (held.named t) f one.flow one.group
+      short_flow f release p one queued = record {
+        its = one.its;
+        sent = one.of;
+        short = le-leb one.group.most 8 one.short;
+        sender = one.sender_named t queued;
+        receiver = λ v goes. one.receiver_named t v queued goes;
+      }
+
+  -- one of them and one of a flow with long messages too are alike
+  pub single_or_first : (stays : UnitPlan → Bool) (f g release other p q : ℕ) (one : IsSingleFrame plan timing s held f release p)
+      (two : IsFirstFrame plan timing s held g other q) → IsQueuedAt s p t → IsQueuedAt s q t → s.ident p ≡ s.ident q
+      → AreAlike (own plan timing stays f one.flow one.pace one.group one.its one.paced one.of)
+      (own plan timing stays g two.flow two.pace two.group two.its two.paced two.of)
+  single_or_first stays f g release other p q one two at_p at_q same =
+      let a = of_single f release p one at_p in
+      let b = of_first g other q two at_q in
+      alike f g p q a b same stays one.pace two.pace
+      (other_idents.short_and_long plan clean (held.named t) (held.address t) apart f g one.flow two.flow one.group two.group a.sends b.sends (idents f g p q a b same)
+      one.short two.long)
+
+  -- and two of such flows, where the one has a twin
+  pub firsts_alike : (stays : UnitPlan → Bool) (f g release other p q : ℕ) (one : IsFirstFrame plan timing s held f release p)
+      (two : IsFirstFrame plan timing s held g other q) → IsQueuedAt s p t → IsQueuedAt s q t → s.ident p ≡ s.ident q → (v : Selector) → one.group.when ≡ Some v
+      → AreAlike (own plan timing stays f one.flow one.pace one.group one.its one.paced one.of)
+      (own plan timing stays g two.flow two.pace two.group two.its two.paced two.of)
+  firsts_alike stays f g release other p q one two at_p at_q same v told =
+      let a = of_first f release p one at_p in
+      let b = of_first g other q two at_q in
+      alike f g p q a b same stays one.pace two.pace
+      (other_idents.twins_if_told plan clean (held.named t) (held.address t) apart f g one.flow two.flow one.group two.group a.sends b.sends (idents f g p q a b same)
+      v told)

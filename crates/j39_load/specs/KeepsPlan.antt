@@ -1,5 +1,5 @@
--- What a bus keeps of a plan, in the plan's own words, where its planned frames are those of flows each message of which goes in one frame, of
--- long messages to one unit and to all, and of requests: no stream stands here, and nothing that is told of what a flow asks of the bus.
+-- What a bus keeps of a plan, in the plan's own words, where its planned frames are those of messages that go in one frame, of long messages to one
+-- unit and to all, and of requests: no stream stands here, and nothing that is told of what a flow asks of the bus.
 use Rattle.std.specs.Prelude.{◌≡◌, ◌≢◌, ℕ, ◌+◌, ◌*◌, ◌^◌, ◌<◌, ◌≤◌, ◌⊎◌, Bool, true, false, List, [], ◌∷◌, length, Some}
 use Rattle.std.specs.List.{slice_get}
 use Rattle.std.specs.Option.{option_map_or}
@@ -13,8 +13,8 @@ use Rattle.j39_network.specs.declared.plan.unit_plan.UnitPlan.{UnitPlan}
 use Rattle.j39_load.specs.KeepsBroadcasts.{KeepsBroadcasts}
 use Rattle.j39_load.specs.Ranks.{AreHeldApart, AreHeldByPlan}
 use Rattle.j39_load.specs.SentFrames.{FrameSources, HasTime, Held, IsFrameOf, IsMsBefore, IsMsBehind, IsSentByUnit, IsSentEvery, IsWithinMs, Part, Source}
-use Rattle.j39_load.specs.SentFrames.{TakesPart}
-use Rattle.j39_load.specs.SentFrames.{Single, InSession, Asking, Announcing, Carrying, RequestToSend, Packet, ClearToSend, EndAcknowledged}
+use Rattle.j39_load.specs.SentFrames.{HasOwnIdentifier, TakesPart}
+use Rattle.j39_load.specs.SentFrames.{Single, First, InSession, Asking, Announcing, Carrying, RequestToSend, Packet, ClearToSend, EndAcknowledged}
 use Rattle.j39_timing.specs.AnyOrder.{Controllers, IsLegalInAnyOrder}
 use Rattle.j39_timing.specs.QueueGroups.{unplanned_queued}
 use Rattle.j39_timing.specs.FrameStreams.{Origins}
@@ -26,7 +26,8 @@ use Rattle.j39_tp.specs.Chunks.{packets_of}
 -- the planned frames of a bus are those of flows and requests, and what else is on it keeps to what the plan tells of it
 pub record KeepsToPlan (plan : Plan) (timing : Timing) (s : Schedule) (planned : ℕ → Bool) (sent : FrameSources) (held : Held) : Type 0 where
   pub frames : (p : ℕ) → p < s.count → planned p ≡ true → IsFrameOf plan timing s held sent.broadcasts (sent.source p) (sent.release p) p
-  -- the releases of two messages of a flow, and of two requests, are a period apart, and a long message has each of its parts once
+  -- the releases of two messages of a flow, of those that go in one frame and of the long ones, and of two requests, are a period apart, and a long
+  -- message has each of its parts once
   pub apart : (p q ms : ℕ) → p < s.count → q < s.count → p ≢ q → planned p ≡ true → planned q ≡ true
       → sent.source p ≡ sent.source q → IsSentEvery plan (sent.source p) ms
       → IsMsBehind timing ms (sent.release p) (sent.release q) ⊎ IsMsBehind timing ms (sent.release q) (sent.release p)
@@ -34,12 +35,13 @@ pub record KeepsToPlan (plan : Plan) (timing : Timing) (s : Schedule) (planned :
   -- each unit holds its planned address, or one of the pool if it has to move, and no two that are named hold one
   pub held_by_plan : (t : ℕ) → AreHeldByPlan plan (held.address t)
   pub held_apart : (t : ℕ) → AreHeldApart (held.named t) (held.address t)
-  -- a frame that is of none of them has eight bytes at most, and the priority that is told or a larger number; while a frame of a flow with
-  -- messages of one frame is queued too, or one of a long message to all, it has another identifier, and no more of them go before this one than are told
+  -- a frame that is of none of them has eight bytes at most, and the priority that is told or a larger number; while a message of one frame is
+  -- queued too, or a frame of a long message to all, it has another identifier; and where this one is of a flow with messages of one frame alone, or of
+  -- a long message to all, no more of them go before it than are told
   pub others_length : (p : ℕ) → p < s.count → planned p ≡ false → s.bits p ≤ 160
   pub others_priority : (p : ℕ) → p < s.count → planned p ≡ false → timing.unplanned_priority * 2 ^ 26 ≤ s.ident p
-  pub others_identifier : (p q t : ℕ) → p < s.count → q < s.count → t < s.now → planned p ≡ true → HasTime (sent.source p) → planned q ≡ false
-      → IsQueuedAt s p t → IsQueuedAt s q t → s.ident p ≢ s.ident q
+  pub others_identifier : (p q t : ℕ) → p < s.count → q < s.count → t < s.now → planned p ≡ true → HasOwnIdentifier (sent.source p)
+      → planned q ≡ false → IsQueuedAt s p t → IsQueuedAt s q t → s.ident p ≢ s.ident q
   pub few_others : (p from to : ℕ) → p < s.count → planned p ≡ true → HasTime (sent.source p) → to < s.now → Waits s p to
       → PlannedFramesWait s planned (s.ident p) from to → others_queued s planned (s.ident p) from to ≤ timing.unplanned
 
@@ -71,10 +73,11 @@ abbrev pub units_told : List FlowPlan → List UnitPlan → ℕ
 units_told [] units = 0
 units_told (flow ∷ flows) units = length units
 
--- where the frames of a source stand among all that the plan asks for: flows at the first places, packets and announcements of units behind them,
--- requests at the last ones
+-- where the frames of a source stand among all that the plan asks for: flows at the first places, in as many behind them single frames of flows with
+-- long messages, then packets and announcements of units, and requests at the last ones
 abbrev pub source_place : Plan → Source → ℕ
 source_place plan (Single f) = f
+source_place plan (First f) = length plan.flows.items + f
 source_place plan (InSession f part) = f
 source_place plan (Asking r) = 2 * length plan.flows.items + (2 * units_told plan.flows.items plan.units.items + r)
 source_place plan (Announcing u m) = 2 * length plan.flows.items + (units_told plan.flows.items plan.units.items + u)
@@ -95,6 +98,7 @@ turn_of_part packets (ClearToSend k) = 2 + (packets + k)
 -- a message that goes in one frame has one part, and frames of long messages to all count as single ones
 abbrev pub source_turn : Plan → Source → ℕ
 source_turn plan (Single f) = 0
+source_turn plan (First f) = 0
 source_turn plan (InSession f part) = turn_of_part (packets_at plan f) part
 source_turn plan (Asking r) = 0
 source_turn plan (Announcing u m) = 0
@@ -135,8 +139,8 @@ pub record AreFramesInTime (plan : Plan) (timing : Timing) : Type 0 where
 
 -- ---- that it can be kept
 
--- there is a legal schedule that keeps to the plan, in which frames of a flow are sent, as many as one likes
-pub record CanBeKept (plan : Plan) (timing : Timing) (f n : ℕ) : Type 0 where
+-- there is a legal schedule that keeps to the plan, in which frames of this source are sent, as many as one likes
+pub record CanBeKept (plan : Plan) (timing : Timing) (source : Source) (n : ℕ) : Type 0 where
   pub s : Schedule
   pub planned : ℕ → Bool
   pub sent : FrameSources
@@ -145,4 +149,4 @@ pub record CanBeKept (plan : Plan) (timing : Timing) (f n : ℕ) : Type 0 where
   pub keeps : KeepsToPlan plan timing s planned sent held
   pub frames : s.count ≡ n
   pub all_planned : (p : ℕ) → planned p ≡ true
-  pub of_flow : (p : ℕ) → sent.source p ≡ Single f
+  pub of_source : (p : ℕ) → sent.source p ≡ source

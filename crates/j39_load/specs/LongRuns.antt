@@ -1,11 +1,12 @@
 -- What a bus that keeps to a plan has to carry, however long it runs: so many bits a second.
-use Rattle.std.specs.Prelude.{ℕ, ◌+◌, ◌*◌, ◌<◌, ◌≤◌, Bool, ◌&&◌, not, cond, nat_lt}
+use Rattle.std.specs.Prelude.{ℕ, ◌+◌, ◌*◌, ◌<◌, ◌≤◌, Bool, true, false, ◌&&◌, not, cond, nat_lt}
 use Rattle.j39_network.specs.declared.plan.Plan.{Plan}
 use Rattle.j39_network.specs.declared.plan.timing.ErrorRate.{ErrorRate}
 use Rattle.j39_network.specs.declared.plan.timing.Timing.{Timing}
 use Rattle.j39_load.specs.KeepsErrors.{KeepsErrors, begins_within}
 use Rattle.j39_load.specs.KeepsPlan.{KeepsToPlan}
-use Rattle.j39_load.specs.SentFrames.{FrameSources, Held, bit_time}
+use Rattle.j39_load.specs.SentFrames.{FrameSources, Held, Source, bit_time}
+use Rattle.j39_load.specs.SentFrames.{Single, First, InSession, Asking, Announcing, Carrying}
 use Rattle.j39_timing.specs.Errors.{Damaged, IsBusWithErrors}
 use Rattle.j39_timing.specs.Sums.{total}
 use Rattle.j39_timing.specs.TimedFrames.{Schedule}
@@ -15,7 +16,19 @@ abbrev pub is_queued_within : Timing → ℕ → Schedule → ℕ → ℕ → Bo
 is_queued_within timing ms s from p =
     not (nat_lt (s.queued p) from) && nat_lt (s.queued p * bit_time timing.bitrate) (from * bit_time timing.bitrate + 1000 * ms)
 
--- the bits of the planned frames that are
+-- a flow that has long messages too counts with these: one that goes in one frame comes in place of a long one
+abbrev pub is_counted : Source → Bool
+is_counted (Single f) = true
+is_counted (First f) = false
+is_counted (InSession f part) = true
+is_counted (Asking r) = true
+is_counted (Announcing u m) = true
+is_counted (Carrying u m k) = true
+
+abbrev pub counted : (ℕ → Bool) → FrameSources → ℕ → Bool
+counted planned sent p = planned p && is_counted (sent.source p)
+
+-- the bits of the frames that count and are queued so
 abbrev pub bits_queued : Timing → ℕ → Schedule → (ℕ → Bool) → ℕ → ℕ
 bits_queued timing ms s planned from = total s.count (λ p. cond (planned p && is_queued_within timing ms s from p) (s.bits p) 0)
 
@@ -32,8 +45,8 @@ seconds n = 1000 * n
 pub record IsLongRunLoad (plan : Plan) (timing : Timing) (load : ℕ) : Type 0 where
   pub more : ℕ
   pub queued : (s : Schedule) (planned : ℕ → Bool) (sent : FrameSources) (held : Held) → ((p : ℕ) → p < s.count → s.queued p ≤ s.start p)
-      → KeepsToPlan plan timing s planned sent held → (from n : ℕ) → bits_queued timing (seconds n) s planned from ≤ n * load + more
+      → KeepsToPlan plan timing s planned sent held → (from n : ℕ) → bits_queued timing (seconds n) s (counted planned sent) from ≤ n * load + more
   -- and so it is with what comes of damage
   pub with_damage : (s : Schedule) (d : Damaged) (planned : ℕ → Bool) (sent : FrameSources) (held : Held) (rate : ErrorRate) → IsBusWithErrors s d
       → KeepsToPlan plan timing s planned sent held → KeepsErrors timing rate s d planned sent
-      → (from n : ℕ) → bits_queued timing (seconds n) s planned from + bits_damaged timing (seconds n) d from ≤ n * load + more
+      → (from n : ℕ) → bits_queued timing (seconds n) s (counted planned sent) from + bits_damaged timing (seconds n) d from ≤ n * load + more

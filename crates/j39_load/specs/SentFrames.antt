@@ -1,5 +1,5 @@
--- A frame of what a plan has, in the plan's own words: of a flow's message that goes in one frame, of a long message to one unit or to all, or a
--- request.
+-- A frame of what a plan has, in the plan's own words: of a flow's message that goes in one frame, also where others of the flow are long, of a long
+-- message to one unit or to all, or a request.
 -- No stream stands here, and nothing that is told of what a flow asks of the bus.
 use Rattle.std.specs.Prelude.{◌≡◌, ℕ, ◌+◌, ◌*◌, ◌<◌, ◌≤◌, ◌⊎◌, Bool, true, Some}
 use Rattle.std.specs.List.{slice_get}
@@ -50,10 +50,12 @@ pub data Part : Type 0 where
   ClearToSend : ℕ → Part
   EndAcknowledged : Part
 
--- of what a frame is: of a flow, by its place, each message of which goes in one frame, of a long message of a flow to one unit, of a request, by
--- its place, or of a unit's long messages to all, by its place and the message's number: the announcement, or a packet by its number from 0
+-- of what a frame is: of a flow, by its place, each message of which goes in one frame, a message in one frame of a flow that has long ones too, of
+-- a long message of a flow to one unit, of a request, by its place, or of a unit's long messages to all, by its place and the message's number: the
+-- announcement, or a packet by its number from 0
 pub data Source : Type 0 where
   Single : ℕ → Source
+  First : ℕ → Source
   InSession : ℕ → Part → Source
   Asking : ℕ → Source
   Announcing : ℕ → ℕ → Source
@@ -102,6 +104,25 @@ pub record IsSingleFrame (plan : Plan) (timing : Timing) (s : Schedule) (held : 
   pub short : group.most ≤ 8
   pub length : s.bits p ≤ 80 + 10 * group.most
   -- it is queued at its release, or as much behind it as the jitter allows
+  pub release_first : release ≤ s.queued p
+  pub jitter_at_most : IsWithinMs timing pace.jitter release (s.queued p)
+  -- while it is queued its units are named, and it has the group's priority and number, and the addresses that they hold
+  pub sender_named : (t : ℕ) → IsQueuedAt s p t → held.named t flow.sender ≡ true
+  pub receiver_named : (t v : ℕ) → IsQueuedAt s p t → flow.to ≡ One v → held.named t v ≡ true
+  pub identifier : (t : ℕ) → IsQueuedAt s p t
+      → s.ident p ≡ identifier_of group.priority group.pgn (goes_to (held.address t) flow.to) (held.address t flow.sender)
+
+-- the frame is a message of a flow, by its place, of which others are long: trouble codes of SAE J1939-73, say, while there are none or one
+pub record IsFirstFrame (plan : Plan) (timing : Timing) (s : Schedule) (held : Held) (f release p : ℕ) : Type 0 where
+  pub flow : FlowPlan
+  pub its : slice_get plan.flows.items f ≡ Some flow
+  pub pace : Pace
+  pub paced : flow.pace ≡ Some pace
+  pub group : GroupPlan
+  pub of : slice_get plan.groups.items flow.group ≡ Some group
+  pub short : group.length ≤ 8
+  pub long : 8 < group.most
+  pub length : s.bits p ≤ 160
   pub release_first : release ≤ s.queued p
   pub jitter_at_most : IsWithinMs timing pace.jitter release (s.queued p)
   -- while it is queued its units are named, and it has the group's priority and number, and the addresses that they hold
@@ -181,22 +202,34 @@ pub record IsBroadcastFrame (timing : Timing) (s : Schedule) (held : Held) (b : 
 -- the frame is one of this source
 abbrev pub IsFrameOf : Plan → Timing → Schedule → Held → Broadcasts → Source → ℕ → ℕ → Type 0
 IsFrameOf plan timing s held b (Single f) release p = IsSingleFrame plan timing s held f release p
+IsFrameOf plan timing s held b (First f) release p = IsFirstFrame plan timing s held f release p
 IsFrameOf plan timing s held b (InSession f part) release p = IsSessionFrame plan timing s held f part release p
 IsFrameOf plan timing s held b (Asking r) release p = IsRequestFrame plan s held r release p
 IsFrameOf plan timing s held b (Announcing u m) release p = IsBroadcastFrame timing s held b connection_management u m release p
 IsFrameOf plan timing s held b (Carrying u m k) release p = IsBroadcastFrame timing s held b data_transfer u m release p × (k < b.packets u m)
 
--- times are promised of it: of long messages to one unit and of requests none is
+-- times are promised of it: of a flow with long messages none is of those that go in one frame, and none of long ones to one unit and of requests
 abbrev pub HasTime : Source → Type 0
 HasTime (Single f) = Unit {0}
+HasTime (First f) = ⊥
 HasTime (InSession f part) = ⊥
 HasTime (Asking r) = ⊥
 HasTime (Announcing u m) = Unit {0}
 HasTime (Carrying u m k) = Unit {0}
 
+-- nothing that isn't planned has its identifier
+abbrev pub HasOwnIdentifier : Source → Type 0
+HasOwnIdentifier (Single f) = Unit {0}
+HasOwnIdentifier (First f) = Unit {0}
+HasOwnIdentifier (InSession f part) = ⊥
+HasOwnIdentifier (Asking r) = ⊥
+HasOwnIdentifier (Announcing u m) = Unit {0}
+HasOwnIdentifier (Carrying u m k) = Unit {0}
+
 -- it is a frame of a unit's long messages to all
 abbrev pub IsToAllBy : ℕ → Source → Type 0
 IsToAllBy u (Single f) = ⊥
+IsToAllBy u (First f) = ⊥
 IsToAllBy u (InSession f part) = ⊥
 IsToAllBy u (Asking r) = ⊥
 IsToAllBy u (Announcing v m) = v ≡ u
@@ -213,6 +246,7 @@ pub record HasPeriodMs (plan : Plan) (f ms : ℕ) : Type 0 where
 -- and so has the source; what a unit sends to all comes by its own gaps
 abbrev pub IsSentEvery : Plan → Source → ℕ → Type 0
 IsSentEvery plan (Single f) ms = HasPeriodMs plan f ms
+IsSentEvery plan (First f) ms = HasPeriodMs plan f ms
 IsSentEvery plan (InSession f part) ms = HasPeriodMs plan f ms
 IsSentEvery plan (Asking r) ms = (asked : RequestPlan) × (slice_get plan.requests.items r ≡ Some asked) × (asked.period ≡ Some ms)
 IsSentEvery plan (Announcing u m) ms = ⊥
@@ -228,6 +262,7 @@ SendsPart flow EndAcknowledged u = flow.to ≡ One u
 -- the unit sends the source's frames
 abbrev pub IsSentByUnit : Plan → Source → ℕ → Type 0
 IsSentByUnit plan (Single f) u = (flow : FlowPlan) × (slice_get plan.flows.items f ≡ Some flow) × (flow.sender ≡ u)
+IsSentByUnit plan (First f) u = (flow : FlowPlan) × (slice_get plan.flows.items f ≡ Some flow) × (flow.sender ≡ u)
 IsSentByUnit plan (InSession f part) u = (flow : FlowPlan) × (slice_get plan.flows.items f ≡ Some flow) × SendsPart flow part u
 IsSentByUnit plan (Asking r) u = (asked : RequestPlan) × (slice_get plan.requests.items r ≡ Some asked) × (asked.sender ≡ u)
 IsSentByUnit plan (Announcing v m) u = v ≡ u
@@ -236,6 +271,7 @@ IsSentByUnit plan (Carrying v m k) u = v ≡ u
 -- the unit sends frames of the source's message: of a long one to one unit both ends do
 abbrev pub TakesPart : Plan → Source → ℕ → Type 0
 TakesPart plan (Single f) u = IsSentByUnit plan (Single f) u
+TakesPart plan (First f) u = IsSentByUnit plan (First f) u
 TakesPart plan (InSession f part) u = (flow : FlowPlan) × (slice_get plan.flows.items f ≡ Some flow) × ((flow.sender ≡ u) ⊎ (flow.to ≡ One u))
 TakesPart plan (Asking r) u = IsSentByUnit plan (Asking r) u
 TakesPart plan (Announcing v m) u = v ≡ u

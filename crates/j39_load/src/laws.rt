@@ -22,7 +22,7 @@ ghost use Rattle.j39_load.specs.KeepsErrors.{AreInTimeWithErrors, AreInTimeWithE
 ghost use Rattle.j39_load.specs.KeepsErrors.{origins_with, planned_with};
 ghost use Rattle.j39_load.specs.KeepsPlan.{AreFramesInTime, CanBeKept, IsSingleFlow, KeepsQueues, KeepsToPlan};
 ghost use Rattle.j39_load.specs.KeepsPlan.{origins_of};
-ghost use Rattle.j39_load.specs.KeptDeadlines.{AreEachInTime};
+ghost use Rattle.j39_load.specs.KeptDeadlines.{AreEachInTime, CanBeSentWhole};
 ghost use Rattle.j39_load.specs.KeptReceivers.{AreNotGivenUp};
 ghost use Rattle.j39_load.specs.KeptTogether.{CanBeKeptTogether, CanSendAll};
 ghost use Rattle.j39_load.specs.KeptWithout.{CanBeKeptWithout};
@@ -40,7 +40,7 @@ ghost use Rattle.j39_load.specs.Ranks.{AreHeldApart, AreHeldByPlan, AreTwinFlows
 ghost use Rattle.j39_load.specs.Ranks.{IsShortFlow, LieBetween, RequestLiesBetween};
 ghost use Rattle.j39_load.specs.ReadInTime.{AreNeedsRead, AreWritten};
 ghost use Rattle.j39_load.specs.RequestLoads.{request_ident};
-ghost use Rattle.j39_load.specs.SentFrames.{FrameSources, Held, bit_time};
+ghost use Rattle.j39_load.specs.SentFrames.{First, FrameSources, Held, Single, bit_time};
 ghost use Rattle.j39_findings.specs.Standing.{DecidesWhoStays};
 ghost use Rattle.j39_load.specs.ToldBytes.{IsToldOf, LeaveSelector};
 ghost use Rattle.j39_load.specs.ValuesInTime.{AreValuesInTime};
@@ -185,13 +185,19 @@ pub fn broadcasts_that_keep_a_plan()
 {}
 
 /// And a bus can keep to a plan in its own words: where no two units have one planned address, each flow whose messages
-/// go in one frame and that has a period can be sent alone, as often as one likes.
+/// go in one frame and that has a period can be sent alone, as often as one likes (`short`); and so can messages of one
+/// frame of a flow that has long ones too (`long`).
 pub fn plans_can_be_kept()
-    ensures { (plan : Plans) (timing : Timings) → ArePlannedApart (units_of plan)
+    ensures short { (plan : Plans) (timing : Timings) → ArePlannedApart (units_of plan)
         → (f : ℕ) (flow : PlannedFlows) (pace : PlannedPaces) (group : PlannedGroups)
         → slice_get plan.flows.items f ≡ Some flow → flow.pace ≡ Some pace
         → slice_get plan.groups.items flow.group ≡ Some group → group.most ≤ 8
-        → (n : ℕ) → CanBeKept plan timing f n }
+        → (n : ℕ) → CanBeKept plan timing (Single f) n }
+    ensures long { (plan : Plans) (timing : Timings) → ArePlannedApart (units_of plan)
+        → (f : ℕ) (flow : PlannedFlows) (pace : PlannedPaces) (group : PlannedGroups)
+        → slice_get plan.flows.items f ≡ Some flow → flow.pace ≡ Some pace
+        → slice_get plan.groups.items flow.group ≡ Some group → group.length ≤ 8 → 8 < group.most
+        → (n : ℕ) → CanBeKept plan timing (First f) n }
 {}
 
 /// And all of it at once: such a flow can be sent as late as its jitter allows, as often as one likes, where the first
@@ -244,6 +250,17 @@ pub fn plans_can_be_kept_without_a_unit()
         → slice_get plan.groups.items other.group ≡ Some second → second.most ≤ 8
         → IsPgn second.pgn → other.sender ≢ u
         → (first : ℕ → Bool) (n : ℕ) → CanBeKeptWithout plan timing u f g first n }
+{}
+
+/// And where no two units have one planned address, a long message to all of a flow can be sent to its end on a bus that
+/// keeps to the plan, whether its units keep order or not, and on which units take turns.
+pub fn long_messages_can_be_sent_whole()
+    ensures { (plan : Plans) (timing : Timings) → ArePlannedApart (units_of plan)
+        → (f : ℕ) (flow : PlannedFlows) (pace : PlannedPaces) (group : PlannedGroups)
+        → slice_get plan.flows.items f ≡ Some flow → flow.pace ≡ Some pace
+        → slice_get plan.groups.items flow.group ≡ Some group → 8 < group.most → flow.to ≡ ToAllUnits
+        → (packets : ℕ) → 2 ≤ packets → group.length ≤ 7 * packets → 7 * packets < group.most + 7
+        → CanBeSentWhole plan timing f flow.sender packets }
 {}
 
 /// What `load` counts bounds the planned frames of a bus: on each bus that keeps to a clean plan in the plan's own words

@@ -22,7 +22,7 @@ use j39_findings::{
 /// on a live bus nobody disturbs their ends, those of which nothing is lost arrive, its signals read back what they
 /// were last given, some flow of it answers each request, some flow brings each unit what it needs, and a message of
 /// such a flow of which nothing is lost reads there as it was written. So is the plan of each vehicle, whatever the
-/// serial numbers of its boxes are. `docs/PROMISES.md` has it in plain words. It rests on the laws that it calls.
+/// serial numbers of its boxes are. `docs/guide/PROMISES.md` has it in plain words. It rests on the laws that it calls.
 pub fn clean_plans_are_sound()
     ensures sound { (plan : Plans) → Clean plan → IsSound plan }
     ensures vehicles { (plan : Plans) → Clean plan → AreVehiclesSound plan }

@@ -19,7 +19,7 @@ use Rattle.j39_load.specs.KeepsPlan.{KeepsToPlan, source_place}
 use Rattle.j39_load.specs.Loads.{bits_of_ms, load_of, load_of_messages}
 use Rattle.j39_load.specs.LongRuns.{seconds}
 use Rattle.j39_load.specs.PlannedFrames.{planned_at}
-use Rattle.j39_load.specs.SentFrames.{FrameSources, Held, IsRequestFrame, IsSessionFrame, IsSingleFrame, Source, Single, InSession, Asking, Announcing, Carrying}
+use Rattle.j39_load.specs.SentFrames.{FrameSources, Held, IsRequestFrame, IsSessionFrame, IsSingleFrame, Source, Single, First, InSession, Asking, Announcing, Carrying}
 use Rattle.j39_load.proofs.KeepingPlan.{there}
 use Rattle.j39_load.proofs.LongRuns.Rates.{IsRate, load_is_rate}
 use Rattle.j39_load.proofs.Milliseconds.{some_bits}
@@ -61,6 +61,7 @@ module _ (plan : Plan) (timing : Timing) (stays : UnitPlan → Bool) (tells : De
     where
       its_place : (x : Source) → kind x ≡ 0 → index x ≡ i → source_place plan x ≡ i
       its_place (Single f) is at = at
+      its_place (First f) is at = absurd (omega (arith, is))
       its_place (InSession f part) is at = at
       its_place (Asking r) is at = absurd (omega (arith, is))
       its_place (Announcing u m) is at = absurd (omega (arith, is))
@@ -98,6 +99,7 @@ module _ (plan : Plan) (timing : Timing) (stays : UnitPlan → Bool) (tells : De
           (of_one_frame plan timing stays i one.flow one.pace one.group one.its one.paced one.of one.short))
           (get_or_from_slice_get (asked plan timing stays).flows i (Some asks) None
           (at_place plan timing stays i one.flow one.pace one.group one.its one.paced one.of))
+      rated p in_p is (First f) at of_kind place = absurd (omega (arith, of_kind))
       rated p in_p is (InSession f part) at of_kind place =
           let one = subst (λ (g : ℕ). IsSessionFrame plan timing s held g part (sent.release p) p) place
           (frame_of plan timing stays tells clean s queued_first planned sent held keeps from wait n span p in_p is (InSession f part) at) in
@@ -130,6 +132,7 @@ module _ (plan : Plan) (timing : Timing) (stays : UnitPlan → Bool) (tells : De
     where
       its_place : (x : Source) → kind x ≡ 1 → index x ≡ r → source_place plan x ≡ request_place r
       its_place (Single f) is at = absurd (omega (arith, is))
+      its_place (First f) is at = absurd (omega (arith, is))
       its_place (InSession f part) is at = absurd (omega (arith, is))
       its_place (Asking q) is at = ap request_place at
       its_place (Announcing u m) is at = absurd (omega (arith, is))
@@ -144,6 +147,7 @@ module _ (plan : Plan) (timing : Timing) (stays : UnitPlan → Bool) (tells : De
       rated : (p : ℕ) → p < s.count → planned p ≡ true → (x : Source) → sent.source p ≡ x → kind x ≡ 1 → index x ≡ r
           → bits 1 r ≤ n * rate + more_at plan timing stays (request_place r)
       rated p in_p is (Single f) at of_kind place = absurd (omega (arith, of_kind))
+      rated p in_p is (First f) at of_kind place = absurd (omega (arith, of_kind))
       rated p in_p is (InSession f part) at of_kind place = absurd (omega (arith, of_kind))
       rated p in_p is (Asking q) at of_kind place =
           let one = subst (λ (g : ℕ). IsRequestFrame plan s held g (sent.release p) p) place

@@ -2,7 +2,7 @@
 use Rattle.std.proofs.Common.{◌≡◌, ℕ, ◌+◌, ◌*◌, ◌<◌, ◌≤◌, Bool, true, false, not, cond, ◌&&◌, eqb, leb, ltb}
 use Rattle.std.proofs.Common.{List, Option}
 use Rattle.std.proofs.Common.{refl, sym, subst, inl, inr, arith}
-use Rattle.std.proofs.lemmas.Bool.{and_from, and_parts, both_ways, cases_lt, eqb-true, le-leb, lt-ltb, ltb-true}
+use Rattle.std.proofs.lemmas.Bool.{and_from, and_parts, both_ways, cases_lt, eqb-true, false≢true, le-leb, lt-ltb, ltb-true}
 use Rattle.j39_findings.specs.Findings.{Clean}
 use Rattle.j39_findings.specs.Standing.{DecidesWhoStays}
 use Rattle.j39_network.specs.declared.plan.Plan.{Plan}
@@ -13,8 +13,8 @@ use Rattle.j39_load.specs.Asked.{frames_asked}
 use Rattle.j39_load.specs.Demands.{demands_of}
 use Rattle.j39_load.specs.KeepsPlan.{KeepsToPlan, origins_of, source_place}
 use Rattle.j39_load.specs.Loads.{bits_of_ms, bits_per_ms}
-use Rattle.j39_load.specs.LongRuns.{is_queued_within, seconds}
-use Rattle.j39_load.specs.SentFrames.{Broadcasts, FrameSources, Held, IsFrameOf, Source, Single, InSession, Asking, Announcing, Carrying, bit_time}
+use Rattle.j39_load.specs.LongRuns.{counted, is_counted, is_queued_within, seconds}
+use Rattle.j39_load.specs.SentFrames.{Broadcasts, FrameSources, Held, IsFrameOf, Source, Single, First, InSession, Asking, Announcing, Carrying, bit_time}
 use Rattle.j39_load.proofs.AnyTraffic.{positive as positive_at}
 use Rattle.j39_load.proofs.KeepingPlan.{as_wanted, of_streams}
 use Rattle.j39_load.proofs.LongRuns.Rates.{IsRate, stream_rate}
@@ -40,17 +40,20 @@ kind (InSession f part) = 0
 kind (Asking r) = 1
 kind (Announcing u m) = 2
 kind (Carrying u m k) = 3
+kind (First f) = 4
 
-pub kind_below : (x : Source) → kind x < 4
-kind_below (Single f) = omega arith
-kind_below (InSession f part) = omega arith
-kind_below (Asking r) = omega arith
-kind_below (Announcing u m) = omega arith
-kind_below (Carrying u m k) = omega arith
+pub kind_below : (x : Source) → is_counted x ≡ true → kind x < 4
+kind_below (Single f) counts = omega arith
+kind_below (First f) counts = absurd (false≢true counts)
+kind_below (InSession f part) counts = omega arith
+kind_below (Asking r) counts = omega arith
+kind_below (Announcing u m) counts = omega arith
+kind_below (Carrying u m k) counts = omega arith
 
 -- the place of a source among those of its kind
 abbrev pub index : Source → ℕ
 index (Single f) = f
+index (First f) = f
 index (InSession f part) = f
 index (Asking r) = r
 index (Announcing u m) = u
@@ -89,7 +92,7 @@ module _ (plan : Plan) (timing : Timing) (stays : UnitPlan → Bool) (tells : De
   -- ---- frames that count
 
   abbrev pub passes : ℕ → Bool
-  passes p = planned p && is_queued_within timing (seconds n) s from p
+  passes p = counted planned sent p && is_queued_within timing (seconds n) s from p
 
   abbrev pub of_kind : ℕ → ℕ → Bool
   of_kind k p = passes p && eqb (kind (sent.source p)) k
@@ -123,10 +126,10 @@ module _ (plan : Plan) (timing : Timing) (stays : UnitPlan → Bool) (tells : De
   parts k i p counts =
       let one = and_parts (of_kind k p) (eqb (index (sent.source p)) i) counts in
       let two = and_parts (passes p) (eqb (kind (sent.source p)) k) one.0 in
-      let three = and_parts (planned p) (is_queued_within timing (seconds n) s from p) two.0 in
+      let three = and_parts (counted planned sent p) (is_queued_within timing (seconds n) s from p) two.0 in
       let (low, high) = window p three.1 in
       record {
-        is = three.0;
+        is = (and_parts (planned p) (is_counted (sent.source p)) three.0).0;
         its_kind = eqb-true (kind (sent.source p)) k two.1;
         its_index = eqb-true (index (sent.source p)) i one.1;
         inside = and_from (leb from (s.queued p)) (ltb (s.queued p) (from + (wait + 1))) (le-leb from (s.queued p) low)

@@ -1,7 +1,7 @@
 -- What `load` counts is what a bus that keeps to its plan carries in the long run.
 use Rattle.std.proofs.Common.{◌≡◌, ℕ, zero, suc, ◌+◌, ◌*◌, ◌-◌, ◌<◌, ◌≤◌, Bool, true, not, cond, ◌&&◌, eqb, ltb, List, length, get_or, Option, None}
 use Rattle.std.proofs.Common.{refl, sym, ap, ◌∙◌, subst, inl, inr, arith}
-use Rattle.std.proofs.lemmas.Bool.{and_parts, cases_Bool, eqb-true, ltb-true}
+use Rattle.std.proofs.lemmas.Bool.{and_parts, cases_Bool, eqb-true, false≢true, ltb-true}
 use Rattle.std.proofs.Math.Nat.{mul-le-mul_right}
 use Rattle.std.proofs.lemmas.List.{length-map}
 use Rattle.std.specs.Int.{div_ceil}
@@ -19,9 +19,9 @@ use Rattle.j39_load.specs.Damage.{load_of_damage}
 use Rattle.j39_load.specs.KeepsErrors.{attempts_within, begins_within}
 use Rattle.j39_load.specs.KeepsPlan.{KeepsToPlan, source_place}
 use Rattle.j39_load.specs.Loads.{bits_of_ms, bits_per_ms, load_of_flow}
-use Rattle.j39_load.specs.LongRuns.{IsLongRunLoad, bits_damaged, bits_queued, is_queued_within, seconds}
+use Rattle.j39_load.specs.LongRuns.{IsLongRunLoad, bits_damaged, bits_queued, counted, is_counted, is_queued_within, seconds}
 use Rattle.j39_load.specs.RequestLoads.{load_of_request}
-use Rattle.j39_load.specs.SentFrames.{FrameSources, Held, IsFrameOf, Source, Single, InSession, Asking, Announcing, Carrying, bit_time}
+use Rattle.j39_load.specs.SentFrames.{FrameSources, Held, IsFrameOf, Source, Single, First, InSession, Asking, Announcing, Carrying, bit_time}
 use Rattle.j39_load.proofs.Attempts.{attempt_few}
 use Rattle.j39_load.proofs.LongRuns.Flows.{flow_bits}
 use Rattle.j39_load.proofs.LongRuns.Frames.{bits_at, index, kind, kind_below, more_at, of_kind, passes}
@@ -81,12 +81,12 @@ module _ (plan : Plan) (timing : Timing) (stays : UnitPlan → Bool) (tells : De
   module _ (s : Schedule) (queued_first : (p : ℕ) → p < s.count → s.queued p ≤ s.start p) (planned : ℕ → Bool) (sent : FrameSources) (held : Held)
       (keeps : KeepsToPlan plan timing s planned sent held) (from n : ℕ) where
     -- no frame is queued in no time
-    in_no_time : n ≡ 0 → bits_queued timing (seconds n) s planned from ≡ 0
-    in_no_time none = total-none s.count (λ p. cond (planned p && is_queued_within timing (seconds n) s from p) (s.bits p) 0) (λ p in_p.
-        elim (cases_Bool (planned p && is_queued_within timing (seconds n) s from p)) [
+    in_no_time : n ≡ 0 → bits_queued timing (seconds n) s (counted planned sent) from ≡ 0
+    in_no_time none = total-none s.count (λ p. cond (counted planned sent p && is_queued_within timing (seconds n) s from p) (s.bits p) 0) (λ p in_p.
+        elim (cases_Bool (counted planned sent p && is_queued_within timing (seconds n) s from p)) [
           | inr fails ↦ rw (fails) refl
           | inl is ↦ absurd (
-              let one = and_parts (planned p) (is_queued_within timing (seconds n) s from p) is in
+              let one = and_parts (counted planned sent p) (is_queued_within timing (seconds n) s from p) is in
               let two = and_parts (not (ltb (s.queued p) from))
               (ltb (s.queued p * bit_time timing.bitrate) (from * bit_time timing.bitrate + 1000 * seconds n)) one.1 in
               let high : s.queued p * bit_time timing.bitrate < from * bit_time timing.bitrate =
@@ -113,28 +113,29 @@ module _ (plan : Plan) (timing : Timing) (stays : UnitPlan → Bool) (tells : De
       size (suc zero) = requests
       size (suc (suc k)) = units
 
-      inside : (p : ℕ) → p < s.count → planned p ≡ true → (x : Source) → sent.source p ≡ x → index x < size (kind x)
-      inside p in_p is (Single f) at =
+      inside : (p : ℕ) → p < s.count → planned p ≡ true → (x : Source) → sent.source p ≡ x → is_counted x ≡ true → index x < size (kind x)
+      inside p in_p is (Single f) at alone =
           let one = subst (λ (y : Source). IsFrameOf plan timing s held sent.broadcasts y (sent.release p) p) at (keeps.frames p in_p is) in
           let below = slice_get_within plan.flows.items f one.flow one.its in
           let same = length-map plan.flows.items (load_of_flow timing plan stays) in
           omega (arith, below, same)
-      inside p in_p is (InSession f part) at =
+      inside p in_p is (First f) at alone = absurd (false≢true alone)
+      inside p in_p is (InSession f part) at alone =
           let one = subst (λ (y : Source). IsFrameOf plan timing s held sent.broadcasts y (sent.release p) p) at (keeps.frames p in_p is) in
           let below = slice_get_within plan.flows.items f one.flow one.its in
           let same = length-map plan.flows.items (load_of_flow timing plan stays) in
           omega (arith, below, same)
-      inside p in_p is (Asking r) at =
+      inside p in_p is (Asking r) at alone =
           let one = subst (λ (y : Source). IsFrameOf plan timing s held sent.broadcasts y (sent.release p) p) at (keeps.frames p in_p is) in
           let below = slice_get_within plan.requests.items r one.asked one.its in
           let same = length-map plan.requests.items (load_of_request timing plan.units.items stays) in
           omega (arith, below, same)
-      inside p in_p is (Announcing u m) at =
+      inside p in_p is (Announcing u m) at alone =
           let one = subst (λ (y : Source). IsFrameOf plan timing s held sent.broadcasts y (sent.release p) p) at (keeps.frames p in_p is) in
           let below = unit_told plan timing stays sent.broadcasts u m (keeps.broadcasts.messages u m one.known) in
           let same = same_units plan timing stays in
           omega (arith, below, same)
-      inside p in_p is (Carrying u m k) at =
+      inside p in_p is (Carrying u m k) at alone =
           let one = subst (λ (y : Source). IsFrameOf plan timing s held sent.broadcasts y (sent.release p) p) at (keeps.frames p in_p is) in
           let below = unit_told plan timing stays sent.broadcasts u m (keeps.broadcasts.messages u m one.0.known) in
           let same = same_units plan timing stays in
@@ -142,19 +143,22 @@ module _ (plan : Plan) (timing : Timing) (stays : UnitPlan → Bool) (tells : De
 
       -- all frames of a kind
       one_kind : (k : ℕ) → total s.count (λ p. cond (kinds k p) (s.bits p) 0) ≤ total (size k) (of k)
-      one_kind k = all_grouped s.count (kinds k) (λ p. index (sent.source p)) s.bits (size k) (λ p in_p counted.
-          let two = and_parts (counts p) (eqb (kind (sent.source p)) k) counted in
-          let is = (and_parts (planned p) (is_queued_within timing (seconds n) s from p) two.0).0 in
-          subst (λ (j : ℕ). index (sent.source p) < size j) (eqb-true (kind (sent.source p)) k two.1) (inside p in_p is (sent.source p) refl))
+      one_kind k = all_grouped s.count (kinds k) (λ p. index (sent.source p)) s.bits (size k) (λ p in_p passing.
+          let two = and_parts (counts p) (eqb (kind (sent.source p)) k) passing in
+          let is = (and_parts (counted planned sent p) (is_queued_within timing (seconds n) s from p) two.0).0 in
+          let both = and_parts (planned p) (is_counted (sent.source p)) is in
+          subst (λ (j : ℕ). index (sent.source p) < size j) (eqb-true (kind (sent.source p)) k two.1) (inside p in_p both.0 (sent.source p) refl both.1))
 
       four : (f : ℕ → ℕ) → total 4 f ≡ f 0 + (f 1 + (f 2 + f 3))
       unfolding total
       four f = omega arith
 
-      in_some_time : bits_queued timing (seconds n) s planned from ≤ n * all_rates + more
+      in_some_time : bits_queued timing (seconds n) s (counted planned sent) from ≤ n * all_rates + more
       in_some_time =
-          let kinds_of : bits_queued timing (seconds n) s planned from ≤ total 4 (λ k. total s.count (λ p. cond (kinds k p) (s.bits p) 0)) =
-          all_grouped s.count counts (λ p. kind (sent.source p)) s.bits 4 (λ p in_p counted. kind_below (sent.source p)) in
+          let kinds_of : bits_queued timing (seconds n) s (counted planned sent) from ≤ total 4 (λ k. total s.count (λ p. cond (kinds k p) (s.bits p) 0)) =
+          all_grouped s.count counts (λ p. kind (sent.source p)) s.bits 4 (λ p in_p passing.
+          let is = (and_parts (counted planned sent p) (is_queued_within timing (seconds n) s from p) passing).0 in
+          kind_below (sent.source p) (and_parts (planned p) (is_counted (sent.source p)) is).1) in
           let parts = four (λ k. total s.count (λ p. cond (kinds k p) (s.bits p) 0)) in
           let first = one_kind 0 in
           let second = one_kind 1 in
@@ -177,13 +181,13 @@ module _ (plan : Plan) (timing : Timing) (stays : UnitPlan → Bool) (tells : De
 
     -- ---- in any time
 
-    some_seconds : (m : ℕ) → m ≡ n → bits_queued timing (seconds n) s planned from ≤ n * all_rates + more
+    some_seconds : (m : ℕ) → m ≡ n → bits_queued timing (seconds n) s (counted planned sent) from ≤ n * all_rates + more
     some_seconds zero none = let nothing = in_no_time (sym none) in omega (arith, nothing)
     some_seconds (suc m) some =
         let positive : 0 < seconds n * bits_per_ms timing.bitrate = some_bits timing.bitrate (seconds n) (omega (arith, some)) in
         in_some_time (bits_of_ms timing (seconds n) - 1) (omega (arith, positive))
 
-    planned_most : bits_queued timing (seconds n) s planned from ≤ n * all_rates + more
+    planned_most : bits_queued timing (seconds n) s (counted planned sent) from ≤ n * all_rates + more
     planned_most = some_seconds n refl
 
   long_run : IsLongRunLoad plan timing (total_load timing (asked_of timing plan stays))

@@ -27,7 +27,7 @@ use Rattle.j39_load.specs.KeepsBroadcasts.{IsMessageToAll}
 use Rattle.j39_load.specs.KeepsPlan.{KeepsToPlan, origins_of, source_place}
 use Rattle.j39_load.specs.Loads.{bits_of_ms, has_short}
 use Rattle.j39_load.specs.LongRuns.{seconds}
-use Rattle.j39_load.specs.SentFrames.{Broadcasts, FrameSources, Held, Source, Single, InSession, Asking, Announcing, Carrying}
+use Rattle.j39_load.specs.SentFrames.{Broadcasts, FrameSources, Held, Source, Single, First, InSession, Asking, Announcing, Carrying}
 use Rattle.j39_load.proofs.KeepingBroadcasts.{IsAnnouncement, IsCopy, IsTimed, announced_most, each_timed, message_of}
 use Rattle.j39_load.proofs.KeepingFrames.{IsPaced}
 use Rattle.j39_load.proofs.KeepingPlan.{told_stream}
@@ -172,6 +172,7 @@ module _ (plan : Plan) (timing : Timing) (stays : UnitPlan → Bool) (tells : De
       where
         its_place : (m k : ℕ) (x : Source) → kind x ≡ 3 → index x ≡ u → source_place plan x ≡ source_place plan (Carrying u m k)
         its_place m k (Single f) is at = absurd (omega (arith, is))
+        its_place m k (First f) is at = absurd (omega (arith, is))
         its_place m k (InSession f part) is at = absurd (omega (arith, is))
         its_place m k (Asking r) is at = absurd (omega (arith, is))
         its_place m k (Announcing v l) is at = absurd (omega (arith, is))
@@ -180,6 +181,7 @@ module _ (plan : Plan) (timing : Timing) (stays : UnitPlan → Bool) (tells : De
         rated : (p : ℕ) → p < s.count → planned p ≡ true → (x : Source) → sent.source p ≡ x → kind x ≡ 3 → index x ≡ u
             → bits 3 u ≤ n * load_of_packets timing bs + more_packets plan timing stays u
         rated p in_p is (Single f) at of_kind place = absurd (omega (arith, of_kind))
+        rated p in_p is (First f) at of_kind place = absurd (omega (arith, of_kind))
         rated p in_p is (InSession f part) at of_kind place = absurd (omega (arith, of_kind))
         rated p in_p is (Asking r) at of_kind place = absurd (omega (arith, of_kind))
         rated p in_p is (Announcing v m) at of_kind place = absurd (omega (arith, of_kind))
@@ -251,6 +253,7 @@ module _ (plan : Plan) (timing : Timing) (stays : UnitPlan → Bool) (tells : De
 
     announces : (p : ℕ) → p < s.count → planned p ≡ true → (x : Source) → sent.source p ≡ x → kind x ≡ 2 → index x ≡ u → Announces p
     announces p in_p is (Single f) at of_kind place = absurd (omega (arith, of_kind))
+    announces p in_p is (First f) at of_kind place = absurd (omega (arith, of_kind))
     announces p in_p is (InSession f part) at of_kind place = absurd (omega (arith, of_kind))
     announces p in_p is (Asking r) at of_kind place = absurd (omega (arith, of_kind))
     announces p in_p is (Announcing v m) at of_kind place =
@@ -473,6 +476,7 @@ module _ (plan : Plan) (timing : Timing) (stays : UnitPlan → Bool) (tells : De
       where
         carried : (p : ℕ) → p < s.count → planned p ≡ true → (x : Source) → sent.source p ≡ x → kind x ≡ 3 → index x ≡ u → (m : ℕ) × (m < b.count u)
         carried p in_p is (Single f) at of_kind place = absurd (omega (arith, of_kind))
+        carried p in_p is (First f) at of_kind place = absurd (omega (arith, of_kind))
         carried p in_p is (InSession f part) at of_kind place = absurd (omega (arith, of_kind))
         carried p in_p is (Asking r) at of_kind place = absurd (omega (arith, of_kind))
         carried p in_p is (Announcing v m) at of_kind place = absurd (omega (arith, of_kind))

@@ -1,5 +1,5 @@
 -- No more claims come on a live bus than a plan can tell as frames that aren't planned.
-use Rattle.std.proofs.Common.{◌≡◌, ℕ, ◌≤◌, max, Bool, true, false, if◌then◌else◌, length, arith}
+use Rattle.std.proofs.Common.{ℕ, ◌≤◌, max, Bool, true, false, if◌then◌else◌, arith}
 use Rattle.std.proofs.lemmas.List.Sums.{count_by-le-length}
 use Rattle.j39_network.specs.declared.plan.Plan.{Plan}
 use Rattle.j39_network.specs.declared.plan.timing.Timing.{Timing}
