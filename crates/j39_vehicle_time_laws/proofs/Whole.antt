@@ -149,10 +149,14 @@ module _ (v : Vehicle) (delays : Delays) (sound : IsSoundVehicle v delays) (d : 
               frame = brought.frame;
               begun = brought.begun;
               ended = brought.ended;
-              born = brought.born;
-              says = brought.says;
-              past = brought.past;
-              young = let near = brought.young in omega (arith, near, few);
+              newest = λ q begun later over.
+                  let says = brought.newest q begun later over in
+                  record {
+                    born = says.born;
+                    says = says.says;
+                    past = says.past;
+                    young = let near = says.young in omega (arith, near, few);
+                  };
             };
       }
 

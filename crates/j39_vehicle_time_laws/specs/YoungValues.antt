@@ -40,15 +40,20 @@ abbrev pub KeepPauses : Vehicle → SeenBuses → Point → ℕ → ℕ → Type
 KeepPauses v seen p from to = (q : Point) → IsOnTheWay v p q → (at : FlowAt) → ComesDirectly v q.at at → direct_feeder v at ≡ None
     → KeepsItsPause v seen at from to
 
--- by this time a frame of the flow has ended that says of the signal what was so at its origin less than `age` before
-pub record IsBroughtYoung (v : Vehicle) (seen : SeenBuses) (p : Point) (age t : ℕ) : Type 0 where
-  pub frame : ℕ
-  pub begun : HasBegun (frames_at v seen p.at) frame
-  pub ended : end_time (frames_at v seen p.at) frame ≤ t
+-- a frame of the flow says of the signal what was so at its origin less than `age` before
+pub record SaysYoung (v : Vehicle) (seen : SeenBuses) (p : Point) (age t frame : ℕ) : Type 0 where
   pub born : ℕ
   pub says : (seen p.at.bus).born frame p.signal ≡ Some born
   pub past : born ≤ t
   pub young : t < born + age
+
+-- by this time a frame of the flow has ended; and each that has, and ended no sooner, says what is young: so does the one that ended last
+pub record IsBroughtYoung (v : Vehicle) (seen : SeenBuses) (p : Point) (age t : ℕ) : Type 0 where
+  pub frame : ℕ
+  pub begun : HasBegun (frames_at v seen p.at) frame
+  pub ended : end_time (frames_at v seen p.at) frame ≤ t
+  pub newest : (q : ℕ) → HasBegun (frames_at v seen p.at) q → end_time (frames_at v seen p.at) frame ≤ end_time (frames_at v seen p.at) q
+      → end_time (frames_at v seen p.at) q ≤ t → SaysYoung v seen p age t q
 
 -- what is asked of what is seen of a vehicle up to a time: its buses keep to their plans, and its gateways are prompt
 pub record IsSeenVehicle (v : Vehicle) (delays : Delays) (seen : SeenBuses) (by : ℕ) : Type 0 where
