@@ -1,6 +1,6 @@
 use Rattle.std.proofs.Common.{rules, inl}
 use Rattle.j39_app.proofs.Ending.{not_opened, put_ends}
-use Rattle.j39_app.proofs.answering.refuse_opened.Goals as goal
+use Rattle.j39_app.proofs.by_plan.refuse_opened.Goals as goal
 
 pub returns-in_err-_opened : goal.returns-in_err-_opened
 returns-in_err-_opened g c = not_opened _ (search rules) (inl c.in_err-_opened.ensures.shut)

@@ -1,21 +1,18 @@
 //! What is written of a log that is audited.
 ghost use Rattle.std.specs.Prelude.{◌≡◌, true, false, IfOk};
 ghost use Rattle.std.specs.List.{list_any};
-ghost use Rattle.j39_app.specs.Answers.{IsForOnePlan, IsOfSome};
-ghost use Rattle.j39_app.specs.AuditAnswers.{IsAuditOf, hinders, is_hindered, is_hindering};
-ghost use Rattle.j39_app.specs.Faults.{EndsByFile, EndsByTwo};
+ghost use Rattle.j39_app.specs.AuditAnswers.{hinders, is_hindered, is_hindering};
 ghost use Rattle.j39_audit.specs.AuditText.{IsAudit};
 ghost use Rattle.j39_plan_text.specs.CheckText.{IsReport};
 ghost use Rattle.j39_stream.specs.CommandEnds.{AnswersWhole, IsOfAny, PutsText};
 ghost use Rattle.j39_stream.specs.Streams.{log_limits};
 
-use crate::answering::{line_of, refuse_opened};
+use crate::by_plan::ReadsByPlan;
 use crate::{Fault, Folder, Sink, Source, Verdict, audit_text, put_all};
 use j39_findings::{Finding, check};
 use j39_network::Plan;
 use j39_plan_text::{PlanFindings, write_check};
 use j39_text::TextBuffer;
-use j39_variants::ProductLine;
 use std::alloc::{AllocError, Global};
 
 // Whether a finding of this number hinders an audit.
@@ -75,58 +72,41 @@ pub fn audit_planned<S: Source, W: Sink>(
     }
 }
 
-// It holds its buffers and tables in a frame of its own.
-#[inline(never)]
-fn audit_by<F: Folder, W: Sink>(
-    alloc: Global,
-    files: &F,
-    plan: &Plan,
-    log: &str,
-    part: bool,
-    stamps: u64,
-    sink: &mut W,
-) -> Result<Verdict, Fault>
-    ensures { EndsByFile (IsAuditOf part stamps plan.now) (λ known. IsOfSome (IsAuditOf part stamps plan.now known)) (Unit {0}) log_limits
-        (F.stays_shut files.now) (F.bytes_of files.now) F.File.state log.now W.state sink.old sink.new result }
-{
-    audit_planned(alloc, plan, part, stamps, &mut files.open(log)?, sink)
+/// Which premises of the plan a log refutes: of a log in which frames may be missing or of a whole one, by a logger of
+/// this error in microseconds.
+pub(crate) struct Auditing {
+    pub(crate) part: bool,
+    pub(crate) stamps: u64,
 }
 
-// Writes it, or that the plan has choices.
-fn audit_line<F: Folder, W: Sink>(
-    alloc: Global,
-    files: &F,
-    line: &ProductLine,
-    log: &str,
-    part: bool,
-    stamps: u64,
-    sink: &mut W,
-) -> Result<Verdict, Fault>
-    ensures { EndsByFile (IsForOnePlan (IsAuditOf part stamps) line.now) (λ known. IsOfSome (IsForOnePlan (IsAuditOf part stamps) line.now known))
-        (Unit {0}) log_limits (F.stays_shut files.now) (F.bytes_of files.now) F.File.state log.now W.state sink.old sink.new result }
-{
-    if line.has_choices() {
-        refuse_opened(alloc, files, log, sink)
-    } else {
-        audit_by(alloc, files, &line.plan, log, part, stamps, sink)
-    }
-}
+impl<F: Folder, W: Sink> ReadsByPlan<F, W> for Auditing {
+    ghost use Rattle.j39_app.specs.AuditAnswers.{IsAuditOf};
+    ghost use Rattle.j39_stream.specs.Streams.{log_limits};
 
-/// Writes which premises of a plan a log refutes; the log's file is opened once the plan was read.
-pub(crate) fn audit_files<F: Folder, W: Sink>(
-    alloc: Global,
-    files: &F,
-    plan: &str,
-    log: &str,
-    part: bool,
-    stamps: u64,
-    sink: &mut W,
-) -> Result<Verdict, Fault>
-    ensures { EndsByTwo (IsForOnePlan (IsAuditOf part stamps)) (IsForOnePlan (IsAuditOf part stamps)) (Unit {0}) log_limits
-        (F.stays_shut files.now) (F.bytes_of files.now) F.File.state plan.now log.now W.state sink.old sink.new result }
-{
-    match line_of(alloc, files, plan, sink)? {
-        Some(line) => audit_line(alloc, files, &line, log, part, stamps, sink),
-        None => Ok(Verdict::Unreadable),
+    ghost says = { λ auditing. IsAuditOf auditing.part auditing.stamps };
+
+    ghost begins = { λ auditing. IsAuditOf auditing.part auditing.stamps };
+
+    ghost puts_at_once = { Unit {0} };
+
+    ghost limits = { log_limits };
+
+    #[inline(never)]
+    fn write(
+        &self,
+        alloc: Global,
+        files: &F,
+        plan: &Plan,
+        name: &str,
+        sink: &mut W,
+    ) -> Result<Verdict, Fault> {
+        audit_planned(
+            alloc,
+            plan,
+            self.part,
+            self.stamps,
+            &mut files.open(name)?,
+            sink,
+        )
     }
 }

@@ -1,6 +1,6 @@
 use Rattle.std.proofs.Common.{rules, inl, inr}
 use Rattle.j39_app.proofs.Ending.{not_opened, whole_ends}
-use Rattle.j39_app.proofs.answering.line_of.Goals as goal
+use Rattle.j39_app.proofs.by_plan.line_of.Goals as goal
 
 pub returns-in_err-open-clause-ends : goal.returns-in_err-open-clause-ends
 returns-in_err-open-clause-ends g c = not_opened _ (search rules) (inl c.in_err-open.ensures.shut)
