@@ -12,6 +12,8 @@ import sys
 sys.dont_write_bytecode = True
 import crates
 
+# The scripts by which edits are tried.
+SCRIPTS = ("build", "checks", "crates", "edits", "kept", "places")
 # How many trials stay: the latest ones.
 MOST = 1000
 
@@ -31,11 +33,12 @@ def kit() -> bytes:
 
 def digest(name: str, words: list[str]) -> str:
     """Returns the digest of what a trial of a crate's edits reads: these words, the toolchain, the scripts, the crate and its edits, and the
-    sources of all crates below it."""
-    read = [*glob.glob(f"{crates.TOP}/gate/*.py"), f"{crates.TOP}/crates.txt", *glob.glob(f"{crates.folder(name)}/*/*.edit")]
-    for it in crates.needed(name):
+    sources of all crates below it, with what they list."""
+    read = [*(f"{crates.TOP}/gate/{it}.py" for it in SCRIPTS), *glob.glob(f"{crates.folder(name)}/*/*.edit")]
+    needed, listed = crates.needed(name), crates.listed()
+    for it in needed:
         read += crates.sources(it)
-    found = hashlib.sha256(repr((name, words)).encode() + kit())
+    found = hashlib.sha256(repr((name, words, [(it, listed[it]) for it in needed])).encode() + kit())
     for path in sorted(read):
         with open(path, "rb") as file:
             found.update(f"{os.path.relpath(path, crates.TOP)} {hashlib.sha256(file.read()).hexdigest()}\n".encode())
