@@ -9,6 +9,7 @@ from j39plan import program
 from j39plan.plan import code_quality
 from j39plan.plan.answer_objects import check_object
 from j39plan.plan.answer_places import Placed, placed
+from j39plan.plan.files import opened
 from j39plan.plan.further_faults import further_faults
 from j39plan.plan.hints.lint import Lint
 from j39plan.plan.parts import Source, source_in
@@ -83,6 +84,7 @@ def words_of(words: list[str] | None) -> argparse.Namespace:
                         "those of other plans stay")
     parser.add_argument("--reference", metavar="FILE", type=Reference, help="with hints at signals that a DBC of SAE J1939, or a plan of its groups, has "
                         "otherwise by their SPNs: place, width, scale, unit, PGN, priority, length")
+    program.variant_option(parser)
     parser.add_argument("--lint", action="store_true", help="with hints that are no findings, as FILE:LINE: hint ANSWER, for example "
                         "of a group that no flow sends; they don't change the status")
     return parser.parse_args(words)
@@ -132,7 +134,7 @@ def main(words: list[str] | None = None) -> int:
     hints: list[Placed] = []
     parts: list[Placed] = []
     further: list[Placed] = []
-    with program.copied(given.plan) as plan:
+    with opened(given.plan, given.variant) as plan:
         with open(plan, "rb") as file:
             data = file.read()
         if is_vehicle(data):

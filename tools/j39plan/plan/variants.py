@@ -3,6 +3,7 @@
 import re
 from collections.abc import Iterator, Sequence
 
+from j39plan import program
 from j39plan.plan.cut import HEADER
 from j39plan.plan.toml_places import Places
 
@@ -17,6 +18,10 @@ WITH = re.compile(r"""^[ \t]*(?:with|"with"|'with')[ \t]*=[ \t]*\[(?:[^]"'#]|"[^
 
 # Comments on lines of their own right above something.
 ABOVE = re.compile(r"(?:^[ \t]*#[^\n]*\n)+\Z", re.MULTILINE)
+
+
+# What lists of alternatives hold of a variant together.
+Box = list[list[str]]
 
 
 class Line:
@@ -40,21 +45,41 @@ class Line:
         named = ([label for label in labels if label in choice] for choice in self.choices)
         return all(not some or not taken.isdisjoint(some) for some in named)
 
-    def first(self, wanted: set[str]) -> set[str] | None:
-        """The alternatives of the first variant that is built and takes these; None where there is none."""
-        return self._behind(set(), wanted, 0)
+    def first(self, wanted: set[str], boxes: Sequence[Sequence[Box]] = (), gone: Sequence[list[str]] = ()) -> set[str] | None:
+        """The alternatives of the first variant that is built and takes these; that is in one of several boxes, of each group of boxes; and in the box of
+        none of the lists that are gone. None where there is none."""
+        nevers = [(set(never), never) for never in (*self._of("never"), *gone)]
+        if any(not never for never, _ in nevers):
+            return None
+        return self._behind(set(), wanted, 0, boxes, nevers)
 
-    def _behind(self, taken: set[str], wanted: set[str], place: int) -> set[str] | None:
+    def _behind(self, taken: set[str], wanted: set[str], place: int, boxes: Sequence[Sequence[Box]], nevers: list[tuple[set[str], list[str]]]) -> set[str] | None:
         if place == len(self.choices):
-            return taken if all(not self.is_in(taken, never) for never in self._of("never")) else None
-        choice = self.choices[place]
+            return taken
+        choice, known = self.choices[place], set().union(*self.choices[:place + 1])
         for label in [label for label in choice if label in wanted] or choice:
             more = taken | {label}
-            if not any(set(never) <= set().union(*self.choices[:place + 1]) and self.is_in(more, never) for never in self._of("never")):
-                found = self._behind(more, wanted, place + 1)
+            if any(never <= known and self.is_in(more, labels) for never, labels in nevers):
+                continue
+            if all(any(self._may_be_in(more, known, box) for box in some) for some in boxes):
+                found = self._behind(more, wanted, place + 1, boxes, nevers)
                 if found is not None:
                     return found
         return None
+
+    def _may_be_in(self, taken: set[str], known: set[str], box: Box) -> bool:
+        """Whether a variant that takes these of the choices that are known may be in a box."""
+        return all(self.is_in(taken, [label for label in labels if label in known]) for labels in box)
+
+    def box(self, place: tuple[str, int]) -> Box:
+        """The box of a table: its own list, and those of the group and the units that it names."""
+        by_label = {(kind, keys["label"]): self.named.get((kind, number), []) for (kind, number), keys in self.names.items() if "label" in keys}
+        ends = (by_label.get(("group" if key == "group" else "unit", label), []) for key, label in self._ends(place))
+        return [labels for labels in (self.named.get(place, []), *ends) if labels]
+
+    def are_together(self, *places: tuple[str, int]) -> bool:
+        """Whether some variant that is built has all of these tables."""
+        return self.first(set(), [[[labels for place in places for labels in self.box(place)]]]) is not None
 
     def there(self, taken: set[str]) -> set[tuple[str, int]]:
         """The tables that the plan of a variant has."""
@@ -83,17 +108,49 @@ def parts_of(text: str) -> Iterator[tuple[str, str, bool]]:
     yield text[begin:], key, is_element
 
 
-def variant_text(text: str, there: set[tuple[str, int]]) -> str | None:
-    """A plan's text without the tables that aren't there and without the keys of choices; None where its tables aren't spelled by headers."""
+def variant_text(text: str, there: set[tuple[str, int]], has_its_lines: bool = False) -> str | None:
+    """A plan's text without the tables that aren't there and without the keys of choices, with empty lines in their places where what stays is to
+    have its lines; None where its tables aren't spelled by headers."""
+    def gone(part: str) -> str:
+        return "\n" * part.count("\n") if has_its_lines else ""
+
     counts: dict[str, int] = {}
     kept: list[str] = []
     try:
         for part, key, is_element in parts_of(text):
             counts[key] = counts.get(key, 0) + is_element
             if key in ("unit", "group", "flow", "need", "request"):
-                kept.append(WITH.sub("", part) if (key, counts[key]) in there else "")
-            elif key not in ("choice", "never"):
-                kept.append(part)
+                kept.append(WITH.sub(lambda found: gone(found[0]), part) if (key, counts[key]) in there else gone(part))
+            else:
+                kept.append(gone(part) if key in ("choice", "never") else part)
     except ValueError:
         return None
     return "".join(kept)
+
+
+def shown_variant(plan: str, labels: Sequence[str]) -> str:
+    """What `variant` answers; a plan that can't be read, or alternatives that aren't built together, are refused by it."""
+    status, answer = program.call(["variant", "--", plan, *labels])
+    if status != 0:
+        raise program.Refused(status, answer.strip())
+    return answer
+
+
+def line_of(plan: str) -> Line:
+    """The choices of a plan's file."""
+    return Line(program.values(plan))
+
+
+def text_of_variant(plan: str, labels: Sequence[str], has_its_lines: bool = False) -> str:
+    """The text of the plan of the first vehicle that is built and has these alternatives, by a plan's file. It is compared with what `variant` answers."""
+    wanted = shown_variant(plan, labels)
+    line = line_of(plan)
+    taken = line.first(set(labels))
+    with open(plan, encoding="utf-8") as file:
+        written = variant_text(file.read(), line.there(taken), has_its_lines) if taken is not None else None
+    if written is None:
+        raise program.Refused(program.FAULT, "the tables of the plan aren't written by headers as [[unit]]")
+    with program.file_of(written) as one:
+        if program.shown(one) != wanted:
+            raise program.Refused(program.FAULT, "what was written isn't the plan of the variant")
+    return written
