@@ -3,14 +3,14 @@
 from html import escape
 
 from j39plan.plan.page import row, section, table
-from j39plan.plan.variants import Line
+from j39plan.plan.variants import Line, Table
 
 # How a table is called on the page, by what it names.
 NAMED = {"unit": "unit {label}", "group": "group {label}", "flow": "flow {number} ({group})", "need": "need {number} of {unit} ({group})",
          "request": "request {number} ({group})"}
 
 
-def named(line: Line, place: tuple[str, int]) -> str:
+def named(line: Line, place: Table) -> str:
     """A table of the plan of the line in words, by the number that it has there."""
     kind, number = place
     return NAMED[kind].format_map({**line.names[place], "number": str(number)})
@@ -27,10 +27,6 @@ def choice_section(line: Line, taken: set[str]) -> str:
     parts = [table("Choices of the line, and what this vehicle has", ("Choice", "Alternative", "Here", "With it there may be"), rows)]
     nevers = [labels for (kind, _), labels in line.named.items() if kind == "never"]
     if nevers:
-        parts.append("<ul>" + "".join(f"<li>Never built: {escape(boxed(line, labels))}</li>" for labels in nevers) + "</ul>")
+        parts.append("<ul>" + "".join(f"<li>Never built: {escape(line.in_words(labels))}</li>" for labels in nevers) + "</ul>")
     return section("choices", "Choices", parts)
 
-
-def boxed(line: Line, labels: list[str]) -> str:
-    """A list of alternatives in words, choice by choice."""
-    return ", ".join(" or ".join(some) for choice in line.choices if (some := [label for label in choice if label in labels]))

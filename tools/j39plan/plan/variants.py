@@ -2,9 +2,11 @@
 
 import re
 from collections.abc import Iterator, Sequence
+from typing import Self
 
 from j39plan import program
 from j39plan.plan.cut import HEADER
+from j39plan.plan.parts import Source
 from j39plan.plan.toml_places import Places
 
 # A line of `show` on choices.
@@ -20,22 +22,54 @@ WITH = re.compile(r"""^[ \t]*(?:with|"with"|'with')[ \t]*=[ \t]*\[(?:[^]"'#]|"[^
 ABOVE = re.compile(r"(?:^[ \t]*#[^\n]*\n)+\Z", re.MULTILINE)
 
 
+# A table by the key of its array and its number.
+Table = tuple[str, int]
+
 # What lists of alternatives hold of a variant together.
 Box = list[list[str]]
 
+# What tables name, by the keys of their arrays.
+KEYS = {"unit": ("label",), "group": ("label",), "flow": ("group", "from", "to"), "need": ("unit", "group", "from"), "request": ("group", "from", "to")}
+
 
 class Line:
-    """The choices of a plan, by what `show` answers, and what is there with which alternatives. A table's number counts from 1."""
+    """The choices of a plan, and what is there with which alternatives: the lists of choices, nevers and tables, and what tables name. A table's number
+    counts from 1."""
 
-    def __init__(self, shown: str) -> None:
-        self.named: dict[tuple[str, int], list[str]] = {}
-        for table, number, label in NAMED.findall(shown):
-            self.named.setdefault((table, int(number)), []).append(label)
-        self.names: dict[tuple[str, int], dict[str, str]] = {}
-        for words in NAMES.findall(shown):
-            table, number, key, label = words[:4] if words[0] else words[4:]
-            self.names.setdefault((table, int(number)), {})[key] = label
+    def __init__(self, named: dict[Table, list[str]], names: dict[Table, dict[str, str]]) -> None:
+        self.named, self.names = named, names
         self.choices = self._of("choice")
+        self._labelled = {(kind, keys["label"]): (kind, number) for (kind, number), keys in names.items() if "label" in keys}
+
+    @classmethod
+    def shown(cls, text: str) -> Self:
+        """The choices by what `show` answers."""
+        named: dict[Table, list[str]] = {}
+        for table, number, label in NAMED.findall(text):
+            named.setdefault((table, int(number)), []).append(label)
+        names: dict[Table, dict[str, str]] = {}
+        for words in NAMES.findall(text):
+            table, number, key, label = words[:4] if words[0] else words[4:]
+            names.setdefault((table, int(number)), {})[key] = label
+        return cls(named, names)
+
+    @classmethod
+    def of(cls, source: Source) -> Self:
+        """The choices by the text of a plan that can be read."""
+        choices = [list(map(str, choice.values("of"))) for choice in source["choice"]]
+        order = [label for choice in choices for label in choice]
+        named: dict[Table, list[str]] = {("choice", number): labels for number, labels in enumerate(choices, 1)}
+        for number, never in enumerate(source["never"], 1):
+            but = never.values("but")
+            others = [label for choice in choices if not set(choice).isdisjoint(map(str, but)) for label in choice if label not in but]
+            named["never", number] = sorted([*map(str, never.values("of")), *others], key=order.index)
+        names: dict[Table, dict[str, str]] = {}
+        for table, keys in KEYS.items():
+            for number, part in enumerate(source[table], 1):
+                names[table, number] = {key: part.text(key) for key in keys if key in part.said}
+                if "with" in part.said:
+                    named[table, number] = sorted(map(str, part.values("with")), key=order.index)
+        return cls(named, names)
 
     def _of(self, table: str) -> list[list[str]]:
         return [labels for (other, _), labels in self.named.items() if other == table]
@@ -71,24 +105,33 @@ class Line:
         """Whether a variant that takes these of the choices that are known may be in a box."""
         return all(self.is_in(taken, [label for label in labels if label in known]) for labels in box)
 
-    def box(self, place: tuple[str, int]) -> Box:
-        """The box of a table: its own list, and those of the group and the units that it names."""
-        by_label = {(kind, keys["label"]): self.named.get((kind, number), []) for (kind, number), keys in self.names.items() if "label" in keys}
-        ends = (by_label.get(("group" if key == "group" else "unit", label), []) for key, label in self._ends(place))
-        return [labels for labels in (self.named.get(place, []), *ends) if labels]
+    def lists(self, place: Table) -> list[tuple[Table, list[str]]]:
+        """The lists by which a table is there: its own, and those of the group and the units that it names, of a need of its unit alone; each with its
+        table."""
+        ends = [self._labelled[key] for end, label in self._ends(place) if place[0] != "need" or end == "unit"
+                if (key := ("group" if end == "group" else "unit", label)) in self._labelled]
+        return [(table, labels) for table in (place, *ends) if (labels := self.named.get(table, []))]
 
-    def are_together(self, *places: tuple[str, int]) -> bool:
+    def box(self, place: Table) -> Box:
+        """The box of a table."""
+        return [labels for _, labels in self.lists(place)]
+
+    def in_words(self, labels: Sequence[str]) -> str:
+        """A list of alternatives in words, choice by choice."""
+        return ", ".join(" or ".join(some) for choice in self.choices if (some := [label for label in choice if label in labels]))
+
+    def are_together(self, *places: Table) -> bool:
         """Whether some variant that is built has all of these tables."""
         return self.first(set(), [[[labels for place in places for labels in self.box(place)]]]) is not None
 
-    def there(self, taken: set[str]) -> set[tuple[str, int]]:
+    def there(self, taken: set[str]) -> set[Table]:
         """The tables that the plan of a variant has."""
         found = {place for place in self.names if self.is_in(taken, self.named.get(place, ()))}
         labels = {table: {self.names[place]["label"] for place in found if place[0] == table} for table in ("unit", "group")}
         labels["unit"].add("all")
         return {place for place in found if all(label in labels["group" if key == "group" else "unit"] for key, label in self._ends(place))}
 
-    def _ends(self, place: tuple[str, int]) -> Iterator[tuple[str, str]]:
+    def _ends(self, place: Table) -> Iterator[tuple[str, str]]:
         return ((key, label) for key, label in self.names[place].items() if key != "label")
 
 
@@ -108,7 +151,7 @@ def parts_of(text: str) -> Iterator[tuple[str, str, bool]]:
     yield text[begin:], key, is_element
 
 
-def variant_text(text: str, there: set[tuple[str, int]], has_its_lines: bool = False) -> str | None:
+def variant_text(text: str, there: set[Table], has_its_lines: bool = False) -> str | None:
     """A plan's text without the tables that aren't there and without the keys of choices, with empty lines in their places where what stays is to
     have its lines; None where its tables aren't spelled by headers."""
     def gone(part: str) -> str:
@@ -138,7 +181,7 @@ def shown_variant(plan: str, labels: Sequence[str]) -> str:
 
 def line_of(plan: str) -> Line:
     """The choices of a plan's file."""
-    return Line(program.values(plan))
+    return Line.shown(program.values(plan))
 
 
 def text_of_variant(plan: str, labels: Sequence[str], has_its_lines: bool = False) -> str:
