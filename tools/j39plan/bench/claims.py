@@ -12,7 +12,7 @@ from j39plan.plan.tables import Unit
 CONTEST, DELAY = 0.251, 0.153
 
 # How far apart the units come up and give their addresses back, and within which time they answer a request for claims.
-APART, BACK, PROMPT = 0.01, 0.001, 0.005
+APART, BACK, PROMPT = 0.01, 0.01, 0.005
 
 # The priority of claims.
 PRIORITY = 6
