@@ -77,7 +77,7 @@ def title_of(name: str) -> str:
     return plain(os.fsencode(name).decode(errors="replace"))
 
 
-def page_of_file(name: str, variant: list[str] | None) -> str:
+def page_of_file(name: str, variant: list[str] | None = None) -> str:
     """The page of a plan's or a vehicle's file, which may be a pipe."""
     with opened(name) as copy:
         data = bytes_of(copy)
@@ -93,7 +93,7 @@ def bytes_of(name: str) -> bytes:
         return file.read()
 
 
-def drawn(name: str, variant: list[str] | None) -> str:
+def drawn(name: str, variant: list[str] | None = None) -> str:
     """The page of a plan's or a vehicle's regular file; of one that can't be read it is said with its line why."""
     data = bytes_of(name)
     if is_vehicle(data):
