@@ -70,7 +70,7 @@ class Comparison:
         heard = Heard(self.hands.first, self.hands.free)
         self.distances = Distances(tables.flows, settings.tolerance, settings.rule, bounds.waits, heard, found)
         self.claims, self.queued, self.commanded = Claims(tables.units, self.hands, found), Queued(), Commanded(tables.units, found)
-        self.asked, self.damage = Asked(tables, settings.tolerance, bounds.requests, found), Damage(tables.timing, found)
+        self.asked, self.damage = Asked(tables, settings.tolerance, bounds.requests, found, self.hands.is_on), Damage(tables.timing, found)
         self.transfers, self.unplanned = Transfers(tables.timing, found), Unplanned(tables, bounds.flows, found)
         labels = {pgn: groups[0].label for pgn, groups in self.groups.items() if len(groups) == 1}
         self.others = OtherRequests(labels, found, self.hands.is_on)
@@ -174,7 +174,7 @@ class Comparison:
         if pgn in self.asked.open:
             self.asked.answers(line, at, sender, to, pgn)
         if pgn in self.others.open:
-            self.others.answers(at, sender, to, pgn)
+            self.others.answers(line, at, sender, to, pgn)
 
     def sends(self, number: int, line: int, at: int | None, waited: int = 0) -> None:
         """A message of a flow has come, by where it began, and how long it may have waited for others of its unit."""
