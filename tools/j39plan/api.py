@@ -154,14 +154,14 @@ class Plan:
             return program.call([command, "--", plan])[1]
 
 
-def read_plan(name: str | os.PathLike[str]) -> Plan:
-    """The plan of a file.
+def read_plan(name: str | os.PathLike[str], variant: Iterable[str] | None = None) -> Plan:
+    """The plan of a file; of one with choices the plan of the first vehicle that is built with these alternatives.
 
     Raises `Refused`, whose text begins with file and line, where the file is no plan; `OSError` where it can't be opened.
     """
     name = os.fspath(name)
     with _with_program():
-        return Plan(name, text_of(name))
+        return Plan(name, text_of(name, None if variant is None else list(variant)))
 
 
 class VehicleFinding(NamedTuple):

@@ -22,6 +22,9 @@ UNREADABLE, MEMORY, DEVICE, TOO_LONG, MISSING, FAULT = 2, 3, 4, 5, 69, 70
 # The most bytes that the program takes as a plan or a schedule.
 INPUT_MOST = 16_777_216
 
+# What commands that want the plan of one vehicle answer to one with choices, and what is said behind that.
+CHOICES, ONE_VEHICLE = "refused plan Choices", "  (--variant LABEL,.. takes the plan of one vehicle)"
+
 # The name of standard input.
 INPUT = "/dev/stdin"
 
@@ -95,7 +98,7 @@ def shown(plan: str) -> str:
     """What `show` answers of a plan's file; one that can't be read is refused, and so is a plan with choices, as other commands do it."""
     answer = values(plan)
     if "\nchoice " in answer:
-        raise Refused(1, "refused plan Choices")
+        raise Refused(1, CHOICES)
     return answer
 
 
@@ -164,6 +167,17 @@ def input_name(text: str) -> str:
 def plan_word(words: argparse.ArgumentParser) -> None:
     """The word of a plan, of a tool that takes one."""
     words.add_argument("plan", metavar="PLAN", type=input_name, help="the name of a plan file, - for standard input")
+    variant_option(words)
+
+
+def alternatives(text: str) -> list[str]:
+    """The labels of alternatives between commas."""
+    return [label for label in text.split(",") if label]
+
+
+def variant_option(words: argparse.ArgumentParser) -> None:
+    """The option by which a tool takes one vehicle of a plan with choices."""
+    words.add_argument("--variant", metavar="LABEL,..", type=alternatives, help="of a plan with choices: the first vehicle that is built with these alternatives")
 
 
 def same(text: str) -> tuple[str, str]:
@@ -245,7 +259,7 @@ def status_of(main: Callable[[], int]) -> int:
         return written(main)
     except Refused as refused:
         if str(refused):
-            say(refused)
+            say(f"{refused}{ONE_VEHICLE if str(refused).endswith(CHOICES) else ''}")
         return refused.status
     except KeyboardInterrupt:
         interrupted()

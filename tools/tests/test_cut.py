@@ -118,6 +118,15 @@ class Clocks(InFolder):
         self.assertEqual((status, answer.splitlines(keepends=True)[1:9]), (0, same))
         self.assertTrue(said.endswith("cut: 11 lines, of which both logs have 9\n"), said)
 
+    def test_a_drive_that_repeats_itself(self) -> None:
+        """Frames that each log has once, and that are others of the drive: the clock is that by which most agree, and no frame is lost."""
+        whole = [f"({1000 + number / 10:.6f}) can0 18FEEE00#{number % 50:02X}\n" for number in range(75)]
+        first = self.write("first.log", "".join(whole[:55]))
+        second = self.write("second.log", "".join(f"({float(line[1:12]) + 7:.6f}{line[12:]}" for line in whole[22:]))
+        status, answer, said = run("cut.py", "--clock", first, "--merge", second)
+        self.assertEqual((status, answer), (0, "".join(whole)), said)
+        self.assertIn("the clock is 7.000000 s later at the begin and 7.000000 s at the end", said)
+
     def test_what_is_not_merged(self) -> None:
         self.assertEqual(run("cut.py", "--merge", LOG)[0], 2)
         self.assertEqual(run("cut.py", "--merge", "--clock", LOG, LOG, "--unit", "0")[0], 2)

@@ -106,6 +106,38 @@ class OtherRequests(InFolder):
         frames = self.begun((0, asks(249, 255, 65259)), (3, ET1))
         self.assertEqual(self.requests(frames), ([(65259, "TOOL", "all", 1, 0, 0, 1, 6)], []))
 
+    def test_one_that_is_answered_late(self) -> None:
+        """Told of a unit that is on and is asked alone, by the line of the answer."""
+        frames = self.begun((0, asks(249, 0, 65242)), (0.3, SOFT), (2, ET1))
+        text = "request for SOFT by TOOL to ENGINE, which the plan doesn't have: answered 300 ms after it, later than 200 ms"
+        self.assertEqual(self.requests(frames), ([("SOFT", "TOOL", "ENGINE", 1, 1, 0, 0, 6)], [("late", "ENGINE", 7, text)]))
+        self.assertEqual(self.requests(self.begun((0, asks(249, 255, 65242)), (0.3, SOFT), (2, ET1)))[1], [])
+
+    def test_one_to_all_that_is_refused(self) -> None:
+        """No unit may refuse it; a stranger is no unit of the plan."""
+        frames = self.begun((0, asks(249, 255, 65259)), (0.1, says(1, 33, 249, 65259)), (2, ET1))
+        text = "request for PGN 65259 by TOOL to all, which the plan doesn't have: CAB refuses it, though it is to all"
+        self.assertEqual(self.requests(frames), ([(65259, "TOOL", "all", 1, 0, 0, 1, 6)], [("refused-to-all", "CAB", 6, text)]))
+        self.assertEqual(self.requests(self.begun((0, asks(249, 255, 65259)), (0.1, says(1, 77, 249, 65259)), (2, ET1)))[1], [])
+
+    def test_each_unit_answers_what_the_plan_asks_of_all(self) -> None:
+        """One that is on and has a flow that serves it; one that refuses it is told of that."""
+        more = '[[flow]]\ngroup = "SOFT"\nfrom = "CAB"\nto = "all"\n[[request]]\ngroup = "SOFT"\nfrom = "TOOL"\nto = "all"\n'
+        plan = PLAN.replace("version = 3", "version = 4") + more
+        cab = SOFT.replace("DA00", "DA21")
+
+        def told(*frames: tuple[float, str]) -> list[str]:
+            answer = self.answer(self.begun(*frames), "--events", "SOFT", "--events", "ET1", plan=plan)
+            return [line for line in answer.splitlines() if "request 1" in line]
+
+        ask, what = (0.0, asks(249, 255, 65242)), "request 1, SOFT from TOOL to all"
+        self.assertEqual(told(ask, (0.1, SOFT), (0.15, cab), (2, ET1)), [])
+        self.assertEqual(told(ask, (0.1, SOFT), (2, ET1)), [f"L:6: (1.100000) {what}: no answer of CAB within 1250 ms"])
+        self.assertEqual(told(ask, (2, ET1)), [f"L:6: (1.100000) {what}: no answer within 1250 ms"])
+        self.assertEqual(told(ask, (0.1, SOFT), (0.2, says(1, 33, 249, 65242)), (2, ET1)),
+                         [f"L:8: (1.300000) {what}: CAB refuses it, though it is to all"])
+        self.assertEqual(told((3, ET1), (3.1, ask[1]), (3.2, SOFT), (6, ET1)), [])  # CAB is off
+
     def test_a_unit_that_is_off_is_not_accused(self) -> None:
         frames = self.begun((5, ET1), (5.1, asks(249, 33, 65242)), (8, ET1))
         self.assertEqual(self.requests(frames), ([("SOFT", "TOOL", "CAB", 1, 0, 0, 1, 7)], []))

@@ -180,6 +180,16 @@ class Simulated(InFolder):
         self.assertEqual(self.deviations(bench, "--jitter", "2"), [f"{self.path('plan.toml')}: flow 3, SETTINGS from TOOL to SEAT: never sent",
                                                   f"{self.path('plan.toml')}: unit SEAT: neither claimed an address nor sent anything"])
 
+    def test_a_unit_that_gives_its_address_back(self) -> None:
+        """Nothing is sent to it then."""
+        bench = self.bench(PLAN.replace("length = 30", "length = 8"), without=("SEAT",))
+        bench.other(0.1, 0x18EEFF82, name(5, 400, 60, True))
+        bench.other(2.5, 0x18EEFFFE, name(5, 400, 60, True))
+        bench.runs(6)
+        times = [at for at, _ in bench.of(56320)]
+        self.assertTrue(times and max(times) < 2.5, times)
+        self.assertGreaterEqual(bench.rest.rows()["flows"][2]["not_sent"], 2)
+
     def test_defence(self) -> None:
         """A larger NAME that claims the engine's address hears its claim again; the engine sends on."""
         bench = self.bench()

@@ -1,10 +1,55 @@
 """The plan of one variant of a line of vehicles, as a file."""
 
+import json
 import unittest
 
+import j39plan
 from j39plan import program
-from j39plan.plan.variants import Line, variant_text
+from j39plan.plan.answer_objects import check_object
+from j39plan.plan.answer_places import placed
+from j39plan.plan.hints.lint import Lint
+from j39plan.plan.hints.variants import nowhere
+from j39plan.plan.parts import Source
+from j39plan.plan.variants import Line, line_of, variant_text
 from tests.support import InFolder, example, run, text_of
+
+# Claims of D at 0 and of R at 15, a frame of D, and another one 3 s later.
+DETROIT = (
+    "(1.0) can0 18EEFF00#0000E02600000000\n(1.1) can0 18EEFF0F#00000037000A0000\n(1.2) can0 0CF00400#FFFFFFFFFFFFFFFF\n(4.0) can0 0CF00400#FFFFFFFFFFFFFFFF\n"
+)
+
+# A plan of a line with one choice of the example's, another one of its own, its engine by another label, and a flow that goes with an alternative alone.
+OTHER = """version = 4
+[[choice]]
+of = ["DETROIT", "CUMMINS"]
+[[choice]]
+of = ["NO_TEL", "TEL"]
+[[never]]
+of = ["TEL", "DETROIT"]
+[[unit]]
+label = "T"
+address = 74
+name = { manufacturer = 77, function = 25 }
+with = ["TEL"]
+[[unit]]
+label = "CUM"
+address = 0
+name = { manufacturer = 310, function = 0 }
+with = ["CUMMINS"]
+[[group]]
+label = "EEC1"
+pgn = 61444
+priority = 3
+length = 8
+[[flow]]
+group = "EEC1"
+from = "CUM"
+to = "all"
+[[need]]
+unit = "T"
+group = "EEC1"
+with = ["TEL"]
+"""
 
 CHOICES = """choice 1 of A
 choice 1 of B
@@ -37,7 +82,7 @@ need 1 with N
 
 class Variants(unittest.TestCase):
     def test_the_first_one_that_is_built_is_taken(self) -> None:
-        line = Line(CHOICES)
+        line = Line.shown(CHOICES)
         self.assertEqual(line.first(set()), {"A", "Y", "M"})
         self.assertEqual(line.first({"X"}), {"B", "X", "M"})
         self.assertEqual(line.first({"N", "A"}), {"A", "Y", "N"})
@@ -45,7 +90,7 @@ class Variants(unittest.TestCase):
         self.assertIsNone(line.first({"L"}))
 
     def test_what_names_something_that_is_not_there_is_not_there(self) -> None:
-        line = Line(CHOICES)
+        line = Line.shown(CHOICES)
         self.assertEqual(line.there({"A", "Y", "M"}), {("unit", 1), ("unit", 2), ("group", 1), ("flow", 1), ("flow", 2)})
         self.assertEqual(line.there({"A", "Y", "N"}), {("unit", 1), ("group", 1), ("flow", 1)})
         self.assertEqual(line.there({"B", "X", "M"}), {("unit", 2), ("group", 1)})
@@ -74,6 +119,113 @@ class Written(InFolder):
         for labels, why in ((["RETARDER", "EATON"], "Never"), (["CUMMINS", "DETROIT"], "Repeated"), (["VOITH"], "UnknownLabel")):
             status, _, error = run("variant.py", example("line.toml"), *labels)
             self.assertEqual((status, error), (1, f"variant: refused variant {why}\n"))
+
+
+class Lines(InFolder):
+    def line(self) -> Source:
+        return Source(text_of(example("line.toml")))
+
+    def test_the_text_has_the_choices_that_show_answers(self) -> None:
+        for plan in (example("line.toml"), self.write("other.toml", OTHER)):
+            by_text, shown = Line.of(Source(text_of(plan))), line_of(plan)
+            self.assertEqual((by_text.named, by_text.choices), (shown.named, shown.choices))
+            self.assertEqual({table: names for table, names in by_text.names.items() if names}, shown.names)
+
+    def test_tables_stay_at_their_lines(self) -> None:
+        text = text_of(example("line.toml"))
+        line = Line.of(Source(text))
+        written = variant_text(text, line.there({"DETROIT", "NO_RETARDER", "ZF"}), True)
+        assert written is not None
+        self.assertEqual((Source(text)["unit"][1].line(), len(text.splitlines())), (Source(written)["unit"][0].line(), len(written.splitlines())))
+
+    def test_what_no_vehicle_has_and_what_may_not_be_meant(self) -> None:
+        text = text_of(example("line.toml")) + '[[unit]]\nlabel = "N"\naddress = 9\nname = { manufacturer = 9 }\nwith = ["RETARDER", "EATON"]\n[[choice]]\nof = ["A", "B"]\n'
+        source = Source(text)
+        hints = [hint for _, hint in (*nowhere(source), *Lint(source).hints())]
+        self.assertIn("unit N: no vehicle of the line has it", hints)
+        self.assertIn("choice A, B: no with names one of them", hints)
+        self.assertIn("flow 3, TSC1 from D to R: D may be there without R; is it silent then?", hints)
+        self.assertFalse([hint for hint in hints if "prefers 0" in hint or "meet it" in hint])
+
+    def test_findings_have_the_lists_by_which_they_go(self) -> None:
+        answer = "F2 SameFixedAddress C D 0 in CUMMINS\n  up D\nF19 NeedUnmet 1 in DETROIT RETARDER\nF30 ManyVariants 2048\nfindings 3\n"
+        parts = list(placed(text_of(example("line.toml")).encode(), answer))
+        self.assertEqual([part.all_below for part in parts], [
+            ["  up D", "  with CUMMINS: unit C at line 21", "  with DETROIT: unit D at line 27"],
+            ["  with DETROIT, ZF: need 1 at line 78", "  with RETARDER: unit R at line 33"], [], []])
+        self.assertIn("with what brings it alone (DETROIT)", parts[1].hint)
+        found = check_object("line.toml", 1, parts)["findings"]
+        self.assertEqual([one.get("variant") for one in found], [["CUMMINS"], ["DETROIT", "RETARDER"], None])
+        self.assertEqual((found[0]["steps"], found[0]["with"][0], found[2]["variants"]), (["up D"], "with CUMMINS: unit C at line 21", 2048))
+
+
+class Taken(InFolder):
+    def test_a_plan_with_choices_is_refused_by_what_wants_one_plan(self) -> None:
+        line = example("line.toml")
+        for words in (["plan2dbc.py", line], ["compare.py", line, line], ["mend.py", line], ["table.py", line]):
+            status, answer, error = run(*words)
+            self.assertEqual((status, answer), (1, ""), words)
+            self.assertTrue(error.endswith("refused plan Choices  (--variant LABEL,.. takes the plan of one vehicle)\n"), error)
+
+    def test_the_plan_of_one_vehicle_is_taken(self) -> None:
+        line = example("line.toml")
+        self.assertEqual(run("where.py", line, "--variant", "DETROIT,RETARDER")[:2], (0, "ok 2 units 3 groups 3 flows\n"))
+        self.assertEqual(run("where.py", line, "--variant", "RETARDER,EATON")[::2], (1, "where: refused variant Never\n"))
+        status, dbc, _ = run("plan2dbc.py", line, "--variant", "DETROIT")
+        self.assertEqual((status, "BU_: _D\n" in dbc), (0, True))
+        self.assertEqual(run("startup.py", line, "--variant", "CUMMINS")[1].splitlines()[1:], ["up C"])
+        log = self.write("drive.log", DETROIT)
+        answer = run("against.py", line, log, "--variant", "DETROIT,RETARDER")[1]
+        self.assertIn("line.toml: flow 3, ERC1 from R to all: never sent", answer)
+        status, compared, _ = run("compare.py", line, example("truck.toml"), "--variant", "DETROIT")
+        self.assertIn("line.toml:23: unit D: gone", compared)
+
+    def test_its_page_has_the_choices(self) -> None:
+        status, page, _ = run("report.py", example("line.toml"), "--variant", "RETARDER")
+        self.assertEqual((status, "<h1>Plan line.toml (CUMMINS, RETARDER, ZF)</h1>" in page), (0, True))
+        self.assertIn('<tr><th scope="row">1</th><td>DETROIT</td><td>no</td><td>unit D, need 1 of R (EEC1)</td></tr>', page)
+        self.assertIn("Never built: RETARDER, ALLISON or EATON", page)
+
+    def test_the_module_takes_it(self) -> None:
+        plan = j39plan.read_plan(example("line.toml"), ["DETROIT"])
+        self.assertEqual([unit.label for unit in plan.units], ["D"])
+        with self.assertRaisesRegex(j39plan.Refused, "Choices"):
+            j39plan.read_plan(example("line.toml"))
+
+    def test_a_log_tells_which_vehicles_it_can_be_of(self) -> None:
+        line = example("line.toml")
+        status, answer, _ = run("variant.py", line, "--log", self.write("drive.log", DETROIT))
+        self.assertEqual((status, answer), (0, "claims D, R\nchoice 1 DETROIT\nchoice 2 RETARDER\nchoice 3 ZF\nfirst DETROIT,RETARDER,ZF\n"))
+        short = DETROIT.splitlines(True)[2:3] + DETROIT.splitlines(True)[:1]
+        status, answer, _ = run("variant.py", line, "--log", self.write("short.log", "".join(short)))
+        self.assertEqual(answer.splitlines()[1:], [
+            "the log may begin behind other claims: who doesn't claim may be there", "choice 1 DETROIT", "choice 2 NO_RETARDER or RETARDER",
+            "choice 3 ZF or ALLISON or EATON", "first DETROIT,NO_RETARDER,ZF"])
+        both = DETROIT + "(5.0) can0 18EEFF00#0000C02600000000\n(5.5) can0 18EEFF09#0000000000000000\n"
+        status, answer, _ = run("variant.py", line, "--json", "--log", self.write("both.log", both))
+        self.assertEqual((status, json.loads(answer)), (1, {
+            "units": ["C", "D", "R"], "others": ["0000000000000000"], "silent": [], "choices": [], "first": []}))
+
+
+class Joined(InFolder):
+    def test_choices_of_equal_alternatives_are_one(self) -> None:
+        status, text, error = run("join.py", example("line.toml"), self.write("other.toml", OTHER))
+        self.assertEqual((status, error.splitlines()[-1].endswith("notes 1, contradictions 0")), (0, True), error)
+        joined = Source(text)
+        self.assertEqual([choice.values("of") for choice in joined["choice"]], [["CUMMINS", "DETROIT"], ["NO_RETARDER", "RETARDER"], ["ZF", "ALLISON", "EATON"], ["NO_TEL", "TEL"]])
+        self.assertEqual([never.values("of") for never in joined["never"]], [["RETARDER"], ["TEL", "DETROIT"]])
+        self.assertEqual([unit.label for unit in joined["unit"]], ["C", "D", "R", "T"])
+        self.assertEqual(run("where.py", self.write("joined.toml", text), "--variant", "TEL")[1], "ok 2 units 2 groups 1 flows\n")
+
+    def test_choices_that_share_some_alternatives_contradict(self) -> None:
+        status, text, error = run("join.py", example("line.toml"), self.write("other.toml", OTHER.replace('"CUMMINS"]', '"CAT"]')))
+        self.assertEqual((status, text), (1, ""))
+        self.assertIn('other.toml:3: choice: of = ["DETROIT", "CAT"], and ["CUMMINS", "DETROIT"] at', error)
+
+    def test_the_plan_of_one_vehicle_says_nothing_of_alternatives(self) -> None:
+        single = OTHER.partition("[[choice]]")[0] + OTHER[OTHER.index("[[unit]]"):].replace('with = ["TEL"]\n', "").replace('with = ["CUMMINS"]\n', "")
+        status, text, error = run("join.py", example("line.toml"), self.write("single.toml", single))
+        self.assertEqual((status, [unit.values("with") for unit in Source(text)["unit"]]), (0, [["CUMMINS"], ["DETROIT"], ["RETARDER"], []]), error)
 
 
 if __name__ == "__main__":

@@ -93,6 +93,14 @@ class Page(OfVehicles):
         self.assertEqual((figure.count("<circle"), figure.count('<rect class="gateway"'), figure.count("<rect x=")), (2, 1, 2))
         self.assertIn('aria-label="bus P with E, G; bus B with C, G; gateway CGW as P.G, B.G"', figure)
 
+    def test_units_of_a_gateway_on_one_bus_stand_beside_each_other(self) -> None:
+        """One text names them, of many the first ones."""
+        status, page, _ = run("report.py", example("three_buses/truck.toml"))
+        figure = page.partition("<figcaption>The vehicle: its buses")[2].partition("</figure>")[0]
+        texts = re.findall(r'<text x="(-?\d+)" y="(\d+)" [^>]*>([^<]*)</text>', figure)
+        self.assertEqual((status, len(texts)), (0, len({(x, y) for x, y, _ in texts})))
+        self.assertIn("GATEWAY, ENGINE, TRANSMISSION, 1 more", [said for _, _, said in texts])
+
     def test_needs_that_are_not_met(self) -> None:
         page = self.page(b=swapped(B, ("byte = 4", "byte = 5")))
         self.assertIn("<td><strong>not met</strong></td><td>30 ms</td><td>–</td></tr>", page)

@@ -43,7 +43,7 @@ class Claims:
         self._boxes, self._agenda, self._put, self._chance = boxes, agenda, put, chance
         self.left: Callable[[int], None] = lambda address: None  # is told which address a box has left
         self._others, self._kept = {unit.label: unit for unit in others}, frozenset(kept)
-        self.known: dict[int, int] = {}  # of each NAME the address that it claimed last
+        self.known: dict[int, int | None] = {}  # of each NAME the address that it claimed last, None of who said that it has none
         self.moves = self.defences = 0
 
     def begin(self) -> None:
@@ -74,7 +74,7 @@ class Claims:
         """A claim is heard, or that somebody could claim none."""
         name = int.from_bytes(data, "little")
         if source == NULL_ADDRESS:
-            self.known.pop(name, None)
+            self.known[name] = None
             return
         self.known[name] = source
         for box in self._boxes:
@@ -117,7 +117,8 @@ class Claims:
         return next((box for box in self._boxes if box.address == address), None)
 
     def address_of(self, label: str) -> tuple[int | None, bool]:
-        """The address of a unit by its label, None of none, and whether it was heard or is here. Of one that wasn't heard it is the planned one."""
+        """The address of a unit by its label, None of one that said that it has none, and whether it was heard or is here. Of one that wasn't heard it is the
+        planned one."""
         box = next((box for box in self._boxes if box.unit.label == label), None)
         if box is not None:
             return box.address, True

@@ -32,7 +32,7 @@ from j39plan.log.serial_numbers import by_kind
 from j39plan.plan.cut import bare
 from j39plan.plan.files import opened
 from j39plan.plan.tables import Tables
-from j39plan.vehicle.drives import bus_option, drives_of, events_on, refuse_buses, vehicle_in
+from j39plan.vehicle.drives import bus_option, drives_of, events_on, refuse_buses, refuse_variant, vehicle_in
 from j39plan.vehicle.files import Vehicle
 
 
@@ -61,6 +61,7 @@ def words_of(words: list[str] | None) -> argparse.Namespace:
                         "only the whole log shows")
     parser.add_argument("--json", action="store_true", help="as JSON objects, each on a line; the last one is of the whole log")
     requirement_options(parser)
+    program.variant_option(parser)
     interface_option(parser)
     bus_option(parser)
     parser.add_argument("plan", metavar="PLAN", type=program.input_name, help="the name of a plan file, or of a vehicle file")
@@ -165,7 +166,7 @@ def compare_live(reader: Reader, comparison: Comparison, lines: Iterator[str]) -
 def compared(given: argparse.Namespace) -> int:
     """Writes the deviations of a log from a plan; how many there are."""
     counts = Counts()
-    with opened(given.plan) as plan, Log(given.logs, given.interface) as log, by_kind(plan, tables_of(plan), log.still, given.interface) as (known, tables, others):
+    with opened(given.plan, given.variant) as plan, Log(given.logs, given.interface) as log, by_kind(plan, tables_of(plan), log.still, given.interface) as (known, tables, others):
         output, meter = Output(given, log), Meter() if given.json else None
         found = Found(given.all, output.live if given.live else None)
         settings = Settings(given.jitter, Rule(given.silence, events_of(given.events, tables), given.table), others)
@@ -212,6 +213,7 @@ def main(words: list[str] | None = None) -> int:
     vehicle = vehicle_in(given.plan)
     if vehicle is not None:
         refuse_of_vehicle(given)
+        refuse_variant(given.plan, given.variant)
         return 1 if of_vehicle(given, vehicle) else 0
     refuse_buses(given.plan, given.bus)
     return 1 if compared(given) else 0

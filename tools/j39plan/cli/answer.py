@@ -6,8 +6,10 @@ import sys
 from j39plan import program
 from j39plan.plan.answer_objects import answer_object, check_object
 from j39plan.plan.answer_places import placed
+from j39plan.plan.files import opened
 from j39plan.vehicle.answer_objects import vehicle_object
 from j39plan.vehicle.answers import answered, readable
+from j39plan.vehicle.drives import refuse_variant
 
 COMMANDS = ("check", "addresses", "load", "vehicle")
 
@@ -28,10 +30,12 @@ def main(words: list[str] | None = None) -> int:
     parser.epilog = "example: %(prog)s load plan.toml"
     parser.add_argument("command", metavar="COMMAND", choices=COMMANDS, help=f"which answer: {', '.join(COMMANDS)}")
     parser.add_argument("plan", metavar="PLAN", type=program.input_name, help="the name of a plan file, of vehicle that of a vehicle file")
+    program.variant_option(parser)
     given = parser.parse_args(words)
     if given.command == "vehicle":
+        refuse_variant(given.plan, given.variant)
         return of_vehicle(given.plan)
-    with program.copied(given.plan) as plan:
+    with opened(given.plan, given.variant) as plan:
         status, answer = program.call([given.command, "--", plan])
         with open(plan, "rb") as file:
             parts = list(placed(file.read(), answer))

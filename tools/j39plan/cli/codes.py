@@ -174,7 +174,7 @@ def draw(drive: Drive, output: str) -> None:
 def main(words: list[str] | None = None) -> int:
     """Writes the codes."""
     given, progress = words_of(words), Progress()
-    with opened(given.plan) as plan:
+    with opened(given.plan, given.variant) as plan:
         tables = tables_of(plan)
         refuse_unless_possible(given, tables)
         drives = []

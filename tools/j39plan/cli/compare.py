@@ -10,7 +10,7 @@ from collections.abc import Iterator
 from j39plan import program
 from j39plan.plan.breaks import Break, Breaks
 from j39plan.plan.differences import Answers, Change, Matched, changes_of
-from j39plan.plan.files import sources_of
+from j39plan.plan.files import of_one_vehicle, sources_of
 from j39plan.plan.parts import Source
 
 
@@ -82,9 +82,10 @@ def main(words: list[str] | None = None) -> int:
     parser.epilog = "example: %(prog)s truck_2025.toml truck_2026.toml"
     parser.add_argument("old", metavar="OLD", type=program.input_name, help="the name of a plan file")
     parser.add_argument("new", metavar="NEW", type=program.input_name, help="the name of the plan file that takes its place")
+    program.variant_option(parser)
     parser.add_argument("--json", action="store_true", help="as a JSON object with the arrays changes and breaks")
     given = parser.parse_args(words)
-    old, new = sources_of([given.old, given.new])
+    old, new = map(of_one_vehicle, sources_of([given.old, given.new], given.variant))
     if old.text == new.text:
         program.say(f"{new.name}: the same plan as {old.name}")
     matched = Matched(old, new)

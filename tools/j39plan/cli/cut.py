@@ -57,6 +57,7 @@ def words_of(words: list[str] | None) -> argparse.Namespace:
     parser.add_argument("--unit", action="append", default=[], metavar="UNIT", help="what this unit sends and gets: a label, a NAME of 16 hex digits, or an address")
     parser.add_argument("--group", action="append", default=[], metavar="GROUP", help="this group, by its label or PGN")
     parser.add_argument("--clock", metavar="LOG", help="with the times of the clock by which this log was recorded, on the same bus")
+    program.variant_option(parser)
     parser.add_argument("--merge", action="store_true", help="with --clock: both logs as one, in the order of times; a frame that both have stands there once")
     parser.add_argument("--json", action="store_true", help="how many lines were kept, and the clocks, as one JSON object on standard error")
     interface_option(parser)
@@ -80,13 +81,13 @@ def window_of(given: argparse.Namespace) -> Window:
 
 
 @contextlib.contextmanager
-def plan_of(name: str | None) -> Iterator[tuple[str, Tables]]:
+def plan_of(name: str | None, variant: list[str] | None) -> Iterator[tuple[str, Tables]]:
     """The name of the plan by which the log is followed, without its signals, and its tables: of none one that has nothing."""
     if name is None:
         with program.file_of(NOTHING) as plan:
             yield plan, Tables.of(plan)
     else:
-        with opened(name) as plan, bare(plan, Tables.of(plan)) as shorter:
+        with opened(name, variant) as plan, bare(plan, Tables.of(plan)) as shorter:
             yield shorter
 
 
@@ -114,7 +115,7 @@ def is_name(text: str) -> bool:
 
 def selected(given: argparse.Namespace, log: Log, window: Window) -> Iterator[bytes]:
     """The lines of units and groups that are asked for."""
-    with plan_of(given.plan) as (plan, tables):
+    with plan_of(given.plan, given.variant) as (plan, tables):
         selection, counts = Selection(tables, chosen_of(given, tables)), Counts()
         yield from selection.kept(all_of(plan, log, counts, selection.pieces), window)
         counts.refuse_without_frames(log)

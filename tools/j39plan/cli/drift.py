@@ -50,7 +50,7 @@ def words_of(words: list[str] | None) -> argparse.Namespace:
 def drives_of(given: argparse.Namespace) -> tuple[Tables, list[Drive]]:
     """The tables of the plan, and both drives as they were compared with it."""
     options = ["--interface", given.interface] if given.interface is not None else []
-    plan, logs = plan_of(given.plan, options), [given.before, given.after]
+    plan, logs = plan_of(given.plan, options, given.variant), [given.before, given.after]
     if len(different(logs)) < len(logs):
         raise program.Refused(program.UNREADABLE, "two drives are compared, and this is one")
     tasks: list[Task] = [(*plan, log, os.path.abspath(log), ["--table", *options]) for log in logs]

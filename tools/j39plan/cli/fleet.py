@@ -22,7 +22,7 @@ from j39plan.fleet.team import Task, team
 from j39plan.log.files import interface_option
 from j39plan.plan.files import opened
 from j39plan.plan.tables import Tables
-from j39plan.vehicle.drives import bus_option, drives_of, events_on, refuse_buses, vehicle_in
+from j39plan.vehicle.drives import bus_option, drives_of, events_on, refuse_buses, refuse_variant, vehicle_in
 from j39plan.vehicle.files import Vehicle
 
 # How wide the bar of progress is.
@@ -98,9 +98,9 @@ def gathered(drives: Iterable[Drive], count: int) -> tuple[dict[str, Drive], boo
     return found, True
 
 
-def plan_of(name: str, options: list[str]) -> tuple[str, str]:
+def plan_of(name: str, options: list[str], variant: list[str] | None) -> tuple[str, str]:
     """The text of a plan by which `against` can read logs, with these options, and what `show` answers of it; of another one it says why."""
-    with opened(name) as plan:
+    with opened(name, variant) as plan:
         shown = program.shown(plan)
         status, answer, said = answered([*options, "--", plan, os.devnull])
         if not answer:
@@ -119,6 +119,7 @@ def words_of(words: list[str] | None) -> argparse.Namespace:
     parser.add_argument("--jitter", metavar="TIME", help="by how much messages may come nearer than their flow's period, as of against")
     parser.add_argument("--silence", metavar="N", help="after how many periods a flow is silent, as of against")
     parser.add_argument("--events", metavar="FLOW", action="append", default=[], help="a flow that is sent when something happens, as of against")
+    program.variant_option(parser)
     interface_option(parser)
     bus_option(parser)
     parser.add_argument("--json", action="store_true", help="as a JSON object with an array for each table")
@@ -155,7 +156,7 @@ def compared(given: argparse.Namespace) -> Gathered:
     """The logs of a plan, as they were compared with it."""
     options = [word for key in ("jitter", "silence", "interface") for value in [getattr(given, key)] if value is not None for word in (f"--{key}", value)]
     options += [word for name in given.events for word in ("--events", name)]
-    plan, logs = plan_of(given.plan, options), different(given.logs)
+    plan, logs = plan_of(given.plan, options, given.variant), different(given.logs)
     with input_copied(logs) as copy:
         tasks: list[Task] = [(*plan, log, copy if log == program.INPUT else os.path.abspath(log), options) for log in largest_first(logs)]
         found, is_whole = gathered(team(given.processes, given.scheduler)(tasks), len(tasks))
@@ -197,6 +198,7 @@ def main(words: list[str] | None = None) -> int:
     given = words_of(words)
     vehicle = vehicle_in(given.plan)
     if vehicle is not None:
+        refuse_variant(given.plan, given.variant)
         return of_vehicle(given, vehicle)
     refuse_buses(given.plan, given.bus)
     whole = compared(given)

@@ -14,7 +14,8 @@ from j39plan.mend.attempts import Mend
 from j39plan.mend.judge import Judge
 from j39plan.mend.search import Mended, Tried, difference, mended
 from j39plan.mend.slack import Slack, slack_lines, slack_object, slack_of
-from j39plan.plan.files import text_of
+from j39plan.plan.files import of_one_vehicle, text_of
+from j39plan.plan.parts import Source
 from j39plan.progress import Progress
 
 
@@ -84,7 +85,8 @@ def written(given: argparse.Namespace, before: str, found: Mended, slack: Slack 
 def main(words: list[str] | None = None) -> int:
     """Mends a plan; 1 where something is still found."""
     given = words_of(words)
-    text, progress = text_of(given.plan), Progress()
+    text, progress = text_of(given.plan, given.variant), Progress()
+    of_one_vehicle(Source(text))
     judge = Judge(progress)
     try:
         found = mended(text, judge)

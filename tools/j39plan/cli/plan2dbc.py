@@ -29,8 +29,8 @@ def options(words: list[str] | None) -> argparse.Namespace:
 def main(words: list[str] | None = None) -> int:
     """Writes the DBC; 0, or the program's status where it can't read the plan, or 1 where there are notes and there were to be none."""
     given, notes = options(words), Notes()
-    with opened(given.plan) as plan:
-        program.checked(plan)
+    with opened(given.plan, given.variant) as plan:
+        program.shown(plan)
         dbc = Writer(source_in(plan), notes)
     program.put(dbc.text())
     print(f"{len(dbc.names)} nodes {len(dbc.messages)} messages, notes {notes.count}", file=sys.stderr)

@@ -96,7 +96,7 @@ def main(words: list[str] | None = None) -> int:
     """Draws the picture."""
     given = words_of(words)
     refuse_unless_possible(given.names, given.addresses, given.output)
-    with opened(given.plan) as plan:
+    with opened(given.plan, given.variant) as plan:
         tables = tables_of(plan)
         names, logs = parted(tables, given.names, given.log)
         choice = Choice(tables, names, nothing=not names)

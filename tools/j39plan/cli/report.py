@@ -15,11 +15,14 @@ from j39plan import program
 from j39plan.left_out import plain
 from j39plan.plan import page_server
 from j39plan.plan.answers import Finding, Load, Stand, findings, load_of, stands
-from j39plan.plan.files import opened, text_of
+from j39plan.plan.files import one_variant, opened, text_of
 from j39plan.plan.page import page, sections_of
+from j39plan.plan.page_choices import choice_section
 from j39plan.plan.parts import Source, source_in
 from j39plan.plan.tables import Tables
+from j39plan.plan.variants import line_of
 from j39plan.vehicle.answers import answered, readable
+from j39plan.vehicle.drives import refuse_variant
 from j39plan.vehicle.files import Vehicle, is_vehicle
 from j39plan.vehicle.page import vehicle_page
 
@@ -48,9 +51,15 @@ def version_shown() -> str:
     return program.call(["--version"])[1].strip()
 
 
-def page_of(plan: str, title: str) -> str:
-    """The page of a plan that can be read."""
-    return page(title, *told_of(plan), version_shown())
+def page_of(plan: str, title: str, variant: list[str] | None = None) -> str:
+    """The page of a plan that can be read, or of a vehicle of its line."""
+    if variant is None:
+        return page(title, *told_of(plan), version_shown())
+    with one_variant(plan, variant) as one:
+        line = line_of(plan)
+        taken = line.first(set(variant)) or set()
+        labels = ", ".join(label for choice in line.choices for label in choice if label in taken)
+        return page(title, *told_of(one), version_shown(), labels, choice_section(line, taken))
 
 
 def page_of_vehicle(name: str, file: str, data: bytes) -> str:
@@ -68,13 +77,14 @@ def title_of(name: str) -> str:
     return plain(os.fsencode(name).decode(errors="replace"))
 
 
-def page_of_file(name: str) -> str:
+def page_of_file(name: str, variant: list[str] | None = None) -> str:
     """The page of a plan's or a vehicle's file, which may be a pipe."""
     with opened(name) as copy:
         data = bytes_of(copy)
         if is_vehicle(data):
+            refuse_variant(name, variant)
             return page_of_vehicle(name, readable(name, copy), data)
-        return page_of(copy, title_of(name))
+        return page_of(copy, title_of(name), variant)
 
 
 def bytes_of(name: str) -> bytes:
@@ -83,13 +93,14 @@ def bytes_of(name: str) -> bytes:
         return file.read()
 
 
-def drawn(name: str) -> str:
+def drawn(name: str, variant: list[str] | None = None) -> str:
     """The page of a plan's or a vehicle's regular file; of one that can't be read it is said with its line why."""
     data = bytes_of(name)
     if is_vehicle(data):
+        refuse_variant(name, variant)
         return page_of_vehicle(name, name, data)
     with program.file_of(text_of(name)) as plan:
-        return page_of(plan, title_of(name))
+        return page_of(plan, title_of(name), variant)
 
 
 def plans_beside(name: str) -> list[str]:
@@ -119,13 +130,14 @@ def main(words: list[str] | None = None) -> int:
     forms.add_argument("--watch", action="store_true", help="serve the page, drawn anew as the plan is saved, and print where it is")
     parser.add_argument("--address", help="at which address of this machine the page is served (127.0.0.1)")
     parser.add_argument("--port", type=port_of, help="at which port (any that is free)")
+    program.variant_option(parser)
     given = parser.parse_args(words)
     if given.watch:
-        watched = page_server.Watched(given.plan, lambda: drawn(given.plan), lambda: plans_beside(given.plan))
+        watched = page_server.Watched(given.plan, lambda: drawn(given.plan, given.variant), lambda: plans_beside(given.plan))
         page_server.serve(watched, given.address or "127.0.0.1", given.port or 0)
     elif given.address is not None or given.port is not None:
         parser.error("--address and --port go with --watch")
-    text = page_of_file(given.plan)
+    text = page_of_file(given.plan, given.variant)
     if given.output is None:
         sys.stdout.buffer.write(text.encode())
         return 0

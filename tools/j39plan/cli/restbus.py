@@ -140,7 +140,7 @@ def refuse_unless_there(labels: list[str], tables: Tables) -> None:
 def main(words: list[str] | None = None) -> int:
     """Plays the units; 0, or 1 where the bus didn't take all frames."""
     given = words_of(words)
-    with opened(given.plan) as plan:
+    with opened(given.plan, given.variant) as plan:
         tables = Tables.of(plan)
         refuse_unless_there(given.without, tables)
         values, kept = give_values(given, plan, tables), source_in(plan).kept

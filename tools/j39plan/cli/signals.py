@@ -253,7 +253,7 @@ def write_file(given: argparse.Namespace) -> int:
     need, write = WRITERS[ending]
     need()
     options = [] if given.interface is None else ["--interface", given.interface]
-    with opened(given.plan) as plan, tempfile.TemporaryFile() as said, \
+    with opened(given.plan, given.variant) as plan, tempfile.TemporaryFile() as said, \
             program.started("signals", ["--csv", *options, "--", plan, given.log, *given.names], said, None) as process:
         assert process.stdout is not None
         head = process.stdout.peek(1)  # type: ignore[attr-defined]
@@ -271,7 +271,7 @@ def main(words: list[str] | None = None) -> int:
     given, counts, clock = words_of(words), Counts(), Clock()
     if given.output:
         return write_file(given)
-    with opened(given.plan) as plan:
+    with opened(given.plan, given.variant) as plan:
         tables = tables_of(plan)
         names, logs = parted(tables, given.names, given.log)
         choice = Choice(tables, names)

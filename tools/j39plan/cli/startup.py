@@ -201,7 +201,7 @@ def main(words: list[str] | None = None) -> int:
     given = parser.parse_args(words)
     then = "; then each flow sends one message" if given.traffic else ""
     schedule = Schedule(f"Start-up of {given.plan}: all units are switched on, and every claim is delivered{then}.")
-    with opened(given.plan) as plan:
+    with opened(given.plan, given.variant) as plan:
         labels = program.labels_of(plan)
         start_up(units_on(plan, ordered(labels, given.first)), schedule)
         ends = settled(plan, schedule)

@@ -22,9 +22,9 @@ from j39plan.text_tables import aligned
 WIDEST = 40
 
 
-def sheets_of(name: str, wanted: Iterable[str]) -> list[Sheet]:
+def sheets_of(name: str, wanted: Iterable[str], variant: list[str] | None) -> list[Sheet]:
     """The tables of a plan that are wanted."""
-    text = text_of(name)
+    text = text_of(name, variant)
     with program.file_of(text) as plan:
         answers = Answers(stands(program.call(["addresses", "--", plan])[1]), load_of(program.call(["load", "--", plan])[1]))
         sheets = Sheets(Source(text, name), Tables.of(plan), answers)
@@ -110,7 +110,7 @@ def words_of(words: list[str] | None) -> argparse.Namespace:
 def main(words: list[str] | None = None) -> int:
     """Writes the tables."""
     given = words_of(words)
-    sheets = sheets_of(given.plan, given.tables or NAMES)
+    sheets = sheets_of(given.plan, given.tables or NAMES, given.variant)
     if given.xlsx:
         if not sheets:
             raise program.Refused(program.UNREADABLE, f"{given.plan} has none of these tables")

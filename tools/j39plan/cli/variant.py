@@ -1,21 +1,48 @@
 """Writes the plan of one vehicle of a line as a plan file: of the first variant that is built and has the alternatives named.
 
 The text is that of the plan without what isn't there and without the keys of choices, comments kept. What `show` answers of it is compared with
-what `variant` answers.
+what `variant` answers. With --log it is said of which variants a log can be, by who claims in it.
 """
 
+import argparse
+import json
 import sys
 
 from j39plan import program
-from j39plan.plan.variants import Line, variant_text
+from j39plan.log.files import Log, interface_option
+from j39plan.log.variants import Possible, Seen, possible_in, seen_in
+from j39plan.plan.files import opened
+from j39plan.plan.parts import source_in
+from j39plan.plan.variants import line_of, text_of_variant
 
 
-def shown_variant(plan: str, labels: list[str]) -> str:
-    """What `variant` answers; a plan that can't be read, or alternatives that aren't built together, are refused by it."""
-    status, answer = program.call(["variant", "--", plan, *labels])
-    if status != 0:
-        raise program.Refused(status, answer.strip())
-    return answer
+def lines_of(possible: Possible, seen: Seen) -> list[str]:
+    """What a log says of the vehicle, as text."""
+    lines = [f"claims {', '.join(seen.units) or 'of no unit'}"]
+    lines += [f"stranger {name}" for name in seen.others]
+    if seen.silent is None:
+        lines.append("the log may begin behind other claims: who doesn't claim may be there")
+    lines += [f"choice {number} {' or '.join(labels)}" for number, labels in enumerate(possible.choices, 1)]
+    return lines + [f"first {','.join(possible.first)}" if possible.first else "no vehicle of the line"]
+
+
+def of_log(given: argparse.Namespace) -> int:
+    """Writes of which vehicles a log can be; 1 where it is of none."""
+    if given.labels:
+        raise program.Refused(program.UNREADABLE, "--log asks which alternatives there are: name none")
+    with opened(given.plan) as plan, Log(given.log, given.interface) as log:
+        if not log.still:
+            raise program.Refused(program.UNREADABLE, "--log takes regular files, which are read twice")
+        line, units = line_of(plan), source_in(plan).tables.units
+    if not line.choices:
+        raise program.Refused(program.UNREADABLE, f"{given.plan} has no choices")
+    seen, found = seen_in(units, given.log, given.interface)
+    possible = possible_in(line, units, seen, found)
+    if given.json:
+        print(json.dumps({**seen._asdict(), **possible._asdict()}))
+    else:
+        print("\n".join(lines_of(possible, seen)))
+    return 0 if possible.first else 1
 
 
 @program.command
@@ -23,21 +50,16 @@ def main(words: list[str] | None = None) -> int:
     """Writes the plan; 1 where there is no such variant."""
     parser = program.parser(__doc__)
     parser.epilog = "example: %(prog)s line.toml DETROIT RETARDER > detroit.toml"
-    program.plan_word(parser)
+    parser.add_argument("plan", metavar="PLAN", type=program.input_name, help="the name of a plan file, - for standard input")
     parser.add_argument("labels", metavar="LABEL", nargs="*", help="the label of an alternative of a choice of the plan")
+    parser.add_argument("--log", metavar="LOG", action="append", default=[], help="say of which vehicles a log can be, by who claims in it; may be given several times")
+    parser.add_argument("--json", action="store_true", help="with --log: as a JSON object")
+    interface_option(parser)
     given = parser.parse_args(words)
-    with program.copied(given.plan) as plan:
-        wanted = shown_variant(plan, given.labels)
-        line = Line(program.values(plan))
-        with open(plan, encoding="utf-8") as file:
-            text = file.read()
-    taken = line.first(set(given.labels))
-    written = variant_text(text, line.there(taken)) if taken is not None else None
-    if written is None:
-        raise program.Refused(program.FAULT, "the tables of the plan aren't written by headers as [[unit]]")
-    with program.file_of(written) as plan:
-        if program.shown(plan) != wanted:
-            raise program.Refused(program.FAULT, "what was written isn't the plan of the variant")
+    if given.log:
+        return of_log(given)
+    with opened(given.plan) as plan:
+        written = text_of_variant(plan, given.labels)
     print(written, end="")
     return 0
 

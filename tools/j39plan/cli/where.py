@@ -9,7 +9,9 @@ from j39plan import program
 from j39plan.plan import code_quality
 from j39plan.plan.answer_objects import check_object
 from j39plan.plan.answer_places import Placed, placed
+from j39plan.plan.files import opened
 from j39plan.plan.further_faults import further_faults
+from j39plan.plan.hints import variants
 from j39plan.plan.hints.lint import Lint
 from j39plan.plan.parts import Source, source_in
 from j39plan.plan.reference import Reference
@@ -49,7 +51,7 @@ def annotate(name: str, parts: Iterable[Placed], form: Form) -> Iterator[str]:
             yield part.text
             yield from part.below
         else:
-            yield from form(name, part.line, part.text, part.below)
+            yield from form(name, part.line, part.text, part.all_below)
 
 
 def github_notice(file: str, line: int, text: str, _: list[str]) -> list[str]:
@@ -60,7 +62,8 @@ def github_notice(file: str, line: int, text: str, _: list[str]) -> list[str]:
 def hints_of(given: argparse.Namespace, plan: str, used: frozenset[str] = frozenset()) -> list[Placed]:
     """The hints at a plan that can be read, and of whose units with these labels a vehicle makes use, as far as they are asked for."""
     source = source_in(plan)
-    hints = [Placed(line, f"hint {text}", "", []) for line, text in Lint(source, used).hints()] if given.lint else []
+    told = [*(variants.nowhere(source) if source["choice"] else ()), *(Lint(source, used).hints() if given.lint else ())]
+    hints = [Placed(line, f"hint {text}", "", []) for line, text in sorted(told)]
     reference: Reference | None = given.reference
     return hints + (reference.differences(source) if reference else [])
 
@@ -83,6 +86,7 @@ def words_of(words: list[str] | None) -> argparse.Namespace:
                         "those of other plans stay")
     parser.add_argument("--reference", metavar="FILE", type=Reference, help="with hints at signals that a DBC of SAE J1939, or a plan of its groups, has "
                         "otherwise by their SPNs: place, width, scale, unit, PGN, priority, length")
+    program.variant_option(parser)
     parser.add_argument("--lint", action="store_true", help="with hints that are no findings, as FILE:LINE: hint ANSWER, for example "
                         "of a group that no flow sends; they don't change the status")
     return parser.parse_args(words)
@@ -132,7 +136,7 @@ def main(words: list[str] | None = None) -> int:
     hints: list[Placed] = []
     parts: list[Placed] = []
     further: list[Placed] = []
-    with program.copied(given.plan) as plan:
+    with opened(given.plan, given.variant) as plan:
         with open(plan, "rb") as file:
             data = file.read()
         if is_vehicle(data):
@@ -148,7 +152,7 @@ def main(words: list[str] | None = None) -> int:
     else:
         sys.stdout.write("".join(f"{line}\n" for line in lines_of(given.plan, hints, [*parts, *further], given.github)))
     if given.gitlab and status in (0, 1, 2):
-        issues = [(part.line, part.text, part.below) for part in (*hints, *parts, *further) if part.line is not None]
+        issues = [(part.line, part.text, part.all_below) for part in (*hints, *parts, *further) if part.line is not None]
         code_quality.write(given.gitlab, given.plan, issues)
     return status
 

@@ -7,6 +7,7 @@ values, and says also why a log could not be read.
 
 from __future__ import annotations
 
+import contextlib
 import json
 import os
 import stat
@@ -78,20 +79,41 @@ class Drive(TypedDict):
     codes: list[Code]
 
 
-def answered(words: list[str]) -> tuple[int, str, str]:
-    """Status, standard output and standard error of `against`."""
+def process_of(words: list[str]) -> subprocess.Popen[bytes]:
+    """A process of `against`."""
     try:
-        with program.started("against", words) as process:
-            answer, said = process.communicate()
+        return program.started("against", words)
     except OSError as fault:
         raise program.Refused(program.MISSING, f"{sys.executable} can't be run: {fault.strerror}") from None
+
+
+def ended(process: subprocess.Popen[bytes]) -> tuple[int, str, str]:
+    """Status, standard output and standard error of a process."""
+    answer, said = process.communicate()
     return process.returncode, answer.decode(errors="replace"), said.decode(errors="replace")
 
 
-def compared(plan: str, log: str, options: list[str]) -> tuple[list[Deviation], list[str], dict[str, float]]:
-    """The deviations that `against` writes, what it says beside them, and what it has of the whole log. It is a process of its own, so that tasks
-    may be threads of one."""
-    status, answer, said = answered(["--json", *options, "--", plan, log])
+def answered(words: list[str]) -> tuple[int, str, str]:
+    """Status, standard output and standard error of `against`."""
+    with process_of(words) as process:
+        return ended(process)
+
+
+@contextlib.contextmanager
+def comparing(plan: str, log: str, options: list[str]) -> Iterator[subprocess.Popen[bytes]]:
+    """A process in which `against` compares a log while that is read here too; it is ended where the log can't be read. It is a process of its own, so that
+    tasks may be threads of one."""
+    with process_of(["--json", *options, "--", plan, log]) as process:
+        try:
+            yield process
+        except BaseException:
+            process.kill()
+            raise
+
+
+def compared(process: subprocess.Popen[bytes], options: list[str]) -> tuple[list[Deviation], list[str], dict[str, float]]:
+    """The deviations that `against` writes, what it says beside them, and what it has of the whole log."""
+    status, answer, said = ended(process)
     notes = [line.partition(": ")[2] for line in said.splitlines()]
     if status not in (0, 1) or not answer:
         raise program.Refused(status or program.FAULT, notes[-1] if notes else f"against ended with {status}")
@@ -294,8 +316,9 @@ def drive_of(plan: str, shown: str, log: str, path: str, options: list[str]) -> 
         if not stat.S_ISREG(os.stat(path).st_mode):
             raise program.Refused(program.UNREADABLE, "it is no regular file")
         with open(path, "rb"), program.file_of(plan) as copy, by_kind(copy, tables_of(shown), [path], interface) as (known, tables, _):
-            followed(known, path, tables, interface).put(drive)
-            drive["deviations"], drive["notes"], drive["whole"] = compared(copy, path, options)
+            with comparing(copy, path, options) as process:
+                followed(known, path, tables, interface).put(drive)
+                drive["deviations"], drive["notes"], drive["whole"] = compared(process, options)
     except program.Refused as refused:
         drive["status"], drive["failed"] = refused.status, str(refused) or f"ended with {refused.status}"
     except OSError as fault:

@@ -156,10 +156,12 @@ def name_values(axes: Axes, seen: set[float], names: Mapping[float, str]) -> Non
 
 
 def limit_values(axes: Axes, seen: set[float]) -> None:
-    """Has an axis go from the least to the greatest value that is seen."""
+    """Has an axis go from the least to the greatest value that is seen; where none is it has no numbers."""
     if seen:
         margin = 0.15 * (max(seen) - min(seen)) or 0.05 * abs(max(seen)) or 0.05
         axes.set_ylim(min(seen) - margin, max(seen) + margin)
+    else:
+        axes.set_yticks([])
 
 
 def draw_curve(axes: Axes, curve: Curve, window: Window, colours: Colours) -> set[float]:

@@ -14,7 +14,13 @@ FINDINGS = (
     "F28 FlowContested #flow",
 )
 
+# Those of plans of lines of vehicles.
+OF_LINES = ("F29 NoVariant", "F30 ManyVariants #variants")
+
 LABEL, NUMBER = r"[A-Za-z0-9_]{1,32}", r"\d+"
+
+# What stands behind a finding that not each vehicle of a line has: the alternatives of those that have it.
+IN = rf"(?: in (?P<variant>{LABEL}(?: {LABEL})*))?"
 
 
 class Form(NamedTuple):
@@ -33,27 +39,27 @@ def form_of(text: str) -> Form:
 def finding_form(text: str) -> Form:
     """The form of a finding."""
     number, name, *parts = text.split()
-    return form_of(" ".join([f"(?P<finding>{number})", f"(?P<name>{name})", *(f"{{{part}}}" for part in parts)]))
+    return form_of(" ".join([f"(?P<finding>{number})", f"(?P<name>{name})", *(f"{{{part}}}" for part in parts)]) + IN)
 
 
 # The lines, by what they are. Times are in us.
 LINES = {
-    "finding": [finding_form(text) for text in FINDINGS],
+    "finding": [finding_form(text) for text in (*FINDINGS, *OF_LINES)],
     "findings": [form_of("findings {#findings}")],
-    "ok": [form_of("ok {#units} units {#groups} groups {#flows} flows")],
+    "ok": [form_of("ok {#units} units {#groups} groups {#flows} flows"), form_of("ok {#units} units {#groups} groups {#flows} flows {#choices} choices")],
     "refused": [form_of(r"refused (?P<cause>[A-Z]\w*)(?: (?P<place>[a-z].*?))?(?: key (?P<key>\w+))?"),
                 form_of(r"refused plan (?P<cause>\w+)(?: (?P<label>\w+))?")],
     "step": [form_of(r"  (?P<step>\S.*)")],
-    "unit": [form_of(f"unit {{unit}} (?P<stays>{word}) {{#address}}") for word in ("stays", "may move from")],
+    "unit": [form_of(f"unit {{unit}} (?P<stays>{word}) {{#address}}") for word in ("stays", "may move from")] + [form_of("unit {unit} (?P<nowhere>no variant)")],
     "stay": [form_of("stay {#stay} of {#units}")],
     "flow": [form_of("flow {#flow} {group} {from} {to}" + rest) for rest in (
-        " no period", " within {#within} of {#limit} us", " late of {#limit} us", " late {#late} of {#limit} us", " frames {#frames}",
+        " no period", " (?P<nowhere>no variant)", " within {#within} of {#limit} us", " late of {#limit} us", " late {#late} of {#limit} us", " frames {#frames}",
         " frames {#frames} whole within {#within} us", " frames {#frames} whole within {#within} of {#limit} us",
         " frames {#frames} late of {#limit} us", " frames {#frames} late {#late} of {#limit} us")],
     "need": [form_of("need {#need} {unit} {group}" + signal + rest)
              for signal in ("", " {signal}")
              for rest in (" age {#age} of {#limit} us", " age {#age} of {#limit} us flow {#flow}", " old of {#limit} us",
-                          " old {#old} of {#limit} us", " old {#old} of {#limit} us flow {#flow}", " unmet of {#limit} us")],
+                          " old {#old} of {#limit} us", " old {#old} of {#limit} us flow {#flow}", " unmet of {#limit} us", " (?P<nowhere>no variant)")],
     "load": [form_of("load {#load} of {#bitrate}")],
 }
 

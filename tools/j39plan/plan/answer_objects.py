@@ -12,16 +12,23 @@ SEVERAL = {"unit": "units", "flow": "flows", "need": "needs"}
 
 
 def line_object(line: Line) -> Object:
-    """The parts of a line. Whether a unit stays at its planned address is a truth value."""
-    if line.kind == "unit":
-        return {**line.parts, "stays": line.parts["stays"] == "stays"}
-    return dict(line.parts)
+    """The parts of a line. Whether a unit stays at its planned address is a truth value, and so is that no vehicle of a line has
+    it; the alternatives of those that have a finding are a list."""
+    found: Object = dict(line.parts)
+    if "stays" in found:
+        found["stays"] = found["stays"] == "stays"
+    if "variant" in found:
+        found["variant"] = line.word("variant").split()
+    if "nowhere" in found:
+        found["nowhere"] = True
+    return found
 
 
 def placed_object(part: Placed) -> Object:
     """A finding or a refusal, with its line of the file, a hint and the steps of a run, where there are some."""
     line, *steps = lines_of("\n".join([part.answer, *part.below]))
-    found = {**line_object(line), "text": part.answer, "line": part.line, "hint": part.hint, "steps": [step.word("step") for step in steps]}
+    found = {**line_object(line), "text": part.answer, "line": part.line, "hint": part.hint, "steps": [step.word("step") for step in steps],
+             "with": [text.strip() for text in part.withs]}
     return {key: said for key, said in found.items() if said not in ("", None, [])}
 
 

@@ -6,7 +6,7 @@ from typing import NamedTuple
 
 from j39plan.j1939 import FRAME_BYTES
 from j39plan.plan.answer_grammar import Line, line_of
-from j39plan.plan.hints import ends, groups, needs, requests
+from j39plan.plan.hints import ends, groups, needs, requests, variants
 from j39plan.plan.hints.refusals import refusal
 from j39plan.plan.hints.text_faults import Told
 from j39plan.plan.parts import Source
@@ -160,8 +160,16 @@ def of_plan(plan: Source, line: Line) -> Told:
     return plan.line(("timing", "bitrate")), "key bitrate: the flows take more at their periods; load shows how much"
 
 
+def of_choices(plan: Source, line: Line) -> Told:
+    """Line and hint of a finding about the choices of a line of vehicles."""
+    if line.word("finding") == "F29":
+        return plan.line(("never",)), "the nevers leave no vehicle"
+    return plan.line(("choice",)), "so many full vehicles differ in what delays, loads and addresses come from: fewer choices that units, groups or flows go with"
+
+
 # What is to be said of a finding by its number.
 HINTS = {
+    **dict.fromkeys(("F29", "F30"), of_choices),
     **dict.fromkeys(PAIR_KEYS, of_two), **dict.fromkeys((*FLOW_KEYS, "F18"), of_flow), **dict.fromkeys(KEYS, of_one), **dict.fromkeys(("F3", "F17"), of_plan),
     **dict.fromkeys(("F4", "F6"), of_group), **dict.fromkeys(("F8", "F14"), of_signals), "F11": of_flows, "F28": of_ends, **dict.fromkeys(("F19", "F20"), of_need),
     **dict.fromkeys(("F21", "F22", "F23", "F25"), of_request),
@@ -171,7 +179,7 @@ HINTS = {
 def finding(plan: Source, text: str) -> Told:
     """Line and hint of a finding."""
     line = line_of(text)
-    return HINTS[line.word("finding")](plan, line)
+    return variants.missing(plan, line) or HINTS[line.word("finding")](plan, line)
 
 
 def parted(answer: str) -> list[list[str]]:
@@ -187,17 +195,23 @@ def parted(answer: str) -> list[list[str]]:
 
 class Placed(NamedTuple):
     """A part of an answer: its line of the file, None where it says nothing of one, what the program wrote, a hint, and the lines that
-    belong to it."""
+    belong to it; and of a plan of a line of vehicles the lists of alternatives by which a finding goes."""
 
     line: int | None
     answer: str
     hint: str
     below: list[str]
+    withs: list[str] = []
 
     @property
     def text(self) -> str:
         """What the program wrote, with the hint."""
         return f"{self.answer}  ({self.hint})" if self.hint else self.answer
+
+    @property
+    def all_below(self) -> list[str]:
+        """The lines that are written below it."""
+        return [*self.below, *self.withs]
 
 
 def placed(data: bytes, answer: str) -> Iterator[Placed]:
@@ -211,4 +225,4 @@ def placed(data: bytes, answer: str) -> Iterator[Placed]:
         else:
             yield Placed(None, line, "", below)
             continue
-        yield Placed(at, line, hint or "", below)
+        yield Placed(at, line, hint or "", below, variants.withs(plan, line_of(line)) if plan["choice"] and not line.startswith("refused ") else [])

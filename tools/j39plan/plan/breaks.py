@@ -149,7 +149,8 @@ class Layouts:
         if old["every"] != new["every"]:
             for signal in old.inside.get("signal", []):
                 if signal["repeated"]:
-                    yield signal, new, signal.label, "wrong", f"its records are {new['every']} bytes apart, and not {old['every']}"
+                    why = f"its records are {new['every']} bytes apart, and not {old['every']}" if new["every"] else "its group has no records any more"
+                    yield signal, new, signal.label, "wrong", why
 
 
 class Breaks:

@@ -71,6 +71,12 @@ def text_place(text: Part) -> Hashable:
     return text.number("byte"), text.number("bytes")
 
 
+def fixed_key(unit: Part) -> Hashable:
+    """The address of a unit that may not choose another one; one that may is like no other."""
+    name = unit["name"]
+    return id(unit) if isinstance(name, dict) and name.get("arbitrary") is True else unit.number("address")
+
+
 INSIDE_KEYS: dict[str, tuple[Key, ...]] = {"signal": (label_of, scales.meaning), "text": (label_of, text_place)}
 
 
@@ -80,12 +86,13 @@ def inside_pairs(old: Part, new: Part, table: str) -> Pairs:
 
 
 class Matched:
-    """Two plans, and which of their tables are the same ones: units by label, else by NAME, else by all of it but the number; groups by label, else by their number;
+    """Two plans, and which of their tables are the same ones: units by label, else by NAME, else by all of it but the number, else
+    by the address, where neither may choose another one; groups by label, else by their number;
     flows and others by what they name."""
 
     def __init__(self, old: Source, new: Source) -> None:
         self.old, self.new = old, new
-        self.units = pairs_of(old["unit"], new["unit"], label_of, name_key, kind_key)
+        self.units = pairs_of(old["unit"], new["unit"], label_of, name_key, kind_key, fixed_key)
         self.groups = pairs_of(old["group"], new["group"], label_of, lambda group: (group.number("pgn"), spelled(group["when"])), lambda group: group.number("pgn"))
         self._renamed = {
             (table, old.label): new.label for table, pairs in (("unit", self.units), ("group", self.groups))

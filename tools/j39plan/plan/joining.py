@@ -16,6 +16,9 @@ from j39plan.plan.text import Labels
 # plan says something too: its default, or that there is one length alone.
 OPEN = frozenset(("period", "deadline", "pause", "within", "spn", "values"))
 
+# The arrays of tables of a line of vehicles: its choices, and what isn't built.
+OF_LINES = ("choice", "never")
+
 # The keys by which flows and other tables without labels are told apart, each with the array that its label is of.
 TOLD_BY = {"group": "group", "from": "unit", "to": "unit", "unit": "unit", "signal": ""}
 
@@ -97,18 +100,22 @@ class Join:
         self.contradictions: list[Told] = []
         self.notes: list[Told] = []
         self.top = Merged(sources[0].top)
-        self.arrays: dict[str, list[Merged]] = {array: [] for array in arrays()}
+        self.arrays: dict[str, list[Merged]] = {array: [] for array in (*OF_LINES, *(array for array in arrays() if array not in OF_LINES))}
         self._labels = {array: Labels() for array in ("unit", "group")}
         self._called: dict[tuple[Source, str, str], str] = {}  # of a file, an array and a label there: the label here
         self._told: dict[tuple[object, ...], Merged] = {}  # flows and the like by what tells them apart
         for number, source in enumerate(sources):
             self._top(source, number)
+            for choice in source["choice"]:
+                self._choice(choice)
+            for never in source["never"]:
+                self._never(never)
             for unit in source["unit"]:
                 self._unit(unit)
             for group in source["group"]:
                 self._group(group)
             for array in self.arrays:
-                if array not in ("unit", "group"):
+                if array not in ("unit", "group", *OF_LINES):
                     for part in source[array]:
                         self._other(array, part)
         self._opposite_ways()
@@ -134,7 +141,9 @@ class Join:
             if here == there:
                 if key in part.said and key not in merged.values:
                     merged.values[key], merged.keys[key] = there, part
-            elif key in OPEN and None in (here, there):
+            elif key == "with" and isinstance(here, list) and isinstance(there, list) and sorted(map(str, here)) == sorted(map(str, there)):
+                continue
+            elif key in OPEN and None in (here, there) or key == "with" and self._is_of_one_vehicle(by if here is None else part, here, there):
                 if here is None:
                     merged.values[key], merged.keys[key] = there, part
             else:
@@ -181,6 +190,40 @@ class Join:
                 text = f"{key}: {spelled(said[key])}, and {spelled(top.values[key])} at {top.keys[key].at(key)}"
                 self._contradict(top, source.top, key, text)
 
+    @staticmethod
+    def _is_of_one_vehicle(silent: Part, here: Value, there: Value) -> bool:
+        """Whether a part doesn't say with which alternatives it is there, since its file is the plan of one vehicle."""
+        return None in (here, there) and not silent.source["choice"]
+
+    def _choice(self, choice: Part) -> None:
+        """Joins a choice: one of equal alternatives is there once. An alternative is one of a single choice."""
+        labels = set(choice.values("of"))
+        met = next((merged for merged in self.arrays["choice"] if self._is_new(merged, choice) and not labels.isdisjoint(several(merged.values["of"]))), None)
+        if met is None:
+            self.arrays["choice"].append(Merged(choice))
+        elif labels == set(several(met.values["of"])):
+            met.origins.append(choice)
+        else:
+            self._contradict(met, choice, "of", f"choice: of = {spelled(choice['of'])}, and {spelled(met.values['of'])} at {met.first.at('of')}")
+
+    def _never(self, never: Part) -> None:
+        """Joins what isn't built: the same is there once."""
+        lists = [set(never.values(key)) for key in ("of", "but")]
+        same = next((merged for merged in self.arrays["never"] if [set(several(merged.values.get(key))) for key in ("of", "but")] == lists), None)
+        if same is None:
+            self.arrays["never"].append(Merged(never))
+        else:
+            same.origins.append(never)
+
+    def _are_alternatives(self, merged: Merged, part: Part) -> bool:
+        """Whether no vehicle has both of two tables, as they go with other alternatives of a choice."""
+        lists = several(merged.values.get("with")), part.values("with")
+        for choice in self.arrays["choice"]:
+            one, other = ([label for label in several(choice.values["of"]) if label in labels] for labels in lists)
+            if one and other and not any(label in other for label in one):
+                return True
+        return False
+
     def _is_new(self, merged: Merged, part: Part) -> bool:
         """Whether a table is of earlier files alone: what one file says twice is for `check` to find."""
         return all(origin.source is not part.source for origin in merged.origins)
@@ -201,7 +244,7 @@ class Join:
 
     def _unit(self, unit: Part) -> None:
         """Joins a unit: that of its label, else one of its address that may be it by its NAME."""
-        earlier = [merged for merged in self.arrays["unit"] if self._is_new(merged, unit)]
+        earlier = [merged for merged in self.arrays["unit"] if self._is_new(merged, unit) and (merged.label == unit.label or not self._are_alternatives(merged, unit))]
         label = self._same.get(unit.label, unit.label)
         here = next((merged for merged in earlier if merged.label == label), None)
         alike = [merged for merged in earlier if may_be_one(name_in(merged), name_in(unit))]
@@ -325,13 +368,15 @@ class Join:
         if "signal" in names:
             names["signal"] = self._here(part.source, f"signal of {names['group']}", names["signal"])
         key = (array, *sorted(names.items()))
-        here = self._told.get(key)
+        own = (*key, *sorted(map(str, part.values("with"))))
+        here = self._told.get(own if part.source["choice"] else key)
         if here is not None and self._is_new(here, part):
             self._joined(here, part, name_of(part))
             return
         merged = Merged(part)
         merged.values.update(names)
         self._told.setdefault(key, merged)
+        self._told.setdefault(own, merged)
         self.arrays[array].append(merged)
 
     def _opposite_ways(self) -> None:

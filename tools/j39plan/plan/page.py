@@ -413,7 +413,8 @@ def document(heading: str, facts: str, sections: dict[str, str], version: str, s
 """
 
 
-def page(title: str, source: Source, tables: Tables, found: list[Finding], stands: dict[str, Stand], load: Load | None, version: str) -> str:
-    """The whole page. The title is the name of the plan's file."""
-    heading = f"Plan {escape(os.path.basename(title))}"
-    return document(heading, counts_of(source, tables, found), sections_of(title, source, tables, found, stands, load), version)
+def page(title: str, source: Source, tables: Tables, found: list[Finding], stands: dict[str, Stand], load: Load | None, version: str, labels: str = "", choices: str = "") -> str:
+    """The whole page, of a vehicle of a line with its choices and what it has of these. The title is the name of the plan's file."""
+    heading = f"Plan {escape(os.path.basename(title))}" + (f" ({escape(labels)})" if labels else "")
+    first = {"choices": choices} if choices else {}
+    return document(heading, counts_of(source, tables, found), {**first, **sections_of(title, source, tables, found, stands, load)}, version)

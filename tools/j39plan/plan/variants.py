@@ -2,8 +2,11 @@
 
 import re
 from collections.abc import Iterator, Sequence
+from typing import Self
 
+from j39plan import program
 from j39plan.plan.cut import HEADER
+from j39plan.plan.parts import Source
 from j39plan.plan.toml_places import Places
 
 # A line of `show` on choices.
@@ -19,18 +22,54 @@ WITH = re.compile(r"""^[ \t]*(?:with|"with"|'with')[ \t]*=[ \t]*\[(?:[^]"'#]|"[^
 ABOVE = re.compile(r"(?:^[ \t]*#[^\n]*\n)+\Z", re.MULTILINE)
 
 
-class Line:
-    """The choices of a plan, by what `show` answers, and what is there with which alternatives. A table's number counts from 1."""
+# A table by the key of its array and its number.
+Table = tuple[str, int]
 
-    def __init__(self, shown: str) -> None:
-        self.named: dict[tuple[str, int], list[str]] = {}
-        for table, number, label in NAMED.findall(shown):
-            self.named.setdefault((table, int(number)), []).append(label)
-        self.names: dict[tuple[str, int], dict[str, str]] = {}
-        for words in NAMES.findall(shown):
-            table, number, key, label = words[:4] if words[0] else words[4:]
-            self.names.setdefault((table, int(number)), {})[key] = label
+# What lists of alternatives hold of a variant together.
+Box = list[list[str]]
+
+# What tables name, by the keys of their arrays.
+KEYS = {"unit": ("label",), "group": ("label",), "flow": ("group", "from", "to"), "need": ("unit", "group", "from"), "request": ("group", "from", "to")}
+
+
+class Line:
+    """The choices of a plan, and what is there with which alternatives: the lists of choices, nevers and tables, and what tables name. A table's number
+    counts from 1."""
+
+    def __init__(self, named: dict[Table, list[str]], names: dict[Table, dict[str, str]]) -> None:
+        self.named, self.names = named, names
         self.choices = self._of("choice")
+        self._labelled = {(kind, keys["label"]): (kind, number) for (kind, number), keys in names.items() if "label" in keys}
+
+    @classmethod
+    def shown(cls, text: str) -> Self:
+        """The choices by what `show` answers."""
+        named: dict[Table, list[str]] = {}
+        for table, number, label in NAMED.findall(text):
+            named.setdefault((table, int(number)), []).append(label)
+        names: dict[Table, dict[str, str]] = {}
+        for words in NAMES.findall(text):
+            table, number, key, label = words[:4] if words[0] else words[4:]
+            names.setdefault((table, int(number)), {})[key] = label
+        return cls(named, names)
+
+    @classmethod
+    def of(cls, source: Source) -> Self:
+        """The choices by the text of a plan that can be read."""
+        choices = [list(map(str, choice.values("of"))) for choice in source["choice"]]
+        order = [label for choice in choices for label in choice]
+        named: dict[Table, list[str]] = {("choice", number): labels for number, labels in enumerate(choices, 1)}
+        for number, never in enumerate(source["never"], 1):
+            but = never.values("but")
+            others = [label for choice in choices if not set(choice).isdisjoint(map(str, but)) for label in choice if label not in but]
+            named["never", number] = sorted([*map(str, never.values("of")), *others], key=order.index)
+        names: dict[Table, dict[str, str]] = {}
+        for table, keys in KEYS.items():
+            for number, part in enumerate(source[table], 1):
+                names[table, number] = {key: part.text(key) for key in keys if key in part.said}
+                if "with" in part.said:
+                    named[table, number] = sorted(map(str, part.values("with")), key=order.index)
+        return cls(named, names)
 
     def _of(self, table: str) -> list[list[str]]:
         return [labels for (other, _), labels in self.named.items() if other == table]
@@ -40,30 +79,59 @@ class Line:
         named = ([label for label in labels if label in choice] for choice in self.choices)
         return all(not some or not taken.isdisjoint(some) for some in named)
 
-    def first(self, wanted: set[str]) -> set[str] | None:
-        """The alternatives of the first variant that is built and takes these; None where there is none."""
-        return self._behind(set(), wanted, 0)
+    def first(self, wanted: set[str], boxes: Sequence[Sequence[Box]] = (), gone: Sequence[list[str]] = ()) -> set[str] | None:
+        """The alternatives of the first variant that is built and takes these; that is in one of several boxes, of each group of boxes; and in the box of
+        none of the lists that are gone. None where there is none."""
+        nevers = [(set(never), never) for never in (*self._of("never"), *gone)]
+        if any(not never for never, _ in nevers):
+            return None
+        return self._behind(set(), wanted, 0, boxes, nevers)
 
-    def _behind(self, taken: set[str], wanted: set[str], place: int) -> set[str] | None:
+    def _behind(self, taken: set[str], wanted: set[str], place: int, boxes: Sequence[Sequence[Box]], nevers: list[tuple[set[str], list[str]]]) -> set[str] | None:
         if place == len(self.choices):
-            return taken if all(not self.is_in(taken, never) for never in self._of("never")) else None
-        choice = self.choices[place]
+            return taken
+        choice, known = self.choices[place], set().union(*self.choices[:place + 1])
         for label in [label for label in choice if label in wanted] or choice:
             more = taken | {label}
-            if not any(set(never) <= set().union(*self.choices[:place + 1]) and self.is_in(more, never) for never in self._of("never")):
-                found = self._behind(more, wanted, place + 1)
+            if any(never <= known and self.is_in(more, labels) for never, labels in nevers):
+                continue
+            if all(any(self._may_be_in(more, known, box) for box in some) for some in boxes):
+                found = self._behind(more, wanted, place + 1, boxes, nevers)
                 if found is not None:
                     return found
         return None
 
-    def there(self, taken: set[str]) -> set[tuple[str, int]]:
+    def _may_be_in(self, taken: set[str], known: set[str], box: Box) -> bool:
+        """Whether a variant that takes these of the choices that are known may be in a box."""
+        return all(self.is_in(taken, [label for label in labels if label in known]) for labels in box)
+
+    def lists(self, place: Table) -> list[tuple[Table, list[str]]]:
+        """The lists by which a table is there: its own, and those of the group and the units that it names, of a need of its unit alone; each with its
+        table."""
+        ends = [self._labelled[key] for end, label in self._ends(place) if place[0] != "need" or end == "unit"
+                if (key := ("group" if end == "group" else "unit", label)) in self._labelled]
+        return [(table, labels) for table in (place, *ends) if (labels := self.named.get(table, []))]
+
+    def box(self, place: Table) -> Box:
+        """The box of a table."""
+        return [labels for _, labels in self.lists(place)]
+
+    def in_words(self, labels: Sequence[str]) -> str:
+        """A list of alternatives in words, choice by choice."""
+        return ", ".join(" or ".join(some) for choice in self.choices if (some := [label for label in choice if label in labels]))
+
+    def are_together(self, *places: Table) -> bool:
+        """Whether some variant that is built has all of these tables."""
+        return self.first(set(), [[[labels for place in places for labels in self.box(place)]]]) is not None
+
+    def there(self, taken: set[str]) -> set[Table]:
         """The tables that the plan of a variant has."""
         found = {place for place in self.names if self.is_in(taken, self.named.get(place, ()))}
         labels = {table: {self.names[place]["label"] for place in found if place[0] == table} for table in ("unit", "group")}
         labels["unit"].add("all")
         return {place for place in found if all(label in labels["group" if key == "group" else "unit"] for key, label in self._ends(place))}
 
-    def _ends(self, place: tuple[str, int]) -> Iterator[tuple[str, str]]:
+    def _ends(self, place: Table) -> Iterator[tuple[str, str]]:
         return ((key, label) for key, label in self.names[place].items() if key != "label")
 
 
@@ -83,17 +151,49 @@ def parts_of(text: str) -> Iterator[tuple[str, str, bool]]:
     yield text[begin:], key, is_element
 
 
-def variant_text(text: str, there: set[tuple[str, int]]) -> str | None:
-    """A plan's text without the tables that aren't there and without the keys of choices; None where its tables aren't spelled by headers."""
+def variant_text(text: str, there: set[Table], has_its_lines: bool = False) -> str | None:
+    """A plan's text without the tables that aren't there and without the keys of choices, with empty lines in their places where what stays is to
+    have its lines; None where its tables aren't spelled by headers."""
+    def gone(part: str) -> str:
+        return "\n" * part.count("\n") if has_its_lines else ""
+
     counts: dict[str, int] = {}
     kept: list[str] = []
     try:
         for part, key, is_element in parts_of(text):
             counts[key] = counts.get(key, 0) + is_element
             if key in ("unit", "group", "flow", "need", "request"):
-                kept.append(WITH.sub("", part) if (key, counts[key]) in there else "")
-            elif key not in ("choice", "never"):
-                kept.append(part)
+                kept.append(WITH.sub(lambda found: gone(found[0]), part) if (key, counts[key]) in there else gone(part))
+            else:
+                kept.append(gone(part) if key in ("choice", "never") else part)
     except ValueError:
         return None
     return "".join(kept)
+
+
+def shown_variant(plan: str, labels: Sequence[str]) -> str:
+    """What `variant` answers; a plan that can't be read, or alternatives that aren't built together, are refused by it."""
+    status, answer = program.call(["variant", "--", plan, *labels])
+    if status != 0:
+        raise program.Refused(status, answer.strip())
+    return answer
+
+
+def line_of(plan: str) -> Line:
+    """The choices of a plan's file."""
+    return Line.shown(program.values(plan))
+
+
+def text_of_variant(plan: str, labels: Sequence[str], has_its_lines: bool = False) -> str:
+    """The text of the plan of the first vehicle that is built and has these alternatives, by a plan's file. It is compared with what `variant` answers."""
+    wanted = shown_variant(plan, labels)
+    line = line_of(plan)
+    taken = line.first(set(labels))
+    with open(plan, encoding="utf-8") as file:
+        written = variant_text(file.read(), line.there(taken), has_its_lines) if taken is not None else None
+    if written is None:
+        raise program.Refused(program.FAULT, "the tables of the plan aren't written by headers as [[unit]]")
+    with program.file_of(written) as one:
+        if program.shown(one) != wanted:
+            raise program.Refused(program.FAULT, "what was written isn't the plan of the variant")
+    return written

@@ -58,6 +58,12 @@ def refuse_buses(name: str, interfaces: list[tuple[str, str]]) -> None:
         raise program.Refused(program.UNREADABLE, f"{name}: it is no vehicle, of which --bus names the buses")
 
 
+def refuse_variant(name: str, variant: list[str] | None) -> None:
+    """Refuses alternatives where a file is one of a vehicle, whose buses have plans of one vehicle."""
+    if variant is not None:
+        raise program.Refused(program.UNREADABLE, f"{name}: --variant is of a plan, and not of a vehicle's file")
+
+
 def refuse_unless_there(vehicle: Vehicle, bus: str) -> None:
     """Refuses the label of a bus that the vehicle doesn't have."""
     labels = [other.label for other in vehicle.tables.buses]

@@ -9,6 +9,9 @@ from j39plan.vehicle.tables import Bus, Gateway
 # How high a line of units is and how wide all of it beside the gateways, how far the units are below their bus, and the width of a gateway.
 LINE, WIDTH, BELOW, BAR = 30, 760, 16, 10
 
+# So many units of a gateway on one bus are named.
+NAMED = 3
+
 
 def spelled(vehicle: Vehicle) -> str:
     """The picture in words."""
@@ -32,6 +35,14 @@ def lines_of(labels: list[str]) -> Iterator[list[tuple[int, str]]]:
         yield line
 
 
+def ends_of(gateway: Gateway) -> dict[str, str]:
+    """The units that a gateway is on each of its buses, of several the first ones by their labels."""
+    labels: dict[str, list[str]] = {}
+    for unit in gateway.units:
+        labels.setdefault(unit.bus, []).append(unit.label)
+    return {bus: ", ".join(some[:NAMED]) + (f", {len(some) - NAMED} more" if len(some) > NAMED else "") for bus, some in labels.items()}
+
+
 class Overview:
     """The picture in the making. Gateways stand left of the units, each in a column of its own."""
 
@@ -39,7 +50,7 @@ class Overview:
         self.vehicle, self.drawing, self.left = vehicle, Drawing(), 0
         self.columns: dict[str, int] = {}
         for gateway in vehicle.tables.gateways:
-            width = max(width_of(said) for said in (gateway.label, *(unit.label for unit in gateway.units))) + BAR + 3 * BESIDE
+            width = max(width_of(said) for said in (gateway.label, *ends_of(gateway).values())) + BAR + 3 * BESIDE
             self.columns[gateway.label] = self.left
             self.left += width
         self.rows: dict[str, int] = {}
@@ -71,14 +82,15 @@ class Overview:
             self.height += LINE
 
     def _gateway(self, gateway: Gateway) -> None:
-        """A gateway as a bar from its first bus to its last one, with a dot and its unit at each."""
-        x, rows = self.columns[gateway.label], [self.rows[unit.bus] for unit in gateway.units]
+        """A gateway as a bar from its first bus to its last one, with a dot and its units at each."""
+        x, ends = self.columns[gateway.label], ends_of(gateway)
+        rows = [self.rows[bus] for bus in ends]
         top = min(rows) - LINE // 2
         self.drawing.add(f'<rect class="gateway" x="{x}" y="{top}" width="{BAR}" height="{max(rows) - top + DOT + 2}"/>', x)
         self.drawing.text(x, top - DOT, gateway.label, "start")
-        for unit, y in zip(gateway.units, rows, strict=True):
+        for said, y in zip(ends.values(), rows, strict=True):
             self.drawing.add(f'<circle cx="{x + BAR // 2}" cy="{y}" r="{DOT}"/>', x)
-            self.drawing.text(x + BAR + DOT, y + LINE // 2, unit.label, "start")
+            self.drawing.text(x + BAR + DOT, y + LINE // 2, said, "start")
 
 
 def overview(vehicle: Vehicle) -> str:

@@ -52,6 +52,8 @@ _j39plan_tool() {
     mapfile -t COMPREPLY < <(compgen -f -- "$word")
   elif [[ $word == -* ]]; then
     mapfile -t COMPREPLY < <(compgen -W "$("${COMP_WORDS[0]}" --help 2> /dev/null | grep -oE -- '--[a-z][a-z-]*' | sort -u)" -- "$word")
+  elif [ "$tool $before" = 'j39plan-variant --log' ]; then
+    _j39plan_files "$word" log
   elif [ "$tool" = j39plan-dbc2plan ]; then
     _j39plan_files "$word" dbc arxml kcd sym
   elif [ "$tool" = j39plan-answer ] && [ "$COMP_CWORD" -eq 1 ]; then

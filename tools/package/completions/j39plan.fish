@@ -138,3 +138,9 @@ complete -c j39plan-plot -l from -x -d 'where the picture begins, in seconds'
 complete -c j39plan-plot -l to -x -d 'where the picture ends, in seconds'
 complete -c j39plan-tolog -l channel -x -d 'only this channel, as can1'
 complete -c j39plan-check-plans -l junit -r -F -d 'write the plans as tests into a file'
+for tool in against answer codes compare cut drift fleet mend plan2dbc plot report restbus signals startup table where
+    complete -c j39plan-$tool -l variant -x -d 'the vehicle of a line with these alternatives'
+end
+complete -c j39plan-variant -l log -r -F -d 'say of which vehicles a log can be'
+complete -c j39plan-variant -l json -d 'as a JSON object'
+complete -c j39plan-variant -l interface -x -d 'the interface that is read of a log of several'

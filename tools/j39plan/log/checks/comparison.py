@@ -64,13 +64,13 @@ class Comparison:
             self.groups.setdefault(group.pgn, []).append(group)
         self.planned = {group.label: group for group in tables.groups}
         self._ways: list[Way] = [(flow.group, flow.sender, flow.to) for flow in tables.flows]
-        self.sent = dict.fromkeys(self._ways, 0)
+        self.sent = {way: [0] for way in self._ways}  # how often messages came of each way
         self.found, self.clock, self.hands = found, Clock(), Hands(tables, found)
         self.numbers = Numbers(settings.others, found)
         heard = Heard(self.hands.first, self.hands.free)
         self.distances = Distances(tables.flows, settings.tolerance, settings.rule, bounds.waits, heard, found)
         self.claims, self.queued, self.commanded = Claims(tables.units, self.hands, found), Queued(), Commanded(tables.units, found)
-        self.asked, self.damage = Asked(tables, settings.tolerance, bounds.requests, found), Damage(tables.timing, found)
+        self.asked, self.damage = Asked(tables, settings.tolerance, bounds.requests, found, self.hands.is_on), Damage(tables.timing, found)
         self.transfers, self.unplanned = Transfers(tables.timing, found), Unplanned(tables, bounds.flows, found)
         labels = {pgn: groups[0].label for pgn, groups in self.groups.items() if len(groups) == 1}
         self.others = OtherRequests(labels, found, self.hands.is_on)
@@ -174,12 +174,16 @@ class Comparison:
         if pgn in self.asked.open:
             self.asked.answers(line, at, sender, to, pgn)
         if pgn in self.others.open:
-            self.others.answers(at, sender, to, pgn)
+            self.others.answers(line, at, sender, to, pgn)
 
     def sends(self, number: int, line: int, at: int | None, waited: int = 0) -> None:
         """A message of a flow has come, by where it began, and how long it may have waited for others of its unit."""
-        self.sent[self._ways[number - 1]] += 1
+        self.counted(number)[0] += 1
         self.distances.sent(number, line, at, waited)
+
+    def counted(self, number: int) -> list[int]:
+        """Where it is counted how often messages came of a flow's way."""
+        return self.sent[self._ways[number - 1]]
 
     def passes(self, line: int, at: int | None, identifier: int, what: str, sender: Who) -> None:
         """A frame of no flow goes by. Where nobody has it by the plan, and it is told as that, it has no name here."""
@@ -292,7 +296,7 @@ class Comparison:
             self.answers(line, at, sender, to, frame.pgn)
             way = group.label, sender.label or "", to.shown
             if way in self.sent:
-                self.sent[way] += 1
+                self.sent[way][0] += 1
 
     def nobody(self, line: int, at: int | None, pgn: int, sender: Who) -> None:
         """A message of no group."""
@@ -484,7 +488,7 @@ class Comparison:
         self.asked.end(last)
         self.others.goes_by(last)
         for number, flow in enumerate(self.flows, 1):
-            if self.sent[self._ways[number - 1]] == 0 and not flow.on_request:
+            if self.counted(number)[0] == 0 and not flow.on_request:
                 self.found.tell("never-sent", f"{self.distances.name(number)}: never sent", None, flow=number, unit=flow.sender)
         self.unmet()
         for label in self.units:
@@ -495,6 +499,6 @@ class Comparison:
         """Tells the needs that nothing met in this log."""
         for number, need in enumerate(self.needs, 1):
             flows = [flow for flow in self.flows if need.is_met_by(flow)]
-            if not any(self.sent[flow.group, flow.sender, flow.to] for flow in flows):
+            if not any(self.sent[flow.group, flow.sender, flow.to][0] for flow in flows):
                 why = "" if flows else ", and no flow of the plan does"
                 self.found.tell("unmet", f"need {number}, {need.what} by {need.unit}: nothing met it{why}", None, unit=need.unit)

@@ -159,7 +159,14 @@ class Distances:
     def sent(self, number: int, line: int, at: int | None, waited: int = 0) -> None:
         """A message of a flow, by when it began, and how long it may have waited for others of its unit. The first one counts from when its unit was heard
         first."""
-        track = self._tracks[number - 1]
+        self.comes(self._tracks[number - 1], line, at, waited)
+
+    def track(self, number: int) -> Track:
+        """A flow as it was sent so far."""
+        return self._tracks[number - 1]
+
+    def comes(self, track: Track, line: int, at: int | None, waited: int = 0) -> None:
+        """A message of a flow has come, as `sent` has it."""
         track.count += 1
         limits, last = track.limits, track.at
         if at is None:
@@ -168,7 +175,7 @@ class Distances:
         if limits is None and self._usual is None:
             return
         before, track.line, track.at, track.waited = track.waited, line, at, waited
-        if self._overdue and number in self._overdue:
+        if self._overdue and track.number in self._overdue:
             self._comes_again(track, last)
         if last is None:
             self._begins(track, line, at)

@@ -37,9 +37,11 @@ MEANINGS = {
     "stopped": "a flow that ended",
     "never-sent": "a flow that was never sent",
     "unmet": "a need that nothing met: none of its flows was sent, or the plan has none",
-    "unanswered": "a request without an answer within 1,250 ms (in a log without times: at all)",
+    "unanswered": "a request without an answer within 1,250 ms (in a log without times: at all), of one to all also of a unit whose flow serves it and "
+                  "that is on",
     "refused": "a request that is refused",
-    "late": "a planned request that is answered later than 200 ms after it",
+    "refused-to-all": "a unit refuses a request that goes to all, which SAE J1939-21 forbids",
+    "late": "a request that is answered later than 200 ms after it, an unplanned one by a unit that is on and asked alone",
     "asked-early": "a planned request that is repeated before its period has passed",
     "gap": "nothing came for more than a second and five of the shortest period, though two flows were alive; distances begin anew",
     "ignition": "a gap behind which two units or more begin with their claims, which then are no restarts",

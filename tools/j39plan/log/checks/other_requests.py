@@ -10,7 +10,7 @@ from j39plan.j1939 import ADDRESS_CLAIMED
 from j39plan.log.clock import milliseconds
 from j39plan.log.checks.deviations import Found, Place, place_row
 from j39plan.log.reports import ACKNOWLEDGEMENTS, REFUSALS, Request, Who
-from j39plan.log.checks.requests import DONE, WAITED
+from j39plan.log.checks.requests import DONE, DONE_TO_ALL, PROMPT, WAITED
 
 # The bytes of an acknowledgement, and where its control byte, the address that it is for, and its PGN stand.
 BYTES, CONTROL, FOR, PGN = 8, 0, 4, 5
@@ -54,7 +54,7 @@ class Asked:
 
 class OtherRequests:
     """The requests of a log that the plan doesn't have, those for claims passed over. What a unit doesn't answer within 1,250 ms, though it is
-    asked alone and is on, is told, and what it refuses."""
+    asked alone and is on, is told, and what it refuses or answers late; and who refuses what is asked of all."""
 
     def __init__(self, labels: dict[int, str], found: Found, is_on: Callable[[str, int | None], bool]) -> None:
         self._labels, self._found, self._is_on = labels, found, is_on
@@ -80,11 +80,14 @@ class OtherRequests:
         is_on = row.is_between_units and self._is_on(row.to.label or "", at)
         self.open.setdefault(request.pgn, {})[way] = row, place, is_on
 
-    def answers(self, at: int | None, sender: Who, to: Who, pgn: int) -> None:
+    def answers(self, line: int, at: int | None, sender: Who, to: Who, pgn: int) -> None:
         """A message of a group begins that is asked for."""
         self._passes(pgn, at)
-        for row in self._closed(pgn, sender, to.address):
+        for row, asked, is_on in self._closed(pgn, sender, to.address):
             row.answered += 1
+            if is_on and at is not None and asked.at is not None and at - asked.at > PROMPT:
+                text = f"{row.text}: answered {{}} ms after it, later than {milliseconds(PROMPT)} ms"
+                self._found.tell("late", text, line, at, at - asked.at, unit=row.to.label)
 
     def acknowledged(self, at: int | None, sender: Who, to: Who, data: bytes) -> None:
         """An acknowledgement comes, which may refuse requests."""
@@ -96,18 +99,20 @@ class OtherRequests:
         if word not in REFUSALS:
             return
         for row, place, _ in list(self.open.get(pgn, {}).values()):
+            if row.to.address is None and sender.label and meant in (row.sender.address, 0xFF) and sender.address != row.sender.address:
+                self._found.tell("refused-to-all", f"{row.text}: {sender.label} {DONE_TO_ALL}", place.line, place.at, unit=sender.label)
             if row.to.address is not None and meant in (row.sender.address, 0xFF) and row.is_answer(sender, None):
                 self._close(row)
                 row.refused += 1
                 if row.is_between_units:
                     self._found.tell("refused", f"{row.text}: {DONE[word]}", place.line, place.at, unit=row.to.label)
 
-    def _closed(self, pgn: int, sender: Who, to: int | None) -> list[Asked]:
+    def _closed(self, pgn: int, sender: Who, to: int | None) -> list[tuple[Asked, Place, bool]]:
         """What isn't open any more, since one sends the group to an address, or to all."""
-        rows = [row for row, *_ in self.open.get(pgn, {}).values() if row.is_answer(sender, to)]
-        for row in rows:
+        closed = [one for one in self.open.get(pgn, {}).values() if one[0].is_answer(sender, to)]
+        for row, *_ in closed:
             self._close(row)
-        return rows
+        return closed
 
     def _close(self, row: Asked) -> None:
         """Something has become of a request."""

@@ -91,14 +91,14 @@ class Requirements:
     def _flows(self) -> Iterator[Requirement]:
         """The flows, by their messages."""
         for flow in self._comparison.flows:
-            times = self._comparison.sent[flow.group, flow.sender, flow.to]
+            times = self._comparison.sent[flow.group, flow.sender, flow.to][0]
             yield Requirement("flow", flow.number, flow.what, frozenset((flow.sender, flow.to)), times, self._by.get(("flow", flow.number), []))
 
     def _needs(self) -> Iterator[Requirement]:
         """The needs, by the messages that meet them; one is broken too where each flow that meets it was away for too long."""
         for number, need in enumerate(self._comparison.needs, 1):
             flows = [flow for flow in self._comparison.flows if need.is_met_by(flow)]
-            times = sum(self._comparison.sent[flow.group, flow.sender, flow.to] for flow in flows)
+            times = sum(self._comparison.sent[flow.group, flow.sender, flow.to][0] for flow in flows)
             away = [[one for one in self._by.get(("flow", flow.number), []) if one.kind in ABSENCES] for flow in flows]
             broken = self._by.get(("need", number), []) + ([one for some in away for one in some] if all(away) else [])
             what = f"{need.what} by {need.unit}" + (f" from {need.sender}" if need.sender else "")

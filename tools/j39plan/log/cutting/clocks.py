@@ -3,14 +3,19 @@
 from __future__ import annotations
 
 import io
+from bisect import bisect_right
 from collections.abc import Iterator
 from typing import NamedTuple
 
-from j39plan.log.clock import SECOND, nanoseconds, spelled_time
+from j39plan.log.clock import MILLISECOND, SECOND, nanoseconds, spelled_time
 from j39plan.log.files import LINE_MOST, Log
 
 # So many frames that both have once are wanted at least, and of so many differences at each end the one in the middle counts.
 FEW, ENDS = 3, 99
+
+# Frames that tell of one clock lie no further from one another: one that two loggers have once each may be two of a drive that repeats itself.
+# Two clocks go apart by no more than one part of so many.
+NEAR, STEADY = 100 * MILLISECOND, 5000
 
 
 class Common(NamedTuple):
@@ -62,6 +67,13 @@ def times_in(log: Log) -> dict[bytes, int | None]:
     return found
 
 
+def near(common: list[Common], width: int) -> list[Common]:
+    """Of several frames the most that tell of clocks that are no further apart from one another."""
+    laters = sorted(one.later for one in common)
+    count, begin = max(((bisect_right(laters, later + width) - at, at) for at, later in enumerate(laters)), key=lambda found: (found[0], -found[1]))
+    return [one for one in common if laters[begin] <= one.later <= laters[begin + count - 1]]
+
+
 def middle(common: list[Common]) -> Common:
     """Of several frames the times in the middle of both clocks."""
     return Common(sorted(one.at for one in common)[len(common) // 2], sorted(one.later for one in common)[len(common) // 2])
@@ -71,12 +83,14 @@ def shift_of(first: Log, second: Log) -> Shift | None:
     """By how much the clock of the second log is later, None where too few frames tell it."""
     times = times_in(first)
     common = sorted(Common(at, at - known) for frame, at in times_in(second).items() if at is not None and (known := times.get(frame)) is not None)
+    if common:
+        common = near(common, NEAR + (common[-1].at - common[0].at) // STEADY)
     if len(common) < FEW:
         return None
     part = max(1, min(ENDS, len(common) // 2))
-    begin, end = middle(common[:part]), middle(common[-part:])
-    found = Shift(begin, end, len(common), 0)
-    return found._replace(spread=max(abs(one.at - one.later - found.at(one.at)) for one in common))
+    found = Shift(middle(near(common[:part], NEAR)), middle(near(common[-part:], NEAR)), 0, 0)
+    apart = [far for one in common if (far := abs(one.at - one.later - found.at(one.at))) <= NEAR]
+    return found._replace(frames=len(apart), spread=max(apart)) if len(apart) >= FEW else None
 
 
 def shifted(line: bytes, shift: Shift) -> bytes:

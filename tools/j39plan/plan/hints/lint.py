@@ -3,14 +3,16 @@
 from __future__ import annotations
 
 from collections.abc import Iterator
+from itertools import combinations
 from typing import NamedTuple
 
 from j39plan.j1939 import FRAME_BYTES, PACKET_BYTES, POOL
 from j39plan.plan import scales
-from j39plan.plan.hints import ends, needs
+from j39plan.plan.hints import ends, needs, variants
 from j39plan.plan.parts import Part, Source
 from j39plan.plan.tables import Flow, Unit
 from j39plan.plan.toml_places import Place
+from j39plan.plan.variants import Line as Choices
 
 # The line of a place, and a hint.
 Hint = tuple[int, str]
@@ -42,12 +44,23 @@ class Lint:
     def __init__(self, source: Source, used: frozenset[str] = frozenset()) -> None:
         self.source, self.tables, self.used = source, source.tables, used
         self.groups = {group.label: group for group in self.tables.groups}
+        self.choices = Choices.of(source) if source["choice"] else None
+
+    def are_together(self, *places: Place) -> bool:
+        """Whether a vehicle has all of these units, groups, flows and needs, of which a line of vehicles has alternatives."""
+        return self.choices is None or self.choices.are_together(*((str(place[0]), int(place[1])) for place in places))
+
+    def of_line(self) -> Iterator[Hint]:
+        """Hints at the choices of a line of vehicles."""
+        if self.choices:
+            yield from variants.unnamed(self.source)
+            yield from variants.silent_without(self.source)
 
     def hints(self) -> list[Hint]:
         """All hints, in the order of the file."""
         found = (self.unsent, self.idle, self.fixed_in_pool, self.preferred, self.spns, self.short, self.urgent, self.equal_identities,
                  self.unsendable, self.passed, self.single, self.unordered, self.untaken, self.met_twice, self.met_late, self.unasked,
-                 self.not_live)
+                 self.not_live, self.of_line)
         return sorted({hint for part in found for hint in part()})
 
     def at(self, place: Place, key: str, text: str) -> Hint:
@@ -90,7 +103,7 @@ class Lint:
         for unit in sorted(self.tables.units, key=lambda unit: unit.may_choose):
             at.setdefault(unit.address, []).append(unit)
         for first, *others in at.values():
-            movers = [unit for unit in others if unit.may_choose]
+            movers = [unit for unit in others if unit.may_choose and self.are_together(first.place, unit.place)]
             if not movers:
                 continue
             several, there = len(movers) > 1, f"{first.label} at line {self.source.line((*first.place, 'address'))}"
@@ -113,7 +126,7 @@ class Lint:
                 what = f"signal {group.label}.{signal.label}: spn {spn}"
                 if other is not signal:
                     yield signal.line("spn"), f"{what} is that of {other.label} at line {other.line('spn')} too"
-                elif above is not group:
+                elif above is not group and self.are_together(above.place, group.place):
                     there = f"{above.label}.{known.label} at line {known.line('spn')}"
                     if not scales.is_close(scales.scale(known), scales.scale(signal)):
                         yield signal.line("spn"), f"{what} is {scales.scale(signal).shown}, and {scales.scale(known).shown} in {there}"
@@ -140,7 +153,8 @@ class Lint:
         first: dict[int, list[Unit]] = {}
         for unit in (unit for unit in self.tables.units if "identity" in unit.fields):
             others = first.setdefault(unit.fields["identity"], [])
-            other = next((other for other in others if other.fields["manufacturer"] != unit.fields["manufacturer"]), None)
+            other = next((other for other in others if other.fields["manufacturer"] != unit.fields["manufacturer"]
+                          and self.are_together(other.place, unit.place)), None)
             if other is not None:
                 text = f"the identity of {other.label}, which has another maker, at line {self.source.line((*other.place, 'name', 'identity'))}"
                 yield self.source.line((*unit.place, "name", "identity")), f"unit {unit.label}: {text}"
@@ -204,8 +218,9 @@ class Lint:
     def met_twice(self) -> Iterator[Hint]:
         """Needs that two senders meet."""
         for need in self.tables.needs:
-            senders = dict.fromkeys(flow.sender for flow in self.tables.flows if need.is_met_by(flow))
-            if len(senders) > 1:
+            meeting = [flow for flow in self.tables.flows if need.is_met_by(flow)]
+            senders = dict.fromkeys(flow.sender for flow in meeting)
+            if any(one.sender != other.sender and self.are_together(need.place, one.place, other.place) for one, other in combinations(meeting, 2)):
                 text = f"{' and '.join(senders)} meet it; from says which one is meant"
                 yield self.at(need.place, "group", f"need {need.place[-1]}, {needs.named(need)}: {text}")
 
