@@ -74,6 +74,7 @@ pub fn audit_planned<S: Source, W: Sink>(
 
 /// Which premises of the plan a log refutes: of a log in which frames may be missing or of a whole one, by a logger of
 /// this error in microseconds.
+#[derive(Drop)]
 pub(crate) struct Auditing {
     pub(crate) part: bool,
     pub(crate) stamps: u64,

@@ -102,6 +102,7 @@ impl<F: Folder, W: Sink> ReadsByPlan<F, W> for Reading {
 }
 
 /// Who sent what in a log, by its own claims: of all frames, or of those of planned groups.
+#[derive(Drop)]
 pub(crate) struct Following {
     pub(crate) all_frames: bool,
 }

@@ -27,7 +27,7 @@ pub returns-in-Load-clause-ends : goal.returns-in-Load-clause-ends
 returns-in-Load-clause-ends g c = rw c.in-Load.is (rw c.deref-in-Load.ensures at c.load_file.ensures)
 
 pub returns-in-Run-clause-ends : goal.returns-in-Run-clause-ends
-returns-in-Run-clause-ends g c = rw c.in-Run.is (rw (c.deref-in-Run.ensures, c.deref-in-Run-2.ensures) at c.by_two-in-Run.ensures)
+returns-in-Run-clause-ends g c = rw c.in-Run.is (rw (c.deref-in-Run.ensures, c.deref-in-Run-2.ensures) at c.by_two.ensures)
 
 pub returns-in-Read-clause-ends : goal.returns-in-Read-clause-ends
 returns-in-Read-clause-ends g c = rw c.in-Read.is (rw (c.deref-in-Read.ensures, c.deref-in-Read-2.ensures) at c.by_two-in-Read.ensures)
