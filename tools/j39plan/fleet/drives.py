@@ -111,7 +111,13 @@ def comparing(plan: str, log: str, options: list[str]) -> Iterator[subprocess.Po
             raise
 
 
-def compared(process: subprocess.Popen[bytes], options: list[str]) -> tuple[list[Deviation], list[str], dict[str, float]]:
+def compared(plan: str, log: str, options: list[str]) -> tuple[list[Deviation], list[str], dict[str, float]]:
+    """A log compared with a plan, as `compared_by` has it."""
+    with comparing(plan, log, options) as process:
+        return compared_by(process, options)
+
+
+def compared_by(process: subprocess.Popen[bytes], options: list[str]) -> tuple[list[Deviation], list[str], dict[str, float]]:
     """The deviations that `against` writes, what it says beside them, and what it has of the whole log."""
     status, answer, said = ended(process)
     notes = [line.partition(": ")[2] for line in said.splitlines()]
@@ -318,7 +324,7 @@ def drive_of(plan: str, shown: str, log: str, path: str, options: list[str]) -> 
         with open(path, "rb"), program.file_of(plan) as copy, by_kind(copy, tables_of(shown), [path], interface) as (known, tables, _):
             with comparing(copy, path, options) as process:
                 followed(known, path, tables, interface).put(drive)
-                drive["deviations"], drive["notes"], drive["whole"] = compared(process, options)
+                drive["deviations"], drive["notes"], drive["whole"] = compared_by(process, options)
     except program.Refused as refused:
         drive["status"], drive["failed"] = refused.status, str(refused) or f"ended with {refused.status}"
     except OSError as fault:

@@ -23,7 +23,7 @@ class Plain(NamedTuple):
     number, who sends it to whom, and as whom that is heard."""
 
     track: Track
-    count: list[int]
+    times: list[int]
     pgn: int
     sender: Who
     to: Who
@@ -52,7 +52,7 @@ class Reader:
             head, _, data = words[-1].rpartition(" ")
             plain = plain_of(head)
             if plain is not None and len(data) <= DIGITS and (not unheard and not beside or self._is_before(int(words[0]))):
-                track, count, pgn, sender, to, key, box, address = plain
+                track, times, pgn, sender, to, key, box, address = plain
                 number = int(words[0])
                 at = see(number, words[1])
                 if at is not None:
@@ -63,7 +63,7 @@ class Reader:
                     hands.sends(number, at, sender)
                 if asked.open or others.open:
                     comparison.answers(number, at, sender, to, pgn)
-                count[0] += 1
+                times[0] += 1
                 comes(track, number, at)
             elif not unheard and not beside and (frame := frame_of(head)) is not None:
                 number = int(words[0])
