@@ -1,0 +1,8 @@
+//! What the lines of an audit mean, and whom they don't accuse.
+#![tactic(auto)]
+
+mod laws;
+
+pub use laws::{
+    lines_are_of_the_log, who_claims_by_the_plan_is_not_accused, who_sends_by_the_plan_is_not_accused,
+};
