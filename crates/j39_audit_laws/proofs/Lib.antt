@@ -5,4 +5,7 @@ pub mod Marking
 pub mod OneReading
 pub mod Own
 pub mod Planned
+pub mod RunAudits
+pub mod RunFrames
+pub mod RunLogs
 pub mod Told

@@ -81,7 +81,7 @@ first_passes test (suc n) g e =
         ]
     ] refl e
 
-some_below : (test : ℕ → Bool) (k n : ℕ) → test k ≡ true → k < n → is_some (first_below test n) ≡ true
+pub some_below : (test : ℕ → Bool) (k n : ℕ) → test k ≡ true → k < n → is_some (first_below test n) ≡ true
 unfolding first_below
 some_below test k zero passes less = absurd (omega (arith, less))
 some_below test k (suc n) passes less =

@@ -1,2 +1,3 @@
+pub mod AuditedRuns
 pub mod FoundLines
 pub mod OwnPart
