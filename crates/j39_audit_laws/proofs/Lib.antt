@@ -7,5 +7,9 @@ pub mod Own
 pub mod Planned
 pub mod RunAudits
 pub mod RunFrames
+pub mod RunKept
 pub mod RunLogs
+pub mod RunSound
+pub mod RunSteps
+pub mod Runs
 pub mod Told

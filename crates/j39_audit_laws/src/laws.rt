@@ -1,5 +1,7 @@
 //! Laws of the lines by which the audit command accuses.
 ghost use Rattle.j39_audit.specs.declared.mark.Word.TheVariants.{Address, Cannot, Layout, NoFlow, Priority, Urgent};
+ghost use Rattle.j39_audit.specs.declared.mark.Word.TheVariants.{Nobody, Short, Stranger};
+ghost use Rattle.j39_audit_laws.specs.AuditedRuns.{IsWrittenOfNoRun};
 ghost use Rattle.j39_audit_laws.specs.FoundLines.{LinesAreOfLog};
 ghost use Rattle.j39_audit_laws.specs.OwnPart.{AlwaysCan, ClaimsItsOwn, IsNotAccused, LooksAsPlanned, WaitsForPlanned};
 
@@ -24,4 +26,15 @@ pub fn who_sends_by_the_plan_is_not_accused()
     ensures no_flow { IsNotAccused LooksAsPlanned NoFlow }
     ensures priority { IsNotAccused LooksAsPlanned Priority }
     ensures urgent { IsNotAccused WaitsForPlanned Urgent }
+{}
+
+/// Of the frames of any world of any run of a plan without findings, with all lawful choices, cut in front anywhere,
+/// or in a part of a log with any of them missing, with any times or none, no line `short`, `stranger`, `nobody`,
+/// `address` or `cannot` is written.
+pub fn runs_are_not_accused()
+    ensures short { IsWrittenOfNoRun Short }
+    ensures stranger { IsWrittenOfNoRun Stranger }
+    ensures nobody { IsWrittenOfNoRun Nobody }
+    ensures address { IsWrittenOfNoRun Address }
+    ensures cannot { IsWrittenOfNoRun Cannot }
 {}
