@@ -69,15 +69,15 @@ no_claims plan old (f ∷ frames) all =
 abbrev pub IsNewest : ℕ → List Heard → ℕ → Type 0
 IsNewest u claims a = (newest_of u claims ≡ None) ⊎ (newest_of u claims ≡ Some a)
 
-newest_here : (u : ℕ) (h : Heard) (older : List Heard) → is_at h.unit u ≡ true → newest_of u (h ∷ older) ≡ Some h.source
+pub newest_here : (u : ℕ) (h : Heard) (older : List Heard) → is_at h.unit u ≡ true → newest_of u (h ∷ older) ≡ Some h.source
 unfolding newest_of
 newest_here u h older is = ap (λ (b : Bool). cond b (Some h.source) (newest_of u older)) is
 
-newest_past : (u : ℕ) (h : Heard) (older : List Heard) → is_at h.unit u ≡ false → newest_of u (h ∷ older) ≡ newest_of u older
+pub newest_past : (u : ℕ) (h : Heard) (older : List Heard) → is_at h.unit u ≡ false → newest_of u (h ∷ older) ≡ newest_of u older
 unfolding newest_of
 newest_past u h older is = ap (λ (b : Bool). cond b (Some h.source) (newest_of u older)) is
 
-none_newest : (u : ℕ) → newest_of u [] ≡ None
+pub none_newest : (u : ℕ) → newest_of u [] ≡ None
 unfolding newest_of
 none_newest u = refl
 

@@ -74,7 +74,7 @@ pub record IsKnown (plan : Plan) (w : World) : Type 0 where
 
 module _ (plan : Plan) (clean : Clean plan) where
   distinct : AreNamesDistinct (units_of plan)
-  distinct = (clean_units plan clean).distinct
+  distinct = (clean_units plan clean).names
 
   own : HaveOwnNumbers plan
   own = own_numbers plan clean
