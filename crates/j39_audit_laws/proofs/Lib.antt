@@ -9,6 +9,7 @@ pub mod RunAudits
 pub mod RunFrames
 pub mod RunKept
 pub mod RunLogs
+pub mod RunMessages
 pub mod RunSound
 pub mod RunSteps
 pub mod Runs

@@ -1,4 +1,4 @@
--- An audit of sound frames accuses by none of the words of claims and of senders.
+-- An audit of sound frames accuses by none of the words that need no priority of other frames.
 use Rattle.std.proofs.Common.{◌≡◌, ◌≢◌, ◌⊎◌, ℕ, zero, suc, ◌<◌, ◌==◌, ◌&&◌, ◌||◌, ◌++◌, ◌∷◌, [], List, Bool, true, false, not, cond, length}
 use Rattle.std.proofs.Common.{inl, inr, refl, sym, ap, ◌∙◌, subst, arith, eqb-true, Option, Some, None, if◌then◌else◌}
 use Rattle.std.specs.Option.{is_some}
@@ -14,7 +14,7 @@ use Rattle.j39_audit.specs.AuditText.{AuditPast, AuditsLines, Look, mark_at, not
 use Rattle.j39_audit.specs.Below.{any_below, first_below}
 use Rattle.j39_audit.specs.Claiming.{Heard, HeardClaims, Knowledge, first_there, has_strangers, is_address_of, is_another_there, is_strange, knowledge, last_claim_of, may_be, may_stand, newest_of, sender_at, sure_sender}
 use Rattle.j39_audit.specs.Counting.{told_in}
-use Rattle.j39_audit.specs.Looking.{is_claim}
+use Rattle.j39_audit.specs.Looking.{is_claim, message_sent}
 use Rattle.j39_audit.specs.Settings.{AreMoving, Settings, moves, units_planned}
 use Rattle.j39_audit.specs.declared.mark.Mark.{Mark}
 use Rattle.j39_audit.specs.declared.mark.Word.{Word}
@@ -22,10 +22,10 @@ use Rattle.j39_audit.specs.declared.mark.Word.TheVariants.{Short, Stranger, Nobo
 use Rattle.j39_audit.specs.declared.senders.SureSender.{SureSender}
 use Rattle.j39_audit.specs.declared.senders.SureSender.TheVariants.{Unit as OfUnit, Nobody, Unknown}
 use Rattle.j39_audit_laws.specs.AuditedRuns.{AreReadAs, IsNotWritten}
-use Rattle.j39_audit_laws.specs.FoundLines.{IsAccusing, IsFoundAt, IsFrameAt, IsMarked}
+use Rattle.j39_audit_laws.specs.FoundLines.{Differs, IsAccusing, IsFoundAt, IsFrameAt, IsMarked}
 use Rattle.j39_audit_laws.specs.OwnPart.{ClaimsAddresses, IsItsAddress, IsNotNamed}
 use Rattle.j39_audit_laws.proofs.Own.{none_below, none_of_subject, of_frames}
-use Rattle.j39_audit_laws.proofs.Planned.{claims_so, its_address, some_below}
+use Rattle.j39_audit_laws.proofs.Planned.{claims_so, its_address, planned_alike, some_below}
 use Rattle.j39_audit_laws.proofs.RunFrames.{IsFromIts, IsItsClaim, IsNewest, IsSoundFrame, claims_behind_those, claims_of, claims_stay, newest_front}
 use Rattle.j39_audit_laws.proofs.RunLogs.{AreClaimsOf, IsOneOfThem, no_short, one_of_them}
 
@@ -226,3 +226,24 @@ module _ (s : Settings) (moving : AreMoving s.plan s.moving) (log : List Line) (
       let (sent, address, grouped) = marked in
       let its = its_frame n claims f packet at sent.other sent.address in
       never_nobody s moving claims its.unit f.ident.sa its.inside its.own its.last sent.sender_is))
+
+  -- a message of the sender is of a flow
+  differs_never : (word : Word) (u g n : ℕ) (claims : HeardClaims) (f : Frame) (packet : Option Packet) → IsFrameAt s log n claims f packet
+      → ¬ Differs s claims f packet (record { word = word; subject = u; group = g })
+  differs_never word u g n claims f packet at d =
+      let its = its_frame n claims f packet at d.sent.other d.sent.address in
+      let same : its.unit ≡ u = its_sender s moving claims its.unit f.ident.sa its.inside its.own its.last u d.sent.sender_is in
+      let sent : message_sent its.is.unit f packet ≡ Some d.message =
+      subst (λ (v : ℕ). message_sent v f packet ≡ Some d.message) (sym (its.unit_is ∙ same)) d.message_is in
+      let k : Knowledge = knowledge s claims in
+      let planned = its.is.planned packet d.message at.packet_is sent k in
+      none-some _ (sym (planned_alike s moving k d.message planned) ∙ d.differs)
+
+  pub no_layout_line : IsNotWritten s log Layout
+  no_layout_line = no_word s log Layout (λ u. of_frames s log Layout u tt (λ e. cc e) (differs_never Layout u))
+
+  pub no_no_flow_line : IsNotWritten s log NoFlow
+  no_no_flow_line = no_word s log NoFlow (λ u. of_frames s log NoFlow u tt (λ e. cc e) (differs_never NoFlow u))
+
+  pub no_priority_line : IsNotWritten s log Priority
+  no_priority_line = no_word s log Priority (λ u. of_frames s log Priority u tt (λ e. cc e) (differs_never Priority u))

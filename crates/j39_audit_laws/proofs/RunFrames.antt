@@ -26,9 +26,11 @@ use Rattle.j39_findings.specs.Findings.{Clean}
 use Rattle.j39_world.specs.Sent.{Sent, frame_of, sent_of, source_of}
 use Rattle.j39_world.specs.World.{World}
 use Rattle.j39_follow.specs.Who.{unit_of_name}
-use Rattle.j39_audit.specs.Claiming.{Heard, newest_of, is_at}
-use Rattle.j39_audit.specs.Looking.{is_claim}
-use Rattle.j39_audit_laws.specs.OwnPart.{ClaimsAddresses, IsItsAddress}
+use Rattle.j39_audit.specs.Claiming.{Heard, Knowledge, newest_of, is_at}
+use Rattle.j39_audit.specs.Looking.{IsPacketOf, is_claim, message_sent}
+use Rattle.j39_audit.specs.SentMessages.{SentMessage}
+use Rattle.j39_tp.specs.declared.packet.Packet.{Packet}
+use Rattle.j39_audit_laws.specs.OwnPart.{ClaimsAddresses, IsItsAddress, IsOfFlowPlanned}
 
 -- ---- the claims of frames
 
@@ -110,12 +112,14 @@ pub record IsItsClaim (plan : Plan) (f : Frame) : Type 0 where
   pub claims : ClaimsAddresses plan unit
   pub own : IsItsAddress plan unit f.ident.sa
 
--- a frame of a unit, from one of its addresses, at which it claimed last
+-- a frame of a unit, from one of its addresses, at which it claimed last, and of one of its flows, if it is a message or announces one
 pub record IsFromIts (plan : Plan) (before : List Frame) (f : Frame) : Type 0 where
   pub unit : ℕ
   pub inside : unit < length plan.units.items
   pub own : IsItsAddress plan unit f.ident.sa
   pub newest : IsNewest unit (claims_of plan [] before) f.ident.sa
+  pub planned : (packet : Option Packet) (m : SentMessage) → IsPacketOf f packet → message_sent unit f packet ≡ Some m → (k : Knowledge)
+      → IsOfFlowPlanned plan k m
 
 abbrev pub IsSoundFrame : Plan → List Frame → Frame → Type 0
 IsSoundFrame plan before f =

@@ -25,9 +25,10 @@ use Rattle.j39_network.specs.declared.plan.flow_plan.FlowPlan.{FlowPlan}
 use Rattle.j39_network.specs.declared.plan.group_plan.GroupPlan.{GroupPlan}
 use Rattle.j39_network.specs.declared.plan.unit_plan.UnitPlan.{UnitPlan}
 use Rattle.j39_network.specs.declared.steps.Step.{Step}
+use Rattle.j39_tp.specs.Sender as sender
 use Rattle.j39_tp.specs.declared.packet.Packet.{Packet}
 use Rattle.j39_world.specs.declared.flow.Flow.{Flow}
-use Rattle.j39_world.specs.Flows.{flow_of, flows_of}
+use Rattle.j39_world.specs.Flows.{dest_of, flow_of, flows_of}
 use Rattle.j39_world.specs.Opening.{AreNamesDistinct}
 use Rattle.j39_world.specs.Run.{StepsTo, count_of, refusal}
 use Rattle.j39_world.specs.Sent.{Sent, frame_of, sent_of, source_of}
@@ -76,7 +77,7 @@ module _ (plan : Plan) (clean : Clean plan) where
   distinct : AreNamesDistinct (units_of plan)
   distinct = (clean_units plan clean).names
 
-  own : HaveOwnNumbers plan
+  pub own : HaveOwnNumbers plan
   own = own_numbers plan clean
 
   all_known : Always plan (IsKnown plan)
@@ -153,12 +154,14 @@ module _ (plan : Plan) (clean : Clean plan) where
   requests = record { range = omega arith; low = λ _. refl; unlike = λ (e : 59904 ≡ 60928). absurd (omega (arith, e)) }
 
   pub request_told : (w : World) → IsKnown plan w → (u : ℕ) → (f : Frame) → sent_of f ≡ request_frame plan w u
-      → (is_claim f ≡ false) × (f.ident.sa ≡ source_of (w.stations u).address)
+      → (is_claim f ≡ false) × (f.ident.sa ≡ source_of (w.stations u).address) × (pgn_of f.ident ≡ request)
   request_told w known u f e =
       let source = source_below (w.stations u) (known.told.standing.1 u) in
-      let number = ap (λ (x : Sent). x.identifier) e in (
+      let number = ap (λ (x : Sent). x.identifier) e in
+      let ident = sent_as f.ident 6 59904 255 (source_of (w.stations u).address) requests (omega arith) source number in (
         no_claim f (carries_none f 6 59904 255 (source_of (w.stations u).address) requests (omega arith) source number),
-        (sent_as f.ident 6 59904 255 (source_of (w.stations u).address) requests (omega arith) source number).source_is,
+        ident.source_is,
+        ident.group_is,
       )
 
   -- a frame with the number of a group other than those of claims and requests tells of no address
@@ -202,22 +205,30 @@ module _ (plan : Plan) (clean : Clean plan) where
       let number : p.group.pgn ≡ request = sym (ap (λ (x : Flow). x.pgn) p.flow_is) ∙ e in
       true≢false (sym (ap is_service number) ∙ planned_number plan own p.planned.group p.group p.group_is)
 
-  pub message_told : (f : Frame) → IsOfMessages plan (sent_of f) → (is_claim f ≡ false) × (tells_of_addresses f ≡ false)
-  message_told f (d, s, less_d, less_s, inl (p, e)) =
+  packet_told : (f : Frame) (d s : ℕ) (p : Packet) → d < 256 → s < 256 → sent_of f ≡ packet_frame d s p
+      → (is_claim f ≡ false) × (tells_of_addresses f ≡ false)
+  packet_told f d s p less_d less_s e =
       let number = ap (λ (x : Sent). x.identifier) e in
       let none = carries_none f 7 (group_of p) d s (packet_group p) less_d less_s number in
       let group = (sent_as f.ident 7 (group_of p) d s (packet_group p) less_d less_s number).group_is in
       (no_claim f none, untold f (group_of p) none group (unlike_request p))
-  message_told f (d, s, less_d, less_s, inr (k, flow, bytes, at, e)) =
+
+  pub message_told : (w : World) (f : Frame) → IsOfMessages plan w (sent_of f) → (is_claim f ≡ false) × (tells_of_addresses f ≡ false)
+  message_told w f (d, s, less_d, less_s, inl (p, plain, e)) = packet_told f d s p less_d less_s e
+  message_told w f (d, s, less_d, less_s, inr (k, flow, bytes, of, inr e)) =
+      packet_told f d s (sender.announcement (dest_of flow.to) flow.pgn (length bytes)) less_d less_s e
+  message_told w f (d, s, less_d, less_s, inr (k, flow, bytes, of, inl e)) =
+      let at = of.flow_is in
       let number = ap (λ (x : Sent). x.identifier) e in
       let other = flow_other plan own k flow at in
       let none = carries_none f flow.priority flow.pgn d s other less_d less_s number in
       let group = (sent_as f.ident flow.priority flow.pgn d s other less_d less_s number).group_is in
       (no_claim f none, untold f flow.pgn none group (flow_unlike k flow at))
 
-  pub none_claim : (frames : List Frame) → AllByRecursion (IsOfMessages plan) (map sent_of frames) → AllByRecursion (λ (f : Frame). is_claim f ≡ false) frames
-  none_claim [] all = tt
-  none_claim (f ∷ frames) all = ((message_told f all.0).0, none_claim frames all.1)
+  pub none_claim : (w : World) (frames : List Frame) → AllByRecursion (IsOfMessages plan w) (map sent_of frames)
+      → AllByRecursion (λ (f : Frame). is_claim f ≡ false) frames
+  none_claim w [] all = tt
+  none_claim w (f ∷ frames) all = ((message_told w f all.0).0, none_claim w frames all.1)
 
   -- ---- where units claimed last
 
@@ -283,7 +294,7 @@ module _ (plan : Plan) (clean : Clean plan) where
         parts log e =
             let s = split sent_of log w.frames added (e ∙ is) in
             (s.0, s.3, behind s.0 s.1 log s.2 ∙ no_claims plan (claims_of plan [] s.0) s.1
-            (none_claim s.1 (subst (AllByRecursion (IsOfMessages plan)) (sym s.4) sends.frames)))
+            (none_claim w s.1 (subst (AllByRecursion (IsOfMessages plan w)) (sym s.4) sends.frames)))
 
     -- one by which a unit tells of its address: of this it is enough what these claims are
     module _ (added : List Sent) (is : new.frames ≡ w.frames ++ added) (tells : IsTelling plan w new added) where

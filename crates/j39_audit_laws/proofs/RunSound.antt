@@ -5,6 +5,7 @@ use Rattle.std.specs.List.{AllByRecursion}
 use Rattle.std.proofs.lemmas.Bool.{ltb-true}
 use Rattle.std.proofs.lemmas.List.{append-nil, map-append}
 use Rattle.j39_id.specs.Addresses.{is_address, null_address}
+use Rattle.j39_id.specs.Services.{connection_management, request}
 use Rattle.j39_id.specs.declared.frame.Frame.{Frame}
 use Rattle.j39_findings.specs.Findings.{Clean}
 use Rattle.j39_network.specs.declared.plan.Plan.{Plan}
@@ -16,14 +17,22 @@ use Rattle.j39_world.specs.World.{Stations, World, all_off}
 use Rattle.j39_claim.specs.ClaimRule.{ClaimState}
 use Rattle.j39_run_laws.proofs.Runs.Always.{always_with, leads_to_follows}
 use Rattle.j39_run_laws.proofs.Runs.Conditions.{is_unit}
-use Rattle.j39_log_laws.specs.Between.{IsSentBehind}
+use Rattle.j39_log_laws.specs.Between.{IsSentBehind, tells_of_addresses}
+use Rattle.j39_log_laws.proofs.Identifiers.{sent_as}
+use Rattle.j39_log_laws.proofs.Telling.{flow_other, packet_group}
+use Rattle.j39_tp.specs.Sender as sender
+use Rattle.j39_tp.specs.declared.packet.Packet.{Packet}
+use Rattle.j39_world.specs.Flows.{dest_of}
+use Rattle.j39_world.specs.SentTransfers.{group_of}
+use Rattle.j39_audit_laws.proofs.RunMessages.{announced_planned, other_none, plain_none, short_planned}
 use Rattle.j39_log_laws.proofs.Logs.{split}
 use Rattle.j39_log_laws.proofs.SentFrames.{no_row, single}
-use Rattle.j39_audit.specs.Claiming.{Heard, newest_of}
-use Rattle.j39_audit.specs.Looking.{is_claim}
-use Rattle.j39_audit_laws.specs.OwnPart.{IsItsAddress}
+use Rattle.j39_audit.specs.Claiming.{Heard, Knowledge, newest_of}
+use Rattle.j39_audit.specs.Looking.{IsPacketOf, is_claim, is_single, message_sent}
+use Rattle.j39_audit.specs.SentMessages.{SentMessage}
+use Rattle.j39_audit_laws.specs.OwnPart.{IsItsAddress, IsOfFlowPlanned}
 use Rattle.j39_audit_laws.proofs.RunFrames.{IsFromIts, IsItsClaim, IsNewest, IsSoundFrame, claims_behind_those, claims_of, no_claims, none_newest}
-use Rattle.j39_audit_laws.proofs.RunKept.{IsHeardRight, IsKnown, IsKnownOn, all_known_on, claim_told, claims_so, heard_next, its_own, message_told, none_claim, request_told}
+use Rattle.j39_audit_laws.proofs.RunKept.{IsHeardRight, IsKnown, IsKnownOn, all_known_on, claim_told, claims_so, heard_next, its_own, message_told, none_claim, own, request_told}
 use Rattle.j39_audit_laws.proofs.RunSteps.{IsOfMessages, IsOneStep, IsSending, IsTelling, claim_frame, claims_at, one_step, request_frame}
 
 -- ---- where a frame stands
@@ -63,6 +72,11 @@ module _ (plan : Plan) (clean : Clean plan) where
 
   module _ (w new : World) (known : IsKnown plan w) (next : IsKnown plan new) (heard : IsHeardRight plan clean w) (step : Step)
       (allowed : refusal plan w step ≡ None) (leads : StepsTo plan w step new) where
+    -- each message of the frame, as one of the unit, is of a flow
+    abbrev IsPlannedBy : ℕ → Frame → Type 0
+    IsPlannedBy u f = (packet : Option Packet) (m : SentMessage) → IsPacketOf f packet → message_sent u f packet ≡ Some m → (k : Knowledge)
+        → IsOfFlowPlanned plan k m
+
     inside : (u : ℕ) → is_unit plan u ≡ true → u < length plan.units.items
     inside u unit = ltb-true u (count_of plan) unit
 
@@ -70,21 +84,38 @@ module _ (plan : Plan) (clean : Clean plan) where
     message_sound : (added : List Sent) → new.frames ≡ w.frames ++ added → IsSending plan w new added → (before : List Frame) (f : Frame)
         (earlier later : List Sent) → map sent_of before ≡ w.frames ++ earlier → added ≡ earlier ++ sent_of f ∷ later → IsSoundFrame plan before f
     message_sound added is sends before f earlier later log_is at =
-        let parts = all_parts (IsOfMessages plan) earlier (sent_of f) later (subst (AllByRecursion (IsOfMessages plan)) at sends.frames) in
-        let untold = message_told plan clean f parts.1 in
+        let parts = all_parts (IsOfMessages plan w) earlier (sent_of f) later (subst (AllByRecursion (IsOfMessages plan w)) at sends.frames) in
+        let untold = message_told plan clean w f parts.1 in
         let sent : IsSentBehind w new before f =
         record { earlier = earlier; later = later; log_is = log_is; sent = is ∙ ap (λ (x : List Sent). w.frames ++ x) at } in
-        let (u, to, by, group, source, goes) = known.go step new before f (leads_to_follows plan w step allowed new leads) sent untold.1 in
         let s = split sent_of before w.frames earlier log_is in
         let claims : claims_of plan [] before ≡ claims_of plan [] s.0 =
         ap (claims_of plan []) s.2 ∙ claims_behind_those plan [] s.0 s.1
-        ∙ no_claims plan (claims_of plan [] s.0) s.1 (none_claim plan clean s.1 (subst (AllByRecursion (IsOfMessages plan)) (sym s.4) parts.0)) in
-        inr (untold.0, λ _. record {
+        ∙ no_claims plan (claims_of plan [] s.0) s.1 (none_claim plan clean w s.1 (subst (AllByRecursion (IsOfMessages plan w)) (sym s.4) parts.0)) in
+        let from : (u : ℕ) → (w.stations u).on ≡ true → (w.stations u).address ≡ Some f.ident.sa → IsPlannedBy u f → IsSoundFrame plan before f =
+        λ u on address planned. inr (untold.0, λ _. record {
           unit = u;
-          inside = inside u (known.told.standing.0 u source.on);
-          own = its_own plan clean w known u f.ident.sa source.on source.holds;
-          newest = subst (λ (c : List Heard). IsNewest u c f.ident.sa) (sym claims) (heard.held s.0 s.3 u f.ident.sa source.on source.holds);
-        })
+          inside = inside u (known.told.standing.0 u on);
+          own = its_own plan clean w known u f.ident.sa on address;
+          newest = subst (λ (c : List Heard). IsNewest u c f.ident.sa) (sym claims) (heard.held s.0 s.3 u f.ident.sa on address);
+          planned = planned;
+        }) in
+        by_kind before f sent untold.1 parts.1 from
+      where
+        by_kind : (before : List Frame) (f : Frame) → IsSentBehind w new before f → tells_of_addresses f ≡ false → IsOfMessages plan w (sent_of f)
+            → ((u : ℕ) → (w.stations u).on ≡ true → (w.stations u).address ≡ Some f.ident.sa → IsPlannedBy u f → IsSoundFrame plan before f)
+            → IsSoundFrame plan before f
+        by_kind before f sent untold (d, s, less_d, less_s, inl (p, plain, e)) from =
+            let (u, to, by, group, source, goes) = known.go step new before f (leads_to_follows plan w step allowed new leads) sent untold in
+            from u source.on source.holds (λ packet m is sends l. absurd (plain_none f d s p plain less_d less_s e u packet m is sends))
+        by_kind before f sent untold (d, s, less_d, less_s, inr (k, flow, bytes, of, inl e)) from =
+            let ident = sent_as f.ident flow.priority flow.pgn d s (flow_other plan (own plan clean) k flow of.flow_is) less_d less_s
+            (ap (λ (x : Sent). x.identifier) e) in
+            from flow.sender of.on (of.held ∙ ap Some (sym ident.source_is)) (short_planned plan clean w known d s k flow bytes of less_d less_s f e)
+        by_kind before f sent untold (d, s, less_d, less_s, inr (k, flow, bytes, of, inr e)) from =
+            let p : Packet = sender.announcement (dest_of flow.to) flow.pgn (length bytes) in
+            let ident = sent_as f.ident 7 (group_of p) d s (packet_group p) less_d less_s (ap (λ (x : Sent). x.identifier) e) in
+            from flow.sender of.on (of.held ∙ ap Some (sym ident.source_is)) (announced_planned plan clean w known d s k flow bytes of less_d less_s f e)
 
     -- a claim
     claim_sound : (t : ℕ) → is_unit plan t ≡ true → (new.stations t).on ≡ true → claims_at plan t ≡ true
@@ -102,6 +133,9 @@ module _ (plan : Plan) (clean : Clean plan) where
           own = subst (IsItsAddress plan t) (sym is.source) (its_own plan clean new next t a on address);
         })
 
+    unlike_management : request ≢ connection_management
+    unlike_management e = (let never : 59904 ≡ 60416 = e in absurd (omega (arith, never)))
+
     -- a request for claims
     request_sound : (t : ℕ) → is_unit plan t ≡ true → (new.stations t).on ≡ true → new.stations ≡ w.stations → (before : List Frame) (f : Frame)
         → map sent_of before ≡ w.frames → sent_of f ≡ request_frame plan new t → IsSoundFrame plan before f
@@ -116,6 +150,8 @@ module _ (plan : Plan) (clean : Clean plan) where
           own = subst (IsItsAddress plan t) at (its_own plan clean new next t a on address);
           newest = subst (IsNewest t (claims_of plan [] before)) at
               (heard.held before log_is t a (ap (λ (s : ClaimState). s.on) was ∙ on) (ap (λ (s : ClaimState). s.address) was ∙ address));
+          planned = λ packet m packet_is sends k.
+              absurd (other_none f (ap is_single is.2) (λ e. unlike_management (sym is.2 ∙ e)) t packet m packet_is sends);
         })
 
     telling_sound : (added : List Sent) → IsTelling plan w new added → (before : List Frame) (f : Frame) (earlier later : List Sent)

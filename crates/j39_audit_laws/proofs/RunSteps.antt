@@ -2,8 +2,10 @@
 use Rattle.std.proofs.Common.{◌≡◌, ◌≢◌, ◌⊎◌, ℕ, ◌<◌, ◌++◌, ◌∷◌, [], List, Bool, true, false, cond, length, map}
 use Rattle.std.proofs.Common.{inl, inr, refl, sym, ap, ◌∙◌, subst, arith, Option, Some, None}
 use Rattle.std.specs.List.{AllByRecursion, slice_get}
-use Rattle.std.proofs.lemmas.Bool.{MatchBool-at_false, MatchBool-at_true, cases_Bool, cases_eq, cond_both, not-false, true≢false}
+use Rattle.std.proofs.lemmas.Bool.{MatchBool-at_false, MatchBool-at_true, and_parts, cases_Bool, cases_eq, cond_both, not-false, true≢false}
 use Rattle.std.proofs.lemmas.List.{append-nil}
+use Rattle.std.proofs.lemmas.Option.{none-some, same_Some}
+use Rattle.std.specs.Prelude.{IfSome}
 use Rattle.j39_claim.specs.declared.item.Item.{Item}
 use Rattle.j39_claim.specs.declared.item.Item.TheVariants.{Told, Request}
 use Rattle.j39_claim.specs.declared.item.Say.{Say}
@@ -15,18 +17,35 @@ use Rattle.j39_network.specs.declared.plan.to.To.{To}
 use Rattle.j39_network.specs.declared.plan.to.To.TheVariants.{All, One}
 use Rattle.j39_network.specs.declared.steps.Step.{Step}
 use Rattle.j39_network.specs.declared.steps.Step.TheVariants.{Up, Down, Give, Ask, Begin, Send, Emit, Take, Lose, LateSender, LateReceiver, Rest}
+use Rattle.j39_id.specs.Addresses.{global_address}
+use Rattle.j39_signal.specs.Selectors.{is_selected}
+use Rattle.j39_tp.proofs.Answering.{IsAside, IsNoAnnouncement, RepliesAside, TellsMessage, TellsNothing, aside_answer, answers_announce_nothing, hears_told, sender_aside, timed_out_aside}
+use Rattle.j39_tp.specs.Chunks.{chunk}
+use Rattle.j39_tp.specs.Reasons.{timeout}
+use Rattle.j39_tp.specs.Receiver as receiver
 use Rattle.j39_tp.specs.Sender as sender
 use Rattle.j39_tp.specs.declared.packet.Packet.{Packet}
+use Rattle.j39_tp.specs.declared.packet.Packet.TheVariants.{Abort, Dt}
+use Rattle.j39_tp.specs.declared.receiving.heard.Heard.{Heard}
+use Rattle.j39_tp.specs.declared.receiving.heard.Heard.TheVariants as heards
+use Rattle.j39_tp.specs.declared.receiving.manner.Manner.TheVariants.{Answering}
+use Rattle.j39_tp.specs.declared.sending.reaction.Reaction.{Reaction}
+use Rattle.j39_tp.specs.declared.sending.reaction.Reaction.TheVariants as reactions
+use Rattle.j39_tp.specs.declared.sending.stage.Stage.{Stage}
+use Rattle.j39_tp.specs.declared.sending.stage.Stage.TheVariants.{Sending, Waiting, Resting}
+use Rattle.j39_world.proofs.Refusals.{none_hold}
+use Rattle.j39_world.specs.Transfers.{Outgoing, is_among}
+use Rattle.j39_log_laws.proofs.Ends.{IsForHolding, IsHolding, begin_ends}
 use Rattle.j39_world.specs.declared.flow.Flow.{Flow}
 use Rattle.j39_world.specs.declared.wired.Wired.{Wired}
 use Rattle.j39_world.specs.declared.wired.Wired.TheVariants as wired
 use Rattle.j39_world.specs.ClaimSteps.{GivenFrom, answer_items, asked, asking_items, first_items, heard_and_answered, switched_on}
-use Rattle.j39_world.specs.Flows.{dest_of, flows_of, is_short, windows_of}
-use Rattle.j39_world.specs.Run.{StepsTo, count_of, refusal}
+use Rattle.j39_world.specs.Flows.{dest_of, flows_of, has_length, is_short, window_at, windows_of}
+use Rattle.j39_world.specs.Run.{StepsTo, at_ends, begin_refusal, begin_refusals, count_of, has_address, is_on, refusal, send_refusal, send_refusals}
 use Rattle.j39_world.specs.Sent.{Sent, frame_of, source_of}
 use Rattle.j39_world.specs.SentTransfers.{address_of, destination_of, packet_frame, short_frame}
 use Rattle.j39_world.specs.SwitchingOff.{switched_off}
-use Rattle.j39_world.specs.TransferSteps.{BeginsAt, LostFrom, SendsAt, TakenFrom, first_frame}
+use Rattle.j39_world.specs.TransferSteps.{BeginsAt, LostFrom, SendsAt, TakenFrom, first_frame, hearing, packets_in, reaction_of, receiver_replies, sender_replies}
 use Rattle.j39_world.specs.World.{Stations, World, changed}
 use Rattle.j39_run_laws.proofs.Addresses.Notes.{reacts_on}
 use Rattle.j39_run_laws.proofs.Runs.Changed.{changed_elsewhere, changed_here}
@@ -62,15 +81,30 @@ pub record IsTelling (plan : Plan) (w new : World) (added : List Sent) : Type 0 
 
 -- ---- frames of messages
 
--- a transport packet, or a message of a planned flow
-abbrev pub IsOfMessages : Plan → Sent → Type 0
-IsOfMessages plan x = (d : ℕ) × (s : ℕ) × (d < 256) × (s < 256) × (((p : Packet) × (x ≡ packet_frame d s p))
-    ⊎ ((k : ℕ) × (flow : Flow) × (bytes : List ℕ) × (slice_get (flows_of plan) k ≡ Some flow) × (x ≡ short_frame d s flow bytes)))
+-- these are on and hold this address; all are at the global one
+abbrev pub IsHeldBy : World → To → ℕ → Type 0
+IsHeldBy w All d = d ≡ global_address
+IsHeldBy w (One v) d = ((w.stations v).on ≡ true) × ((w.stations v).address ≡ Some d)
+
+-- the bytes are a message of the planned flow at this place, between these addresses
+pub record IsMessageOf (plan : Plan) (w : World) (d s k : ℕ) (flow : Flow) (bytes : List ℕ) : Type 0 where
+  pub flow_is : slice_get (flows_of plan) k ≡ Some flow
+  pub on : (w.stations flow.sender).on ≡ true
+  pub held : (w.stations flow.sender).address ≡ Some s
+  pub goes : IsHeldBy w flow.to d
+  pub allowed : has_length flow (length bytes) ≡ true
+  pub selected : is_selected flow.when bytes ≡ true
+
+-- a transport packet that announces nothing; or a message of a planned flow, or its announcement
+abbrev pub IsOfMessages : Plan → World → Sent → Type 0
+IsOfMessages plan w x = (d : ℕ) × (s : ℕ) × (d < 256) × (s < 256) × (((p : Packet) × IsNoAnnouncement p × (x ≡ packet_frame d s p))
+    ⊎ ((k : ℕ) × (flow : Flow) × (bytes : List ℕ) × IsMessageOf plan w d s k flow bytes
+    × ((x ≡ short_frame d s flow bytes) ⊎ (x ≡ packet_frame d s (sender.announcement (dest_of flow.to) flow.pgn (length bytes))))))
 
 -- a unit that is on is what it was
 pub record IsSending (plan : Plan) (w new : World) (added : List Sent) : Type 0 where
   pub stations : (x : ℕ) → (new.stations x).on ≡ true → new.stations x ≡ w.stations x
-  pub frames : AllByRecursion (IsOfMessages plan) added
+  pub frames : AllByRecursion (IsOfMessages plan w) added
 
 abbrev pub IsOneStep : Plan → World → World → Type 0
 IsOneStep plan w new =
@@ -154,36 +188,114 @@ module _ (plan : Plan) (w : World) (standing : AreStanding plan w.stations w.cla
         ];
       }))
 
-  packets : (d s : ℕ) → d < 256 → s < 256 → (ps : List Packet) → AllByRecursion (IsOfMessages plan) (map (packet_frame d s) ps)
-  packets d s less_d less_s [] = tt
-  packets d s less_d less_s (p ∷ ps) = ((d, s, less_d, less_s, inl (p, refl)), packets d s less_d less_s ps)
+  packets : (d s : ℕ) → d < 256 → s < 256 → (ps : List Packet) → AllByRecursion IsNoAnnouncement ps
+      → AllByRecursion (IsOfMessages plan w) (map (packet_frame d s) ps)
+  packets d s less_d less_s [] plain = tt
+  packets d s less_d less_s (p ∷ ps) plain = ((d, s, less_d, less_s, inl (p, plain.0, refl)), packets d s less_d less_s ps plain.1)
+
+  -- answers announce nothing
+  both_plain : (ps qs : List Packet) → AllByRecursion IsNoAnnouncement ps → AllByRecursion IsNoAnnouncement qs → AllByRecursion IsNoAnnouncement (ps ++ qs)
+  both_plain [] qs a b = b
+  both_plain (p ∷ ps) qs a b = (a.0, both_plain ps qs a.1 b)
+
+  aside_plain : (p : Packet) → IsAside p → IsNoAnnouncement p
+  aside_plain p aside = answers_announce_nothing p (aside_answer p aside)
+
+  quiet_plain : (h : Heard) → TellsNothing h → AllByRecursion IsNoAnnouncement (receiver_replies h)
+  quiet_plain heards.Nothing quiet = tt
+  quiet_plain heards.Closed quiet = tt
+  quiet_plain heards.Complete never = absurd never
+  quiet_plain (heards.Reply p) quiet = (aside_plain p quiet, tt)
+  quiet_plain (heards.CompleteReply p) never = absurd never
+
+  told_plain : (h : Heard) → TellsMessage h → AllByRecursion IsNoAnnouncement (receiver_replies h)
+  told_plain heards.Nothing never = absurd never
+  told_plain heards.Closed never = absurd never
+  told_plain heards.Complete told = tt
+  told_plain (heards.Reply p) never = absurd never
+  told_plain (heards.CompleteReply p) told = (answers_announce_nothing p told, tt)
+
+  heard_plain : (u v : ℕ) (p : Packet) → AllByRecursion IsNoAnnouncement (receiver_replies (hearing (windows_of plan) w u v p).1)
+  heard_plain u v p = elim (hears_told (window_at (windows_of plan) v) (w.receivers v u) p) [
+    | inl quiet_one ↦ quiet_plain (hearing (windows_of plan) w u v p).1 quiet_one
+    | inr told ↦ told_plain (hearing (windows_of plan) w u v p).1 told.0
+  ]
+
+  reply_plain : (r : Reaction) → RepliesAside r → AllByRecursion IsNoAnnouncement (sender_replies r)
+  reply_plain reactions.Nothing aside = tt
+  reply_plain reactions.Go aside = tt
+  reply_plain reactions.Ended aside = tt
+  reply_plain (reactions.Reply p) aside = (aside_plain p aside, tt)
+
+  reacts_plain : (o : Option Outgoing) (u : ℕ) (p : Packet) → AllByRecursion IsNoAnnouncement (sender_replies (reaction_of o u p))
+  reacts_plain None u p = tt
+  reacts_plain (Some s) u p =
+      cond_both (is_among s.targets u) (sender.stage_hears (dest_of s.to) s.pgn (length s.bytes) s.stage p) (s.stage, reactions.Nothing)
+      (λ (x : Stage × Reaction). AllByRecursion IsNoAnnouncement (sender_replies x.1))
+      (λ _. reply_plain (sender.stage_hears (dest_of s.to) s.pgn (length s.bytes) s.stage p).1 (sender_aside (dest_of s.to) s.pgn (length s.bytes) s.stage p))
+      (λ _. tt)
+
+  late_plain : (o : Option Packet) → IfSome o IsAside → AllByRecursion IsNoAnnouncement (packets_in o)
+  late_plain None is = tt
+  late_plain (Some p) aside = (aside_plain p aside, tt)
+
+  emitted_plain : (bytes : List ℕ) (stage : Stage) (p : Packet) → sender.data_next bytes stage ≡ Some p → IsNoAnnouncement p
+  emitted_plain bytes (Sending next last) p e = subst IsNoAnnouncement (same_Some (Dt next (chunk bytes next)) p e) tt
+  emitted_plain bytes Waiting p e = absurd (none-some p e)
+  emitted_plain bytes (Resting outcome) p e = absurd (none-some p e)
+
+  given_up_plain : (pgn : ℕ) (stage : Stage) (p : Packet) → sender.timeout_packet pgn stage ≡ Some p → IsNoAnnouncement p
+  given_up_plain pgn Waiting p e = subst IsNoAnnouncement (same_Some (Abort timeout pgn) p e) tt
+  given_up_plain pgn (Sending next last) p e = absurd (none-some p e)
+  given_up_plain pgn (Resting outcome) p e = absurd (none-some p e)
 
   -- frames are sent, and no station changes
-  sends : (new : World) (added : List Sent) → new.frames ≡ w.frames ++ added → new.stations ≡ w.stations → AllByRecursion (IsOfMessages plan) added
+  sends : (new : World) (added : List Sent) → new.frames ≡ w.frames ++ added → new.stations ≡ w.stations → AllByRecursion (IsOfMessages plan w) added
       → IsOneStep plan w new
   sends new added frames stations all =
       (added, frames, inr (record { stations = λ x _. ap (λ (f : Stations). f x) stations; frames = all }))
 
-  begin : (k : ℕ) (bytes : List ℕ) (o : Option Flow) → slice_get (flows_of plan) k ≡ o → (new : World) → BeginsAt (count_of plan) w k o bytes new
-      → IsOneStep plan w new
-  begin k bytes None is new never = absurd never
-  begin k bytes (Some flow) is new e =
+  -- a message that is allowed is between those that hold its addresses
+  holds_at : (u : ℕ) → IsHolding w.stations u → ((w.stations u).on ≡ true) × ((w.stations u).address ≡ Some (address_of w.stations u))
+  holds_at u (on, (a, address)) = (on, address ∙ ap Some (sym (ap source_of address)))
+
+  goes_to : (to : To) → IsForHolding w.stations to → IsHeldBy w to (destination_of w.stations to)
+  goes_to All for = refl
+  goes_to (One v) for = holds_at v for
+
+  of_flow : (k : ℕ) (flow : Flow) (bytes : List ℕ) → slice_get (flows_of plan) k ≡ Some flow → at_ends (is_on w.stations) flow.sender flow.to ≡ true
+      → at_ends (has_address w.stations) flow.sender flow.to ≡ true → has_length flow (length bytes) ≡ true → is_selected flow.when bytes ≡ true
+      → IsMessageOf plan w (destination_of w.stations flow.to) (address_of w.stations flow.sender) k flow bytes
+  of_flow k flow bytes is on address long taken =
+      let ends = begin_ends w.stations flow.sender flow.to on address in
+      let held = holds_at flow.sender ends.0 in
+      record { flow_is = is; on = held.0; held = held.1; goes = goes_to flow.to ends.1; allowed = long; selected = taken }
+
+  begin : (k : ℕ) (bytes : List ℕ) (o : Option Flow) → slice_get (flows_of plan) k ≡ o → begin_refusal plan.live (count_of plan) w o bytes ≡ None
+      → (new : World) → BeginsAt (count_of plan) w k o bytes new → IsOneStep plan w new
+  begin k bytes None is allowed new never = absurd never
+  begin k bytes (Some flow) is allowed new e =
+      let (sendable, (on, (heard, (address, (free, (long, (taken, rest))))))) = none_hold (begin_refusals plan.live (count_of plan) w (Some flow) bytes) allowed in
+      let of = of_flow k flow bytes is (not-false _ on) (not-false _ address) (not-false _ long) (not-false _ taken) in
       let d : ℕ = destination_of w.stations flow.to in
       let s : ℕ = address_of w.stations flow.sender in
       let p : Packet = sender.announcement (dest_of flow.to) flow.pgn (length bytes) in
       sends new (first_frame w.stations flow bytes ∷ []) (ap (λ (x : World). x.frames) e) (ap (λ (x : World). x.stations) e)
-      (cond_both (is_short (length bytes)) (short_frame d s flow bytes) (packet_frame d s p) (IsOfMessages plan)
-      (λ _. (d, s, below_to flow.to, below flow.sender, inr (k, flow, bytes, is, refl)))
-      (λ _. (d, s, below_to flow.to, below flow.sender, inl (p, refl))), tt)
+      (cond_both (is_short (length bytes)) (short_frame d s flow bytes) (packet_frame d s p) (IsOfMessages plan w)
+      (λ _. (d, s, below_to flow.to, below flow.sender, inr (k, flow, bytes, of, inl refl)))
+      (λ _. (d, s, below_to flow.to, below flow.sender, inr (k, flow, bytes, of, inr refl))), tt)
 
-  send : (k : ℕ) (bytes : List ℕ) (o : Option Flow) → slice_get (flows_of plan) k ≡ o → (new : World) → SendsAt (count_of plan) w k o bytes new
-      → IsOneStep plan w new
-  send k bytes None is new never = absurd never
-  send k bytes (Some flow) is new e =
+  send : (k : ℕ) (bytes : List ℕ) (o : Option Flow) → slice_get (flows_of plan) k ≡ o → send_refusal plan.live (count_of plan) w o bytes ≡ None
+      → (new : World) → SendsAt (count_of plan) w k o bytes new → IsOneStep plan w new
+  send k bytes None is allowed new never = absurd never
+  send k bytes (Some flow) is allowed new e =
+      let (sendable, (on, (heard, (address, (free, (long, (taken, rest))))))) = none_hold (send_refusals plan.live (count_of plan) w (Some flow) bytes) allowed in
+      let lengths = and_parts (has_length flow (length bytes)) (is_short (length bytes)) (not-false _ long) in
+      let of = of_flow k flow bytes is (not-false _ on) (not-false _ address) lengths.0 (not-false _ taken) in
       let d : ℕ = destination_of w.stations flow.to in
       let s : ℕ = address_of w.stations flow.sender in
       sends new (short_frame d s flow bytes ∷ []) (ap (λ (x : World). x.frames) e) (ap (λ (x : World). x.stations) e)
-      ((d, s, below_to flow.to, below flow.sender, inr (k, flow, bytes, is, refl)), tt)
+      ((d, s, below_to flow.to, below flow.sender, inr (k, flow, bytes, of, inl refl)), tt)
 
   same_stations : (new : World) → new.stations ≡ w.stations → (x : ℕ) → (new.stations x).on ≡ true → new.stations x ≡ w.stations x
   same_stations new stations x on = ap (λ (f : Stations). f x) stations
@@ -195,8 +307,12 @@ module _ (plan : Plan) (w : World) (standing : AreStanding plan w.stations w.cla
   take u v (wired.Alone k bytes ∷ rest) new e =
       quiet new (ap (λ (x : World). x.frames) e) (same_stations new (ap (λ (x : World). x.stations) e))
   take u v (wired.Packet p ∷ rest) new (reports, reported, e) =
-      sends new _ (ap (λ (x : World). x.frames) e) (ap (λ (x : World). x.stations) e)
-      (packets (address_of w.stations u) (address_of w.stations v) (below u) (below v) _)
+      let answers : List Packet = receiver_replies (hearing (windows_of plan) w u v p).1 in
+      let replies : List Packet = sender_replies (reaction_of (w.sessions v) u p) in
+      sends new (map (packet_frame (address_of w.stations u) (address_of w.stations v)) (answers ++ replies)) (ap (λ (x : World). x.frames) e)
+      (ap (λ (x : World). x.stations) e)
+      (packets (address_of w.stations u) (address_of w.stations v) (below u) (below v) (answers ++ replies)
+      (both_plain answers replies (heard_plain u v p) (reacts_plain (w.sessions v) u p)))
 
   lose : (u v : ℕ) (list : List Wired) (new : World) → LostFrom w u v list new → IsOneStep plan w new
   lose u v [] new never = absurd never
@@ -222,19 +338,22 @@ module _ (plan : Plan) (w : World) (standing : AreStanding plan w.stations w.cla
   one_step (Ask u) allowed new e =
       let (known, (on, more)) = none_refuses plan w (Ask u) allowed in
       subst (IsOneStep plan w) (sym e) (ask u (not-false _ known) (not-false _ on))
-  one_step (Begin k bytes) allowed new leads = begin k bytes.items (slice_get (flows_of plan) k) refl new leads
-  one_step (Send k bytes) allowed new leads = send k bytes.items (slice_get (flows_of plan) k) refl new leads
+  one_step (Begin k bytes) allowed new leads = begin k bytes.items (slice_get (flows_of plan) k) refl allowed new leads
+  one_step (Send k bytes) allowed new leads = send k bytes.items (slice_get (flows_of plan) k) refl allowed new leads
   one_step (Emit u) allowed new (s, p, session, next, e) =
       sends new (packet_frame (destination_of w.stations s.to) (address_of w.stations u) p ∷ []) (ap (λ (x : World). x.frames) e)
       (ap (λ (x : World). x.stations) e)
-      ((destination_of w.stations s.to, address_of w.stations u, below_to s.to, below u, inl (p, refl)), tt)
+      ((destination_of w.stations s.to, address_of w.stations u, below_to s.to, below u, inl (p, emitted_plain s.bytes s.stage p next, refl)), tt)
   one_step (Take u v) allowed new leads = take u v (w.wire u v) new leads
   one_step (Lose u v) allowed new leads = lose u v (w.wire u v) new leads
   one_step (LateSender u) allowed new (s, p, session, packet, e) =
       sends new (packet_frame (destination_of w.stations s.to) (address_of w.stations u) p ∷ []) (ap (λ (x : World). x.frames) e)
       (ap (λ (x : World). x.stations) e)
-      ((destination_of w.stations s.to, address_of w.stations u, below_to s.to, below u, inl (p, refl)), tt)
+      ((destination_of w.stations s.to, address_of w.stations u, below_to s.to, below u, inl (p, given_up_plain s.pgn s.stage p packet, refl)), tt)
   one_step (LateReceiver u v) allowed new e =
-      sends new _ (ap (λ (x : World). x.frames) e) (ap (λ (x : World). x.stations) e)
-      (packets (address_of w.stations u) (address_of w.stations v) (below u) (below v) _)
+      let late : Option Packet = (receiver.timed_out (Answering (window_at (windows_of plan) v)) (w.receivers v u)).1 in
+      sends new (map (packet_frame (address_of w.stations u) (address_of w.stations v)) (packets_in late)) (ap (λ (x : World). x.frames) e)
+      (ap (λ (x : World). x.stations) e)
+      (packets (address_of w.stations u) (address_of w.stations v) (below u) (below v) (packets_in late)
+      (late_plain late (timed_out_aside (window_at (windows_of plan) v) (w.receivers v u))))
   one_step (Rest u) allowed new e = quiet new (ap (λ (x : World). x.frames) e) (same_stations new (ap (λ (x : World). x.stations) e))

@@ -10,9 +10,9 @@ use Rattle.j39_network.specs.declared.plan.Plan.{Plan}
 use Rattle.j39_world.specs.Sent.{sent_of}
 use Rattle.j39_world.specs.World.{World}
 use Rattle.j39_audit.specs.Settings.{AreMoving, Settings}
-use Rattle.j39_audit.specs.declared.mark.Word.TheVariants.{Short, Stranger, Nobody, Address, Cannot}
+use Rattle.j39_audit.specs.declared.mark.Word.TheVariants.{Short, Stranger, Nobody, Address, Cannot, Layout, NoFlow, Priority}
 use Rattle.j39_audit_laws.specs.AuditedRuns.{AreFramesOf, AreReadAs, IsWrittenOfNoRun}
-use Rattle.j39_audit_laws.proofs.RunAudits.{AreSound, no_address_line, no_cannot_line, no_nobody_line, no_short_line, no_stranger_line}
+use Rattle.j39_audit_laws.proofs.RunAudits.{AreSound, no_address_line, no_cannot_line, no_layout_line, no_no_flow_line, no_nobody_line, no_priority_line, no_short_line, no_stranger_line}
 use Rattle.j39_audit_laws.proofs.RunFrames.{IsSoundFrame}
 use Rattle.j39_audit_laws.proofs.RunSound.{all_sound}
 
@@ -61,3 +61,15 @@ address_of_no_run plan clean steps w run s log frames same moving reads of =
 pub cannot_of_no_run : IsWrittenOfNoRun Cannot
 cannot_of_no_run plan clean steps w run s log frames same moving reads of =
     no_cannot_line s moving log frames reads (are_sound s plan same w frames of (all_sound plan clean steps w run))
+
+pub layout_of_no_run : IsWrittenOfNoRun Layout
+layout_of_no_run plan clean steps w run s log frames same moving reads of =
+    no_layout_line s moving log frames reads (are_sound s plan same w frames of (all_sound plan clean steps w run))
+
+pub no_flow_of_no_run : IsWrittenOfNoRun NoFlow
+no_flow_of_no_run plan clean steps w run s log frames same moving reads of =
+    no_no_flow_line s moving log frames reads (are_sound s plan same w frames of (all_sound plan clean steps w run))
+
+pub priority_of_no_run : IsWrittenOfNoRun Priority
+priority_of_no_run plan clean steps w run s log frames same moving reads of =
+    no_priority_line s moving log frames reads (are_sound s plan same w frames of (all_sound plan clean steps w run))

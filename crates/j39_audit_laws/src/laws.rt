@@ -30,11 +30,14 @@ pub fn who_sends_by_the_plan_is_not_accused()
 
 /// Of the frames of any world of any run of a plan without findings, with all lawful choices, cut in front anywhere,
 /// or in a part of a log with any of them missing, with any times or none, no line `short`, `stranger`, `nobody`,
-/// `address` or `cannot` is written.
+/// `address`, `cannot`, `layout`, `no_flow` or `priority` is written.
 pub fn runs_are_not_accused()
     ensures short { IsWrittenOfNoRun Short }
     ensures stranger { IsWrittenOfNoRun Stranger }
     ensures nobody { IsWrittenOfNoRun Nobody }
     ensures address { IsWrittenOfNoRun Address }
     ensures cannot { IsWrittenOfNoRun Cannot }
+    ensures layout { IsWrittenOfNoRun Layout }
+    ensures no_flow { IsWrittenOfNoRun NoFlow }
+    ensures priority { IsWrittenOfNoRun Priority }
 {}

@@ -1,4 +1,5 @@
-use Rattle.j39_audit_laws.proofs.Runs.{address_of_no_run, cannot_of_no_run, nobody_of_no_run, short_of_no_run, stranger_of_no_run}
+use Rattle.j39_audit_laws.proofs.Runs.{address_of_no_run, cannot_of_no_run, layout_of_no_run, no_flow_of_no_run, nobody_of_no_run, priority_of_no_run}
+use Rattle.j39_audit_laws.proofs.Runs.{short_of_no_run, stranger_of_no_run}
 use Rattle.j39_audit_laws.proofs.laws.runs_are_not_accused.Goals as goal
 
 pub returns-clause-short : goal.returns-clause-short
@@ -15,3 +16,12 @@ returns-clause-address c = address_of_no_run
 
 pub returns-clause-cannot : goal.returns-clause-cannot
 returns-clause-cannot c = cannot_of_no_run
+
+pub returns-clause-layout : goal.returns-clause-layout
+returns-clause-layout c = layout_of_no_run
+
+pub returns-clause-no_flow : goal.returns-clause-no_flow
+returns-clause-no_flow c = no_flow_of_no_run
+
+pub returns-clause-priority : goal.returns-clause-priority
+returns-clause-priority c = priority_of_no_run
