@@ -2,6 +2,7 @@ pub mod Frames
 pub mod Hits
 pub mod Lines
 pub mod Marking
+pub mod OneAudit
 pub mod OneReading
 pub mod Own
 pub mod Planned

@@ -3,7 +3,13 @@ ghost use Rattle.j39_audit.specs.declared.mark.Word.TheVariants.{Address, Cannot
 ghost use Rattle.j39_audit.specs.declared.mark.Word.TheVariants.{Nobody, Short, Stranger};
 ghost use Rattle.j39_audit_laws.specs.AuditedRuns.{IsWrittenOfNoRun};
 ghost use Rattle.j39_audit_laws.specs.FoundLines.{LinesAreOfLog};
+ghost use Rattle.j39_audit_laws.specs.OneAudit.{AuditHasOneText};
 ghost use Rattle.j39_audit_laws.specs.OwnPart.{AlwaysCan, ClaimsItsOwn, IsNotAccused, LooksAsPlanned, WaitsForPlanned};
+
+/// For a plan, a log and the options the definition allows one text, with one verdict.
+pub fn an_audit_has_one_text()
+    ensures { AuditHasOneText }
+{}
 
 /// A word that accuses is told with as many lines of the log as have what it is for, each counted once, and with the
 /// first of them. So its line is written exactly where such a line is in the log.
