@@ -1,9 +1,7 @@
 -- What is noted at a frame is what the frame is marked with, and each mark that accuses is noted once at most.
-use Rattle.std.proofs.Common.{◌≡◌, ◌≢◌, ◌⊎◌, ℕ, ◌==◌, ◌&&◌, ◌++◌, ◌∷◌, [], List, Bool, true, false, not, cond}
+use Rattle.std.proofs.Common.{◌≡◌, ◌⊎◌, ℕ, ◌==◌, ◌&&◌, ◌++◌, ◌∷◌, [], List, Bool, true, false, not, cond}
 use Rattle.std.proofs.Common.{inl, inr, refl, sym, ap, ◌∙◌, subst, eqb-true, arith, Option, Some, None}
-use Rattle.std.specs.Prelude.{nat_lt}
-use Rattle.std.proofs.lemmas.Bool.{and_cases, and_from, and_left, and_parts, and_right, cases_Bool, cond-false, cond-true, eq-eqb, eqb-false, false_from_ne_true, le-ltb, ltb-false, ne_eqb, not-true, not_from_false, true≢false}
-use Rattle.std.proofs.lemmas.Option.{none-some, same_Some}
+use Rattle.std.proofs.lemmas.Bool.{and_from, and_parts, cases_Bool, cond-false, cond-true, eq-eqb, eqb-false, false_from_ne_true, le-ltb, ltb-false, ne_eqb, not-true, not_from_false, true≢false}
 use Rattle.j39_id.specs.Addresses.{is_address, null_address}
 use Rattle.j39_id.specs.FrameMeaning.{name_in}
 use Rattle.j39_id.specs.declared.frame.Frame.{Frame}
@@ -11,7 +9,7 @@ use Rattle.j39_follow.specs.Who.{unit_of_name}
 use Rattle.j39_tp.specs.declared.packet.Packet.{Packet}
 use Rattle.j39_audit.specs.Claiming.{HeardClaims, Knowledge, has_strangers, is_address_of, knowledge, sender_at}
 use Rattle.j39_audit.specs.Counting.{Noted}
-use Rattle.j39_audit.specs.Looking.{claim_noted, claim_of_unit, claim_place, counted, frame_noted, is_above_unplanned, is_claim, is_claiming, is_urgent}
+use Rattle.j39_audit.specs.Looking.{claim_noted, claim_place, counted, frame_noted, is_above_unplanned, is_claim, is_claiming, is_urgent}
 use Rattle.j39_audit.specs.Looking.{mark_noted, message_noted, message_sent, noted_if, noted_with, request_noted, sent_noted}
 use Rattle.j39_audit.specs.SentMessages.{SentMessage, deviation, flows_noted, noted_at}
 use Rattle.j39_audit.specs.Settings.{Settings}
@@ -20,7 +18,7 @@ use Rattle.j39_audit.specs.declared.mark.Word.{Word}
 use Rattle.j39_audit.specs.declared.mark.Word.TheVariants.{Short, Stranger, Nobody as NobodyThere, Address, Cannot, Layout, NoFlow, Priority, Urgent, Seen, Unclear, Asked, Counted, Unsure, Break}
 use Rattle.j39_audit.specs.declared.senders.SureSender.{SureSender}
 use Rattle.j39_audit.specs.declared.senders.SureSender.TheVariants.{Unit as OfUnit, Nobody, Unknown}
-use Rattle.j39_audit_laws.specs.FoundLines.{ClaimsRightly, Differs, IsAccusing, IsClaimOf, IsMarked, IsSentFrom}
+use Rattle.j39_audit_laws.specs.FoundLines.{Differs, IsAccusing, IsClaimOf, IsMarked, IsSentFrom}
 use Rattle.j39_audit_laws.proofs.Hits.{AtMostOne, HaveWords, In, hits, if_in, in_cases, in_if, in_left, in_right, no_hits, one_before, one_behind, one_if, one_of_one, words_both, words_if}
 use Rattle.j39_audit_laws.proofs.Marking.{IsDeviation, differs_so, flows_seen, is_another, is_of_message, is_seen, is_urgent_word, more_words, of_message_another, request_seen, seen_word, sender_of, unseen}
 
@@ -67,13 +65,21 @@ module _ (s : Settings) (claims : HeardClaims) (f : Frame) (packet : Option Pack
       elim (if_cases n (f.ident.sa == null_address) (noted_at line Cannot u 0 ∷ [])
       (noted_if (not (is_address_of s u f.ident.sa && is_claiming s u)) (noted_with line Address u f.ident.sa)) inside) [
         | inl (null, is) ↦ elim is [
-            | inl e ↦ subst Means e (λ _. (refl, (of, eqb-true f.ident.sa null_address null, refl)))
-            | inr never ↦ absurd never
-          ]
+          | inl e ↦ subst Means e (λ _. (refl, (of, eqb-true f.ident.sa null_address null, refl)))
+          | inr never ↦ absurd never
+        ]
         | inr (some, is) ↦
             let (test, e) = in_if n (noted_with line Address u f.ident.sa) (not (is_address_of s u f.ident.sa && is_claiming s u)) is in
-            subst Means e (λ _. (refl, (of, eqb-false f.ident.sa null_address some, (λ right.
-            true≢false (sym (and_from (is_address_of s u f.ident.sa) (is_claiming s u) right.own right.claims) ∙ not-true _ test)), refl)))
+            subst Means e (λ _. (
+              refl,
+              (
+                of,
+                eqb-false f.ident.sa null_address some,
+                (λ right.
+                    true≢false (sym (and_from (is_address_of s u f.ident.sa) (is_claiming s u) right.own right.claims) ∙ not-true _ test)),
+                refl,
+              ),
+            ))
       ]
 
   claimed : is_claim f ≡ true → (o : Option ℕ) → unit_of_name s.plan (name_in f) ≡ o → (n : Noted) → In n (claim_noted s f line o) → Means n
@@ -95,12 +101,15 @@ module _ (s : Settings) (claims : HeardClaims) (f : Frame) (packet : Option Pack
   differing u sent m is (Some d) e so n (inr never) = absurd never
   differing u sent m is (Some d) e so n (inl same) =
       let its : u ≡ d.subject = sym (sender_of u f packet m is) ∙ sym so.1 in
-      subst Means same (λ _. (refl, differs_marked d.word d.subject d.group so.0 (record {
-        sent = subst (λ (v : ℕ). IsSentFrom s claims f (OfUnit v)) its sent;
-        message = m;
-        message_is = subst (λ (v : ℕ). message_sent v f packet ≡ Some m) its is;
-        differs = e;
-      })))
+      subst Means same (λ _. (
+        refl,
+        differs_marked d.word d.subject d.group so.0 (record {
+          sent = subst (λ (v : ℕ). IsSentFrom s claims f (OfUnit v)) its sent;
+          message = m;
+          message_is = subst (λ (v : ℕ). message_sent v f packet ≡ Some m) its is;
+          differs = e;
+        }),
+      ))
 
   messaged : (u : ℕ) → IsSentFrom s claims f (OfUnit u) → (o : Option SentMessage) → message_sent u f packet ≡ o → (n : Noted)
       → In n (message_noted s k line o) → Means n
@@ -126,10 +135,10 @@ module _ (s : Settings) (claims : HeardClaims) (f : Frame) (packet : Option Pack
             let (test, e) = in_if n (noted_at line Urgent u 0) (is_urgent s u f) there in
             subst Means e (λ _. (refl, (inr (sent, test), refl)))
         | inl there ↦ elim (in_cases n (of_unit u) (request_noted s k u f line) there) [
-            | inr asks ↦ λ accuses. absurd (seen_word (request_noted s k u f line) (request_seen s k u f line) n asks accuses)
-            | inl (inl e) ↦ subst Means e (λ never. absurd never)
-            | inl (inr message) ↦ messaged u sent (message_sent u f packet) refl n message
-          ]
+          | inr asks ↦ λ accuses. absurd (seen_word (request_noted s k u f line) (request_seen s k u f line) n asks accuses)
+          | inl (inl e) ↦ subst Means e (λ never. absurd never)
+          | inl (inr message) ↦ messaged u sent (message_sent u f packet) refl n message
+        ]
       ]
 
   sending : (sure : SureSender) → IsSentFrom s claims f sure → (n : Noted) → In n (sent_noted s k f packet line sure) → Means n
@@ -145,9 +154,9 @@ module _ (s : Settings) (claims : HeardClaims) (f : Frame) (packet : Option Pack
       (cond (is_address f.ident.sa) (sent_noted s k f packet line (sender_at s k f.ident.sa)) []) inside) [
         | inl (claim, is) ↦ claimed claim (unit_of_name s.plan (name_in f)) refl n is
         | inr (other, is) ↦ elim (if_cases n (is_address f.ident.sa) (sent_noted s k f packet line (sender_at s k f.ident.sa)) [] is) [
-            | inl (address, there) ↦ sending (sender_at s k f.ident.sa) (record { other = other; address = address; sender_is = refl }) n there
-            | inr (none, never) ↦ absurd never
-          ]
+          | inl (address, there) ↦ sending (sender_at s k f.ident.sa) (record { other = other; address = address; sender_is = refl }) n there
+          | inr (none, never) ↦ absurd never
+        ]
       ]
 
   -- ---- a mark is noted
@@ -296,7 +305,7 @@ module _ (s : Settings) (claims : HeardClaims) (f : Frame) (packet : Option Pack
         (cond (is_address f.ident.sa) (sent_noted s k f packet line (sender_at s k f.ident.sa)) [])))) [
           | true ↦ claim_once (unit_of_name s.plan (name_in f))
           | false ↦ elim (is_address f.ident.sa) as (λ b. AtMostOne (hits m (cond b (sent_noted s k f packet line (sender_at s k f.ident.sa)) []))) [
-              | true ↦ sent_once (sender_at s k f.ident.sa)
-              | false ↦ inl refl
-            ]
+            | true ↦ sent_once (sender_at s k f.ident.sa)
+            | false ↦ inl refl
+          ]
         ]

@@ -1,5 +1,5 @@
 -- What of a list of notes is of one mark: none of another word, and of one note this or nothing.
-use Rattle.std.proofs.Common.{◌≡◌, ◌≢◌, ◌⊎◌, ℕ, ◌&&◌, ◌++◌, ◌∷◌, [], List, Bool, true, false, nat_eq, zero, suc, cond}
+use Rattle.std.proofs.Common.{◌≡◌, ◌⊎◌, ℕ, ◌&&◌, ◌++◌, ◌∷◌, [], List, Bool, true, false, nat_eq, zero, suc, cond}
 use Rattle.std.proofs.Common.{inl, inr, refl, sym, ap, ◌∙◌, subst}
 use Rattle.std.specs.Prelude.{slice_index_or}
 use Rattle.std.specs.List.{AllByRecursion, filter}

@@ -1,12 +1,9 @@
 -- The lines of a log, one after another: what each adds to what is told of a mark.
-use Rattle.std.proofs.Common.{◌≡◌, ◌≢◌, ◌⊎◌, ◌↔◌, ℕ, zero, suc, ◌+◌, ◌<◌, ◌≤◌, ◌++◌, ◌∷◌, [], List, Bool, true, false, length, map, min, get_or, cond}
-use Rattle.std.proofs.Common.{inl, inr, refl, sym, ap, ◌∙◌, subst, arith, append_assoc, Option, Some, None}
-use Rattle.std.specs.Prelude.{Contains, nat_lt}
-use Rattle.std.specs.List.{AllPairs}
-use Rattle.std.proofs.lemmas.Bool.{cases_Bool, lt-ltb, ltb-true}
-use Rattle.std.proofs.lemmas.List.{append-nil, append_cancel_left, length-append, length-map, map-append}
-use Rattle.std.proofs.lemmas.List.Elements.{Contains-append_left, Contains-get_or, Contains-push, Contains-push_cases}
-use Rattle.std.proofs.lemmas.List.Quantifiers.{all_pairs_push}
+use Rattle.std.proofs.Common.{◌≡◌, ◌⊎◌, ℕ, ◌+◌, ◌++◌, ◌∷◌, [], List, length}
+use Rattle.std.proofs.Common.{inl, inr, refl, sym, ap, ◌∙◌, subst, arith, Option}
+use Rattle.std.specs.Prelude.{nat_lt}
+use Rattle.std.proofs.lemmas.Bool.{lt-ltb, ltb-true}
+use Rattle.std.proofs.lemmas.List.{append-nil, length-append}
 use Rattle.j39_id.specs.FrameLine.{HasLineFault, Spells}
 use Rattle.j39_id.specs.Lines.{Line, Short as ShortLine, Long}
 use Rattle.j39_id.specs.declared.frame.Frame.{Frame}
@@ -17,16 +14,14 @@ use Rattle.j39_tp.specs.declared.packet.Packet.{Packet}
 use Rattle.j39_audit.specs.AuditText.{AuditPast, AuditsLine, AuditsLines, AuditsShort, claims_before, nothing_read, passed_by, past_with_frame, skipped_line, with_next_number}
 use Rattle.j39_audit.specs.Breaks.{breaks, line_time}
 use Rattle.j39_audit.specs.Claiming.{HeardClaims}
-use Rattle.j39_audit.specs.Counting.{Noted, key_of, most_times, never, told_at, told_in, told_of}
+use Rattle.j39_audit.specs.Counting.{Noted}
 use Rattle.j39_audit.specs.Looking.{IsPacketOf, break_noted, frame_noted, noted_if}
 use Rattle.j39_audit.specs.SentMessages.{noted_at}
 use Rattle.j39_audit.specs.Settings.{Settings}
 use Rattle.j39_audit.specs.declared.mark.Mark.{Mark}
-use Rattle.j39_audit.specs.declared.mark.Word.{Word}
 use Rattle.j39_audit.specs.declared.mark.Word.TheVariants.{Short, Break}
-use Rattle.j39_audit.specs.declared.tally.Told.{Told}
-use Rattle.j39_audit.proofs.Hearing.{as_many_lines, frame_number, line_more}
-use Rattle.j39_audit_laws.specs.FoundLines.{IsAccusing, IsFoundAt, IsFrameAt, IsLineOf, IsMarked, IsReadHere, IsShortAt, TellsLines}
+use Rattle.j39_audit.proofs.Hearing.{as_many_lines, frame_number}
+use Rattle.j39_audit_laws.specs.FoundLines.{IsAccusing, IsFoundAt, IsFrameAt, IsLineOf, IsMarked, IsReadHere, IsShortAt}
 use Rattle.j39_audit_laws.proofs.Frames.{marked_noted, noted_means, noted_once}
 use Rattle.j39_audit_laws.proofs.Hits.{AtMostOne, In, HaveWords, hit_in, hits, hits_both, if_in, in_cases, in_hits, in_if, in_right, no_hits, one_behind, one_if, words_if}
 use Rattle.j39_audit_laws.proofs.Marking.{is_seen, seen_word, unseen}
@@ -96,18 +91,22 @@ taken s past (ShortLine l) next (part, named, part_is, named_is, inl (there, e))
 taken s past (ShortLine l) next (part, named, part_is, named_is, inr (here, inl (f, time, spelled, text, (packet, packet_is, e)))) =
     let begun : AuditPast = with_next_number past in (
       ap (λ (p : AuditPast). p.number) e ∙ frame_number s begun (line_time s.plan time) named f packet,
-      inr (l, refl, inr (record {
-        part = part;
-        named = named;
-        reads = record { part_is = part_is; named_is = named_is; here = here };
-        f = f;
-        packet = packet;
-        time = time;
-        spelled = spelled;
-        text = text;
-        packet_is = packet_is;
-        next_is = e;
-      })),
+      inr (
+        l,
+        refl,
+        inr (record {
+          part = part;
+          named = named;
+          reads = record { part_is = part_is; named_is = named_is; here = here };
+          f = f;
+          packet = packet;
+          time = time;
+          spelled = spelled;
+          text = text;
+          packet_is = packet_is;
+          next_is = e;
+        }),
+      ),
     )
 taken s past (ShortLine l) next (part, named, part_is, named_is, inr (here, inr (fault, has, e))) =
     let begun : AuditPast = with_next_number past in
@@ -232,17 +231,22 @@ module _ (s : Settings) (log : List Line) (m : Mark) (accuses : IsAccusing m.wor
         (λ x inside marked.
         let (test, e) = in_if x n (nat_lt 0 past.frames) inside in
         let mark_is : m ≡ record { word = Short; subject = 0; group = 0 } = sym marked ∙ sym (ap (λ (y : Noted). y.mark) e) in
-        let line_is : x.line ≡ number = sym (ap (λ (y : Noted). y.line) e) ∙ ap (λ (k : ℕ). k + 1) count in
-        (line_is, inl (record {
-          past = begun;
-          line = l;
-          line_is = subst (IsLineOf s log number begun) same is_line;
-          part = is.part;
-          named = is.named;
-          reads = is.reads;
-          short = is.short;
-          behind = ltb-true 0 past.frames test;
-        }, mark_is)))
+        let line_is : x.line ≡ number = sym (ap (λ (y : Noted). y.line) e) ∙ ap (λ (k : ℕ). k + 1) count in (
+          line_is,
+          inl (
+            record {
+              past = begun;
+              line = l;
+              line_is = subst (IsLineOf s log number begun) same is_line;
+              part = is.part;
+              named = is.named;
+              reads = is.reads;
+              short = is.short;
+              behind = ltb-true 0 past.frames test;
+            },
+            mark_is,
+          ),
+        ))
 
     framed_adds : (l : List ℕ) → line ≡ ShortLine l → IsFramed s begun l next → Adds
     framed_adds l same is =
@@ -273,8 +277,13 @@ module _ (s : Settings) (log : List Line) (m : Mark) (accuses : IsAccusing m.wor
                 claims_are = refl;
               } in (
                 line_is ∙ ap (λ (k : ℕ). k + 1) count,
-                inr (claims, is.f, is.packet, here,
-                    subst (λ (k : Mark). IsMarked s claims is.f is.packet k.word k.subject k.group) marked is_marked),
+                inr (
+                  claims,
+                  is.f,
+                  is.packet,
+                  here,
+                  subst (λ (k : Mark). IsMarked s claims is.f is.packet k.word k.subject k.group) marked is_marked,
+                ),
               )
         ])
 

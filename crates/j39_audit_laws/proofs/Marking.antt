@@ -1,20 +1,16 @@
 -- What is noted at a frame is what the frame is marked with, and each mark that accuses is noted once at most.
-use Rattle.std.proofs.Common.{◌≡◌, ◌≢◌, ◌⊎◌, ℕ, ◌==◌, ◌&&◌, ◌||◌, ◌++◌, ◌∷◌, [], List, Bool, true, false, not, if◌then◌else◌, zero, suc, cond}
-use Rattle.std.proofs.Common.{inl, inr, refl, sym, ap, ◌∙◌, subst, arith, eqb-true, length, Option, Some, None}
-use Rattle.std.specs.Prelude.{nat_lt, count_by}
+use Rattle.std.proofs.Common.{◌≡◌, ℕ, ◌==◌, ◌∷◌, [], List, Bool, true, false, not, if◌then◌else◌}
+use Rattle.std.proofs.Common.{inl, inr, refl, sym, ap, ◌∙◌, subst, length, Option, Some, None}
+use Rattle.std.specs.Prelude.{count_by}
 use Rattle.std.specs.List.{list_any, position, slice_get}
 use Rattle.std.specs.Option.{option_map_or, option_or}
-use Rattle.std.proofs.lemmas.Bool.{cond_both, and_from, and_parts, cases_Bool, eq-eqb, eqb-false, false_from_ne_true, lt-ltb, ltb-false, ltb-true, ne_eqb, not-false, not-true, not_from_false, true≢false, true_from_ne_false}
+use Rattle.std.proofs.lemmas.Bool.{cond_both, true≢false}
 use Rattle.std.proofs.lemmas.Option.{none-some, same_Some}
-use Rattle.j39_id.specs.Addresses.{is_address, null_address}
-use Rattle.j39_id.specs.FrameMeaning.{name_in}
 use Rattle.j39_id.specs.declared.frame.Frame.{Frame}
-use Rattle.j39_follow.specs.Who.{unit_of_name}
 use Rattle.j39_tp.specs.declared.packet.Packet.{Packet}
-use Rattle.j39_audit.specs.Claiming.{HeardClaims, Knowledge, has_strangers, is_address_of, knowledge, sender_at}
+use Rattle.j39_audit.specs.Claiming.{Knowledge}
 use Rattle.j39_audit.specs.Counting.{Noted}
-use Rattle.j39_audit.specs.Looking.{claim_noted, claim_of_unit, claim_place, counted, frame_noted, is_above_unplanned, is_claim, is_claiming, is_urgent}
-use Rattle.j39_audit.specs.Looking.{mark_noted, message_noted, message_sent, noted_if, noted_with, request_noted, requested, sent_noted}
+use Rattle.j39_audit.specs.Looking.{message_sent, request_noted, requested}
 use Rattle.j39_audit.specs.Looking.{announced_by, announced_message, is_single, single}
 use Rattle.j39_audit.specs.SentMessages.{SentMessage, all_marked, deviation, flow_group, flows_noted, is_nearest_flow, is_nearest_request, is_of, marked, noted_at, requests_noted, with_fit_flow, without_flow, is_fit, first_group}
 use Rattle.j39_audit.specs.declared.messages.Test.TheVariants.{Fitting, Selected, Any}
@@ -25,10 +21,8 @@ use Rattle.j39_audit.specs.Settings.{Settings}
 use Rattle.j39_audit.specs.declared.mark.Mark.{Mark}
 use Rattle.j39_audit.specs.declared.mark.Word.{Word}
 use Rattle.j39_audit.specs.declared.mark.Word.TheVariants.{Short, Stranger, Nobody as NobodyThere, Address, Cannot, Layout, NoFlow, Priority, Urgent, Seen, Unclear, Asked, Counted, Unsure, Break}
-use Rattle.j39_audit.specs.declared.senders.SureSender.{SureSender}
-use Rattle.j39_audit.specs.declared.senders.SureSender.TheVariants.{Unit as OfUnit, Nobody, Unknown}
-use Rattle.j39_audit_laws.specs.FoundLines.{ClaimsRightly, Differs, IsAccusing, IsClaimOf, IsMarked, IsSentFrom}
-use Rattle.j39_audit_laws.proofs.Hits.{AtMostOne, HaveWords, In, hits, if_in, in_cases, in_if, in_left, in_right, no_hits, one_before, one_behind, one_if, one_of_one, words_below, words_both, words_if}
+use Rattle.j39_audit_laws.specs.FoundLines.{IsAccusing}
+use Rattle.j39_audit_laws.proofs.Hits.{HaveWords, In, words_below}
 
 -- ---- words
 

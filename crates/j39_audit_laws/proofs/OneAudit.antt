@@ -1,15 +1,13 @@
 -- For a plan and a log an audit writes one text.
-use Rattle.std.proofs.Common.{◌≡◌, ◌<◌, ◌+◌, ◌&&◌, ℕ, zero, suc, Bool, true, false, not, List, [], ◌∷◌, length, get_or, Option, Some, inl, inr, refl, sym, ap, subst, ◌∙◌, arith}
+use Rattle.std.proofs.Common.{◌≡◌, ◌<◌, ◌&&◌, ℕ, zero, suc, Bool, false, not, List, [], ◌∷◌, length, get_or, Some, inl, inr, refl, sym, ap, subst, ◌∙◌, arith}
 use Rattle.std.specs.List.{slice_get}
 use Rattle.std.proofs.lemmas.Bool.{MatchBool-at_false, MatchBool-at_true, cases_Bool}
 use Rattle.j39_id.specs.Lines.{lines}
 use Rattle.j39_id.specs.Name.{is_arbitrary}
 use Rattle.j39_network.specs.declared.plan.Plan.{Plan}
 use Rattle.j39_network.specs.declared.plan.unit_plan.UnitPlan.{UnitPlan}
-use Rattle.j39_network.specs.PlannedUnits.{units_of}
-use Rattle.j39_network.specs.Staying.{StaysBeside}
 use Rattle.j39_stream.specs.declared.verdict.Verdict.{Verdict}
-use Rattle.j39_audit.specs.AuditText.{AuditPast, IsAuditedLog, audit_text, audit_verdict, nothing_read}
+use Rattle.j39_audit.specs.AuditText.{IsAuditedLog, audit_text, audit_verdict, nothing_read}
 use Rattle.j39_audit.specs.Settings.{AreMoving, Settings}
 use Rattle.j39_audit_laws.specs.OneAudit.{AuditHasOneText}
 use Rattle.j39_audit_laws.proofs.OneReading.{one_log_read}
@@ -40,13 +38,13 @@ one_moving plan moving other a b =
     stay : (u : ℕ) (unit : UnitPlan) → slice_get plan.units.items u ≡ Some unit → a.stays unit ≡ b.stays unit
     stay u unit at = elim (cases_Bool (a.stays unit)) [
       | inl stays ↦ elim (cases_Bool (b.stays unit)) [
-          | inl too ↦ stays ∙ sym too
-          | inr leaves ↦ absurd (MatchBool-at_false _ _ leaves (b.decides u unit at) (MatchBool-at_true _ _ stays (a.decides u unit at)))
-        ]
+        | inl too ↦ stays ∙ sym too
+        | inr leaves ↦ absurd (MatchBool-at_false _ _ leaves (b.decides u unit at) (MatchBool-at_true _ _ stays (a.decides u unit at)))
+      ]
       | inr leaves ↦ elim (cases_Bool (b.stays unit)) [
-          | inl stays ↦ absurd (MatchBool-at_false _ _ leaves (a.decides u unit at) (MatchBool-at_true _ _ stays (b.decides u unit at)))
-          | inr too ↦ leaves ∙ sym too
-        ]
+        | inl stays ↦ absurd (MatchBool-at_false _ _ leaves (a.decides u unit at) (MatchBool-at_true _ _ stays (b.decides u unit at)))
+        | inr too ↦ leaves ∙ sym too
+      ]
     ]
 
 -- ---- what is written

@@ -1,7 +1,7 @@
 -- A log is read in one way.
-use Rattle.std.proofs.Common.{◌≡◌, ◌⊎◌, ◌+◌, ℕ, List, [], ◌∷◌, ◌++◌, Option, Some, None, inl, inr, refl, sym, ap, subst, ◌∙◌}
+use Rattle.std.proofs.Common.{◌≡◌, ◌⊎◌, ◌+◌, ℕ, List, [], ◌∷◌, Option, Some, None, inl, inr, refl, sym, ap, subst, ◌∙◌}
 use Rattle.j39_id.proofs.LineLaws.{not_both, one_fault, one_spelled}
-use Rattle.j39_id.specs.FrameLine.{HasLineFault, IsLastWord, Spells}
+use Rattle.j39_id.specs.FrameLine.{IsLastWord}
 use Rattle.j39_id.specs.Lines.{Line, Short as ShortLine, Long}
 use Rattle.j39_id.specs.declared.frame.Frame.{Frame}
 use Rattle.j39_id.specs.declared.line_error.LineError.{LineError}

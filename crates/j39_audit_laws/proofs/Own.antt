@@ -1,9 +1,9 @@
 -- Who keeps its own part isn't accused.
-use Rattle.std.proofs.Common.{◌≡◌, ◌≢◌, ◌⊎◌, ℕ, zero, suc, ◌<◌, ◌≤◌, ◌==◌, ◌&&◌, ◌||◌, ◌++◌, ◌∷◌, [], List, Bool, true, false, not, cond, length}
-use Rattle.std.proofs.Common.{inl, inr, refl, sym, ap, ◌∙◌, subst, arith, eqb-true, Option, Some, None}
+use Rattle.std.proofs.Common.{◌≡◌, ◌≢◌, ℕ, zero, suc, ◌<◌, ◌==◌, ◌&&◌, ◌||◌, ◌++◌, ◌∷◌, [], List, true, not, length}
+use Rattle.std.proofs.Common.{inl, inr, refl, sym, ap, ◌∙◌, subst, arith, eqb-true, Option, Some}
 use Rattle.std.specs.Prelude.{Contains, nat_lt, nat_le}
-use Rattle.std.specs.Option.{is_some, option_map_or}
-use Rattle.std.proofs.lemmas.Bool.{and_from, and_parts, cases_Bool, cond-true, eq-eqb, false_from_ne_true, le-leb, ltb-true, not-true, not-false, or_cases, or_left, or_right, true≢false}
+use Rattle.std.specs.Option.{is_some}
+use Rattle.std.proofs.lemmas.Bool.{and_from, and_parts, cond-true, eq-eqb, le-leb, ltb-true, not-true, or_cases, or_left, or_right, true≢false}
 use Rattle.std.proofs.lemmas.Option.{none-some}
 use Rattle.j39_id.specs.Addresses.{is_address, null_address}
 use Rattle.j39_id.specs.FrameMeaning.{cannot_claim, carries_name, claims_address}
@@ -14,19 +14,19 @@ use Rattle.j39_id.specs.declared.frame.Frame.{Frame}
 use Rattle.j39_network.specs.declared.plan.Plan.{Plan}
 use Rattle.j39_network.specs.declared.plan.timing.Timing.{Timing}
 use Rattle.j39_tp.specs.declared.packet.Packet.{Packet}
-use Rattle.j39_audit.specs.AuditText.{AuditPast, AuditsLines, Look, groups_named, line_of_mark, mark_at, nothing_read, subject_lines}
+use Rattle.j39_audit.specs.AuditText.{Look, groups_named, line_of_mark, mark_at, subject_lines}
 use Rattle.j39_audit.specs.Below.{each_below}
 use Rattle.j39_audit.specs.Claiming.{HeardClaims, Knowledge, knowledge}
-use Rattle.j39_audit.specs.Counting.{most_times, told_in}
-use Rattle.j39_audit.specs.Looking.{is_above_unplanned, is_claim, is_of_own_group, is_of_transport, is_single, is_urgent, may_be_transport, message_sent, single}
-use Rattle.j39_audit.specs.SentMessages.{SentMessage, deviation, first_group}
+use Rattle.j39_audit.specs.Counting.{told_in}
+use Rattle.j39_audit.specs.Looking.{is_above_unplanned, is_claim, is_of_own_group, is_of_transport, is_single, is_urgent, may_be_transport, single}
+use Rattle.j39_audit.specs.SentMessages.{first_group}
 use Rattle.j39_audit.specs.Settings.{AreMoving, Settings}
 use Rattle.j39_audit.specs.declared.mark.Mark.{Mark}
 use Rattle.j39_audit.specs.declared.mark.Word.{Word}
-use Rattle.j39_audit.specs.declared.mark.Word.TheVariants.{Short, Stranger, Nobody as NobodyThere, Address, Cannot, Layout, NoFlow, Priority, Urgent}
+use Rattle.j39_audit.specs.declared.mark.Word.TheVariants.{Short, Address, Cannot, Layout, NoFlow, Priority, Urgent}
 use Rattle.j39_audit.specs.declared.messages.Test.TheVariants.{Any}
 use Rattle.j39_audit.specs.declared.tally.Told.{Told}
-use Rattle.j39_audit_laws.specs.FoundLines.{ClaimsRightly, Differs, IsAccusing, IsFoundAt, IsFrameAt, IsMarked, TellsLines}
+use Rattle.j39_audit_laws.specs.FoundLines.{Differs, IsAccusing, IsFoundAt, IsFrameAt, IsMarked, TellsLines}
 use Rattle.j39_audit_laws.specs.OwnPart.{AlwaysCan, AreItsOwn, ClaimsItsOwn, IsByThePlan, IsItsNumber, IsNotAccused, IsNotNamed, LooksAsPlanned, Senders, WaitsForPlanned}
 use Rattle.j39_audit_laws.proofs.Planned.{at_place, claims_so, differing_number, its_address, place_at, planned_alike, some_group}
 use Rattle.j39_audit_laws.proofs.Marking.{sender_of}

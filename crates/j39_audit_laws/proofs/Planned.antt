@@ -1,13 +1,12 @@
 -- A message that is of a flow doesn't differ from the plan, and one that differs has the number of a group of its unit.
-use Rattle.std.proofs.Common.{◌≡◌, ◌≢◌, ◌⊎◌, ℕ, zero, suc, ◌+◌, ◌<◌, ◌≤◌, ◌==◌, ◌&&◌, ◌||◌, ◌∷◌, [], List, Bool, true, false, not, cond, length, get_or}
+use Rattle.std.proofs.Common.{◌≡◌, ◌⊎◌, ℕ, zero, suc, ◌+◌, ◌<◌, ◌≤◌, ◌==◌, ◌&&◌, ◌||◌, ◌∷◌, [], List, Bool, true, false, not, length, get_or}
 use Rattle.std.proofs.Common.{inl, inr, refl, sym, ap, ◌∙◌, subst, arith, eqb-true, Option, Some, None, if◌then◌else◌}
-use Rattle.std.specs.Prelude.{nat_le, nat_lt}
+use Rattle.std.specs.Prelude.{nat_le}
 use Rattle.std.specs.FinSet.{contains}
 use Rattle.std.specs.List.{list_any, position, position_from, slice_get}
 use Rattle.std.specs.Option.{is_some, option_map_or, option_or}
-use Rattle.std.proofs.lemmas.Bool.{MatchBool-at_true, and_from, and_parts, cases_Bool, cases_lt, cond-false, cond-true, cond_both, eq-eqb, false_from_ne_true, le-leb, lt-ltb, ne_eqb, not-true, not_from_false, or_cases, or_left, or_right, true≢false}
+use Rattle.std.proofs.lemmas.Bool.{MatchBool-at_true, and_from, and_parts, cases_Bool, cases_lt, cond-false, cond-true, eq-eqb, false_from_ne_true, le-leb, lt-ltb, ne_eqb, not-true, not_from_false, or_cases, or_left, or_right, true≢false}
 use Rattle.std.proofs.lemmas.Iterator.Adapters.{position_from-zero}
-use Rattle.std.proofs.lemmas.List.Folds.{Any-from_list_any}
 use Rattle.std.proofs.lemmas.List.Quantifiers.{position-Some}
 use Rattle.std.proofs.lemmas.Option.{none-some, same_Some, slice_get-get_or, slice_get_within}
 use Rattle.j39_id.specs.Addresses.{global_address, in_pool}
@@ -15,7 +14,6 @@ use Rattle.j39_id.specs.Name.{is_arbitrary}
 use Rattle.j39_signal.specs.Selectors.{is_selected}
 use Rattle.j39_network.specs.PlannedUnits.{units_of}
 use Rattle.j39_network.specs.Staying.{StaysBeside}
-use Rattle.j39_network.specs.declared.plan.Plan.{Plan}
 use Rattle.j39_network.specs.declared.plan.flow_plan.FlowPlan.{FlowPlan}
 use Rattle.j39_network.specs.declared.plan.group_plan.GroupPlan.{GroupPlan}
 use Rattle.j39_network.specs.declared.plan.to.To.{To}
@@ -74,11 +72,11 @@ first_passes test (suc n) g e =
     elim (first_below test n) as (λ o. first_below test n ≡ o → option_or o (if test n then Some n else None) ≡ Some g → test g ≡ true) [
       | Some k ↦ λ before is. first_passes test n g (before ∙ is)
       | None ↦ λ _ is. elim (cases_Bool (test n)) [
-          | inl here ↦
-              let same : n ≡ g = same_Some n g (sym (cond-true (test n) (Some n) None here) ∙ is) in
-              subst (λ (i : ℕ). test i ≡ true) same here
-          | inr other ↦ absurd (none-some g (sym (cond-false (test n) (Some n) None other) ∙ is))
-        ]
+        | inl here ↦
+            let same : n ≡ g = same_Some n g (sym (cond-true (test n) (Some n) None here) ∙ is) in
+            subst (λ (i : ℕ). test i ≡ true) same here
+        | inr other ↦ absurd (none-some g (sym (cond-false (test n) (Some n) None other) ∙ is))
+      ]
     ] refl e
 
 pub some_below : (test : ℕ → Bool) (k n : ℕ) → test k ≡ true → k < n → is_some (first_below test n) ≡ true
@@ -88,11 +86,11 @@ some_below test k (suc n) passes less =
     elim (first_below test n) as (λ o. first_below test n ≡ o → is_some (option_or o (if test n then Some n else None)) ≡ true) [
       | Some g ↦ λ _. refl
       | None ↦ λ before. elim (cases_lt k n) [
-          | inl below ↦ absurd (true≢false (sym (some_below test k n passes below) ∙ ap is_some before))
-          | inr above ↦
-              let same : k ≡ n = omega (arith, less, above) in
-              ap is_some (cond-true (test n) (Some n) None (subst (λ (i : ℕ). test i ≡ true) same passes))
-        ]
+        | inl below ↦ absurd (true≢false (sym (some_below test k n passes below) ∙ ap is_some before))
+        | inr above ↦
+            let same : k ≡ n = omega (arith, less, above) in
+            ap is_some (cond-true (test n) (Some n) None (subst (λ (i : ℕ). test i ≡ true) same passes))
+      ]
     ] refl
 
 -- what a test says of the element at a place, where it passes

@@ -1,33 +1,29 @@
 -- An audit of sound frames accuses by none of the words that need no priority of other frames.
-use Rattle.std.proofs.Common.{◌≡◌, ◌≢◌, ◌⊎◌, ℕ, zero, suc, ◌<◌, ◌==◌, ◌&&◌, ◌||◌, ◌++◌, ◌∷◌, [], List, Bool, true, false, not, cond, length}
+use Rattle.std.proofs.Common.{◌≡◌, ◌≢◌, ◌⊎◌, ℕ, zero, suc, ◌<◌, ◌==◌, ◌&&◌, ◌++◌, ◌∷◌, [], List, Bool, true, false, not}
 use Rattle.std.proofs.Common.{inl, inr, refl, sym, ap, ◌∙◌, subst, arith, eqb-true, Option, Some, None, if◌then◌else◌}
 use Rattle.std.specs.Option.{is_some}
-use Rattle.std.proofs.lemmas.Bool.{and_from, cases_Bool, cases_lt, cond-false, cond-true, eq-eqb, not-false, not-true, or_parts, true≢false}
+use Rattle.std.proofs.lemmas.Bool.{cases_lt, eq-eqb, not-false, or_parts, true≢false}
 use Rattle.std.proofs.lemmas.Option.{none-some, same_Some}
 use Rattle.j39_id.specs.Addresses.{is_address}
-use Rattle.j39_id.specs.FrameMeaning.{name_in}
 use Rattle.j39_id.specs.Lines.{Line}
 use Rattle.j39_id.specs.declared.frame.Frame.{Frame}
-use Rattle.j39_follow.specs.Who.{unit_of_name}
 use Rattle.j39_tp.specs.declared.packet.Packet.{Packet}
-use Rattle.j39_audit.specs.AuditText.{AuditPast, AuditsLines, Look, mark_at, nothing_read, subject_lines, subjects, word_lines}
-use Rattle.j39_audit.specs.Below.{any_below, first_below}
-use Rattle.j39_audit.specs.Claiming.{Heard, HeardClaims, Knowledge, first_there, has_strangers, is_address_of, is_another_there, is_strange, knowledge, last_claim_of, may_be, may_stand, newest_of, sender_at, sure_sender}
+use Rattle.j39_audit.specs.AuditText.{mark_at, subject_lines, subjects, word_lines}
+use Rattle.j39_audit.specs.Below.{any_below}
+use Rattle.j39_audit.specs.Claiming.{Heard, HeardClaims, Knowledge, first_there, has_strangers, is_another_there, is_strange, knowledge, last_claim_of, may_be, may_stand, newest_of, sender_at, sure_sender}
 use Rattle.j39_audit.specs.Counting.{told_in}
 use Rattle.j39_audit.specs.Looking.{is_claim, message_sent}
 use Rattle.j39_audit.specs.Settings.{AreMoving, Settings, moves, units_planned}
-use Rattle.j39_audit.specs.declared.mark.Mark.{Mark}
 use Rattle.j39_audit.specs.declared.mark.Word.{Word}
 use Rattle.j39_audit.specs.declared.mark.Word.TheVariants.{Short, Stranger, Nobody as NobodyThere, Address, Cannot, Layout, NoFlow, Priority}
-use Rattle.j39_audit.specs.declared.senders.SureSender.{SureSender}
 use Rattle.j39_audit.specs.declared.senders.SureSender.TheVariants.{Unit as OfUnit, Nobody, Unknown}
 use Rattle.j39_audit_laws.specs.AuditedRuns.{AreReadAs, IsNotWritten}
-use Rattle.j39_audit_laws.specs.FoundLines.{Differs, IsAccusing, IsFoundAt, IsFrameAt, IsMarked}
+use Rattle.j39_audit_laws.specs.FoundLines.{Differs, IsFoundAt, IsFrameAt}
 use Rattle.j39_audit_laws.specs.OwnPart.{ClaimsAddresses, IsItsAddress, IsNotNamed}
 use Rattle.j39_audit_laws.proofs.Own.{none_below, none_of_subject, of_frames}
 use Rattle.j39_audit_laws.proofs.Planned.{claims_so, its_address, planned_alike, some_below}
 use Rattle.j39_audit_laws.proofs.RunFrames.{IsFromIts, IsItsClaim, IsNewest, IsSoundFrame, claims_behind_those, claims_of, claims_stay, newest_front}
-use Rattle.j39_audit_laws.proofs.RunLogs.{AreClaimsOf, IsOneOfThem, no_short, one_of_them}
+use Rattle.j39_audit_laws.proofs.RunLogs.{AreClaimsOf, no_short, one_of_them}
 
 -- ---- who may be there
 

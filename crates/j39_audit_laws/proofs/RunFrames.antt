@@ -1,30 +1,14 @@
 -- What the frames of a run are, by the plan and by the frames before them: claims of a unit's own addresses, or frames of a unit at the address
 -- that it claimed last.
-use Rattle.std.proofs.Common.{◌≡◌, ◌≢◌, ◌⊎◌, ℕ, zero, suc, ◌+◌, ◌<◌, ◌^◌, ◌==◌, ◌&&◌, ◌||◌, ◌++◌, ◌∷◌, [], List, Bool, true, false, not, cond, length, map}
-use Rattle.std.proofs.Common.{inl, inr, refl, sym, ap, ◌∙◌, subst, arith, eqb-true, append_assoc, Option, Some, None}
-use Rattle.std.specs.Prelude.{nat_lt}
-use Rattle.std.specs.FinSet.{contains}
-use Rattle.std.specs.List.{AllByRecursion, slice_get}
-use Rattle.std.proofs.lemmas.Bool.{and_from, and_parts, cases_Bool, cases_eq, eq-eqb, false_from_ne_true, ltb-true, ne_eqb, not-false, or_cases, or_left, or_right, true≢false}
-use Rattle.std.proofs.lemmas.List.{append-nil, append_cancel_left, map-append}
-use Rattle.std.proofs.lemmas.Option.{none-some, same_Some}
-use Rattle.j39_id.specs.Addresses.{in_pool, is_address, null_address}
-use Rattle.j39_id.specs.FrameMeaning.{cannot_claim, carries_name, claims_address, name_in, requests_group}
-use Rattle.j39_id.specs.Ident.{bits, identifier_of, pgn_of}
-use Rattle.j39_id.specs.Name.{is_arbitrary}
+use Rattle.std.proofs.Common.{◌≡◌, ◌≢◌, ◌⊎◌, ℕ, ◌<◌, ◌++◌, ◌∷◌, [], List, Bool, true, false, cond, length}
+use Rattle.std.proofs.Common.{inl, inr, refl, sym, ap, ◌∙◌, append_assoc, Option, Some, None}
+use Rattle.std.specs.List.{AllByRecursion}
+use Rattle.std.proofs.lemmas.Bool.{cases_Bool}
+use Rattle.std.proofs.lemmas.Option.{none-some}
+use Rattle.j39_id.specs.Addresses.{is_address, null_address}
+use Rattle.j39_id.specs.FrameMeaning.{name_in}
 use Rattle.j39_id.specs.declared.frame.Frame.{Frame}
-use Rattle.j39_claim.specs.declared.item.Item.{Item}
-use Rattle.j39_claim.specs.declared.item.Item.TheVariants.{Told, Request}
-use Rattle.j39_claim.specs.declared.item.Say.{Say}
-use Rattle.j39_claim.specs.declared.item.Say.TheVariants.{Claim, Cannot}
-use Rattle.j39_claim.specs.ClaimRule.{ClaimState, PlannedUnit, Reacts, claim_of, said_by, started}
-use Rattle.j39_network.specs.PlannedUnits.{unit_at, units_of}
-use Rattle.j39_network.specs.Staying.{Stays, StaysBeside}
 use Rattle.j39_network.specs.declared.plan.Plan.{Plan}
-use Rattle.j39_network.specs.declared.plan.unit_plan.UnitPlan.{UnitPlan}
-use Rattle.j39_findings.specs.Findings.{Clean}
-use Rattle.j39_world.specs.Sent.{Sent, frame_of, sent_of, source_of}
-use Rattle.j39_world.specs.World.{World}
 use Rattle.j39_follow.specs.Who.{unit_of_name}
 use Rattle.j39_audit.specs.Claiming.{Heard, Knowledge, newest_of, is_at}
 use Rattle.j39_audit.specs.Looking.{IsPacketOf, is_claim, message_sent}
@@ -88,9 +72,9 @@ pub newest_front : (u : ℕ) (newer older : List Heard) (a : ℕ) → IsNewest u
 newest_front u [] older a is = inl (none_newest u)
 newest_front u (h ∷ newer) older a is = elim (cases_Bool (is_at h.unit u)) [
   | inl here ↦ elim is [
-      | inl none ↦ absurd (none-some h.source (sym none ∙ newest_here u h (newer ++ older) here))
-      | inr some ↦ inr (newest_here u h newer here ∙ sym (newest_here u h (newer ++ older) here) ∙ some)
-    ]
+    | inl none ↦ absurd (none-some h.source (sym none ∙ newest_here u h (newer ++ older) here))
+    | inr some ↦ inr (newest_here u h newer here ∙ sym (newest_here u h (newer ++ older) here) ∙ some)
+  ]
   | inr other ↦
       let past : newest_of u (h ∷ newer) ≡ newest_of u newer = newest_past u h newer other in
       elim (newest_front u newer older a (elim is [

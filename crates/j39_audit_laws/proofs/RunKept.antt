@@ -1,56 +1,51 @@
 -- In each world of each run of a plan without findings, each frame that was sent is sound behind those before it.
-use Rattle.std.proofs.Common.{◌≡◌, ◌≢◌, ◌⊎◌, ℕ, ◌<◌, ◌^◌, ◌==◌, ◌&&◌, ◌||◌, ◌++◌, ◌∷◌, [], List, Bool, true, false, cond, length, map}
-use Rattle.std.proofs.Common.{inl, inr, refl, sym, ap, ◌∙◌, subst, arith, eqb-true, append_assoc, Option, Some, None}
-use Rattle.std.specs.FinSet.{contains}
+use Rattle.std.proofs.Common.{◌≡◌, ◌≢◌, ◌⊎◌, ℕ, ◌<◌, ◌==◌, ◌&&◌, ◌||◌, ◌++◌, ◌∷◌, [], List, Bool, true, false, cond, length, map}
+use Rattle.std.proofs.Common.{inl, inr, refl, sym, ap, ◌∙◌, subst, arith, eqb-true, Option, Some, None}
 use Rattle.std.specs.List.{AllByRecursion, slice_get}
-use Rattle.std.proofs.lemmas.Bool.{and_parts, cases_Bool, cases_eq, eq-eqb, false_from_ne_true, ltb-true, ne_eqb, or_cases, or_left, true≢false}
-use Rattle.std.proofs.lemmas.List.{append-nil, map-append}
+use Rattle.std.proofs.lemmas.Bool.{and_parts, cases_eq, eq-eqb, false_from_ne_true, ne_eqb, or_cases, or_left, true≢false}
 use Rattle.std.proofs.lemmas.Option.{same_Some}
 use Rattle.j39_id.specs.Addresses.{in_pool, is_address, null_address}
 use Rattle.j39_id.specs.FrameMeaning.{cannot_claim, carries_name, claims_address, name_in, requests_group}
-use Rattle.j39_id.specs.Ident.{bits, pgn_of}
+use Rattle.j39_id.specs.Ident.{pgn_of}
 use Rattle.j39_id.specs.Name.{is_arbitrary}
 use Rattle.j39_id.specs.Services.{is_service, request}
 use Rattle.j39_id.specs.declared.frame.Frame.{Frame}
-use Rattle.j39_claim.specs.declared.item.Item.{Item}
-use Rattle.j39_claim.specs.declared.item.Item.TheVariants.{Told, Request}
+use Rattle.j39_claim.specs.declared.item.Item.TheVariants.{Told}
 use Rattle.j39_claim.specs.declared.item.Say.TheVariants.{Claim}
 use Rattle.j39_claim.specs.ClaimRule.{ClaimState, PlannedUnit, claim_of}
 use Rattle.j39_findings.proofs.WhoStays.{placed}
 use Rattle.j39_findings.specs.Findings.{Clean}
-use Rattle.j39_network.specs.PlannedUnits.{planned_unit, unit_at, units_of}
-use Rattle.j39_network.specs.Staying.{Stays, StaysBeside}
+use Rattle.j39_network.specs.PlannedUnits.{unit_at, units_of}
+use Rattle.j39_network.specs.Staying.{Stays}
 use Rattle.j39_network.specs.declared.plan.Plan.{Plan}
 use Rattle.j39_network.specs.declared.plan.flow_plan.FlowPlan.{FlowPlan}
 use Rattle.j39_network.specs.declared.plan.group_plan.GroupPlan.{GroupPlan}
-use Rattle.j39_network.specs.declared.plan.unit_plan.UnitPlan.{UnitPlan}
 use Rattle.j39_network.specs.declared.steps.Step.{Step}
 use Rattle.j39_tp.specs.Sender as sender
 use Rattle.j39_tp.specs.declared.packet.Packet.{Packet}
 use Rattle.j39_world.specs.declared.flow.Flow.{Flow}
 use Rattle.j39_world.specs.Flows.{dest_of, flow_of, flows_of}
 use Rattle.j39_world.specs.Opening.{AreNamesDistinct}
-use Rattle.j39_world.specs.Run.{StepsTo, count_of, refusal}
+use Rattle.j39_world.specs.Run.{StepsTo, refusal}
 use Rattle.j39_world.specs.Sent.{Sent, frame_of, sent_of, source_of}
-use Rattle.j39_world.specs.SentTransfers.{group_of, packet_frame, short_frame}
+use Rattle.j39_world.specs.SentTransfers.{group_of, packet_frame}
 use Rattle.j39_world.specs.Sound.{AreAddressesSound, AreKeptFree}
 use Rattle.j39_world.specs.SoundPlan.{Always}
-use Rattle.j39_world.specs.World.{Stations, World, all_off}
+use Rattle.j39_world.specs.World.{World, all_off}
 use Rattle.j39_run_laws.proofs.Addresses.CleanUnits.{clean_units, names_in_range}
 use Rattle.j39_run_laws.proofs.Addresses.SoundAddresses.{addresses_sound, kept_free}
 use Rattle.j39_run_laws.proofs.Addresses.Staying.{stand}
-use Rattle.j39_run_laws.proofs.Runs.Always.{always_with, leads_to_follows, one_more}
+use Rattle.j39_run_laws.proofs.Runs.Always.{leads_to_follows, one_more}
 use Rattle.j39_run_laws.proofs.Runs.Conditions.{is_unit}
 use Rattle.j39_run_laws.proofs.Runs.Units.{in_units}
 use Rattle.j39_follow.specs.Holders.{Claims}
 use Rattle.j39_follow.specs.Who.{unit_of_name}
-use Rattle.j39_log_laws.specs.Between.{IsSentBehind, MessagesGoBetweenHolders, tells_of_addresses}
-use Rattle.j39_log_laws.specs.KeepsEnds.{KeepsEnds}
+use Rattle.j39_log_laws.specs.Between.{MessagesGoBetweenHolders, tells_of_addresses}
 use Rattle.j39_log_laws.specs.Telling.{HaveOwnNumbers}
 use Rattle.j39_log_laws.proofs.Between.{messages_go, transports}
 use Rattle.j39_log_laws.proofs.Identifiers.{IsOther, carries_none, sent_as}
 use Rattle.j39_log_laws.proofs.Logs.{claims_it, split}
-use Rattle.j39_log_laws.proofs.SentFrames.{own_numbers, planned_number, single}
+use Rattle.j39_log_laws.proofs.SentFrames.{own_numbers, planned_number}
 use Rattle.j39_log_laws.proofs.FittingFlows.{of_group, planned_flow, some_there}
 use Rattle.j39_run_laws.proofs.Addresses.CleanEnds.{flow_at}
 use Rattle.j39_log_laws.proofs.Standing.{source_below}
@@ -59,8 +54,8 @@ use Rattle.j39_log_laws.proofs.UnitNames.{named}
 use Rattle.j39_audit.specs.Claiming.{Heard, is_at, newest_of}
 use Rattle.j39_audit.specs.Looking.{is_claim}
 use Rattle.j39_audit_laws.specs.OwnPart.{ClaimsAddresses, IsItsAddress}
-use Rattle.j39_audit_laws.proofs.RunFrames.{IsFromIts, IsItsClaim, IsNewest, IsSoundFrame, claims_behind_those, claims_of, heard_of, newest_here, newest_past, no_claims, none_newest}
-use Rattle.j39_audit_laws.proofs.RunSteps.{IsOfMessages, IsOneStep, IsSending, IsTelling, claim_frame, claims_at, name_at, one_step, request_frame}
+use Rattle.j39_audit_laws.proofs.RunFrames.{IsNewest, claims_behind_those, claims_of, heard_of, newest_here, newest_past, no_claims}
+use Rattle.j39_audit_laws.proofs.RunSteps.{IsOfMessages, IsOneStep, IsSending, IsTelling, claim_frame, claims_at, name_at, request_frame}
 
 -- ---- what is known of a world
 
@@ -292,9 +287,12 @@ module _ (plan : Plan) (clean : Clean plan) where
       where
         parts : (log : List Frame) → map sent_of log ≡ new.frames → (l : List Frame) × (map sent_of l ≡ w.frames) × (claims_of plan [] log ≡ claims_of plan [] l)
         parts log e =
-            let s = split sent_of log w.frames added (e ∙ is) in
-            (s.0, s.3, behind s.0 s.1 log s.2 ∙ no_claims plan (claims_of plan [] s.0) s.1
-            (none_claim w s.1 (subst (AllByRecursion (IsOfMessages plan w)) (sym s.4) sends.frames)))
+            let s = split sent_of log w.frames added (e ∙ is) in (
+              s.0,
+              s.3,
+              behind s.0 s.1 log s.2 ∙ no_claims plan (claims_of plan [] s.0) s.1
+                  (none_claim w s.1 (subst (AllByRecursion (IsOfMessages plan w)) (sym s.4) sends.frames)),
+            )
 
     -- one by which a unit tells of its address: of this it is enough what these claims are
     module _ (added : List Sent) (is : new.frames ≡ w.frames ++ added) (tells : IsTelling plan w new added) where
@@ -343,11 +341,11 @@ module _ (plan : Plan) (clean : Clean plan) where
               λ u a on address. elim (cases_eq u t) [
                 | inr other ↦ (let before = was u a other on address in heard.held l old u a before.0 before.1)
                 | inl same ↦ elim why [
-                    | inl never ↦ inl (heard.silent l old u (ap (claims_at plan) same ∙ never))
-                    | inr (was_on, kept) ↦
-                        let there : (new.stations t).address ≡ Some a = ap (λ (x : ℕ). (new.stations x).address) (sym same) ∙ address in
-                        subst (λ (x : ℕ). IsNewest x (claims_of plan [] l) a) (sym same) (heard.held l old t a was_on (sym kept ∙ there))
-                  ]
+                  | inl never ↦ inl (heard.silent l old u (ap (claims_at plan) same ∙ never))
+                  | inr (was_on, kept) ↦
+                      let there : (new.stations t).address ≡ Some a = ap (λ (x : ℕ). (new.stations x).address) (sym same) ∙ address in
+                      subst (λ (x : ℕ). IsNewest x (claims_of plan [] l) a) (sym same) (heard.held l old t a was_on (sym kept ∙ there))
+                ]
               ],
             )
         | inr (claims, inl one) ↦

@@ -1,7 +1,6 @@
 -- The frames that are read of a log, with the claims before each.
-use Rattle.std.proofs.Common.{◌≡◌, ◌≢◌, ◌⊎◌, ℕ, ◌+◌, ◌++◌, ◌∷◌, [], List, Bool, true, false, cond, length}
-use Rattle.std.proofs.Common.{inl, inr, refl, sym, ap, ◌∙◌, subst, append_assoc, Option, Some, None}
-use Rattle.std.proofs.lemmas.List.{append-nil}
+use Rattle.std.proofs.Common.{◌≡◌, ◌≢◌, ◌⊎◌, ℕ, ◌++◌, ◌∷◌, [], List, Bool, true, false, cond}
+use Rattle.std.proofs.Common.{inl, inr, refl, sym, ap, ◌∙◌, subst, append_assoc, Option, None}
 use Rattle.j39_id.proofs.LineLaws.{not_both, one_fault, one_spelled}
 use Rattle.j39_id.specs.FrameLine.{HasLineFault, Spells}
 use Rattle.j39_id.specs.Lines.{Line, Short as ShortLine, Long}
@@ -10,13 +9,13 @@ use Rattle.j39_id.specs.declared.line_error.LineError.{LineError}
 use Rattle.j39_id.specs.declared.line_error.LineError.TheVariants.{Empty, NoHash, ShortIdent, BadIdent, TooLong, BadData}
 use Rattle.j39_follow.specs.LogLines.{IsElsewhere, IsReadPart, NamesInterface, interface_behind}
 use Rattle.j39_tp.specs.declared.packet.Packet.{Packet}
-use Rattle.j39_audit.specs.AuditText.{AuditPast, AuditsLine, AuditsLines, bad_line, claims_before, nothing_read, passed_by, past_with_frame, with_next_number}
+use Rattle.j39_audit.specs.AuditText.{AuditPast, AuditsLine, AuditsLines, claims_before, nothing_read, passed_by, past_with_frame, with_next_number}
 use Rattle.j39_audit.specs.Breaks.{breaks, line_time}
 use Rattle.j39_audit.specs.Claiming.{Heard, HeardClaims, broken_off, with_claim}
 use Rattle.j39_audit.specs.Looking.{claims_behind, is_claim}
 use Rattle.j39_audit.specs.Settings.{Settings}
 use Rattle.j39_audit_laws.specs.AuditedRuns.{AreReadAs}
-use Rattle.j39_audit_laws.specs.FoundLines.{IsFrameAt, IsLineOf, IsReadHere, IsShortAt}
+use Rattle.j39_audit_laws.specs.FoundLines.{IsFrameAt, IsLineOf, IsShortAt}
 use Rattle.j39_audit_laws.proofs.OneReading.{one_interface, one_part}
 use Rattle.j39_audit_laws.proofs.RunFrames.{claims_behind_those, claims_of, heard_of}
 
@@ -88,10 +87,10 @@ more_claims s claims heard f are =
     elim (is_claim f) as (λ b. claims_of s.plan [] (heard ++ f ∷ []) ≡ cond b (heard_of s.plan f ∷ claims_of s.plan [] heard) (claims_of s.plan [] heard)
     → AreClaimsOf s (cond b (with_claim (heard_of s.plan f) claims) claims) (heard ++ f ∷ [])) [
       | true ↦ λ e. record {
-          all_are = ap (λ (l : List Heard). heard_of s.plan f ∷ l) are.all_are ∙ sym e;
-          older = are.older;
-          recent_are = ap (λ (l : List Heard). heard_of s.plan f ∷ l) are.recent_are;
-        }
+        all_are = ap (λ (l : List Heard). heard_of s.plan f ∷ l) are.all_are ∙ sym e;
+        older = are.older;
+        recent_are = ap (λ (l : List Heard). heard_of s.plan f ∷ l) are.recent_are;
+      }
       | false ↦ λ e. record { all_are = are.all_are ∙ sym e; older = are.older; recent_are = are.recent_are }
     ] behind
 

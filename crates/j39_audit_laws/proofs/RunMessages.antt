@@ -1,21 +1,18 @@
 -- What the messages of a run are by the plan: of flows of their senders, that go where the flows go.
-use Rattle.std.proofs.Common.{◌≡◌, ◌≢◌, ◌⊎◌, ℕ, ◌+◌, ◌*◌, ◌/◌, ◌%◌, ◌^◌, ◌<◌, ◌≤◌, ◌==◌, ◌&&◌, ◌||◌, nat_le, [], ◌∷◌, List, Bool, true, false, not, cond, length, if◌then◌else◌}
+use Rattle.std.proofs.Common.{◌≡◌, ◌≢◌, ◌⊎◌, ℕ, ◌+◌, ◌*◌, ◌/◌, ◌%◌, ◌^◌, ◌<◌, ◌≤◌, nat_le, List, Bool, true, false, length, if◌then◌else◌}
 use Rattle.std.proofs.Common.{inl, inr, refl, sym, ap, ◌∙◌, subst, arith, Option, Some, None}
 use Rattle.std.specs.Prelude.{slice_index}
-use Rattle.std.specs.List.{slice_get}
-use Rattle.std.proofs.lemmas.Bool.{and_parts, cases_Bool, cond_both, leb-false, leb-true, true≢false}
+use Rattle.std.proofs.lemmas.Bool.{and_parts, cases_Bool, leb-true, true≢false}
 use Rattle.std.proofs.lemmas.Option.{none-some, same_Some}
-use Rattle.j39_id.specs.Addresses.{global_address, null_address}
 use Rattle.j39_id.specs.Ident.{bits, identifier_of, pgn_of}
-use Rattle.j39_id.specs.Pgn.{is_pdu2, pf_of}
-use Rattle.j39_id.specs.Services.{connection_management, data_transfer, is_service}
+use Rattle.j39_id.specs.Pgn.{is_pdu2}
+use Rattle.j39_id.specs.Services.{connection_management, is_service}
 use Rattle.j39_id.specs.declared.frame.Frame.{Frame}
 use Rattle.j39_id.specs.declared.ident.Ident.{Ident}
 use Rattle.j39_signal.specs.Selectors.{is_selected}
 use Rattle.j39_network.specs.declared.plan.Plan.{Plan}
 use Rattle.j39_network.specs.declared.plan.to.To.{To}
 use Rattle.j39_network.specs.declared.plan.to.To.TheVariants.{All as ToAll, One as ToOne}
-use Rattle.j39_log.specs.LogFrames.{IsPacket}
 use Rattle.j39_tp.proofs.Answering.{IsNoAnnouncement}
 use Rattle.j39_tp.specs.Packets.{data_of, pgn_in, size_in}
 use Rattle.j39_tp.specs.Sender as sender
@@ -24,7 +21,7 @@ use Rattle.j39_tp.specs.declared.packet.Packet.TheVariants.{Rts, Cts, EndAck, Ba
 use Rattle.j39_tp.specs.declared.sending.dest.Dest.{Dest}
 use Rattle.j39_tp.specs.declared.sending.dest.Dest.TheVariants as dests
 use Rattle.j39_findings.specs.Findings.{Clean}
-use Rattle.j39_world.specs.Flows.{dest_of, has_length}
+use Rattle.j39_world.specs.Flows.{dest_of}
 use Rattle.j39_world.specs.Sent.{Sent, sent_of}
 use Rattle.j39_world.specs.SentTransfers.{group_of, packet_frame, short_frame}
 use Rattle.j39_world.specs.World.{World}

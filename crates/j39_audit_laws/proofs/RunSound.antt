@@ -1,10 +1,9 @@
 -- In each world of each run of a plan without findings, each frame that was sent is sound behind those before it.
-use Rattle.std.proofs.Common.{◌≡◌, ◌≢◌, ◌⊎◌, ℕ, ◌<◌, ◌++◌, ◌∷◌, [], List, Bool, true, false, length, map}
+use Rattle.std.proofs.Common.{◌≡◌, ◌≢◌, ◌⊎◌, ℕ, ◌<◌, ◌++◌, ◌∷◌, [], List, true, false, length, map}
 use Rattle.std.proofs.Common.{inl, inr, refl, sym, ap, ◌∙◌, subst, arith, Option, Some, None}
 use Rattle.std.specs.List.{AllByRecursion}
 use Rattle.std.proofs.lemmas.Bool.{ltb-true}
 use Rattle.std.proofs.lemmas.List.{append-nil, map-append}
-use Rattle.j39_id.specs.Addresses.{is_address, null_address}
 use Rattle.j39_id.specs.Services.{connection_management, request}
 use Rattle.j39_id.specs.declared.frame.Frame.{Frame}
 use Rattle.j39_findings.specs.Findings.{Clean}
@@ -28,10 +27,10 @@ use Rattle.j39_audit_laws.proofs.RunMessages.{announced_planned, other_none, pla
 use Rattle.j39_log_laws.proofs.Logs.{split}
 use Rattle.j39_log_laws.proofs.SentFrames.{no_row, single}
 use Rattle.j39_audit.specs.Claiming.{Heard, Knowledge, newest_of}
-use Rattle.j39_audit.specs.Looking.{IsPacketOf, is_claim, is_single, message_sent}
+use Rattle.j39_audit.specs.Looking.{IsPacketOf, is_single, message_sent}
 use Rattle.j39_audit.specs.SentMessages.{SentMessage}
 use Rattle.j39_audit_laws.specs.OwnPart.{IsItsAddress, IsOfFlowPlanned}
-use Rattle.j39_audit_laws.proofs.RunFrames.{IsFromIts, IsItsClaim, IsNewest, IsSoundFrame, claims_behind_those, claims_of, no_claims, none_newest}
+use Rattle.j39_audit_laws.proofs.RunFrames.{IsNewest, IsSoundFrame, claims_behind_those, claims_of, no_claims, none_newest}
 use Rattle.j39_audit_laws.proofs.RunKept.{IsHeardRight, IsKnown, IsKnownOn, all_known_on, claim_told, claims_so, heard_next, its_own, message_told, none_claim, own, request_told}
 use Rattle.j39_audit_laws.proofs.RunSteps.{IsOfMessages, IsOneStep, IsSending, IsTelling, claim_frame, claims_at, one_step, request_frame}
 
@@ -93,13 +92,16 @@ module _ (plan : Plan) (clean : Clean plan) where
         ap (claims_of plan []) s.2 ∙ claims_behind_those plan [] s.0 s.1
         ∙ no_claims plan (claims_of plan [] s.0) s.1 (none_claim plan clean w s.1 (subst (AllByRecursion (IsOfMessages plan w)) (sym s.4) parts.0)) in
         let from : (u : ℕ) → (w.stations u).on ≡ true → (w.stations u).address ≡ Some f.ident.sa → IsPlannedBy u f → IsSoundFrame plan before f =
-        λ u on address planned. inr (untold.0, λ _. record {
-          unit = u;
-          inside = inside u (known.told.standing.0 u on);
-          own = its_own plan clean w known u f.ident.sa on address;
-          newest = subst (λ (c : List Heard). IsNewest u c f.ident.sa) (sym claims) (heard.held s.0 s.3 u f.ident.sa on address);
-          planned = planned;
-        }) in
+        λ u on address planned. inr (
+          untold.0,
+          λ _. record {
+            unit = u;
+            inside = inside u (known.told.standing.0 u on);
+            own = its_own plan clean w known u f.ident.sa on address;
+            newest = subst (λ (c : List Heard). IsNewest u c f.ident.sa) (sym claims) (heard.held s.0 s.3 u f.ident.sa on address);
+            planned = planned;
+          },
+        ) in
         by_kind before f sent untold.1 parts.1 from
       where
         by_kind : (before : List Frame) (f : Frame) → IsSentBehind w new before f → tells_of_addresses f ≡ false → IsOfMessages plan w (sent_of f)
@@ -125,13 +127,16 @@ module _ (plan : Plan) (clean : Clean plan) where
         let is = claim_told plan clean new next t a on address f sent in
         let less = next.told.standing.1 t a address in
         let source = is.source in
-        inl (is.claim, record {
-          unit = t;
-          unit_is = is.unit_is;
-          some = λ null. absurd (omega (arith, null, source, less));
-          claims = claims_so plan clean t unit claims;
-          own = subst (IsItsAddress plan t) (sym is.source) (its_own plan clean new next t a on address);
-        })
+        inl (
+          is.claim,
+          record {
+            unit = t;
+            unit_is = is.unit_is;
+            some = λ null. absurd (omega (arith, null, source, less));
+            claims = claims_so plan clean t unit claims;
+            own = subst (IsItsAddress plan t) (sym is.source) (its_own plan clean new next t a on address);
+          },
+        )
 
     unlike_management : request ≢ connection_management
     unlike_management e = (let never : 59904 ≡ 60416 = e in absurd (omega (arith, never)))
@@ -144,15 +149,18 @@ module _ (plan : Plan) (clean : Clean plan) where
         let is = request_told plan clean new next t f sent in
         let at : a ≡ f.ident.sa = sym (is.1 ∙ ap source_of address) in
         let was : w.stations t ≡ new.stations t = ap (λ (x : Stations). x t) (sym still) in
-        inr (is.0, λ _. record {
-          unit = t;
-          inside = inside t unit;
-          own = subst (IsItsAddress plan t) at (its_own plan clean new next t a on address);
-          newest = subst (IsNewest t (claims_of plan [] before)) at
-              (heard.held before log_is t a (ap (λ (s : ClaimState). s.on) was ∙ on) (ap (λ (s : ClaimState). s.address) was ∙ address));
-          planned = λ packet m packet_is sends k.
-              absurd (other_none f (ap is_single is.2) (λ e. unlike_management (sym is.2 ∙ e)) t packet m packet_is sends);
-        })
+        inr (
+          is.0,
+          λ _. record {
+            unit = t;
+            inside = inside t unit;
+            own = subst (IsItsAddress plan t) at (its_own plan clean new next t a on address);
+            newest = subst (IsNewest t (claims_of plan [] before)) at
+                (heard.held before log_is t a (ap (λ (s : ClaimState). s.on) was ∙ on) (ap (λ (s : ClaimState). s.address) was ∙ address));
+            planned = λ packet m packet_is sends k.
+                absurd (other_none f (ap is_single is.2) (λ e. unlike_management (sym is.2 ∙ e)) t packet m packet_is sends);
+          },
+        )
 
     telling_sound : (added : List Sent) → IsTelling plan w new added → (before : List Frame) (f : Frame) (earlier later : List Sent)
         → map sent_of before ≡ w.frames ++ earlier → added ≡ earlier ++ sent_of f ∷ later → IsSoundFrame plan before f
@@ -173,9 +181,9 @@ module _ (plan : Plan) (clean : Clean plan) where
     next_sound sound (added, is, kind) before f behind e = elim (place w.frames added before f behind (e ∙ is)) [
       | inl (front, here) ↦ sound before f front here
       | inr (earlier, later, log_is, at) ↦ elim kind [
-          | inl tells ↦ telling_sound added tells before f earlier later log_is at
-          | inr sends ↦ message_sound added is sends before f earlier later log_is at
-        ]
+        | inl tells ↦ telling_sound added tells before f earlier later log_is at
+        | inr sends ↦ message_sound added is sends before f earlier later log_is at
+      ]
     ]
 
   -- ---- in each world

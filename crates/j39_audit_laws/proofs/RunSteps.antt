@@ -1,5 +1,5 @@
 -- What each step of a run sends: what a unit tells of its address, or frames of messages.
-use Rattle.std.proofs.Common.{◌≡◌, ◌≢◌, ◌⊎◌, ℕ, ◌<◌, ◌++◌, ◌∷◌, [], List, Bool, true, false, cond, length, map}
+use Rattle.std.proofs.Common.{◌≡◌, ◌≢◌, ◌⊎◌, ℕ, ◌<◌, ◌++◌, ◌∷◌, [], List, Bool, true, false, length, map}
 use Rattle.std.proofs.Common.{inl, inr, refl, sym, ap, ◌∙◌, subst, arith, Option, Some, None}
 use Rattle.std.specs.List.{AllByRecursion, slice_get}
 use Rattle.std.proofs.lemmas.Bool.{MatchBool-at_false, MatchBool-at_true, and_parts, cases_Bool, cases_eq, cond_both, not-false, true≢false}
@@ -9,8 +9,7 @@ use Rattle.std.specs.Prelude.{IfSome}
 use Rattle.j39_claim.specs.declared.item.Item.{Item}
 use Rattle.j39_claim.specs.declared.item.Item.TheVariants.{Told, Request}
 use Rattle.j39_claim.specs.declared.item.Say.{Say}
-use Rattle.j39_claim.specs.declared.item.Say.TheVariants.{Claim}
-use Rattle.j39_claim.specs.ClaimRule.{ClaimState, PlannedUnit, Reacts, claim_of, off, said_by, started}
+use Rattle.j39_claim.specs.ClaimRule.{ClaimState, PlannedUnit, claim_of, off, said_by, started}
 use Rattle.j39_network.specs.PlannedUnits.{unit_at, units_of}
 use Rattle.j39_network.specs.declared.plan.Plan.{Plan}
 use Rattle.j39_network.specs.declared.plan.to.To.{To}
@@ -39,7 +38,7 @@ use Rattle.j39_log_laws.proofs.Ends.{IsForHolding, IsHolding, begin_ends}
 use Rattle.j39_world.specs.declared.flow.Flow.{Flow}
 use Rattle.j39_world.specs.declared.wired.Wired.{Wired}
 use Rattle.j39_world.specs.declared.wired.Wired.TheVariants as wired
-use Rattle.j39_world.specs.ClaimSteps.{GivenFrom, answer_items, asked, asking_items, first_items, heard_and_answered, switched_on}
+use Rattle.j39_world.specs.ClaimSteps.{GivenFrom, answer_items, asked, asking_items, first_items, switched_on}
 use Rattle.j39_world.specs.Flows.{dest_of, flows_of, has_length, is_short, window_at, windows_of}
 use Rattle.j39_world.specs.Run.{StepsTo, at_ends, begin_refusal, begin_refusals, count_of, has_address, is_on, refusal, send_refusal, send_refusals}
 use Rattle.j39_world.specs.Sent.{Sent, frame_of, source_of}
@@ -133,34 +132,43 @@ module _ (plan : Plan) (w : World) (standing : AreStanding plan w.stations w.cla
       let now : Stations = changed w.stations u (started (planned u)) in
       let here : now u ≡ started (planned u) = changed_here w.stations u (started (planned u)) in
       let held : (now u).address ≡ Some (planned u).preferred = ap (λ (s : ClaimState). s.address) here in
-      let frame : Item → Sent = frame_of (name_at plan u) (now u).address in
-      (map frame (first_items (planned u)), refl, inl (record {
-        unit = u;
-        known = known;
-        on = ap (λ (s : ClaimState). s.on) here;
-        others = λ x other. changed_elsewhere w.stations u (started (planned u)) x other;
-        said = elim (cases_Bool (claims_at plan u)) [
-          | inl claims ↦
-              inr (claims, inl (ap (map frame) (first_said (planned u) claims)
-              ∙ ap (λ (o : Option ℕ). frame (Told (claim_of o)) ∷ []) (sym held)))
-          | inr silent ↦ inl (ap (map frame) (first_silent (planned u) silent), inl silent)
-        ];
-      }))
+      let frame : Item → Sent = frame_of (name_at plan u) (now u).address in (
+        map frame (first_items (planned u)),
+        refl,
+        inl (record {
+          unit = u;
+          known = known;
+          on = ap (λ (s : ClaimState). s.on) here;
+          others = λ x other. changed_elsewhere w.stations u (started (planned u)) x other;
+          said = elim (cases_Bool (claims_at plan u)) [
+            | inl claims ↦
+                inr (
+                  claims,
+                  inl (ap (map frame) (first_said (planned u) claims)
+                      ∙ ap (λ (o : Option ℕ). frame (Told (claim_of o)) ∷ []) (sym held)),
+                )
+            | inr silent ↦ inl (ap (map frame) (first_silent (planned u) silent), inl silent)
+          ];
+        }),
+      )
 
   ask : (u : ℕ) → is_unit plan u ≡ true → (w.stations u).on ≡ true → IsOneStep plan w (asked (units_of plan) w u)
   ask u known on =
       let held : Option ℕ = (w.stations u).address in
-      let frame : Item → Sent = frame_of (name_at plan u) held in
-      (map frame (asking_items (said_by (planned u) (claim_of held))), refl, inl (record {
-        unit = u;
-        known = known;
-        on = on;
-        others = λ x other. refl;
-        said = elim (cases_Bool (claims_at plan u)) [
-          | inl claims ↦ inr (claims, inr (ap (map frame) (asking_said (planned u) (claim_of held) claims), refl))
-          | inr silent ↦ inl (ap (map frame) (asking_silent (planned u) (claim_of held) silent), inl silent)
-        ];
-      }))
+      let frame : Item → Sent = frame_of (name_at plan u) held in (
+        map frame (asking_items (said_by (planned u) (claim_of held))),
+        refl,
+        inl (record {
+          unit = u;
+          known = known;
+          on = on;
+          others = λ x other. refl;
+          said = elim (cases_Bool (claims_at plan u)) [
+            | inl claims ↦ inr (claims, inr (ap (map frame) (asking_said (planned u) (claim_of held) claims), refl))
+            | inr silent ↦ inl (ap (map frame) (asking_silent (planned u) (claim_of held) silent), inl silent)
+          ];
+        }),
+      )
 
   give : (u v : ℕ) → is_unit plan v ≡ true → (w.stations v).on ≡ true → (list : List Item) (new : World) → GivenFrom (units_of plan) w u v list new
       → IsOneStep plan w new
@@ -170,23 +178,30 @@ module _ (plan : Plan) (w : World) (standing : AreStanding plan w.stations w.cla
       let here : now v ≡ s = changed_here w.stations v s in
       let held : (now v).address ≡ s.address = ap (λ (c : ClaimState). c.address) here in
       let frame : Item → Sent = frame_of (name_at plan v) (now v).address in
-      subst (IsOneStep plan w) (sym e) (map frame (answer_items says), refl, inl (record {
-        unit = v;
-        known = known;
-        on = ap (λ (c : ClaimState). c.on) here ∙ reacts_on (planned v) (w.stations v) (name_at plan u) item says s reacts ∙ on;
-        others = λ x other. changed_elsewhere w.stations v s x other;
-        said = elim (cases_Bool (claims_at plan v)) [
-          | inl claims ↦ elim (turn (planned v) (w.stations v) (name_at plan u) item says s (MatchBool-at_true _ _ claims reacts)) [
+      subst (IsOneStep plan w) (sym e) (
+        map frame (answer_items says),
+        refl,
+        inl (record {
+          unit = v;
+          known = known;
+          on = ap (λ (c : ClaimState). c.on) here ∙ reacts_on (planned v) (w.stations v) (name_at plan u) item says s reacts ∙ on;
+          others = λ x other. changed_elsewhere w.stations v s x other;
+          said = elim (cases_Bool (claims_at plan v)) [
+            | inl claims ↦ elim (turn (planned v) (w.stations v) (name_at plan u) item says s (MatchBool-at_true _ _ claims reacts)) [
               | inl silent ↦ inl (ap (λ (o : Option Say). map frame (answer_items o)) silent.0, inr (on, held ∙ silent.1))
               | inr said ↦
-                  inr (claims, inl (ap (λ (o : Option Say). map frame (answer_items o)) said.0
-                  ∙ ap (λ (o : Option ℕ). frame (Told (claim_of o)) ∷ []) (sym held)))
+                  inr (
+                    claims,
+                    inl (ap (λ (o : Option Say). map frame (answer_items o)) said.0
+                        ∙ ap (λ (o : Option ℕ). frame (Told (claim_of o)) ∷ []) (sym held)),
+                  )
             ]
-          | inr silent ↦
-              let nothing = MatchBool-at_false _ _ silent reacts in
-              inl (ap (λ (o : Option Say). map frame (answer_items o)) nothing.0, inl silent)
-        ];
-      }))
+            | inr silent ↦
+                let nothing = MatchBool-at_false _ _ silent reacts in
+                inl (ap (λ (o : Option Say). map frame (answer_items o)) nothing.0, inl silent)
+          ];
+        }),
+      )
 
   packets : (d s : ℕ) → d < 256 → s < 256 → (ps : List Packet) → AllByRecursion IsNoAnnouncement ps
       → AllByRecursion (IsOfMessages plan w) (map (packet_frame d s) ps)
@@ -280,10 +295,12 @@ module _ (plan : Plan) (w : World) (standing : AreStanding plan w.stations w.cla
       let d : ℕ = destination_of w.stations flow.to in
       let s : ℕ = address_of w.stations flow.sender in
       let p : Packet = sender.announcement (dest_of flow.to) flow.pgn (length bytes) in
-      sends new (first_frame w.stations flow bytes ∷ []) (ap (λ (x : World). x.frames) e) (ap (λ (x : World). x.stations) e)
-      (cond_both (is_short (length bytes)) (short_frame d s flow bytes) (packet_frame d s p) (IsOfMessages plan w)
-      (λ _. (d, s, below_to flow.to, below flow.sender, inr (k, flow, bytes, of, inl refl)))
-      (λ _. (d, s, below_to flow.to, below flow.sender, inr (k, flow, bytes, of, inr refl))), tt)
+      sends new (first_frame w.stations flow bytes ∷ []) (ap (λ (x : World). x.frames) e) (ap (λ (x : World). x.stations) e) (
+        cond_both (is_short (length bytes)) (short_frame d s flow bytes) (packet_frame d s p) (IsOfMessages plan w)
+            (λ _. (d, s, below_to flow.to, below flow.sender, inr (k, flow, bytes, of, inl refl)))
+            (λ _. (d, s, below_to flow.to, below flow.sender, inr (k, flow, bytes, of, inr refl))),
+        tt,
+      )
 
   send : (k : ℕ) (bytes : List ℕ) (o : Option Flow) → slice_get (flows_of plan) k ≡ o → send_refusal plan.live (count_of plan) w o bytes ≡ None
       → (new : World) → SendsAt (count_of plan) w k o bytes new → IsOneStep plan w new

@@ -1,17 +1,15 @@
 -- Of the frames of a run of a plan without findings these lines aren't written.
-use Rattle.std.proofs.Common.{◌≡◌, ◌⊎◌, ℕ, zero, suc, ◌<◌, ◌++◌, ◌∷◌, [], List, true, length, map}
-use Rattle.std.proofs.Common.{inl, inr, refl, sym, ap, ◌∙◌, subst, arith, append_assoc, Option, None}
-use Rattle.std.specs.Prelude.{All, Contains, slice_index_or}
+use Rattle.std.proofs.Common.{◌≡◌, ℕ, zero, suc, ◌<◌, ◌++◌, ◌∷◌, [], List, length, map}
+use Rattle.std.proofs.Common.{inl, inr, refl, sym, ap, ◌∙◌, subst, arith, append_assoc}
+use Rattle.std.specs.Prelude.{Contains, slice_index_or}
 use Rattle.std.proofs.lemmas.List.Elements.{All-contains, Contains-append_right}
-use Rattle.j39_id.specs.Lines.{Line}
 use Rattle.j39_id.specs.declared.frame.Frame.{Frame}
-use Rattle.j39_findings.specs.Findings.{Clean}
 use Rattle.j39_network.specs.declared.plan.Plan.{Plan}
 use Rattle.j39_world.specs.Sent.{sent_of}
 use Rattle.j39_world.specs.World.{World}
-use Rattle.j39_audit.specs.Settings.{AreMoving, Settings}
+use Rattle.j39_audit.specs.Settings.{Settings}
 use Rattle.j39_audit.specs.declared.mark.Word.TheVariants.{Short, Stranger, Nobody, Address, Cannot, Layout, NoFlow, Priority}
-use Rattle.j39_audit_laws.specs.AuditedRuns.{AreFramesOf, AreReadAs, IsWrittenOfNoRun}
+use Rattle.j39_audit_laws.specs.AuditedRuns.{AreFramesOf, IsWrittenOfNoRun}
 use Rattle.j39_audit_laws.proofs.RunAudits.{AreSound, no_address_line, no_cannot_line, no_layout_line, no_no_flow_line, no_nobody_line, no_priority_line, no_short_line, no_stranger_line}
 use Rattle.j39_audit_laws.proofs.RunFrames.{IsSoundFrame}
 use Rattle.j39_audit_laws.proofs.RunSound.{all_sound}
@@ -32,15 +30,21 @@ module _ (s : Settings) (plan : Plan) (same : s.plan ≡ plan) (w : World) (fram
 
   are_sound : AreSound s frames
   are_sound = elim of [
-    | inl (front, is) ↦ inl (front, λ heard f behind row.
-        by_settings (front ++ heard) f (sound (front ++ heard) f behind
-        (ap (map sent_of) (append_assoc front heard (f ∷ behind) ∙ ap (λ (l : List Frame). front ++ l) (sym row)) ∙ is)))
-    | inr (part, (all, is, inside)) ↦ inr (part, λ heard f behind row.
-        let here : Contains frames f =
-        subst (λ (l : List Frame). Contains l f) (sym row) (Contains-append_right heard (f ∷ behind) f (0, omega arith, refl)) in
-        let (k, less, at) = All-contains (Contains all) frames f inside here in
-        let (before, behind, cut) = parted all k f less at in
-        (before, by_settings before f (sound before f behind (ap (map sent_of) (sym cut) ∙ is))))
+    | inl (front, is) ↦ inl (
+      front,
+      λ heard f behind row.
+          by_settings (front ++ heard) f (sound (front ++ heard) f behind
+          (ap (map sent_of) (append_assoc front heard (f ∷ behind) ∙ ap (λ (l : List Frame). front ++ l) (sym row)) ∙ is)),
+    )
+    | inr (part, (all, is, inside)) ↦ inr (
+      part,
+      λ heard f behind row.
+          let here : Contains frames f =
+          subst (λ (l : List Frame). Contains l f) (sym row) (Contains-append_right heard (f ∷ behind) f (0, omega arith, refl)) in
+          let (k, less, at) = All-contains (Contains all) frames f inside here in
+          let (before, behind, cut) = parted all k f less at in
+          (before, by_settings before f (sound before f behind (ap (map sent_of) (sym cut) ∙ is))),
+    )
   ]
 
 pub short_of_no_run : IsWrittenOfNoRun Short

@@ -1,5 +1,5 @@
 -- What is told of a mark at the end of a log are the lines at which it is found.
-use Rattle.std.proofs.Common.{◌≡◌, ◌⊎◌, ◌↔◌, ℕ, zero, suc, ◌+◌, ◌<◌, ◌≤◌, ◌++◌, ◌∷◌, [], List, length, map, min, get_or}
+use Rattle.std.proofs.Common.{◌≡◌, ◌⊎◌, ℕ, ◌+◌, ◌<◌, ◌≤◌, ◌++◌, ◌∷◌, [], List, length, map, min, get_or}
 use Rattle.std.proofs.Common.{inl, inr, refl, sym, ap, ◌∙◌, subst, arith, append_assoc}
 use Rattle.std.specs.Prelude.{Contains}
 use Rattle.std.specs.List.{AllPairs}
@@ -8,10 +8,9 @@ use Rattle.std.proofs.lemmas.List.Elements.{Contains-append_left, Contains-get_o
 use Rattle.std.proofs.lemmas.List.Quantifiers.{all_pairs_push}
 use Rattle.j39_id.specs.Lines.{Line}
 use Rattle.j39_audit.specs.AuditText.{AuditPast, AuditsLine, AuditsLines, nothing_read}
-use Rattle.j39_audit.specs.Counting.{Noted, key_of, most_times, never, told_at, told_in, told_of}
+use Rattle.j39_audit.specs.Counting.{Noted, most_times, told_at, told_in, told_of}
 use Rattle.j39_audit.specs.Settings.{Settings}
 use Rattle.j39_audit.specs.declared.mark.Mark.{Mark}
-use Rattle.j39_audit.specs.declared.tally.Told.{Told}
 use Rattle.j39_audit.proofs.Hearing.{line_more}
 use Rattle.j39_audit_laws.specs.FoundLines.{IsAccusing, IsFoundAt, IsLineOf, LinesAreOfLog, TellsLines}
 use Rattle.j39_audit_laws.proofs.Hits.{hits}
@@ -127,13 +126,16 @@ module _ (s : Settings) (log : List Line) (m : Mark) (accuses : IsAccusing m.wor
   tells end told =
       elim (hits m end.noted) as (λ xs. hits m end.noted ≡ xs → TellsLines s log m (told_of xs)) [
         | [] ↦ λ is. record {
-            lines = [];
-            rising = λ i j d less inside. absurd (omega (arith, inside));
-            exact = λ n. (λ never. absurd (nothing_in n never), λ found.
-                subst (λ (l : List Noted). Contains (map (λ (x : Noted). x.line) l) n) is (told.complete n found (number_of n found).1));
-            times = refl;
-            first = λ n rest e. absurd (cc e);
-          }
+          lines = [];
+          rising = λ i j d less inside. absurd (omega (arith, inside));
+          exact = λ n. (
+            λ never. absurd (nothing_in n never),
+            λ found.
+                subst (λ (l : List Noted). Contains (map (λ (x : Noted). x.line) l) n) is (told.complete n found (number_of n found).1),
+          );
+          times = refl;
+          first = λ n rest e. absurd (cc e);
+        }
         | x ∷ more ↦ λ is.
             let lines : List ℕ = map (λ (y : Noted). y.line) (x ∷ more) in
             let same : lines_of end ≡ lines = ap (map (λ (y : Noted). y.line)) is in
@@ -141,8 +143,10 @@ module _ (s : Settings) (log : List Line) (m : Mark) (accuses : IsAccusing m.wor
             record {
               lines = lines;
               rising = subst (AllPairs (λ (a b : ℕ). a < b)) same told.rising;
-              exact = λ n. (λ inside. told.sound n (subst (λ (l : List ℕ). Contains l n) (sym same) inside),
-                  λ found. subst (λ (l : List ℕ). Contains l n) same (told.complete n found (number_of n found).1));
+              exact = λ n. (
+                λ inside. told.sound n (subst (λ (l : List ℕ). Contains l n) (sym same) inside),
+                λ found. subst (λ (l : List ℕ). Contains l n) same (told.complete n found (number_of n found).1),
+              );
               times = ap (λ (k : ℕ). min k most_times) (sym size);
               first = λ n rest e. cc e;
             }

@@ -1,5 +1,5 @@
 -- What is found at which line of a log, in terms of the log alone.
-use Rattle.std.specs.Prelude.{◌≡◌, ◌≢◌, ◌⊎◌, ◌↔◌, ℕ, ◌+◌, ◌<◌, min, ◌==◌, not, Bool, true, false, List, [], ◌∷◌, ◌++◌, length, Contains, Option, Some, None}
+use Rattle.std.specs.Prelude.{◌≡◌, ◌≢◌, ◌⊎◌, ◌↔◌, ℕ, ◌+◌, ◌<◌, min, true, false, List, ◌∷◌, ◌++◌, length, Contains, Option, Some, None}
 use Rattle.std.specs.List.{AllPairs}
 use Rattle.j39_id.specs.Addresses.{is_address, null_address}
 use Rattle.j39_id.specs.FrameLine.{HasLineFault, Spells}

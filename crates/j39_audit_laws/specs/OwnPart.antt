@@ -1,5 +1,5 @@
 -- What a unit keeps of its own part, whatever others do, and that no line is written of it then.
-use Rattle.std.specs.Prelude.{◌≡◌, ◌≢◌, ◌⊎◌, ℕ, ◌<◌, ◌≤◌, true, false, List, [], Option, Some, None}
+use Rattle.std.specs.Prelude.{◌≡◌, ◌≢◌, ◌⊎◌, ℕ, ◌<◌, ◌≤◌, true, false, List, [], Option, Some}
 use Rattle.std.specs.FinSet.{contains}
 use Rattle.std.specs.List.{slice_get}
 use Rattle.j39_id.specs.Addresses.{global_address, in_pool, null_address}
@@ -28,7 +28,6 @@ use Rattle.j39_audit.specs.Looking.{is_claim, is_single, message_sent}
 use Rattle.j39_audit.specs.SentMessages.{SentMessage}
 use Rattle.j39_audit.specs.Settings.{AreMoving, Settings}
 use Rattle.j39_audit.specs.declared.mark.Word.{Word}
-use Rattle.j39_audit.specs.declared.mark.Word.TheVariants.{Address, Cannot, Layout, NoFlow, Priority, Urgent}
 use Rattle.j39_audit.specs.declared.senders.SureSender.TheVariants.{Unit as OfUnit}
 use Rattle.j39_audit_laws.specs.FoundLines.{IsFrameAt}
 
