@@ -18,7 +18,7 @@ use Rattle.j39_audit.specs.declared.mark.Word.{Word}
 use Rattle.j39_audit.specs.declared.mark.Word.TheVariants.{Short, Stranger, Nobody as NobodyThere, Address, Cannot, Layout, NoFlow, Priority, Urgent, Seen, Unclear, Asked, Counted, Unsure, Break}
 use Rattle.j39_audit.specs.declared.senders.SureSender.{SureSender}
 use Rattle.j39_audit.specs.declared.senders.SureSender.TheVariants.{Unit as OfUnit, Nobody, Unknown}
-use Rattle.j39_audit_laws.specs.FoundLines.{Differs, IsAccusing, IsClaimOf, IsMarked, IsSentFrom}
+use Rattle.j39_audit_laws.specs.FoundLines.{Differs, IsAccusing, IsClaimOf, IsAccusedAs, IsSentFrom}
 use Rattle.j39_audit_laws.proofs.Hits.{AtMostOne, HaveWords, In, hits, if_in, in_cases, in_if, in_left, in_right, no_hits, one_before, one_behind, one_if, one_of_one, words_both, words_if}
 use Rattle.j39_audit_laws.proofs.Marking.{IsDeviation, differs_so, flows_seen, is_another, is_of_message, is_seen, is_urgent_word, more_words, of_message_another, request_seen, seen_word, sender_of, unseen}
 
@@ -38,10 +38,10 @@ module _ (s : Settings) (claims : HeardClaims) (f : Frame) (packet : Option Pack
 
   -- a note that accuses is of this line, and its mark is one of the frame
   abbrev Means : Noted → Type 0
-  Means n = IsAccusing n.mark.word → (n.line ≡ line) × IsMarked s claims f packet n.mark.word n.mark.subject n.mark.group
+  Means n = IsAccusing n.mark.word → (n.line ≡ line) × IsAccusedAs s claims f packet n.mark.word n.mark.subject n.mark.group
 
   differs_marked : (w : Word) (u g : ℕ) → is_of_message w ≡ true → Differs s claims f packet (record { word = w; subject = u; group = g })
-      → IsMarked s claims f packet w u g
+      → IsAccusedAs s claims f packet w u g
   differs_marked Layout u g is differs = differs
   differs_marked NoFlow u g is differs = differs
   differs_marked Priority u g is differs = differs
@@ -186,7 +186,7 @@ module _ (s : Settings) (claims : HeardClaims) (f : Frame) (packet : Option Pack
   marks_as : (w : Word) (u g : ℕ) → g ≡ 0 → IsNotedAs w u 0 → IsNotedAs w u g
   marks_as w u g none is = subst (IsNotedAs w u) (sym none) is
 
-  pub marked_noted : (w : Word) (u g : ℕ) → IsMarked s claims f packet w u g → IsNotedAs w u g
+  pub marked_noted : (w : Word) (u g : ℕ) → IsAccusedAs s claims f packet w u g → IsNotedAs w u g
   marked_noted Stranger u g (of, none, at, grouped) =
       marks_as Stranger u g grouped (
         noted_with line Stranger f.ident.sa (name_in f),

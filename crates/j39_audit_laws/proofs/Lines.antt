@@ -21,7 +21,7 @@ use Rattle.j39_audit.specs.Settings.{Settings}
 use Rattle.j39_audit.specs.declared.mark.Mark.{Mark}
 use Rattle.j39_audit.specs.declared.mark.Word.TheVariants.{Short, Break}
 use Rattle.j39_audit.proofs.Hearing.{as_many_lines, frame_number}
-use Rattle.j39_audit_laws.specs.FoundLines.{IsAccusing, IsFoundAt, IsFrameAt, IsLineOf, IsMarked, IsReadHere, IsShortAt}
+use Rattle.j39_audit_laws.specs.FoundLines.{IsAccusing, IsFoundAt, IsFrameAt, IsLineOf, IsAccusedAs, IsReadHere, IsShortAt}
 use Rattle.j39_audit_laws.proofs.Frames.{marked_noted, noted_means, noted_once}
 use Rattle.j39_audit_laws.proofs.Hits.{AtMostOne, In, HaveWords, hit_in, hits, hits_both, if_in, in_cases, in_hits, in_if, in_right, no_hits, one_behind, one_if, words_if}
 use Rattle.j39_audit_laws.proofs.Marking.{is_seen, seen_word, unseen}
@@ -180,14 +180,14 @@ module _ (s : Settings) (log : List Line) (m : Mark) (accuses : IsAccusing m.wor
         ] refl (in_hits m n notes inside is)
 
     frame_found : (claims : HeardClaims) (f : Frame) (packet : Option Packet) → IsFrameAt s log number claims f packet
-        → IsMarked s claims f packet m.word m.subject m.group → Grows
+        → IsAccusedAs s claims f packet m.word m.subject m.group → Grows
     frame_found claims f packet at marked =
         let t : Option ℕ = line_time s.plan at.time in
         let other : AuditPast = past_with_frame s at.past t at.named f packet in
         let is : next ≡ other = leads_there at.past at.line at.line_is other
         (at.part, at.named, at.reads.part_is, at.reads.named_is, inr (at.reads.here, inl (f, at.time, at.spelled, at.time_is, (packet, at.packet_is, refl)))) in
         let marks = marked_noted s (claims_before s at.past t) f packet at.past.number m.word m.subject m.group
-        (subst (λ (c : HeardClaims). IsMarked s c f packet m.word m.subject m.group) at.claims_are marked) in
+        (subst (λ (c : HeardClaims). IsAccusedAs s c f packet m.word m.subject m.group) at.claims_are marked) in
         some_more marks.0 (notes_at s at.past t f packet)
         (in_right marks.0 (break_noted at.past.number (breaks s.stamps at.past.newest t)) (frame_noted s (claims_before s at.past t) f packet at.past.number) marks.1)
         marks.2
@@ -282,7 +282,7 @@ module _ (s : Settings) (log : List Line) (m : Mark) (accuses : IsAccusing m.wor
                   is.f,
                   is.packet,
                   here,
-                  subst (λ (k : Mark). IsMarked s claims is.f is.packet k.word k.subject k.group) marked is_marked,
+                  subst (λ (k : Mark). IsAccusedAs s claims is.f is.packet k.word k.subject k.group) marked is_marked,
                 ),
               )
         ])

@@ -26,8 +26,8 @@ use Rattle.j39_audit.specs.declared.mark.Word.{Word}
 use Rattle.j39_audit.specs.declared.mark.Word.TheVariants.{Short, Address, Cannot, Layout, NoFlow, Priority, Urgent}
 use Rattle.j39_audit.specs.declared.messages.Test.TheVariants.{Any}
 use Rattle.j39_audit.specs.declared.tally.Told.{Told}
-use Rattle.j39_audit_laws.specs.FoundLines.{Differs, IsAccusing, IsFoundAt, IsFrameAt, IsMarked, TellsLines}
-use Rattle.j39_audit_laws.specs.OwnPart.{AlwaysCan, AreItsOwn, ClaimsItsOwn, IsByThePlan, IsItsNumber, IsNotAccused, IsNotNamed, LooksAsPlanned, Senders, WaitsForPlanned}
+use Rattle.j39_audit_laws.specs.FoundLines.{Differs, IsAccusing, IsFoundAt, IsFrameAt, IsAccusedAs, IsToldAt}
+use Rattle.j39_audit_laws.specs.OwnPart.{AlwaysCan, AreItsOwn, ClaimsItsOwn, IsByThePlan, IsItsNumber, IsNotNamed, LooksAsPlanned, SentBy, WaitsForPlanned}
 use Rattle.j39_audit_laws.proofs.Planned.{at_place, claims_so, differing_number, its_address, place_at, planned_alike, some_group}
 use Rattle.j39_audit_laws.proofs.Marking.{sender_of}
 use Rattle.j39_audit_laws.proofs.Told.{lines_are_of_log}
@@ -37,7 +37,7 @@ use Rattle.j39_audit_laws.proofs.Told.{lines_are_of_log}
 first_there : (n : ℕ) (rest : List ℕ) → Contains (n ∷ rest) n
 first_there n rest = (0, omega arith, refl)
 
-told_never : (s : Settings) (log : List Line) (m : Mark) (t : Told) → TellsLines s log m t → ((n : ℕ) → ¬ IsFoundAt s log n m) → t.times ≡ 0
+told_never : (s : Settings) (log : List Line) (m : Mark) (t : Told) → IsToldAt s log m t → ((n : ℕ) → ¬ IsFoundAt s log n m) → t.times ≡ 0
 told_never s log m t tells none =
     elim (tells.lines) as (λ xs. tells.lines ≡ xs → t.times ≡ 0) [
       | [] ↦ λ is. (let times = tells.times in let size : length tells.lines ≡ 0 = ap length is in omega (arith, times, size))
@@ -65,7 +65,7 @@ none_of_subject s log word u accuses none end read =
 
 -- only frames are found of another word than that of short lines
 pub of_frames : (s : Settings) (log : List Line) (word : Word) (u : ℕ) → IsAccusing word → word ≢ Short
-    → ((g n : ℕ) (claims : HeardClaims) (f : Frame) (packet : Option Packet) → IsFrameAt s log n claims f packet → ¬ IsMarked s claims f packet word u g)
+    → ((g n : ℕ) (claims : HeardClaims) (f : Frame) (packet : Option Packet) → IsFrameAt s log n claims f packet → ¬ IsAccusedAs s claims f packet word u g)
     → IsNotNamed s log word u
 of_frames s log word u accuses other none = none_of_subject s log word u accuses found
   where
@@ -75,13 +75,15 @@ of_frames s log word u accuses other none = none_of_subject s log word u accuses
 
 -- ---- claims
 
-pub can_claim : IsNotAccused AlwaysCan Cannot
+pub can_claim : (s : Settings) (log : List Line) (sent : SentBy) (u : ℕ) → AreMoving s.plan s.moving → AreItsOwn s log sent u
+    → AlwaysCan s log sent u → IsNotNamed s log Cannot u
 can_claim s log sent u moving own keeps =
     of_frames s log Cannot u tt (λ e. cc e) (λ g n claims f packet at marked.
     let (of, null, grouped) = marked in
     keeps n claims f packet at (own.claims n claims f packet at of.claim of.unit_is) of.claim null)
 
-pub claims_its_own : IsNotAccused ClaimsItsOwn Address
+pub claims_its_own : (s : Settings) (log : List Line) (sent : SentBy) (u : ℕ) → AreMoving s.plan s.moving → AreItsOwn s log sent u
+    → ClaimsItsOwn s log sent u → IsNotNamed s log Address u
 claims_its_own s log sent u moving own keeps =
     of_frames s log Address u tt (λ e. cc e) (λ g n claims f packet at marked.
     let (of, some, wrong, grouped) = marked in
@@ -90,7 +92,7 @@ claims_its_own s log sent u moving own keeps =
 
 -- ---- messages
 
-module _ (s : Settings) (log : List Line) (sent : Senders) (u : ℕ) (moving : AreMoving s.plan s.moving) (own : AreItsOwn s log sent u)
+module _ (s : Settings) (log : List Line) (sent : SentBy) (u : ℕ) (moving : AreMoving s.plan s.moving) (own : AreItsOwn s log sent u)
     (keeps : LooksAsPlanned s log sent u) where
   differs_never : (word : Word) (g n : ℕ) (claims : HeardClaims) (f : Frame) (packet : Option Packet) → IsFrameAt s log n claims f packet
       → ¬ Differs s claims f packet (record { word = word; subject = u; group = g })
@@ -103,15 +105,18 @@ module _ (s : Settings) (log : List Line) (sent : Senders) (u : ℕ) (moving : A
       let planned = keeps n claims f packet at its d.message d.message_is number in
       none-some _ (sym (planned_alike s moving k d.message planned) ∙ d.differs)
 
-pub layouts_are_planned : IsNotAccused LooksAsPlanned Layout
+pub layouts_are_planned : (s : Settings) (log : List Line) (sent : SentBy) (u : ℕ) → AreMoving s.plan s.moving → AreItsOwn s log sent u
+    → LooksAsPlanned s log sent u → IsNotNamed s log Layout u
 layouts_are_planned s log sent u moving own keeps =
     of_frames s log Layout u tt (λ e. cc e) (differs_never s log sent u moving own keeps Layout)
 
-pub flows_are_planned : IsNotAccused LooksAsPlanned NoFlow
+pub flows_are_planned : (s : Settings) (log : List Line) (sent : SentBy) (u : ℕ) → AreMoving s.plan s.moving → AreItsOwn s log sent u
+    → LooksAsPlanned s log sent u → IsNotNamed s log NoFlow u
 flows_are_planned s log sent u moving own keeps =
     of_frames s log NoFlow u tt (λ e. cc e) (differs_never s log sent u moving own keeps NoFlow)
 
-pub priorities_are_planned : IsNotAccused LooksAsPlanned Priority
+pub priorities_are_planned : (s : Settings) (log : List Line) (sent : SentBy) (u : ℕ) → AreMoving s.plan s.moving → AreItsOwn s log sent u
+    → LooksAsPlanned s log sent u → IsNotNamed s log Priority u
 priorities_are_planned s log sent u moving own keeps =
     of_frames s log Priority u tt (λ e. cc e) (differs_never s log sent u moving own keeps Priority)
 
@@ -172,7 +177,8 @@ urgent_unplanned s t u f timed urgent planned =
           true≢false (sym of ∙ not-true (is_of_transport s f) none.0)
     ]
 
-pub waits_for_planned : IsNotAccused WaitsForPlanned Urgent
+pub waits_for_planned : (s : Settings) (log : List Line) (sent : SentBy) (u : ℕ) → AreMoving s.plan s.moving → AreItsOwn s log sent u
+    → WaitsForPlanned s log sent u → IsNotNamed s log Urgent u
 waits_for_planned s log sent u moving own keeps =
     of_frames s log Urgent u tt (λ e. cc e) (λ g n claims f packet at marked. elim marked.0 [
       | inl (of, above) ↦

@@ -4,12 +4,14 @@ use Rattle.std.proofs.Common.{inl, inr, refl, sym, ap, ◌∙◌, subst, arith, 
 use Rattle.std.specs.Prelude.{Contains, slice_index_or}
 use Rattle.std.proofs.lemmas.List.Elements.{All-contains, Contains-append_right}
 use Rattle.j39_id.specs.declared.frame.Frame.{Frame}
+use Rattle.j39_findings.specs.Findings.{Clean}
 use Rattle.j39_network.specs.declared.plan.Plan.{Plan}
 use Rattle.j39_world.specs.Sent.{sent_of}
+use Rattle.j39_world.specs.SoundPlan.{Always}
 use Rattle.j39_world.specs.World.{World}
 use Rattle.j39_audit.specs.Settings.{Settings}
 use Rattle.j39_audit.specs.declared.mark.Word.TheVariants.{Short, Stranger, Nobody, Address, Cannot, Layout, NoFlow, Priority}
-use Rattle.j39_audit_laws.specs.AuditedRuns.{AreFramesOf, IsWrittenOfNoRun}
+use Rattle.j39_audit_laws.specs.AuditedRuns.{AreFramesOf, IsNotWrittenOf}
 use Rattle.j39_audit_laws.proofs.RunAudits.{AreSound, no_address_line, no_cannot_line, no_layout_line, no_no_flow_line, no_nobody_line, no_priority_line, no_short_line, no_stranger_line}
 use Rattle.j39_audit_laws.proofs.RunFrames.{IsSoundFrame}
 use Rattle.j39_audit_laws.proofs.RunSound.{all_sound}
@@ -47,33 +49,33 @@ module _ (s : Settings) (plan : Plan) (same : s.plan ≡ plan) (w : World) (fram
     )
   ]
 
-pub short_of_no_run : IsWrittenOfNoRun Short
+pub short_of_no_run : (plan : Plan) → Clean plan → Always plan (IsNotWrittenOf Short plan)
 short_of_no_run plan clean steps w run s log frames same moving reads of = no_short_line s log frames reads
 
-pub stranger_of_no_run : IsWrittenOfNoRun Stranger
+pub stranger_of_no_run : (plan : Plan) → Clean plan → Always plan (IsNotWrittenOf Stranger plan)
 stranger_of_no_run plan clean steps w run s log frames same moving reads of =
     no_stranger_line s moving log frames reads (are_sound s plan same w frames of (all_sound plan clean steps w run))
 
-pub nobody_of_no_run : IsWrittenOfNoRun Nobody
+pub nobody_of_no_run : (plan : Plan) → Clean plan → Always plan (IsNotWrittenOf Nobody plan)
 nobody_of_no_run plan clean steps w run s log frames same moving reads of =
     no_nobody_line s moving log frames reads (are_sound s plan same w frames of (all_sound plan clean steps w run))
 
-pub address_of_no_run : IsWrittenOfNoRun Address
+pub address_of_no_run : (plan : Plan) → Clean plan → Always plan (IsNotWrittenOf Address plan)
 address_of_no_run plan clean steps w run s log frames same moving reads of =
     no_address_line s moving log frames reads (are_sound s plan same w frames of (all_sound plan clean steps w run))
 
-pub cannot_of_no_run : IsWrittenOfNoRun Cannot
+pub cannot_of_no_run : (plan : Plan) → Clean plan → Always plan (IsNotWrittenOf Cannot plan)
 cannot_of_no_run plan clean steps w run s log frames same moving reads of =
     no_cannot_line s moving log frames reads (are_sound s plan same w frames of (all_sound plan clean steps w run))
 
-pub layout_of_no_run : IsWrittenOfNoRun Layout
+pub layout_of_no_run : (plan : Plan) → Clean plan → Always plan (IsNotWrittenOf Layout plan)
 layout_of_no_run plan clean steps w run s log frames same moving reads of =
     no_layout_line s moving log frames reads (are_sound s plan same w frames of (all_sound plan clean steps w run))
 
-pub no_flow_of_no_run : IsWrittenOfNoRun NoFlow
+pub no_flow_of_no_run : (plan : Plan) → Clean plan → Always plan (IsNotWrittenOf NoFlow plan)
 no_flow_of_no_run plan clean steps w run s log frames same moving reads of =
     no_no_flow_line s moving log frames reads (are_sound s plan same w frames of (all_sound plan clean steps w run))
 
-pub priority_of_no_run : IsWrittenOfNoRun Priority
+pub priority_of_no_run : (plan : Plan) → Clean plan → Always plan (IsNotWrittenOf Priority plan)
 priority_of_no_run plan clean steps w run s log frames same moving reads of =
     no_priority_line s moving log frames reads (are_sound s plan same w frames of (all_sound plan clean steps w run))

@@ -12,7 +12,7 @@ use Rattle.j39_audit.specs.Counting.{Noted, most_times, told_at, told_in, told_o
 use Rattle.j39_audit.specs.Settings.{Settings}
 use Rattle.j39_audit.specs.declared.mark.Mark.{Mark}
 use Rattle.j39_audit.proofs.Hearing.{line_more}
-use Rattle.j39_audit_laws.specs.FoundLines.{IsAccusing, IsFoundAt, IsLineOf, LinesAreOfLog, TellsLines}
+use Rattle.j39_audit_laws.specs.FoundLines.{IsAccusing, IsFoundAt, IsLineOf, LinesAreOfLog, IsToldAt}
 use Rattle.j39_audit_laws.proofs.Hits.{hits}
 use Rattle.j39_audit_laws.proofs.Lines.{adds, counts_on, found_grows}
 
@@ -121,10 +121,10 @@ module _ (s : Settings) (log : List Line) (m : Mark) (accuses : IsAccusing m.wor
       all_told (before ++ line ∷ []) rest next end (row ∙ sym (append_assoc before (line ∷ []) rest))
       (line_more s before line nothing_read past next read takes) (next_told before past line rest next row read takes told) more
 
-  tells : (end : AuditPast) → ToldSoFar log end → TellsLines s log m (told_in end.noted m)
+  tells : (end : AuditPast) → ToldSoFar log end → IsToldAt s log m (told_in end.noted m)
   unfolding told_at
   tells end told =
-      elim (hits m end.noted) as (λ xs. hits m end.noted ≡ xs → TellsLines s log m (told_of xs)) [
+      elim (hits m end.noted) as (λ xs. hits m end.noted ≡ xs → IsToldAt s log m (told_of xs)) [
         | [] ↦ λ is. record {
           lines = [];
           rising = λ i j d less inside. absurd (omega (arith, inside));

@@ -6,9 +6,7 @@ use Rattle.j39_id.specs.declared.frame.Frame.{Frame}
 use Rattle.j39_id.specs.declared.line_error.LineError.{LineError}
 use Rattle.j39_id.specs.declared.line_error.LineError.TheVariants.{ShortIdent}
 use Rattle.j39_network.specs.declared.plan.Plan.{Plan}
-use Rattle.j39_world.specs.SoundPlan.{Always}
 use Rattle.j39_world.specs.World.{World}
-use Rattle.j39_findings.specs.Findings.{Clean}
 use Rattle.j39_follow.specs.LogLines.{IsElsewhere, IsReadPart, NamesInterface, interface_behind}
 use Rattle.j39_log_laws.specs.Telling.{IsLogOf}
 use Rattle.j39_audit.specs.AuditText.{AuditPast, AuditsLines, nothing_read, word_lines}
@@ -45,7 +43,3 @@ IsNotWritten s log word = (end : AuditPast) → AuditsLines s nothing_read log e
 abbrev pub IsNotWrittenOf : Word → Plan → World → Type 0
 IsNotWrittenOf word plan w = (s : Settings) (log : List Line) (frames : List Frame) → s.plan ≡ plan → AreMoving s.plan s.moving
     → AreReadAs None log frames → AreFramesOf s w frames → IsNotWritten s log word
-
--- nor of any run of a plan without findings
-abbrev pub IsWrittenOfNoRun : Word → Type 0
-IsWrittenOfNoRun word = (plan : Plan) → Clean plan → Always plan (IsNotWrittenOf word plan)

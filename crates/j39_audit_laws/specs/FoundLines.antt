@@ -93,30 +93,30 @@ pub record Differs (s : Settings) (claims : HeardClaims) (f : Frame) (packet : O
   pub differs : deviation s (knowledge s claims) message ≡ Some m
 
 -- the frame is one of those that the mark is for
-abbrev pub IsMarked : Settings → HeardClaims → Frame → Option Packet → Word → ℕ → ℕ → Type 0
-IsMarked s claims f packet Short subject group = ⊥
-IsMarked s claims f packet Stranger a group = IsClaimOf s f None × (s.plan.strangers ≡ 0) × (f.ident.sa ≡ a) × (group ≡ 0)
-IsMarked s claims f packet NobodyThere a group = IsSentFrom s claims f Nobody × (f.ident.sa ≡ a) × (group ≡ 0)
-IsMarked s claims f packet Address u group = IsClaimOf s f (Some u) × (f.ident.sa ≢ null_address) × (¬ ClaimsRightly s u f.ident.sa) × (group ≡ 0)
-IsMarked s claims f packet Cannot u group = IsClaimOf s f (Some u) × (f.ident.sa ≡ null_address) × (group ≡ 0)
-IsMarked s claims f packet Layout u group = Differs s claims f packet (record { word = Layout; subject = u; group = group })
-IsMarked s claims f packet NoFlow u group = Differs s claims f packet (record { word = NoFlow; subject = u; group = group })
-IsMarked s claims f packet Priority u group = Differs s claims f packet (record { word = Priority; subject = u; group = group })
-IsMarked s claims f packet Urgent u group =
+abbrev pub IsAccusedAs : Settings → HeardClaims → Frame → Option Packet → Word → ℕ → ℕ → Type 0
+IsAccusedAs s claims f packet Short subject group = ⊥
+IsAccusedAs s claims f packet Stranger a group = IsClaimOf s f None × (s.plan.strangers ≡ 0) × (f.ident.sa ≡ a) × (group ≡ 0)
+IsAccusedAs s claims f packet NobodyThere a group = IsSentFrom s claims f Nobody × (f.ident.sa ≡ a) × (group ≡ 0)
+IsAccusedAs s claims f packet Address u group = IsClaimOf s f (Some u) × (f.ident.sa ≢ null_address) × (¬ ClaimsRightly s u f.ident.sa) × (group ≡ 0)
+IsAccusedAs s claims f packet Cannot u group = IsClaimOf s f (Some u) × (f.ident.sa ≡ null_address) × (group ≡ 0)
+IsAccusedAs s claims f packet Layout u group = Differs s claims f packet (record { word = Layout; subject = u; group = group })
+IsAccusedAs s claims f packet NoFlow u group = Differs s claims f packet (record { word = NoFlow; subject = u; group = group })
+IsAccusedAs s claims f packet Priority u group = Differs s claims f packet (record { word = Priority; subject = u; group = group })
+IsAccusedAs s claims f packet Urgent u group =
     ((IsClaimOf s f (Some u) × (is_above_unplanned s f ≡ true)) ⊎ (IsSentFrom s claims f (OfUnit u) × (is_urgent s u f ≡ true))) × (group ≡ 0)
-IsMarked s claims f packet _ subject group = ⊥
+IsAccusedAs s claims f packet _ subject group = ⊥
 
 -- it is found at the line of this number
 abbrev pub IsFoundAt : Settings → List Line → ℕ → Mark → Type 0
 IsFoundAt s log number m =
     (IsShortAt s log number × (m ≡ record { word = Short; subject = 0; group = 0 }))
     ⊎ ((claims : HeardClaims) × (f : Frame) × (packet : Option Packet) × IsFrameAt s log number claims f packet
-    × IsMarked s claims f packet m.word m.subject m.group)
+    × IsAccusedAs s claims f packet m.word m.subject m.group)
 
 -- ---- counts
 
 -- this is told of a mark: it was found at so many lines, each counted once, and at this one first
-pub record TellsLines (s : Settings) (log : List Line) (m : Mark) (t : Told) : Type 0 where
+pub record IsToldAt (s : Settings) (log : List Line) (m : Mark) (t : Told) : Type 0 where
   pub lines : List ℕ
   pub rising : AllPairs (λ (a b : ℕ). a < b) lines
   pub exact : (number : ℕ) → Contains lines number ↔ IsFoundAt s log number m
@@ -138,4 +138,4 @@ IsAccusing _ = ⊥
 
 abbrev pub LinesAreOfLog : Type 0
 LinesAreOfLog = (s : Settings) (log : List Line) (end : AuditPast) → AuditsLines s nothing_read log end → (m : Mark) → IsAccusing m.word
-    → TellsLines s log m (told_in end.noted m)
+    → IsToldAt s log m (told_in end.noted m)

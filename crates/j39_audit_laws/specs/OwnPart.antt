@@ -26,7 +26,7 @@ use Rattle.j39_audit.specs.Claiming.{HeardClaims, Knowledge, knowledge, sender_a
 use Rattle.j39_audit.specs.Counting.{told_in}
 use Rattle.j39_audit.specs.Looking.{is_claim, is_single, message_sent}
 use Rattle.j39_audit.specs.SentMessages.{SentMessage}
-use Rattle.j39_audit.specs.Settings.{AreMoving, Settings}
+use Rattle.j39_audit.specs.Settings.{Settings}
 use Rattle.j39_audit.specs.declared.mark.Word.{Word}
 use Rattle.j39_audit.specs.declared.senders.SureSender.TheVariants.{Unit as OfUnit}
 use Rattle.j39_audit_laws.specs.FoundLines.{IsFrameAt}
@@ -81,34 +81,34 @@ pub record IsOfFlowPlanned (plan : Plan) (k : Knowledge) (m : SentMessage) : Typ
 -- ---- whose a frame is
 
 -- which unit of the plan sent the frame of each line, if one did; a log doesn't show it
-abbrev pub Senders : Type 0
-Senders = ℕ → Option ℕ
+abbrev pub SentBy : Type 0
+SentBy = ℕ → Option ℕ
 
 -- frames of an address at which the unit alone may be are its own, and so are claims of its NAMEs
-pub record AreItsOwn (s : Settings) (log : List Line) (sent : Senders) (u : ℕ) : Type 0 where
+pub record AreItsOwn (s : Settings) (log : List Line) (sent : SentBy) (u : ℕ) : Type 0 where
   pub frames : (number : ℕ) (claims : HeardClaims) (f : Frame) (packet : Option Packet) → IsFrameAt s log number claims f packet
       → is_claim f ≡ false → sender_at s (knowledge s claims) f.ident.sa ≡ OfUnit u → sent number ≡ Some u
   pub claims : (number : ℕ) (claims : HeardClaims) (f : Frame) (packet : Option Packet) → IsFrameAt s log number claims f packet
       → is_claim f ≡ true → unit_of_name s.plan (name_in f) ≡ Some u → sent number ≡ Some u
 
 -- it is so of each frame of the unit, with the claims before it
-abbrev pub OfItsFrames : Settings → List Line → Senders → ℕ → (HeardClaims → Frame → Option Packet → Type 0) → Type 0
+abbrev pub OfItsFrames : Settings → List Line → SentBy → ℕ → (HeardClaims → Frame → Option Packet → Type 0) → Type 0
 OfItsFrames s log sent u Holds = (number : ℕ) (claims : HeardClaims) (f : Frame) (packet : Option Packet)
     → IsFrameAt s log number claims f packet → sent number ≡ Some u → Holds claims f packet
 
 -- ---- what it keeps
 
 -- it never says that it can't claim an address
-abbrev pub AlwaysCan : Settings → List Line → Senders → ℕ → Type 0
+abbrev pub AlwaysCan : Settings → List Line → SentBy → ℕ → Type 0
 AlwaysCan s log sent u = OfItsFrames s log sent u (λ claims f packet. is_claim f ≡ true → f.ident.sa ≢ null_address)
 
 -- it claims only where the plan says that it claims, and its claims are of its addresses
-abbrev pub ClaimsItsOwn : Settings → List Line → Senders → ℕ → Type 0
+abbrev pub ClaimsItsOwn : Settings → List Line → SentBy → ℕ → Type 0
 ClaimsItsOwn s log sent u = OfItsFrames s log sent u
     (λ claims f packet. is_claim f ≡ true → f.ident.sa ≢ null_address → ClaimsAddresses s.plan u × IsItsAddress s.plan u f.ident.sa)
 
 -- each message that has, or announces, a number of one of its groups is of one of its flows
-abbrev pub LooksAsPlanned : Settings → List Line → Senders → ℕ → Type 0
+abbrev pub LooksAsPlanned : Settings → List Line → SentBy → ℕ → Type 0
 LooksAsPlanned s log sent u = OfItsFrames s log sent u (λ claims f packet. (m : SentMessage) → message_sent u f packet ≡ Some m
     → IsItsNumber s.plan u m.number → IsOfFlowPlanned s.plan (knowledge s claims) m)
 
@@ -119,7 +119,7 @@ IsByThePlan s t u f =
     ⊎ (((pgn_of f.ident ≡ connection_management) ⊎ (pgn_of f.ident ≡ data_transfer)) × (t.transport_priority ≤ f.ident.priority))
 
 -- what it sends besides has `unplanned_priority` or a larger number
-abbrev pub WaitsForPlanned : Settings → List Line → Senders → ℕ → Type 0
+abbrev pub WaitsForPlanned : Settings → List Line → SentBy → ℕ → Type 0
 WaitsForPlanned s log sent u = OfItsFrames s log sent u (λ claims f packet. (t : Timing) → s.plan.timing ≡ Some t
     → f.ident.priority < t.unplanned_priority → IsByThePlan s t u f)
 
@@ -128,8 +128,3 @@ WaitsForPlanned s log sent u = OfItsFrames s log sent u (λ claims f packet. (t 
 -- no line of this word is written of the unit
 abbrev pub IsNotNamed : Settings → List Line → Word → ℕ → Type 0
 IsNotNamed s log word u = (end : AuditPast) → AuditsLines s nothing_read log end → subject_lines s (told_in end.noted) word u ≡ []
-
--- who keeps this isn't accused by lines of this word, by which of the plan's units may move, whatever others do
-abbrev pub IsNotAccused : (Settings → List Line → Senders → ℕ → Type 0) → Word → Type 0
-IsNotAccused Keeps word = (s : Settings) (log : List Line) (sent : Senders) (u : ℕ) → AreMoving s.plan s.moving → AreItsOwn s log sent u
-    → Keeps s log sent u → IsNotNamed s log word u

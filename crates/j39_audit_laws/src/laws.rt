@@ -1,10 +1,19 @@
 //! Laws of the lines by which the audit command accuses.
+ghost use Rattle.std.specs.Prelude.{ℕ, List};
+ghost use Rattle.j39_audit.specs.Settings.{AreMoving, Settings};
 ghost use Rattle.j39_audit.specs.declared.mark.Word.TheVariants.{Address, Cannot, Layout, NoFlow, Priority, Urgent};
 ghost use Rattle.j39_audit.specs.declared.mark.Word.TheVariants.{Nobody, Short, Stranger};
-ghost use Rattle.j39_audit_laws.specs.AuditedRuns.{IsWrittenOfNoRun};
+ghost use Rattle.j39_audit_laws.specs.AuditedRuns.{IsNotWrittenOf};
 ghost use Rattle.j39_audit_laws.specs.FoundLines.{LinesAreOfLog};
 ghost use Rattle.j39_audit_laws.specs.OneAudit.{AuditHasOneText};
-ghost use Rattle.j39_audit_laws.specs.OwnPart.{AlwaysCan, ClaimsItsOwn, IsNotAccused, LooksAsPlanned, WaitsForPlanned};
+ghost use Rattle.j39_audit_laws.specs.OwnPart.{AlwaysCan, AreItsOwn, ClaimsItsOwn, IsNotNamed, LooksAsPlanned, SentBy};
+ghost use Rattle.j39_audit_laws.specs.OwnPart.{WaitsForPlanned};
+ghost use Rattle.j39_findings.specs.Findings.{Clean};
+ghost use Rattle.j39_id.specs.Lines.{Line as ALine};
+ghost use Rattle.j39_network.specs.declared.plan.Plan.{Plan as Plans};
+ghost use Rattle.j39_network.specs.declared.steps.Step.{Step as Steps};
+ghost use Rattle.j39_world.specs.Run.{Run};
+ghost use Rattle.j39_world.specs.World.{World, all_off};
 
 /// For a plan, a log and the options the definition allows one text, with one verdict.
 pub fn an_audit_has_one_text()
@@ -21,29 +30,43 @@ pub fn lines_are_of_the_log()
 /// line `cannot` (`cannot`), and none `address` where it claims by the plan, and only its own addresses (`address`).
 /// Frames from an address at which it alone may be have to be its own, and so have claims of its NAMEs.
 pub fn who_claims_by_the_plan_is_not_accused()
-    ensures cannot { IsNotAccused AlwaysCan Cannot }
-    ensures address { IsNotAccused ClaimsItsOwn Address }
+    ensures cannot { (s : Settings) (log : List ALine) (sent : SentBy) (u : ℕ) → AreMoving s.plan s.moving
+        → AreItsOwn s log sent u → AlwaysCan s log sent u → IsNotNamed s log Cannot u }
+    ensures address { (s : Settings) (log : List ALine) (sent : SentBy) (u : ℕ) → AreMoving s.plan s.moving
+        → AreItsOwn s log sent u → ClaimsItsOwn s log sent u → IsNotNamed s log Address u }
 {}
 
 /// Nor does one get a line `layout`, `no_flow` or `priority` each of whose messages with a number of one of its groups
 /// is of one of its flows; nor `urgent`, where all that isn't planned has `unplanned_priority` or a larger number.
 pub fn who_sends_by_the_plan_is_not_accused()
-    ensures layout { IsNotAccused LooksAsPlanned Layout }
-    ensures no_flow { IsNotAccused LooksAsPlanned NoFlow }
-    ensures priority { IsNotAccused LooksAsPlanned Priority }
-    ensures urgent { IsNotAccused WaitsForPlanned Urgent }
+    ensures layout { (s : Settings) (log : List ALine) (sent : SentBy) (u : ℕ) → AreMoving s.plan s.moving
+        → AreItsOwn s log sent u → LooksAsPlanned s log sent u → IsNotNamed s log Layout u }
+    ensures no_flow { (s : Settings) (log : List ALine) (sent : SentBy) (u : ℕ) → AreMoving s.plan s.moving
+        → AreItsOwn s log sent u → LooksAsPlanned s log sent u → IsNotNamed s log NoFlow u }
+    ensures priority { (s : Settings) (log : List ALine) (sent : SentBy) (u : ℕ) → AreMoving s.plan s.moving
+        → AreItsOwn s log sent u → LooksAsPlanned s log sent u → IsNotNamed s log Priority u }
+    ensures urgent { (s : Settings) (log : List ALine) (sent : SentBy) (u : ℕ) → AreMoving s.plan s.moving
+        → AreItsOwn s log sent u → WaitsForPlanned s log sent u → IsNotNamed s log Urgent u }
 {}
 
 /// Of the frames of any world of any run of a plan without findings, with all lawful choices, cut in front anywhere,
 /// or in a part of a log with any of them missing, with any times or none, no line `short`, `stranger`, `nobody`,
 /// `address`, `cannot`, `layout`, `no_flow` or `priority` is written.
 pub fn runs_are_not_accused()
-    ensures short { IsWrittenOfNoRun Short }
-    ensures stranger { IsWrittenOfNoRun Stranger }
-    ensures nobody { IsWrittenOfNoRun Nobody }
-    ensures address { IsWrittenOfNoRun Address }
-    ensures cannot { IsWrittenOfNoRun Cannot }
-    ensures layout { IsWrittenOfNoRun Layout }
-    ensures no_flow { IsWrittenOfNoRun NoFlow }
-    ensures priority { IsWrittenOfNoRun Priority }
+    ensures short { (plan : Plans) (steps : List Steps) (w : World) → Clean plan → Run plan all_off steps w
+        → IsNotWrittenOf Short plan w }
+    ensures stranger { (plan : Plans) (steps : List Steps) (w : World) → Clean plan → Run plan all_off steps w
+        → IsNotWrittenOf Stranger plan w }
+    ensures nobody { (plan : Plans) (steps : List Steps) (w : World) → Clean plan → Run plan all_off steps w
+        → IsNotWrittenOf Nobody plan w }
+    ensures address { (plan : Plans) (steps : List Steps) (w : World) → Clean plan → Run plan all_off steps w
+        → IsNotWrittenOf Address plan w }
+    ensures cannot { (plan : Plans) (steps : List Steps) (w : World) → Clean plan → Run plan all_off steps w
+        → IsNotWrittenOf Cannot plan w }
+    ensures layout { (plan : Plans) (steps : List Steps) (w : World) → Clean plan → Run plan all_off steps w
+        → IsNotWrittenOf Layout plan w }
+    ensures no_flow { (plan : Plans) (steps : List Steps) (w : World) → Clean plan → Run plan all_off steps w
+        → IsNotWrittenOf NoFlow plan w }
+    ensures priority { (plan : Plans) (steps : List Steps) (w : World) → Clean plan → Run plan all_off steps w
+        → IsNotWrittenOf Priority plan w }
 {}
