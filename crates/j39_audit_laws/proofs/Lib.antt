@@ -14,4 +14,5 @@ pub mod RunMessages
 pub mod RunSound
 pub mod RunSteps
 pub mod Runs
+pub mod Sure
 pub mod Told

@@ -120,7 +120,7 @@ taken s past (ShortLine l) next (part, named, part_is, named_is, inr (here, inr 
 
 -- ---- one line of a log
 
-same_cut : (a b : List Line) (x y : Line) (c d : List Line) → length a ≡ length b → a ++ x ∷ c ≡ b ++ y ∷ d → (a ≡ b) × (x ≡ y)
+pub same_cut : (a b : List Line) (x y : Line) (c d : List Line) → length a ≡ length b → a ++ x ∷ c ≡ b ++ y ∷ d → (a ≡ b) × (x ≡ y)
 same_cut [] [] x y c d long e = (refl, cc)
 same_cut [] (z ∷ b) x y c d long e = absurd (omega (arith, long))
 same_cut (z ∷ a) [] x y c d long e = absurd (omega (arith, long))

@@ -97,7 +97,7 @@ module _ (s : Settings) (log : List Line) (sent : SentBy) (u : ℕ) (moving : Ar
   differs_never : (word : Word) (g n : ℕ) (claims : HeardClaims) (f : Frame) (packet : Option Packet) → IsFrameAt s log n claims f packet
       → ¬ Differs s claims f packet (record { word = word; subject = u; group = g })
   differs_never word g n claims f packet at d =
-      let its = own.frames n claims f packet at d.sent.other d.sent.sender_is in
+      let its = own.frames n claims f packet at d.sent.other d.sent.address d.sent.sender_is in
       let k : Knowledge = knowledge s claims in
       let same : d.message.unit ≡ u = sender_of u f packet d.message d.message_is in
       let number : IsItsNumber s.plan u d.message.number =
@@ -129,7 +129,7 @@ above_so s f is =
     (t, at, ltb-true f.ident.priority t.unplanned_priority less)
 
 -- the number of a claim
-claim_number : (f : Frame) → is_claim f ≡ true → pgn_of f.ident ≡ address_claimed
+pub claim_number : (f : Frame) → is_claim f ≡ true → pgn_of f.ident ≡ address_claimed
 claim_number f claim = elim (or_cases (claims_address f) (cannot_claim f) claim) [
   | inl claims ↦ number (and_parts (carries_name f) (is_address f.ident.sa) claims).0
   | inr cannot ↦ number (and_parts (carries_name f) (f.ident.sa == null_address) cannot).0
@@ -187,5 +187,5 @@ waits_for_planned s log sent u moving own keeps =
       | inr (from, urgent) ↦
           let above = (and_parts (is_above_unplanned s f) (not (is_of_transport s f) && not (is_of_own_group s u f)) urgent).0 in
           let (t, timed, less) = above_so s f above in
-          urgent_unplanned s t u f timed urgent (keeps n claims f packet at (own.frames n claims f packet at from.other from.sender_is) t timed less)
+          urgent_unplanned s t u f timed urgent (keeps n claims f packet at (own.frames n claims f packet at from.other from.address from.sender_is) t timed less)
     ])

@@ -144,7 +144,7 @@ AreSound s frames =
 module _ (s : Settings) (moving : AreMoving s.plan s.moving) (log : List Line) (frames : List Frame) (reads : AreReadAs None log frames)
     (sound : AreSound s frames) where
   -- a claim is a unit's
-  its_claim : (n : ℕ) (claims : HeardClaims) (f : Frame) (packet : Option Packet) → IsFrameAt s log n claims f packet → is_claim f ≡ true → IsItsClaim s.plan f
+  pub its_claim : (n : ℕ) (claims : HeardClaims) (f : Frame) (packet : Option Packet) → IsFrameAt s log n claims f packet → is_claim f ≡ true → IsItsClaim s.plan f
   its_claim n claims f packet at claim =
       let one = one_of_them s log frames reads n claims f packet at in
       let of : (before : List Frame) → IsSoundFrame s.plan before f → IsItsClaim s.plan f =

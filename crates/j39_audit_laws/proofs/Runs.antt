@@ -11,10 +11,11 @@ use Rattle.j39_world.specs.SoundPlan.{Always}
 use Rattle.j39_world.specs.World.{World}
 use Rattle.j39_audit.specs.Settings.{Settings}
 use Rattle.j39_audit.specs.declared.mark.Word.TheVariants.{Short, Stranger, Nobody, Address, Cannot, Layout, NoFlow, Priority}
-use Rattle.j39_audit_laws.specs.AuditedRuns.{AreFramesOf, IsNotWrittenOf}
+use Rattle.j39_audit_laws.specs.AuditedRuns.{ArePartsKept, AreFramesOf, IsNotWrittenOf}
 use Rattle.j39_audit_laws.proofs.RunAudits.{AreSound, no_address_line, no_cannot_line, no_layout_line, no_no_flow_line, no_nobody_line, no_priority_line, no_short_line, no_stranger_line}
 use Rattle.j39_audit_laws.proofs.RunFrames.{IsSoundFrame}
 use Rattle.j39_audit_laws.proofs.RunSound.{all_sound}
+use Rattle.j39_audit_laws.proofs.Sure.{each_keeps}
 
 parted : (all : List Frame) (k : ℕ) (f : Frame) → k < length all → slice_index_or all k f ≡ f
     → (before : List Frame) × (behind : List Frame) × (all ≡ before ++ f ∷ behind)
@@ -79,3 +80,8 @@ no_flow_of_no_run plan clean steps w run s log frames same moving reads of =
 pub priority_of_no_run : (plan : Plan) → Clean plan → Always plan (IsNotWrittenOf Priority plan)
 priority_of_no_run plan clean steps w run s log frames same moving reads of =
     no_priority_line s moving log frames reads (are_sound s plan same w frames of (all_sound plan clean steps w run))
+
+-- and each unit keeps its part
+pub parts_of_runs : (plan : Plan) → Clean plan → Always plan (ArePartsKept plan)
+parts_of_runs plan clean steps w run s log frames end same moving reads of read =
+    each_keeps s log frames end moving reads (are_sound s plan same w frames of (all_sound plan clean steps w run)) read

@@ -13,6 +13,7 @@ use Rattle.j39_audit.specs.AuditText.{AuditPast, AuditsLines, nothing_read, word
 use Rattle.j39_audit.specs.Counting.{told_in}
 use Rattle.j39_audit.specs.Settings.{AreMoving, Settings}
 use Rattle.j39_audit.specs.declared.mark.Word.{Word}
+use Rattle.j39_audit_laws.specs.OwnPart.{EachKeepsItsPart}
 
 -- ---- the frames of a log
 
@@ -43,3 +44,10 @@ IsNotWritten s log word = (end : AuditPast) → AuditsLines s nothing_read log e
 abbrev pub IsNotWrittenOf : Word → Plan → World → Type 0
 IsNotWrittenOf word plan w = (s : Settings) (log : List Line) (frames : List Frame) → s.plan ≡ plan → AreMoving s.plan s.moving
     → AreReadAs None log frames → AreFramesOf s w frames → IsNotWritten s log word
+
+-- ---- that all can be kept
+
+-- who sent the frames of the world can be told so that each unit keeps its part
+abbrev pub ArePartsKept : Plan → World → Type 0
+ArePartsKept plan w = (s : Settings) (log : List Line) (frames : List Frame) (end : AuditPast) → s.plan ≡ plan → AreMoving s.plan s.moving
+    → AreReadAs None log frames → AreFramesOf s w frames → AuditsLines s nothing_read log end → EachKeepsItsPart s log

@@ -2,7 +2,7 @@
 use Rattle.std.specs.Prelude.{◌≡◌, ◌≢◌, ◌⊎◌, ℕ, ◌<◌, ◌≤◌, true, false, List, [], Option, Some}
 use Rattle.std.specs.FinSet.{contains}
 use Rattle.std.specs.List.{slice_get}
-use Rattle.j39_id.specs.Addresses.{global_address, in_pool, null_address}
+use Rattle.j39_id.specs.Addresses.{global_address, in_pool, is_address, null_address}
 use Rattle.j39_id.specs.FrameMeaning.{name_in}
 use Rattle.j39_id.specs.Ident.{pgn_of}
 use Rattle.j39_id.specs.Lines.{Line}
@@ -87,7 +87,7 @@ SentBy = ℕ → Option ℕ
 -- frames of an address at which the unit alone may be are its own, and so are claims of its NAMEs
 pub record AreItsOwn (s : Settings) (log : List Line) (sent : SentBy) (u : ℕ) : Type 0 where
   pub frames : (number : ℕ) (claims : HeardClaims) (f : Frame) (packet : Option Packet) → IsFrameAt s log number claims f packet
-      → is_claim f ≡ false → sender_at s (knowledge s claims) f.ident.sa ≡ OfUnit u → sent number ≡ Some u
+      → is_claim f ≡ false → is_address f.ident.sa ≡ true → sender_at s (knowledge s claims) f.ident.sa ≡ OfUnit u → sent number ≡ Some u
   pub claims : (number : ℕ) (claims : HeardClaims) (f : Frame) (packet : Option Packet) → IsFrameAt s log number claims f packet
       → is_claim f ≡ true → unit_of_name s.plan (name_in f) ≡ Some u → sent number ≡ Some u
 
@@ -128,3 +128,10 @@ WaitsForPlanned s log sent u = OfItsFrames s log sent u (λ claims f packet. (t 
 -- no line of this word is written of the unit
 abbrev pub IsNotNamed : Settings → List Line → Word → ℕ → Type 0
 IsNotNamed s log word u = (end : AuditPast) → AuditsLines s nothing_read log end → subject_lines s (told_in end.noted) word u ≡ []
+
+-- ---- that all can be kept
+
+-- by some senders each unit keeps all of this
+abbrev pub EachKeepsItsPart : Settings → List Line → Type 0
+EachKeepsItsPart s log =
+    (sent : SentBy) × ((u : ℕ) → AreItsOwn s log sent u × AlwaysCan s log sent u × ClaimsItsOwn s log sent u × LooksAsPlanned s log sent u)

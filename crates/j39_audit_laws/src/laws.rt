@@ -3,7 +3,7 @@ ghost use Rattle.std.specs.Prelude.{ℕ, List};
 ghost use Rattle.j39_audit.specs.Settings.{AreMoving, Settings};
 ghost use Rattle.j39_audit.specs.declared.mark.Word.TheVariants.{Address, Cannot, Layout, NoFlow, Priority, Urgent};
 ghost use Rattle.j39_audit.specs.declared.mark.Word.TheVariants.{Nobody, Short, Stranger};
-ghost use Rattle.j39_audit_laws.specs.AuditedRuns.{IsNotWrittenOf};
+ghost use Rattle.j39_audit_laws.specs.AuditedRuns.{ArePartsKept, IsNotWrittenOf};
 ghost use Rattle.j39_audit_laws.specs.FoundLines.{LinesAreOfLog};
 ghost use Rattle.j39_audit_laws.specs.OneAudit.{AuditHasOneText};
 ghost use Rattle.j39_audit_laws.specs.OwnPart.{AlwaysCan, AreItsOwn, ClaimsItsOwn, IsNotNamed, LooksAsPlanned, SentBy};
@@ -69,4 +69,11 @@ pub fn runs_are_not_accused()
         → IsNotWrittenOf NoFlow plan w }
     ensures priority { (plan : Plans) (steps : List Steps) (w : World) → Clean plan → Run plan all_off steps w
         → IsNotWrittenOf Priority plan w }
+{}
+
+/// Who sent the frames of such a log can be told so that what the laws above ask of each unit, but `WaitsForPlanned`, is
+/// kept.
+pub fn runs_keep_all_parts()
+    ensures { (plan : Plans) (steps : List Steps) (w : World) → Clean plan → Run plan all_off steps w
+        → ArePartsKept plan w }
 {}
