@@ -1,6 +1,7 @@
 pub mod Frames
 pub mod Hits
 pub mod Lines
+pub mod Listed
 pub mod Marking
 pub mod OneAudit
 pub mod OneReading

@@ -58,7 +58,7 @@ none_before {X} test i (y ∷ xs) none (suc n) x at is = elim (cases_Bool (test 
 no_position : {X : Type 0} (test : X → Bool) (xs : List X) → position test xs ≡ None → (n : ℕ) (x : X) → slice_get xs n ≡ Some x → test x ≡ true → ⊥
 no_position {X} test xs none n x at is = none_before test 0 xs (sym (position_from-zero test xs) ∙ none) n x at is
 
-position_passes : {X : Type 0} (test : X → Bool) (xs : List X) (n : ℕ) → position test xs ≡ Some n
+pub position_passes : {X : Type 0} (test : X → Bool) (xs : List X) (n : ℕ) → position test xs ≡ Some n
     → (x : X) × (slice_get xs n ≡ Some x) × (test x ≡ true)
 position_passes {X} test [] n e = absurd (none-some n e)
 position_passes {X} test (y ∷ xs) n e =

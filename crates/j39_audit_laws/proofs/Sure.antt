@@ -1,14 +1,13 @@
 -- Who sent the frames of a log can be told by who the sure senders are, and of the frames of a run each unit keeps its part then.
-use Rattle.std.proofs.Common.{◌≡◌, ◌≢◌, ◌⊎◌, ℕ, ◌+◌, ◌<◌, ◌≤◌, ◌==◌, ◌++◌, ◌∷◌, [], List, Bool, true, false, length, if◌then◌else◌}
-use Rattle.std.proofs.Common.{inl, inr, refl, sym, ap, ◌∙◌, subst, arith, append_assoc, eqb-true, Option, Some, None}
-use Rattle.std.proofs.lemmas.Bool.{and_parts, cases_Bool, cases_eq, cond-false, cond-true, eq-eqb, ne_eqb, or_cases, true≢false}
+use Rattle.std.proofs.Common.{◌≡◌, ◌≢◌, ◌⊎◌, ℕ, ◌+◌, ◌≤◌, ◌==◌, ◌++◌, ◌∷◌, [], List, true, false, length, if◌then◌else◌}
+use Rattle.std.proofs.Common.{inl, inr, refl, sym, ap, ◌∙◌, subst, arith, append_assoc, Option, Some, None}
+use Rattle.std.proofs.lemmas.Bool.{cases_Bool, cases_eq, cond-false, cond-true, eq-eqb, ne_eqb}
 use Rattle.std.proofs.lemmas.List.{append-nil, length-append}
 use Rattle.std.proofs.lemmas.Option.{none-some, same_Some}
 use Rattle.j39_id.proofs.LineLaws.{not_both, one_spelled}
-use Rattle.j39_id.specs.Addresses.{is_address, null_address}
-use Rattle.j39_id.specs.FrameLine.{HasLineFault, Spells}
+use Rattle.j39_id.specs.Addresses.{is_address}
+use Rattle.j39_id.specs.FrameLine.{Spells}
 use Rattle.j39_id.specs.FrameMeaning.{name_in}
-use Rattle.j39_id.specs.Ident.{pgn_of}
 use Rattle.j39_id.specs.Lines.{Line, Short as ShortLine, Long}
 use Rattle.j39_id.specs.Services.{address_claimed, connection_management}
 use Rattle.j39_id.specs.declared.frame.Frame.{Frame}
@@ -19,7 +18,6 @@ use Rattle.j39_audit.specs.AuditText.{AuditPast, AuditsLine, AuditsLines, claims
 use Rattle.j39_audit.specs.Breaks.{line_time}
 use Rattle.j39_audit.specs.Claiming.{HeardClaims, knowledge, sender_at}
 use Rattle.j39_audit.specs.Looking.{is_claim, is_single, message_sent}
-use Rattle.j39_audit.specs.SentMessages.{SentMessage}
 use Rattle.j39_audit.specs.Settings.{AreMoving, Settings}
 use Rattle.j39_audit.specs.declared.senders.SureSender.{SureSender}
 use Rattle.j39_audit.specs.declared.senders.SureSender.TheVariants.{Unit as OfUnit, Nobody, Unknown}
@@ -99,19 +97,24 @@ module _ (s : Settings) (log : List Line) where
       (subst (λ (x : Option (List ℕ)). IsElsewhere past.interface at.part x) (sym name)
       (subst (λ (x : List ℕ). IsElsewhere past.interface x named) (sym same) elsewhere))))
   line_kind n past (ShortLine l) next (part, named, part_is, named_is, inr (here, inl (f, time, spelled, text, (packet, packet_is, e)))) is =
-      inl (claims_before s (with_next_number past) (line_time s.plan time), f, packet, record {
-        past = with_next_number past;
-        line = l;
-        line_is = is;
-        part = part;
-        named = named;
-        reads = record { part_is = part_is; named_is = named_is; here = here };
-        time = time;
-        spelled = spelled;
-        time_is = text;
-        packet_is = packet_is;
-        claims_are = refl;
-      })
+      inl (
+        claims_before s (with_next_number past) (line_time s.plan time),
+        f,
+        packet,
+        record {
+          past = with_next_number past;
+          line = l;
+          line_is = is;
+          part = part;
+          named = named;
+          reads = record { part_is = part_is; named_is = named_is; here = here };
+          time = time;
+          spelled = spelled;
+          time_is = text;
+          packet_is = packet_is;
+          claims_are = refl;
+        },
+      )
   line_kind n past (ShortLine l) next (part, named, part_is, named_is, inr (here, inr (fault, has, e))) is = inr (λ found.
       let at = found.3 in
       let one = one_line n at.past (with_next_number past) (ShortLine at.line) (ShortLine l) at.line_is is in
@@ -140,23 +143,23 @@ module _ (s : Settings) (log : List Line) where
       let long = length-append before (line ∷ []) in
       elim (line_kind n past line next takes is) [
         | inr none ↦ record {
-            sent = told.sent;
-            right = λ k c f p at less. elim (cases_eq k n) [
-              | inl same ↦ absurd (none (c, f, p, subst (λ (i : ℕ). IsFrameAt s log i c f p) same at))
-              | inr other ↦ told.right k c f p at (omega (arith, less, long, other))
-            ];
-          }
+          sent = told.sent;
+          right = λ k c f p at less. elim (cases_eq k n) [
+            | inl same ↦ absurd (none (c, f, p, subst (λ (i : ℕ). IsFrameAt s log i c f p) same at))
+            | inr other ↦ told.right k c f p at (omega (arith, less, long, other))
+          ];
+        }
         | inl (d, g, q, there) ↦ record {
-            sent = λ k. if k == n then sure_unit s d g else told.sent k;
-            right = λ k c f p at less. elim (cases_eq k n) [
-              | inl same ↦
-                  cond-true (k == n) (sure_unit s d g) (told.sent k) (eq-eqb k n same)
-                  ∙ one_frame_at n d c g f q p there (subst (λ (i : ℕ). IsFrameAt s log i c f p) same at)
-              | inr other ↦
-                  cond-false (k == n) (sure_unit s d g) (told.sent k) (ne_eqb k n other)
-                  ∙ told.right k c f p at (omega (arith, less, long, other))
-            ];
-          }
+          sent = λ k. if k == n then sure_unit s d g else told.sent k;
+          right = λ k c f p at less. elim (cases_eq k n) [
+            | inl same ↦
+                cond-true (k == n) (sure_unit s d g) (told.sent k) (eq-eqb k n same)
+                ∙ one_frame_at n d c g f q p there (subst (λ (i : ℕ). IsFrameAt s log i c f p) same at)
+            | inr other ↦
+                cond-false (k == n) (sure_unit s d g) (told.sent k) (ne_eqb k n other)
+                ∙ told.right k c f p at (omega (arith, less, long, other))
+          ];
+        }
       ]
 
   all_sure : (before rest : List Line) (past end : AuditPast) → log ≡ before ++ rest → AuditsLines s nothing_read before past → SureSoFar before
@@ -214,15 +217,15 @@ module _ (s : Settings) (log : List Line) where
             let number_is = claim_number f claim in
             absurd (other_none f (ap is_single number_is) (λ e. never (sym number_is ∙ e)) u p m at.packet_is message)
         | inr other ↦ elim (cases_Bool (is_address f.ident.sa)) [
-            | inr outside ↦ absurd (none-some u (sym (of_none n c f p at other outside) ∙ its))
-            | inl address ↦
-                let theirs = its_frame s moving log frames reads sound n c f p at other address in
-                let is = unit_told (sender_at s (knowledge s c) f.ident.sa) u (sym (of_other n c f p at other address) ∙ its) in
-                let same = its_sender s moving c theirs.unit f.ident.sa theirs.inside theirs.own theirs.last u is in
-                let sent : message_sent theirs.is.unit f p ≡ Some m =
-                subst (λ (v : ℕ). message_sent v f p ≡ Some m) (sym (theirs.unit_is ∙ same)) message in
-                theirs.is.planned p m at.packet_is sent (knowledge s c)
-          ]
+          | inr outside ↦ absurd (none-some u (sym (of_none n c f p at other outside) ∙ its))
+          | inl address ↦
+              let theirs = its_frame s moving log frames reads sound n c f p at other address in
+              let is = unit_told (sender_at s (knowledge s c) f.ident.sa) u (sym (of_other n c f p at other address) ∙ its) in
+              let same = its_sender s moving c theirs.unit f.ident.sa theirs.inside theirs.own theirs.last u is in
+              let sent : message_sent theirs.is.unit f p ≡ Some m =
+              subst (λ (v : ℕ). message_sent v f p ≡ Some m) (sym (theirs.unit_is ∙ same)) message in
+              theirs.is.planned p m at.packet_is sent (knowledge s c)
+        ]
       ]
         where
           never : address_claimed ≢ connection_management
@@ -233,6 +236,10 @@ pub each_keeps : (s : Settings) (log : List Line) (frames : List Frame) (end : A
 each_keeps s log frames end moving reads sound read =
     let told = sure s log end read in (
       told.sent,
-      λ u. (own s log told u, can s log told moving frames reads sound u, claims s log told moving frames reads sound u,
-          looks s log told moving frames reads sound u),
+      λ u. (
+        own s log told u,
+        can s log told moving frames reads sound u,
+        claims s log told moving frames reads sound u,
+        looks s log told moving frames reads sound u,
+      ),
     )

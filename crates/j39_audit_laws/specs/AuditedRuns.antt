@@ -17,7 +17,8 @@ use Rattle.j39_audit_laws.specs.OwnPart.{EachKeepsItsPart}
 
 -- ---- the frames of a log
 
--- these frames are read of the lines, in order, with any times; what else there is spells none, and has no identifier of 11 bits
+-- these frames are read of the lines, in order, with any times; what else there is spells none, and has no identifier
+-- of 11 bits
 abbrev pub AreReadAs : Option (List ℕ) → List Line → List Frame → Type 0
 AreReadAs interface [] frames = frames ≡ []
 AreReadAs interface (Long ∷ log) frames = AreReadAs interface log frames

@@ -10,7 +10,7 @@ use Rattle.j39_id.specs.declared.line_error.LineError.TheVariants.{ShortIdent}
 use Rattle.j39_follow.specs.LogLines.{IsElsewhere, IsReadPart, IsTimeText, NamesInterface}
 use Rattle.j39_follow.specs.Who.{unit_of_name}
 use Rattle.j39_tp.specs.declared.packet.Packet.{Packet}
-use Rattle.j39_audit.specs.AuditText.{AuditPast, AuditsLines, claims_before, nothing_read, with_next_number}
+use Rattle.j39_audit.specs.AuditText.{AuditPast, AuditsLines, claims_before, groups_named, nothing_read, subjects, with_next_number}
 use Rattle.j39_audit.specs.Breaks.{line_time}
 use Rattle.j39_audit.specs.Claiming.{HeardClaims, is_address_of, knowledge, sender_at}
 use Rattle.j39_audit.specs.Counting.{most_times, told_in}
@@ -42,7 +42,8 @@ pub record IsReadHere (past : AuditPast) (line part : List ℕ) (named : Option 
   pub named_is : NamesInterface part named
   pub here : ¬ IsElsewhere past.interface part named
 
--- the line of this number is read as this frame, which is this transport packet or none, and these are the claims before it
+-- the line of this number is read as this frame, which is this transport packet or none, and these are the claims
+-- before it
 pub record IsFrameAt (s : Settings) (log : List Line) (number : ℕ) (claims : HeardClaims) (f : Frame) (packet : Option Packet) : Type 0 where
   pub past : AuditPast
   pub line : List ℕ
@@ -139,3 +140,10 @@ IsAccusing _ = ⊥
 abbrev pub LinesAreOfLog : Type 0
 LinesAreOfLog = (s : Settings) (log : List Line) (end : AuditPast) → AuditsLines s nothing_read log end → (m : Mark) → IsAccusing m.word
     → IsToldAt s log m (told_in end.noted m)
+
+-- the line of a mark is one of those that are written where they were found
+abbrev pub IsListed : Settings → Mark → Type 0
+IsListed s m = (m.subject < subjects s m.word) × (m.group < groups_named s m.word)
+
+abbrev pub FoundAreListed : Type 0
+FoundAreListed = (s : Settings) (log : List Line) (number : ℕ) (m : Mark) → IsFoundAt s log number m → IsListed s m

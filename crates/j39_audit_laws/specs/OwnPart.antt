@@ -33,8 +33,8 @@ use Rattle.j39_audit_laws.specs.FoundLines.{IsFrameAt}
 
 -- ---- the plan
 
--- an address of the unit: its planned one, or where it may choose and doesn't stay, each of 128 to 247 that isn't kept free, and with strangers
--- those that are
+-- an address of the unit: its planned one, or where it may choose and doesn't stay, each of 128 to 247 that isn't kept
+-- free, and with strangers those that are
 pub record IsItsAddress (plan : Plan) (u a : ℕ) : Type 0 where
   pub unit : UnitPlan
   pub unit_is : slice_get plan.units.items u ≡ Some unit
@@ -56,14 +56,15 @@ pub record IsItsNumber (plan : Plan) (u number : ℕ) : Type 0 where
   pub own : (group.private ≡ false)
       ⊎ ((n : ℕ) × (flow : FlowPlan) × (slice_get plan.flows.items n ≡ Some flow) × (flow.group ≡ place) × (flow.sender ≡ u))
 
--- a message of a flow to these goes to all, or to an address of the one unit or to where it claimed last; or its identifier names no destination
+-- a message of a flow to these goes to all, or to an address of the one unit or to where it claimed last; or its
+-- identifier names no destination
 abbrev pub GoesAsPlanned : Plan → Knowledge → SentMessage → To → Type 0
 GoesAsPlanned plan k m ToAll = (m.unaddressed ≡ true) ⊎ (m.destination ≡ global_address)
 GoesAsPlanned plan k m (ToOne v) =
     (m.unaddressed ≡ true) ⊎ ((m.destination ≢ global_address) × (IsItsAddress plan v m.destination ⊎ (k.last v ≡ Some m.destination)))
 
--- the message is of this flow of the unit: of its group, with a length that the group may have, and where it is one frame with bytes that its
--- selector takes and with its priority; and it goes where the flow goes
+-- the message is of this flow of the unit: of its group, with a length that the group may have, and where it is one
+-- frame with bytes that its selector takes and with its priority; and it goes where the flow goes
 pub record IsOfFlowPlanned (plan : Plan) (k : Knowledge) (m : SentMessage) : Type 0 where
   pub place : ℕ
   pub flow : FlowPlan

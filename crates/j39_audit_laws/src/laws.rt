@@ -4,7 +4,7 @@ ghost use Rattle.j39_audit.specs.Settings.{AreMoving, Settings};
 ghost use Rattle.j39_audit.specs.declared.mark.Word.TheVariants.{Address, Cannot, Layout, NoFlow, Priority, Urgent};
 ghost use Rattle.j39_audit.specs.declared.mark.Word.TheVariants.{Nobody, Short, Stranger};
 ghost use Rattle.j39_audit_laws.specs.AuditedRuns.{ArePartsKept, IsNotWrittenOf};
-ghost use Rattle.j39_audit_laws.specs.FoundLines.{LinesAreOfLog};
+ghost use Rattle.j39_audit_laws.specs.FoundLines.{FoundAreListed, LinesAreOfLog};
 ghost use Rattle.j39_audit_laws.specs.OneAudit.{AuditHasOneText};
 ghost use Rattle.j39_audit_laws.specs.OwnPart.{AlwaysCan, AreItsOwn, ClaimsItsOwn, IsNotNamed, LooksAsPlanned, SentBy};
 ghost use Rattle.j39_audit_laws.specs.OwnPart.{WaitsForPlanned};
@@ -21,9 +21,11 @@ pub fn an_audit_has_one_text()
 {}
 
 /// A word that accuses is told with as many lines of the log as have what it is for, each counted once, and with the
-/// first of them. So its line is written exactly where such a line is in the log.
+/// first of them (`exact`), and has its line in the text if there is one (`listed`): so this is written exactly where
+/// such a line is in the log.
 pub fn lines_are_of_the_log()
-    ensures { LinesAreOfLog }
+    ensures exact { LinesAreOfLog }
+    ensures listed { FoundAreListed }
 {}
 
 /// Whatever others do, and however the log was cut: a unit that never says that it can't claim an address gets no
