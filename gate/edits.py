@@ -4,12 +4,13 @@ calls another are applied together, to a copy of their crate, and these function
 be refused by a goal of its own, and no other one; what such a check would prove is tried once more in a check of the whole crate. The
 last line is 'N passed, M failed'; the status is 0 where nothing failed, 1 where something did, 2 where a name fits nothing.
 
-usage: edits.py [--jobs N] [--must-fail] [--strict] [--keep FOLDER] [NAME..]
+usage: edits.py [--jobs N] [--must-fail] [--strict] [--anew] [--said FOLDER] [NAME..]
   NAME          a crate; else all that have edits
   --jobs N      how many crates are tried side by side, else as many as there are processors and memory
   --must-fail   tries the edits of crates/NAME/must-fail too, which `rt ci` tries
   --strict      tries no two edits together of which one's function leads to the other's by any number of calls
-  --keep FOLDER writes what each check has said into this folder
+  --anew        tries those too of which all that their trial reads is as it was when this machine saw it pass
+  --said FOLDER writes what each check has said into this folder, and tries all anew
 
 A function is proved by the contracts of those that it calls, so its own goals stand or fall whether those are proved or not. That this is
 so is seen in each round: a function that nobody has edited, and that calls one that is refused, has to be named for that call alone.
@@ -36,6 +37,7 @@ from dataclasses import dataclass, field
 sys.dont_write_bytecode = True
 import build
 import crates
+import kept
 from checks import Lab, Said
 from places import Functions, place_of
 
@@ -257,15 +259,45 @@ def unbuilt(name: str) -> str:
     return ""
 
 
-def tried(name: str, edits: list[Edit], keep: str, is_strict: bool) -> str:
-    """Tries the edits of a crate, and returns what to say of it."""
+@dataclass
+class Options:
+    """What the command line asks for."""
+
+    names: list[str] = field(default_factory=list)
+    jobs: int = 1
+    folders: tuple[str, ...] = FOLDERS[:1]
+    said: str = ""
+    is_strict: bool = False
+    is_anew: bool = False
+
+    def words(self) -> list[str]:
+        """Returns what a trial depends on."""
+        return [*self.folders, str(self.is_strict)]
+
+
+def tried(name: str, edits: list[Edit], options: Options) -> str:
+    """Tries the edits of a crate, or finds that they were tried as they are, and returns what to say of it."""
     if lacking := unbuilt(name):
         for edit in edits:
             edit.settle(UNTRIED, f"the library of {lacking} isn't built, or is older than its sources: ./dev check {lacking}")
         return "\n".join(it.line() for it in edits)
+    key = kept.digest(name, options.words())
+    before = None if options.is_anew else kept.find(key)
+    if before is not None:
+        for edit in edits:
+            edit.settle(REFUSED, "as this machine has seen")
+        return f"{before}\n{name}: not tried again, since all is as it was"
+    said = tried_anew(name, edits, options)
+    if all(it.verdict == REFUSED for it in edits) and key == kept.digest(name, options.words()):
+        kept.keep(key, said)
+    return said
+
+
+def tried_anew(name: str, edits: list[Edit], options: Options) -> str:
+    """Tries the edits of a crate, and returns what to say of it."""
     began = time.monotonic()
     with tempfile.TemporaryDirectory(prefix="j39plan-edits-") as top:
-        trial = Trial(Lab(name, top, keep), Functions(name), is_strict)
+        trial = Trial(Lab(name, top, options.said), Functions(name), options.is_strict)
         trial.run(edits)
     took = f"{len(edits)} edits, {trial.rounds} rounds, {trial.lab.count} checks, {trial.lab.seconds:.0f} s of processor, " \
            f"{time.monotonic() - began:.0f} by the clock"
@@ -274,41 +306,43 @@ def tried(name: str, edits: list[Edit], keep: str, is_strict: bool) -> str:
     return "\n".join([*(it.line() for it in edits), f"{name}: {took}"])
 
 
-def options(words: list[str]) -> tuple[list[str], int, tuple[str, ...], str, bool]:
-    names: list[str] = []
-    folders: tuple[str, ...] = FOLDERS[:1]
-    jobs, keep = max(min(len(os.sched_getaffinity(0)), build.jobs_of_memory()), 1), ""
-    is_strict = "--strict" in words
-    left = [it for it in words if it != "--strict"]
+def options_of(words: list[str]) -> Options:
+    found = Options(jobs=max(min(len(os.sched_getaffinity(0)), build.jobs_of_memory()), 1))
+    left = list(words)
     while left:
         word = left.pop(0)
         if word == "--must-fail":
-            folders = FOLDERS
+            found.folders = FOLDERS
         elif word == "--jobs":
-            jobs = int(left.pop(0))
-        elif word == "--keep":
-            keep = left.pop(0)
+            found.jobs = int(left.pop(0))
+        elif word == "--said":
+            found.said, found.is_anew = left.pop(0), True
+        elif word == "--strict":
+            found.is_strict = True
+        elif word == "--anew":
+            found.is_anew = True
         else:
-            names.append(word)
-    return names, jobs, folders, keep, is_strict
+            found.names.append(word)
+    return found
 
 
 def main(words: list[str]) -> int:
-    names, jobs, folders, keep, is_strict = options(words)
+    options = options_of(words)
+    names = options.names
     unknown = [it for it in names if it not in crates.below()]
     if unknown:
         print(f"there is no crate {unknown[0]}", file=sys.stderr)
         return 2
-    found = {name: edits for name in names or crates.below() if (edits := edits_of(name, folders))}
+    found = {name: edits for name in names or crates.below() if (edits := edits_of(name, options.folders))}
     if not found and not names:
         print("no crate has edits\n0 passed, 1 failed")
         return 1
     lacking = [it for it in names if it not in found]
     for name in lacking:
         print(f"{name}: it has no edits")
-    with concurrent.futures.ThreadPoolExecutor(jobs) as pool:
+    with concurrent.futures.ThreadPoolExecutor(options.jobs) as pool:
         asked = sorted(found, key=lambda it: len(found[it]), reverse=True)
-        for done in concurrent.futures.as_completed([pool.submit(tried, name, found[name], keep, is_strict) for name in asked]):
+        for done in concurrent.futures.as_completed([pool.submit(tried, name, found[name], options) for name in asked]):
             print(done.result(), flush=True)
     edits = [it for name in found for it in found[name]]
     passed = sum(it.verdict == REFUSED for it in edits)

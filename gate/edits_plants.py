@@ -66,7 +66,7 @@ def plant(top: str, plants: tuple[tuple[str, str, str, str, str], ...]) -> None:
 
 def said(top: str, prover: str = "") -> tuple[int, list[str]]:
     """Tries the edits, by another prover where one is given, and returns the status and the lines."""
-    environment = dict(os.environ)
+    environment = {**os.environ, "XDG_CACHE_HOME": f"{top}/cache"}
     if prover:
         os.makedirs(f"{top}/bin", exist_ok=True)
         with open(f"{top}/bin/rattle", "w", encoding="ascii") as file:
@@ -90,6 +90,14 @@ def planted(tally: Tally, top: str) -> None:
     plant(top, PLANTS[:2])
     status, lines = said(top)
     tally.count("edits that are all refused", (status, lines[-1]) == (0, "2 passed, 0 failed"), lines)
+    again = f"{CRATE}: not tried again, since all is as it was"
+    status, lines = said(top)
+    tally.count("the same once more", (status, lines[-2], lines[-1]) == (0, again, "2 passed, 0 failed"), lines)
+    with open(f"{top}/crates/{CRATE}/specs/Lib.antt", "a", encoding="utf-8") as file:
+        file.write("-- changed\n")
+    os.utime(f"{top}/crates/{CRATE}/specs/Lib.antt", (0, 0))
+    status, lines = said(top)
+    tally.count("a source has changed", (status, lines[-1]) == (0, "2 passed, 0 failed") and again not in lines, lines)
 
 
 def by_others(tally: Tally, top: str) -> None:

@@ -3,7 +3,7 @@
 pages, devices that fail, and refused allocations. The last line is 'N passed, M failed'; the status is 0 where nothing failed.
 
 usage: run.py [--timed] [--install]
-  --timed     gate/times.py runs rt ci, and writes what its parts took into gate/times.md
+  --timed     gate/times.py runs rt ci, and writes what its parts took into gate/times.md; all edits are tried anew
   --install   installs packages of Debian that the tests of the tools miss; else what misses them is skipped, and that is said
 """
 
@@ -92,6 +92,7 @@ def main(words: list[str]) -> int:
     found = [timed("rt ci", ci)]
     for name, part, minutes in PARTS:
         asked = ["--install"] if name == "tools" and "--install" in words else []
+        asked += ["--anew"] if name == "edits" and "--timed" in words else []
         found.append(timed(name, [*part, *asked], minutes))
     passed, failed = map(sum, zip(*found))
     print(f"{passed} passed, {failed} failed")

@@ -88,13 +88,13 @@ class Shown(InFolder):
     def test_plans_are_answered_as_shown(self) -> None:
         pages = page("docs/guide/PLAN.md") + page("docs/guide/TIMING.md")
         shown = re.findall(r"```toml\n([^`]*)```\n(?:(?!```).)*```text\n([^`]*)```", pages, re.DOTALL)
-        self.assertGreaterEqual(len(shown), 13)
+        self.assertGreaterEqual(len(shown), 11)
         for plan, answer in shown:
             self.assertEqual(program.call(["check", self.write("plan.toml", plan)])[1], answer, plan)
 
     def test_examples_are_answered_as_shown(self) -> None:
         shown = re.findall(r"`examples/(findings/\w+\.toml)`[^\n]*:\n\n```text\n(.*?)```", page("docs/guide/FINDINGS.md"), re.DOTALL)
-        self.assertGreaterEqual(len(shown), 11)
+        self.assertGreaterEqual(len(shown), 10)
         for plan, answer in shown:
             self.assertEqual(program.call(["check", example(plan)])[1], answer, plan)
 
@@ -155,7 +155,7 @@ class Form(unittest.TestCase):
     def test_decisions_are_short(self) -> None:
         """Each is an item of at most 60 words: what was chosen, in place of what, and why."""
         items = [" ".join(it.split()) for it in re.split(r"\n(?=- |\n)", page("docs/internals/DECISIONS.md")) if it.startswith("- ")]
-        self.assertGreaterEqual(len(items), 85)
+        self.assertGreaterEqual(len(items), 75)
         self.assertEqual([item for item in items if len(item.split()) > 61], [])
 
     def test_what_was_tried_and_left_has_a_line_each(self) -> None:

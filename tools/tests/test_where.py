@@ -571,7 +571,7 @@ class Where(InFolder):
         self.assertEqual(self.answer(plan.replace("version = 4", "version = 3")), (2, [early]))
 
     def test_each_shown_refusal_has_its_line(self) -> None:
-        lines = [2, 4, 3, 9, 3, 5, 3, 4, 7, 2, 9]
+        lines = [2, 4, 3, 9, 3, 5, 3, 4, 2, 9]
         shown = shown_refusals()
         self.assertEqual(len(shown), len(lines))
         for (plan, refused), line in zip(shown, lines):

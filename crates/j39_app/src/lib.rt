@@ -2,14 +2,15 @@
 #![tactic(auto)]
 
 mod answering;
-mod answering_audits;
 mod answering_vehicles;
+mod auditing;
+mod by_plan;
 mod exit_status;
 mod folder;
 mod program;
 
 pub use answering::answer;
-pub use answering_audits::audit_planned;
+pub use auditing::audit_planned;
 pub use exit_status::status;
 pub use folder::{Folder, SystemFiles};
 pub use j39_audit::audit_text;

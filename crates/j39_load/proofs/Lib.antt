@@ -28,6 +28,7 @@ pub mod KeepingWithout
 pub mod KeptDeadlines
 pub mod KeptInTime
 pub mod KeptReceivers
+pub mod KeptTimes
 pub mod LeastKnown
 pub mod LoadAnswers
 pub mod LosslessTransfers

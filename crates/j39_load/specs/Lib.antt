@@ -12,6 +12,7 @@ pub mod KeepsBroadcasts
 pub mod KeepsErrors
 pub mod KeptDeadlines
 pub mod KeptReceivers
+pub mod KeptTimes
 pub mod KeptTogether
 pub mod KeptWithout
 pub mod KeepsPlan

@@ -25,8 +25,8 @@ is_counted (Asking r) = true
 is_counted (Announcing u m) = true
 is_counted (Carrying u m k) = true
 
-abbrev pub counted : (ℕ → Bool) → FrameSources → ℕ → Bool
-counted planned sent p = planned p && is_counted (sent.source p)
+abbrev pub counts_in_load : (ℕ → Bool) → FrameSources → ℕ → Bool
+counts_in_load planned sent p = planned p && is_counted (sent.source p)
 
 -- the bits of the frames that count and are queued so
 abbrev pub bits_queued : Timing → ℕ → Schedule → (ℕ → Bool) → ℕ → ℕ
@@ -45,8 +45,8 @@ seconds n = 1000 * n
 pub record IsLongRunLoad (plan : Plan) (timing : Timing) (load : ℕ) : Type 0 where
   pub more : ℕ
   pub queued : (s : Schedule) (planned : ℕ → Bool) (sent : FrameSources) (held : Held) → ((p : ℕ) → p < s.count → s.queued p ≤ s.start p)
-      → KeepsToPlan plan timing s planned sent held → (from n : ℕ) → bits_queued timing (seconds n) s (counted planned sent) from ≤ n * load + more
+      → KeepsToPlan plan timing s planned sent held → (from n : ℕ) → bits_queued timing (seconds n) s (counts_in_load planned sent) from ≤ n * load + more
   -- and so it is with what comes of damage
   pub with_damage : (s : Schedule) (d : Damaged) (planned : ℕ → Bool) (sent : FrameSources) (held : Held) (rate : ErrorRate) → IsBusWithErrors s d
       → KeepsToPlan plan timing s planned sent held → KeepsErrors timing rate s d planned sent
-      → (from n : ℕ) → bits_queued timing (seconds n) s (counted planned sent) from + bits_damaged timing (seconds n) d from ≤ n * load + more
+      → (from n : ℕ) → bits_queued timing (seconds n) s (counts_in_load planned sent) from + bits_damaged timing (seconds n) d from ≤ n * load + more

@@ -24,6 +24,7 @@ ghost use Rattle.j39_load.specs.KeepsPlan.{AreFramesInTime, CanBeKept, IsSingleF
 ghost use Rattle.j39_load.specs.KeepsPlan.{origins_of};
 ghost use Rattle.j39_load.specs.KeptDeadlines.{AreEachInTime, CanBeSentWhole};
 ghost use Rattle.j39_load.specs.KeptReceivers.{AreNotGivenUp};
+ghost use Rattle.j39_load.specs.KeptTimes.{AreTimesKept};
 ghost use Rattle.j39_load.specs.KeptTogether.{CanBeKeptTogether, CanSendAll};
 ghost use Rattle.j39_load.specs.KeptWithout.{CanBeKeptWithout};
 ghost use Rattle.j39_load.specs.Delays.{announcements_place, packets_place};
@@ -270,6 +271,14 @@ pub fn loads_hold_in_the_long_run()
     ensures { (plan : Plans) (timing : Timings) (stays : PlannedUnits → Bool) → Clean plan
         → DecidesWhoStays plan stays
         → IsLongRunLoad plan timing (total_load timing (asked_of timing plan stays)) }
+{}
+
+/// Of a clean plan, whatever is found of its load: on each bus that keeps to it in the plan's own words each frame of a
+/// flow each message of which goes in one frame has been sent within the time that is told of the flow from its release,
+/// also where this is above the flow's deadline, whether units keep order or not.
+pub fn kept_plans_keep_told_times()
+    ensures { (plan : Plans) (timing : Timings) (stays : PlannedUnits → Bool) (delays : List (Option Delays)) → Clean plan
+        → AsksOfBus plan timing stays delays → AreTimesKept plan timing delays }
 {}
 
 /// Of a clean plan with whose load nothing is wrong either: on each bus that keeps to it in the plan's own words,

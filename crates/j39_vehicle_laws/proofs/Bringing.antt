@@ -99,7 +99,7 @@ brings_itself : (v : Vehicle) (worlds : ℕ → World) (m : BusMessage) (e : Poi
 brings_itself v worlds m e ends at begun =
     (Some m, itself m ends begun, λ x is. let same = same_Some _ _ is in (ap (λ y. y.point) (sym same) ∙ at, subst (WasBegun v worlds) same begun))
 
-goes_by : (v : Vehicle) (p q : Point) (place : ℕ) (n : Forward) → slice_get v.forwards.items place ≡ Some n → goes_on v p place ≡ Some q
+pub goes_by : (v : Vehicle) (p q : Point) (place : ℕ) (n : Forward) → slice_get v.forwards.items place ≡ Some n → goes_on v p place ≡ Some q
     → behind_forward v p.signal n ≡ Some q
 goes_by v p q place n its is = sym (ap (option_and_then (behind_forward v p.signal)) its) ∙ is
 
@@ -151,7 +151,7 @@ brings v clean sound run (suc steps) m e ends begun =
 
 -- ---- what holds of each forward of the trace
 
-each_here : (v : Vehicle) (P : Option ℕ → Forward → Type 0) (p : Point) (place : ℕ) (n : Forward) → next_forward v p ≡ Some place
+pub each_here : (v : Vehicle) (P : Option ℕ → Forward → Type 0) (p : Point) (place : ℕ) (n : Forward) → next_forward v p ≡ Some place
     → slice_get v.forwards.items place ≡ Some n → EachForward v P p → P p.signal n
 each_here v P p place n next its (none here ends) = absurd (none-some _ (sym ends ∙ next))
 each_here v P p place n next its (more here q place_there n_there next_there its_there behind_there holds rest) =
@@ -159,7 +159,7 @@ each_here v P p place n next its (more here q place_there n_there next_there its
     let same : n_there ≡ n = same_Some _ _ (sym its_there ∙ ap (slice_get v.forwards.items) same_place ∙ its) in
     subst (P p.signal) same holds
 
-each_behind : (v : Vehicle) (P : Option ℕ → Forward → Type 0) (p q : Point) (place : ℕ) (n : Forward) → next_forward v p ≡ Some place
+pub each_behind : (v : Vehicle) (P : Option ℕ → Forward → Type 0) (p q : Point) (place : ℕ) (n : Forward) → next_forward v p ≡ Some place
     → slice_get v.forwards.items place ≡ Some n → behind_forward v p.signal n ≡ Some q → EachForward v P p → EachForward v P q
 each_behind v P p q place n next its behind (none here ends) = absurd (none-some _ (sym ends ∙ next))
 each_behind v P p q place n next its behind (more here q_there place_there n_there next_there its_there behind_there holds rest) =
@@ -181,7 +181,7 @@ same_bytes v worlds (another m k n o by carries rest) all x is =
 
 -- ---- values
 
-divisor_of : (v : Vehicle) (p : Point) (s : SignalParts) → signal_at v p ≡ Some s → 1 ≤ s.per
+pub divisor_of : (v : Vehicle) (p : Point) (s : SignalParts) → signal_at v p ≡ Some s → 1 ≤ s.per
 divisor_of v p s is =
     let (flow, flow_is, rest) = parts_of (λ (flow : FlowPlan). option_and_then (signal_of v (group_of_point p.at.bus flow)) p.signal) (flow_on_bus v p.at) s is in
     let (j, signal, there) = parts_of (signal_of v (group_of_point p.at.bus flow)) p.signal s rest in
@@ -189,7 +189,7 @@ divisor_of v p s is =
     let divides = one_of_all (λ (s : SignalParts). IsDivisor s.per) g.signals.items j s g.signal_divisors at in
     leb-true 1 s.per (and_parts _ _ divides).0
 
-no_value_if_exact : (t : SignalParts) (exact : Bool) (bytes : List ℕ) → exact ≡ true → IsUnset t exact (reading t bytes) → HasNoValue (reading t bytes)
+pub no_value_if_exact : (t : SignalParts) (exact : Bool) (bytes : List ℕ) → exact ≡ true → IsUnset t exact (reading t bytes) → HasNoValue (reading t bytes)
 no_value_if_exact t exact bytes is (inl no_value) = no_value
 no_value_if_exact t exact bytes is (inr (near, unset)) = absurd (false≢true (sym near ∙ is))
 
@@ -197,7 +197,7 @@ same_value : (a b : ℤ) → Value a ≡ Value b → a ≡ b
 same_value a b is = cc
 
 -- what the signal of a message reads whose value is this one, where that of the message that it carries reads as that of the origin
-reads_on : (v : Vehicle) (m k : BusMessage) (s t : SignalParts) (origin : Option BusMessage) (a b : ℤ) → 1 ≤ s.per
+pub reads_on : (v : Vehicle) (m k : BusMessage) (s t : SignalParts) (origin : Option BusMessage) (a b : ℤ) → 1 ≤ s.per
     → reading s k.bytes ≡ Value a → reading t m.bytes ≡ Value b → AreOneValue s a t b → ReadsAsOrigin v k s origin → ReadsAsOrigin v m t origin
 reads_on v m k s t origin a b some from is one (inl no_value) = absurd (no_value a from)
 reads_on v m k s t origin a b some from is one (inr (o, u, c, d, o_is, u_is, first, last, same)) =

@@ -1,4 +1,5 @@
 mod Behind
+mod Brought
 mod Circle
 mod Feeders
 mod Kept

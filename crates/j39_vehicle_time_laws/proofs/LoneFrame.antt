@@ -51,6 +51,7 @@ bus_with count flow queued ident by = record {
   of = record { source = λ p. flow; turn = λ p. 0; since = λ p. 0 };
   release = λ p. 0;
   born = λ p t. Some 0;
+  bytes = λ p. [];
 }
 
 pub one_place : (p q : ℕ) → p < 1 → q < 1 → p ≡ q

@@ -20,7 +20,7 @@ use Rattle.j39_vehicle_times.specs.BusDelays.{AreDelays}
 use Rattle.j39_vehicle_times.proofs.DecidingTimes.{and_then_some}
 use Rattle.j39_vehicle_time_laws.specs.Prompt.{IsSentDirectly}
 use Rattle.j39_vehicle_time_laws.specs.Seen.{SeenBuses, frames_at}
-use Rattle.j39_vehicle_time_laws.specs.YoungValues.{IsOnTheWay, IsSeenVehicle, KeepPauses, behind_it}
+use Rattle.j39_vehicle_time_laws.specs.YoungValues.{IsBroughtFrom, IsOnTheWay, IsSeenVehicle, KeepPauses, at_its_origin, behind_it, by_forward}
 use Rattle.j39_vehicle_time_laws.proofs.Behind.{fed_never, fed_parts, is_behind, sends_directly}
 use Rattle.j39_vehicle_time_laws.proofs.Feeders.{goes_on_input, next_feeds, one_feeder, some_feeder}
 use Rattle.j39_vehicle_time_laws.proofs.Order.{ends_behind, in_order, queued_till_end}
@@ -149,16 +149,22 @@ old_there from old pause before within m r c time late near order so = omega ari
 module _ (v : Vehicle) (delays : Delays) (none : AreFindings v []) (told : AreDelays v delays) (seen : SeenBuses) (by : ℕ) (is : IsSeenVehicle v delays seen by)
     (start : Point) (from : ℕ) (pauses : KeepPauses v seen start from by) where
   -- each message that has ended says what was so no more than `old` before its release, where this is so much behind the time from which on pauses
-  -- are kept
+  -- are kept, and brings it from its origin
   abbrev pub IsOldAtMost : Point → ℕ → Type 0
-  IsOldAtMost p old = (q : ℕ) → IsIts (frames_at v seen p.at) q → end_time (frames_at v seen p.at) q ≤ by → from + old ≤ (seen p.at.bus).release q
+  IsOldAtMost p old = (q : ℕ) → HasBegun (frames_at v seen p.at) q → end_time (frames_at v seen p.at) q ≤ by → from + old ≤ (seen p.at.bus).release q
       → (time : ℕ) × ((seen p.at.bus).born q p.signal ≡ Some time) × ((seen p.at.bus).release q ≤ time + old) × (time ≤ end_time (frames_at v seen p.at) q)
+      × IsBroughtFrom v seen p q time
 
   at_origin : (p : Point) (old : ℕ) → next_forward v p ≡ None → old ≡ 0 → (k time : ℕ) → behind_by v delays k p.at ≡ Some time → IsOldAtMost p old
   at_origin p old last zero_old k time behind_p q its ended late =
-      let (born, says, so, written) = is.origins p last q its in
-      let till = queued_till_end v delays seen by is p.at time (is_behind v delays told seen by is k p.at time behind_p) q its in
-      (born, says, omega (arith, so, zero_old), omega (arith, written, till))
+      let (born, says, so, written) = is.origins p last q its.0 in
+      let till = queued_till_end v delays seen by is p.at time (is_behind v delays told seen by is k p.at time behind_p) q its.0 in (
+        born,
+        says,
+        omega (arith, so, zero_old),
+        omega (arith, written, till),
+        record { origin = p; first = q; begun = its; ended = omega arith; says = says; brings = at_its_origin last },
+      )
 
   -- by a direct forward
   directly : (p x : Point) (n : ℕ) (forward : Forward) (old : ℕ) → next_forward v p ≡ Some n → goes_on v p n ≡ Some x → forward_at v n ≡ Some forward
@@ -185,13 +191,26 @@ module _ (v : Vehicle) (delays : Delays) (none : AreFindings v []) (told : AreDe
           subst (λ (k : ℕ). IsSentDirectly v seen k x.at p.at fed.within) (sym same)
           (subst (λ (f : FlowAt). IsSentDirectly v seen place f p.at fed.within) there sent_there) in
           λ q it ended late.
-          let begun : HasBegun (frames_at v seen x.at) (sent.handed.what q) = sent.handed.begun q it in
-          let release : (seen p.at.bus).release q ≡ (seen x.at.bus).release (sent.handed.what q) = sent.handed.releases q it in
-          let after : end_time (frames_at v seen x.at) (sent.handed.what q) ≤ queue_time (frames_at v seen p.at) q = sent.handed.after q it in
-          let till = queued_till_end v delays seen by is p.at time behind_p q it in
-          let (born, says, so, past) = input steps fed.before before (sent.handed.what q) begun.0 (omega (arith, after, till, ended)) (omega
+          let begun : HasBegun (frames_at v seen x.at) (sent.handed.what q) = sent.handed.begun q it.0 in
+          let release : (seen p.at.bus).release q ≡ (seen x.at.bus).release (sent.handed.what q) = sent.handed.releases q it.0 in
+          let after : end_time (frames_at v seen x.at) (sent.handed.what q) ≤ queue_time (frames_at v seen p.at) q = sent.handed.after q it.0 in
+          let till = queued_till_end v delays seen by is p.at time behind_p q it.0 in
+          let (born, says, so, past, whence) = input steps fed.before before (sent.handed.what q) begun (omega (arith, after, till, ended)) (omega
           (arith, late, release)) in
-          (born, sent.says x.signal p.signal (record { by = next; on = on }) q it ∙ says, omega (arith, so, release), omega (arith, past, after, till))
+          let before_it = whence.ended in (
+            born,
+            sent.says x.signal p.signal (record { by = next; on = on }) q it.0 ∙ says,
+            omega (arith, so, release),
+            omega (arith, past, after, till),
+            record {
+              origin = whence.origin;
+              first = whence.first;
+              begun = whence.begun;
+              ended = omega (arith, before_it, after, till);
+              says = whence.says;
+              brings = by_forward p x q (sent.handed.what q) n forward next its on (sent.keeps forward its q it.0) whence.brings;
+            },
+          )
 
   -- by one that has its own releases
   at_its_beat : (p x : Point) (n : ℕ) (forward : Forward) (old pause before within : ℕ) → IsOnTheWay v start x → next_forward v p ≡ Some n
@@ -208,23 +227,32 @@ module _ (v : Vehicle) (delays : Delays) (none : AreFindings v []) (told : AreDe
       let keeps : KeepsOn v seen x.at pause before from by = keeps_on v delays told seen by is start from pauses x way (length v.forwards.items) pause pauses_x
       (length v.forwards.items) before behind_x in
       λ q it ended late.
-      let early : (seen p.at.bus).release q ≤ by = trans3 _ _ _ _ (of_p.first q it) (queued_till_end v delays seen by is p.at time of_p q it) ended in
+      let till = queued_till_end v delays seen by is p.at time of_p q it.0 in
+      let early : (seen p.at.bus).release q ≤ by = trans3 _ _ _ _ (of_p.first q it.0) till ended in
       let (r, rits, earlier, near) = keeps ((seen p.at.bus).release q - (before + within))
       (into_reach from old pause before within ((seen p.at.bus).release q) late) (within_reach from old pause by before within
       ((seen p.at.bus).release q) late early) in
       let begun = of_x.begun r rits (begun_reach from old pause by before within ((seen p.at.bus).release q) ((seen x.at.bus).release r) late early earlier) in
       let later = ends_behind v delays seen by is x.at before of_x r rits in
-      let (c, carried, newer, over, says) = sent.newest x.signal p.signal (record { by = next; on = on }) r q begun it
+      let (c, carried, newer, over, says, keeps_it) = sent.newest x.signal p.signal (record { by = next; on = on }) r q begun it.0
       (had_ended from old pause before within ((seen p.at.bus).release q) ((seen x.at.bus).release r) _ late earlier (of_x.ended r begun))
       (not_too_old from old pause before within ((seen p.at.bus).release q) ((seen x.at.bus).release r) _ late near later) in
-      let over_by = trans3 _ _ _ _ over (queued_till_end v delays seen by is p.at time of_p q it) ended in
+      let over_by = trans3 _ _ _ _ over till ended in
       let order = in_order v delays seen by is x.at before of_x r c rits carried newer in
-      let (born, tells, so, past) = input c carried.0 over_by
+      let (born, tells, so, past, whence) = input c carried over_by
       (still_late from old pause before within ((seen p.at.bus).release q) ((seen x.at.bus).release r) ((seen x.at.bus).release c) late near order) in (
         born,
         says ∙ tells,
         old_there from old pause before within ((seen p.at.bus).release q) ((seen x.at.bus).release r) ((seen x.at.bus).release c) born late near order so,
-        trans3 _ _ _ _ past over (queued_till_end v delays seen by is p.at time of_p q it),
+        trans3 _ _ _ _ past over till,
+        record {
+          origin = whence.origin;
+          first = whence.first;
+          begun = whence.begun;
+          ended = trans3 _ _ _ _ whence.ended over till;
+          says = whence.says;
+          brings = by_forward p x q c n forward next its on (keeps_it forward its) whence.brings;
+        },
       )
 
   is_old : (steps : ℕ) (p : Point) (old : ℕ) → IsOnTheWay v start p → old_by v delays steps p ≡ Some old → (k time : ℕ) → behind_by v delays k p.at ≡ Some time

@@ -28,6 +28,8 @@ use Rattle.j39_vehicle_time_laws.specs.OnceSentOn.{AreSentOnOnce, CanBeSentOn, I
 use Rattle.j39_vehicle_time_laws.specs.Prompt.{ArePrompt, IsSentDirectly, IsSentOn}
 use Rattle.j39_vehicle_time_laws.specs.Seen.{SeenBus, SeenBuses, frames_at, unit_on}
 use Rattle.j39_vehicle_time_laws.specs.VehicleAges.{IsPromptVehicle}
+use Rattle.j39_vehicle_laws.specs.Faithful.{KeepsContents}
+use Rattle.j39_vehicle_time_laws.proofs.Brought.{empty_kept}
 use Rattle.j39_vehicle_time_laws.proofs.Circle.{unit_positive}
 use Rattle.j39_vehicle_time_laws.proofs.Feeders.{fed_by}
 use Rattle.j39_vehicle_time_laws.proofs.OneFlow.{known_bus}
@@ -202,6 +204,7 @@ module _ (v : Vehicle) (delays : Delays) (told : AreDelays v delays) (n : ℕ) (
     handed : IsHandedOn (carrier_of A x) (carrier_of B y) within
     each : (p : ℕ) → HasBegun (carrier_of A x) p → (q : ℕ) × IsIts (carrier_of B y) q × (handed.what q ≡ p)
     says : (q : ℕ) (s t : Option ℕ) → B.born q t ≡ A.born (handed.what q) s
+    keeps : (other : Forward) (q : ℕ) → KeepsContents v other (Some (A.bytes (handed.what q))) (B.bytes q)
 
   once : Once bus_x bus_y
   once =
@@ -222,12 +225,13 @@ module _ (v : Vehicle) (delays : Delays) (told : AreDelays v delays) (n : ℕ) (
         };
         each = λ p begun. (0, (omega arith, refl, refl), one_place 0 p (omega arith) begun.0.0);
         says = λ q s t. refl;
+        keeps = λ other q. empty_kept v other;
       }
 
   sent_once : IsSentDirectly v seen n x y within
   sent_once =
       let whole : Once (seen x.bus) (seen y.bus) = in_both Once once in
-      record { handed = whole.handed; each = whole.each; says = λ s t leads q its. whole.says q s t }
+      record { handed = whole.handed; each = whole.each; says = λ s t leads q its. whole.says q s t; keeps = λ other at q its. whole.keeps other q }
 
   -- any other has no message to send on
   not_heard : (m : ℕ) (other : Forward) (z : FlowAt) (p : ℕ) → m ≢ n → forward_at v m ≡ Some other → first_input_at v other ≡ Some z
@@ -273,6 +277,7 @@ module _ (v : Vehicle) (delays : Delays) (told : AreDelays v delays) (n : ℕ) (
             };
             each = λ p begun. absurd (no_input p begun.0);
             says = λ s t leads q its. absurd (no_output q its);
+            keeps = λ one at q its. absurd (no_output q its);
           }
     ];
     periodic = λ m other a b time pause behind sends periodic interval known. record {

@@ -1,5 +1,5 @@
 -- A vehicle of which nothing is found keeps what is asked of ages and of pauses.
-use Rattle.std.proofs.Common.{◌≡◌, ℕ, zero, suc, ◌+◌, ◌-◌, ◌*◌, ◌<◌, ◌≤◌, ◌⊎◌, length, Option, Some, None, sym, ap, ◌∙◌, subst, inl, inr, arith}
+use Rattle.std.proofs.Common.{◌≡◌, ℕ, zero, suc, ◌+◌, ◌-◌, ◌*◌, ◌<◌, ◌≤◌, ◌⊎◌, true, length, Option, Some, None, sym, ap, ◌∙◌, subst, inl, inr, arith}
 use Rattle.std.proofs.Math.Nat.{mul-le-mul_left, lt_of_mul-lt-mul_left}
 use Rattle.std.proofs.lemmas.Bool.{cases_Bool, cases_lt, true≢false}
 use Rattle.std.proofs.lemmas.Option.{none-some, same_Some, slice_get_within}
@@ -15,8 +15,10 @@ use Rattle.j39_timing.specs.Gateways.{time_of}
 use Rattle.j39_vehicle.specs.declared.vehicle.Vehicle.{Vehicle}
 use Rattle.j39_vehicle.specs.declared.vehicle.vehicle_need.VehicleNeed.{VehicleNeed}
 use Rattle.j39_vehicle_findings.specs.Buses.{requests_on}
-use Rattle.j39_vehicle_findings.specs.Traces.{IsNeedFlow, flows_of_need, is_from_origin, need_on_bus, point_on}
+use Rattle.j39_vehicle_findings.specs.Traces.{IsNeedFlow, flows_of_need, is_from_origin, is_sent_by, need_on_bus, origin, point_on}
 use Rattle.j39_vehicle_findings.specs.declared.finding.VehicleFinding.TheVariants.{NeedUnmet}
+use Rattle.j39_vehicle_findings.specs.declared.point.Point.{Point}
+use Rattle.j39_vehicle_laws.proofs.Places.{passed_of}
 use Rattle.j39_vehicle_times.specs.TimeFindings.{IsYoungFlow}
 use Rattle.j39_vehicle_times.specs.Times.{age, us_of_bit, delay_at, direct_feeder, first_input_at, us_of_ms}
 use Rattle.j39_vehicle_times.specs.declared.bus_delays.Delays.{Delays}
@@ -26,6 +28,7 @@ use Rattle.j39_vehicle_time_laws.specs.Seen.{SeenBuses, clock_on, unit_on}
 use Rattle.j39_vehicle_time_laws.specs.VehicleAges.{AreAgesKept, AreForwardedPausesKept, AreVehicleNeedsKept, IsNeedKept, IsPromptVehicle, IsSoundVehicle}
 use Rattle.j39_vehicle_time_laws.specs.YoungValues.{IsSeenVehicle, itself}
 use Rattle.j39_vehicle_time_laws.proofs.Behind.{is_behind}
+use Rattle.j39_vehicle_time_laws.proofs.Brought.{ends_there}
 use Rattle.j39_vehicle_time_laws.proofs.Kept.{streams_are_kept}
 use Rattle.j39_vehicle_time_laws.proofs.Parts.{some_cases, unit_of_ms}
 use Rattle.j39_vehicle_time_laws.proofs.Interval.{KeepsOn, source_keeps_on}
@@ -149,11 +152,21 @@ module _ (v : Vehicle) (delays : Delays) (sound : IsSoundVehicle v delays) (d : 
               frame = brought.frame;
               begun = brought.begun;
               ended = brought.ended;
-              born = brought.born;
-              says = brought.says;
-              past = brought.past;
-              young = let near = brought.young in omega (arith, near, few);
+              newest = λ q begun later over.
+                  let says = brought.newest q begun later over in
+                  record {
+                    born = says.born;
+                    says = says.says;
+                    past = says.past;
+                    young = let near = says.young in omega (arith, near, few);
+                    from = says.from;
+                    unaltered = says.unaltered;
+                  };
             };
+        sender = λ seen frame born brought.
+            let (end, end_is, sent) = passed_of (is_sent_by v need.from) (origin v (point_on need.unit.bus f need.signal)) young.flow.meets.from in
+            let there = ends_there v seen brought.origin brought.first brought.brings (length v.forwards.items) end end_is in
+            subst (λ (p : Point). is_sent_by v need.from p ≡ true) there sent;
       }
 
 pub needs_kept : (v : Vehicle) (delays : Delays) → IsSoundVehicle v delays → AreVehicleNeedsKept v delays

@@ -5,7 +5,9 @@ use Rattle.j39_vehicle_times.specs.declared.bus_delays.Delays.{Delays}
 use Rattle.j39_vehicle_times.specs.Times.{behind_at, old, interval, sum_known}
 use Rattle.j39_vehicle_time_laws.specs.YoungValues.{AreAgesBounds, itself}
 use Rattle.j39_vehicle_time_laws.proofs.Behind.{is_behind}
+use Rattle.j39_vehicle_time_laws.proofs.Brought.{reads_as_brought}
 use Rattle.j39_vehicle_time_laws.proofs.Old.{old_at_most}
+use Rattle.j39_vehicle_time_laws.proofs.Order.{in_order}
 use Rattle.j39_vehicle_time_laws.proofs.Parts.{sum_some}
 use Rattle.j39_vehicle_time_laws.proofs.Interval.{keeps_on}
 
@@ -18,15 +20,20 @@ brought_young v delays none told seen p most from t known room is pauses =
     let (q, its, before, near) = keeps (t - time) (omega arith) (omega arith) in
     let begun = ends.begun q its (omega arith) in
     let ended = ends.ended q begun in
-    let (born, says, so, past) = old_at_most v delays none told seen t is p from pauses (length v.forwards.items) p old_p itself of_old
-    (length v.forwards.items) time of_time
-    q its (omega arith) (omega arith) in
     record {
       frame = q;
       begun = begun;
       ended = omega arith;
-      born = born;
-      says = says;
-      past = omega arith;
-      young = omega arith;
+      newest = λ r it later over.
+          let order = in_order v delays seen t is p.at time ends q r its it later in
+          let (born, says, so, past, whence) = old_at_most v delays none told seen t is p from pauses (length v.forwards.items) p old_p itself of_old
+          (length v.forwards.items) time of_time r it over (omega arith) in
+          record {
+            born = born;
+            says = says;
+            past = omega arith;
+            young = omega arith;
+            from = whence;
+            unaltered = reads_as_brought v none seen p r whence.origin whence.first whence.brings;
+          };
     }

@@ -8,6 +8,7 @@ use Rattle.j39_vehicle_findings.specs.Traces.{goes_on, next_forward}
 use Rattle.j39_vehicle_findings.specs.declared.point.FlowAt.{FlowAt}
 use Rattle.j39_vehicle_findings.specs.declared.point.Point.{Point}
 use Rattle.j39_timing.specs.Gateways.{HasBegun, HasOwnReleases, IsHandedOn, IsIts, end_time, queue_time}
+use Rattle.j39_vehicle_laws.specs.Faithful.{KeepsContents}
 use Rattle.j39_vehicle_times.specs.declared.bus_delays.Delays.{Delays}
 use Rattle.j39_vehicle_times.specs.Times.{behind_at, delay_at, direct_feeder, forward_at, first_input_at, interval}
 use Rattle.j39_vehicle_time_laws.specs.Seen.{SeenBuses, frames_at}
@@ -28,21 +29,24 @@ pub record SendsOn (v : Vehicle) (n : ℕ) (forward : Forward) (x y : FlowAt) (w
   pub input : first_input_at v forward ≡ Some x
   pub promised : option_map (λ (ms : ℕ). 1000 * ms) forward.within ≡ Some within
 
--- each message of the output is one of the input, sent on at most `within` behind its end; each of the input that ends is sent on; and what is
--- said of a signal is what was said of the one that goes into it
+-- each message of the output is one of the input, sent on at most `within` behind its end; each of the input that ends is sent on; what is said of
+-- a signal is what was said of the one that goes into it; and the bytes keep what the forward has to keep
 pub record IsSentDirectly (v : Vehicle) (seen : SeenBuses) (n : ℕ) (x y : FlowAt) (within : ℕ) : Type 0 where
   pub handed : IsHandedOn (frames_at v seen x) (frames_at v seen y) within
   pub each : (p : ℕ) → HasBegun (frames_at v seen x) p → (q : ℕ) × IsIts (frames_at v seen y) q × (handed.what q ≡ p)
   pub says : (s t : Option ℕ) → LeadsTo v n x s y t → (q : ℕ) → IsIts (frames_at v seen y) q
       → (seen y.bus).born q t ≡ (seen x.bus).born (handed.what q) s
+  pub keeps : (forward : Forward) → forward_at v n ≡ Some forward → (q : ℕ) → IsIts (frames_at v seen y) q
+      → KeepsContents v forward (Some ((seen x.bus).bytes (handed.what q))) ((seen y.bus).bytes q)
 
 -- a message of the input that had ended `within` before the release of one of the output, and isn't too old by then, is what this carries, or else
--- a later one that has ended by when it is queued
+-- a later one that has ended by when it is queued; and its bytes keep what the forward has to keep of this one
 pub record IsSentAtItsBeat (v : Vehicle) (seen : SeenBuses) (n : ℕ) (x y : FlowAt) (within patience : ℕ) : Type 0 where
   pub newest : (s t : Option ℕ) → LeadsTo v n x s y t → (p q : ℕ) → HasBegun (frames_at v seen x) p → IsIts (frames_at v seen y) q
       → end_time (frames_at v seen x) p + within ≤ (seen y.bus).release q → (seen y.bus).release q < end_time (frames_at v seen x) p + patience
       → (r : ℕ) × HasBegun (frames_at v seen x) r × (end_time (frames_at v seen x) p ≤ end_time (frames_at v seen x) r)
       × (end_time (frames_at v seen x) r ≤ queue_time (frames_at v seen y) q) × ((seen y.bus).born q t ≡ (seen x.bus).born r s)
+      × ((forward : Forward) → forward_at v n ≡ Some forward → KeepsContents v forward (Some ((seen x.bus).bytes r)) ((seen y.bus).bytes q))
 
 -- all gateways do so, of flows of which a delay is told; no message is too old for them before the next one has to be there
 pub record ArePrompt (v : Vehicle) (delays : Delays) (seen : SeenBuses) : Type 0 where

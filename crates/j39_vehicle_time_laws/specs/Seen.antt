@@ -1,5 +1,5 @@
 -- What is seen of the buses of a vehicle: of each a schedule with a clock of its own, and what its frames bring.
-use Rattle.std.specs.Prelude.{ℕ, Bool, Option}
+use Rattle.std.specs.Prelude.{ℕ, Bool, List, Option}
 use Rattle.std.specs.Option.{option_map_or}
 use Rattle.j39_network.specs.declared.plan.timing.Timing.{Timing}
 use Rattle.j39_vehicle.specs.declared.vehicle.Vehicle.{Vehicle}
@@ -23,6 +23,8 @@ pub record SeenBus : Type 0 where
   -- when what a frame says of a signal of its group was so at its origin, or without a signal what its message says; none of what a gateway
   -- gave up on the way
   pub born : ℕ → Option ℕ → Option ℕ
+  -- the bytes of a frame
+  pub bytes : ℕ → List ℕ
 
 -- by the places of the buses
 abbrev pub SeenBuses : Type 0

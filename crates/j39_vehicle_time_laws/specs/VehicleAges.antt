@@ -1,6 +1,6 @@
 -- What a vehicle is good for of which nothing is found: how old what is brought to its units is at most, and that flows which gateways send on
 -- directly keep what the plans of their buses take for granted of them.
-use Rattle.std.specs.Prelude.{◌≡◌, ℕ, ◌+◌, ◌*◌, ◌≤◌, [], Some, None}
+use Rattle.std.specs.Prelude.{◌≡◌, ℕ, ◌+◌, ◌*◌, ◌≤◌, true, [], Some, None}
 use Rattle.std.specs.List.{slice_get}
 use Rattle.j39_search.specs.ListPlaces.{ValueAt}
 use Rattle.j39_network.specs.declared.plan.flow_plan.FlowPlan.{FlowPlan}
@@ -10,7 +10,7 @@ use Rattle.j39_timing.specs.FreshFrames.{KeepsComing}
 use Rattle.j39_timing.specs.Gateways.{time_of}
 use Rattle.j39_vehicle.specs.declared.vehicle.Vehicle.{Vehicle}
 use Rattle.j39_vehicle.specs.declared.vehicle.vehicle_need.VehicleNeed.{VehicleNeed}
-use Rattle.j39_vehicle_findings.specs.Traces.{IsNeedFlow, flows_of_need, point_on}
+use Rattle.j39_vehicle_findings.specs.Traces.{IsNeedFlow, flows_of_need, is_sent_by, point_on}
 use Rattle.j39_vehicle_findings.specs.VehicleFindings.{AreFindings}
 use Rattle.j39_vehicle_findings.specs.declared.point.FlowAt.{FlowAt}
 use Rattle.j39_vehicle_findings.specs.declared.point.Point.{Point}
@@ -22,7 +22,7 @@ use Rattle.j39_vehicle_time_laws.specs.ForwardedStreams.{AreOtherwiseKept}
 use Rattle.j39_vehicle_time_laws.specs.KeptBuses.{AreKeptBuses, AreSeenUntil}
 use Rattle.j39_vehicle_time_laws.specs.Prompt.{ArePrompt, HaveOwnReleases, IsSentOn, SayWhatIsSo}
 use Rattle.j39_vehicle_time_laws.specs.Seen.{SeenBuses, clock_on}
-use Rattle.j39_vehicle_time_laws.specs.YoungValues.{IsBroughtYoung, KeepPauses}
+use Rattle.j39_vehicle_time_laws.specs.YoungValues.{IsBroughtFrom, IsBroughtYoung, KeepPauses}
 
 -- nothing is wrong with its paths, nor with its times
 pub record IsSoundVehicle (v : Vehicle) (delays : Delays) : Type 0 where
@@ -55,6 +55,9 @@ pub record IsNeedKept (v : Vehicle) (delays : Delays) (d : VehicleNeed) (within 
   pub young : most ≤ 1000 * within
   pub brought : (seen : SeenBuses) (from t : ℕ) → from + most ≤ t → IsPromptVehicle v delays seen t
       → KeepPauses v seen (point_on d.unit.bus flow d.signal) from t → IsBroughtYoung v seen (point_on d.unit.bus flow d.signal) (1000 * within) t
+  -- what it brings was sent by the unit from which the need wants it
+  pub sender : (seen : SeenBuses) (frame born : ℕ) (brought : IsBroughtFrom v seen (point_on d.unit.bus flow d.signal) frame born)
+      → is_sent_by v d.from brought.origin ≡ true
 
 -- so it is of each need that asks for an age
 abbrev pub AreVehicleNeedsKept : Vehicle → Delays → Type 0

@@ -1,6 +1,7 @@
 -- How old what is brought over gateways is at most.
 use Rattle.std.specs.Prelude.{◌≡◌, ℕ, ◌+◌, ◌*◌, ◌<◌, ◌≤◌, [], Option, Some, None}
 use Rattle.std.specs.Option.{option_and_then, option_map}
+use Rattle.j39_signal.specs.Parts.{SignalParts}
 use Rattle.j39_network.specs.declared.plan.flow_plan.FlowPlan.{FlowPlan}
 use Rattle.j39_vehicle.specs.declared.vehicle.Vehicle.{Vehicle}
 use Rattle.j39_vehicle.specs.declared.vehicle.forward.Forward.{Forward}
@@ -11,7 +12,11 @@ use Rattle.j39_vehicle_findings.specs.declared.point.Point.{Point}
 use Rattle.j39_timing.specs.Gateways.{HasBegun, IsIts, end_time}
 use Rattle.j39_vehicle_times.specs.BusDelays.{AreDelays}
 use Rattle.j39_vehicle_times.specs.declared.bus_delays.Delays.{Delays}
-use Rattle.j39_vehicle_times.specs.Times.{age, direct_feeder, first_input_at, unasked_at}
+use Rattle.j39_vehicle_times.specs.Times.{age, direct_feeder, first_input_at, forward_at, unasked_at}
+use Rattle.j39_vehicle_laws.specs.BusRuns.{BusMessage}
+use Rattle.j39_vehicle_laws.specs.Carrying.{AreAllCopies, AreAllExact, signal_at}
+use Rattle.j39_vehicle_laws.specs.Faithful.{KeepsContents}
+use Rattle.j39_vehicle_laws.specs.Unaltered.{ReadsAsOrigin}
 use Rattle.j39_vehicle_time_laws.specs.KeptBuses.{AreKeptBuses, AreSeenUntil}
 use Rattle.j39_vehicle_time_laws.specs.Prompt.{ArePrompt, HaveOwnReleases, SayWhatIsSo}
 use Rattle.j39_vehicle_time_laws.specs.Seen.{SeenBuses, frames_at}
@@ -40,15 +45,49 @@ abbrev pub KeepPauses : Vehicle → SeenBuses → Point → ℕ → ℕ → Type
 KeepPauses v seen p from to = (q : Point) → IsOnTheWay v p q → (at : FlowAt) → ComesDirectly v q.at at → direct_feeder v at ≡ None
     → KeepsItsPause v seen at from to
 
--- by this time a frame of the flow has ended that says of the signal what was so at its origin less than `age` before
-pub record IsBroughtYoung (v : Vehicle) (seen : SeenBuses) (p : Point) (age t : ℕ) : Type 0 where
-  pub frame : ℕ
-  pub begun : HasBegun (frames_at v seen p.at) frame
-  pub ended : end_time (frames_at v seen p.at) frame ≤ t
+-- forward by forward a frame of the flow at the point carries this one, of the flow where the trace ends
+pub data BringsFrame (v : Vehicle) (seen : SeenBuses) (origin : Point) (first : ℕ) : Point → ℕ → Type 0 where
+  at_its_origin : next_forward v origin ≡ None → BringsFrame v seen origin first origin first
+  by_forward : (p x : Point) (frame carried place : ℕ) (n : Forward) → next_forward v p ≡ Some place → forward_at v place ≡ Some n
+      → goes_on v p place ≡ Some x → KeepsContents v n (Some ((seen x.at.bus).bytes carried)) ((seen p.at.bus).bytes frame)
+      → BringsFrame v seen origin first x carried → BringsFrame v seen origin first p frame
+
+-- it does so of a frame that had ended before it, and that says what was so at this time
+pub record IsBroughtFrom (v : Vehicle) (seen : SeenBuses) (p : Point) (frame born : ℕ) : Type 0 where
+  pub origin : Point
+  pub first : ℕ
+  pub begun : HasBegun (frames_at v seen origin.at) first
+  pub ended : end_time (frames_at v seen origin.at) first ≤ end_time (frames_at v seen p.at) frame
+  pub says : (seen origin.at.bus).born first origin.signal ≡ Some born
+  pub brings : BringsFrame v seen origin first p frame
+
+-- the frame as a message at its point
+abbrev pub message_at : SeenBuses → Point → ℕ → BusMessage
+message_at seen p frame = record { point = p; hearer = 0; bytes = (seen p.at.bus).bytes frame }
+
+-- where only copies are on the way it has the bytes of the frame of the origin; and where all that goes into signals on the way is copied or exact,
+-- its signal reads no value, or the one that is read there
+pub record ReadsAsBrought (v : Vehicle) (seen : SeenBuses) (p : Point) (frame : ℕ) (origin : Point) (first : ℕ) : Type 0 where
+  pub bytes : AreAllCopies v p → (seen p.at.bus).bytes frame ≡ (seen origin.at.bus).bytes first
+  pub value : AreAllExact v p → (t : SignalParts) → signal_at v p ≡ Some t
+      → ReadsAsOrigin v (message_at seen p frame) t (Some (message_at seen origin first))
+
+-- a frame of the flow says of the signal what was so at its origin less than `age` before, and brings it from there
+pub record SaysYoung (v : Vehicle) (seen : SeenBuses) (p : Point) (age t frame : ℕ) : Type 0 where
   pub born : ℕ
   pub says : (seen p.at.bus).born frame p.signal ≡ Some born
   pub past : born ≤ t
   pub young : t < born + age
+  pub from : IsBroughtFrom v seen p frame born
+  pub unaltered : ReadsAsBrought v seen p frame from.origin from.first
+
+-- by this time a frame of the flow has ended; and each that has, and ended no sooner, says what is young: so does the one that ended last
+pub record IsBroughtYoung (v : Vehicle) (seen : SeenBuses) (p : Point) (age t : ℕ) : Type 0 where
+  pub frame : ℕ
+  pub begun : HasBegun (frames_at v seen p.at) frame
+  pub ended : end_time (frames_at v seen p.at) frame ≤ t
+  pub newest : (q : ℕ) → HasBegun (frames_at v seen p.at) q → end_time (frames_at v seen p.at) frame ≤ end_time (frames_at v seen p.at) q
+      → end_time (frames_at v seen p.at) q ≤ t → SaysYoung v seen p age t q
 
 -- what is asked of what is seen of a vehicle up to a time: its buses keep to their plans, and its gateways are prompt
 pub record IsSeenVehicle (v : Vehicle) (delays : Delays) (seen : SeenBuses) (by : ℕ) : Type 0 where

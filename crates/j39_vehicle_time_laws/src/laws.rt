@@ -22,10 +22,12 @@ pub fn gateways_keep_to_plans()
     ensures { (v : Vehicle) (delays : Delays) → AreStreamsKept v delays }
 {}
 
-/// A vehicle of which nothing is found is good for this: each age that is known bounds how old what is brought is
-/// (`ages`), and so each need that asks for an age has a flow that keeps it (`needs`); a flow that is sent on
-/// directly keeps the pause that the plan of its bus has for it (`pauses`); and the planned frames of each bus keep to
-/// its streams, those that are sent on directly too (`streams`), since jitters and periods have room for them (`timely`).
+/// A vehicle of which nothing is found is good for this: each age that is known bounds how old what the frame of its flow
+/// that ended last brings is, and this is a value of the origin in time: it reads there as it reads in a frame of the
+/// origin's, where all on the way is copied or exact, and where all is copied its bytes are the same (`ages`). So each
+/// need that asks for an age has a flow that keeps it, from the unit that the need names (`needs`); a flow that is sent on
+/// directly keeps the pause that the plan of its bus has for it (`pauses`); and the planned frames of each bus keep to its
+/// streams, those that are sent on directly too (`streams`), since jitters and periods have room for them (`timely`).
 /// Nothing is asked of when messages are queued that are sent on directly, but that gateways are prompt.
 pub fn sound_vehicles_keep_ages()
     ensures ages { (v : Vehicle) (delays : Delays) → IsSoundVehicle v delays → AreAgesKept v delays }

@@ -13,7 +13,7 @@ use Rattle.j39_load.specs.Asked.{frames_asked}
 use Rattle.j39_load.specs.Demands.{demands_of}
 use Rattle.j39_load.specs.KeepsPlan.{KeepsToPlan, origins_of, source_place}
 use Rattle.j39_load.specs.Loads.{bits_of_ms, bits_per_ms}
-use Rattle.j39_load.specs.LongRuns.{counted, is_counted, is_queued_within, seconds}
+use Rattle.j39_load.specs.LongRuns.{counts_in_load, is_counted, is_queued_within, seconds}
 use Rattle.j39_load.specs.SentFrames.{Broadcasts, FrameSources, Held, IsFrameOf, Source, Single, First, InSession, Asking, Announcing, Carrying, bit_time}
 use Rattle.j39_load.proofs.AnyTraffic.{positive as positive_at}
 use Rattle.j39_load.proofs.KeepingPlan.{as_wanted, of_streams}
@@ -92,7 +92,7 @@ module _ (plan : Plan) (timing : Timing) (stays : UnitPlan → Bool) (tells : De
   -- ---- frames that count
 
   abbrev pub passes : ℕ → Bool
-  passes p = counted planned sent p && is_queued_within timing (seconds n) s from p
+  passes p = counts_in_load planned sent p && is_queued_within timing (seconds n) s from p
 
   abbrev pub of_kind : ℕ → ℕ → Bool
   of_kind k p = passes p && eqb (kind (sent.source p)) k
@@ -126,7 +126,7 @@ module _ (plan : Plan) (timing : Timing) (stays : UnitPlan → Bool) (tells : De
   parts k i p counts =
       let one = and_parts (of_kind k p) (eqb (index (sent.source p)) i) counts in
       let two = and_parts (passes p) (eqb (kind (sent.source p)) k) one.0 in
-      let three = and_parts (counted planned sent p) (is_queued_within timing (seconds n) s from p) two.0 in
+      let three = and_parts (counts_in_load planned sent p) (is_queued_within timing (seconds n) s from p) two.0 in
       let (low, high) = window p three.1 in
       record {
         is = (and_parts (planned p) (is_counted (sent.source p)) three.0).0;

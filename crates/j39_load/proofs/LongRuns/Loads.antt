@@ -19,7 +19,7 @@ use Rattle.j39_load.specs.Damage.{load_of_damage}
 use Rattle.j39_load.specs.KeepsErrors.{attempts_within, begins_within}
 use Rattle.j39_load.specs.KeepsPlan.{KeepsToPlan, source_place}
 use Rattle.j39_load.specs.Loads.{bits_of_ms, bits_per_ms, load_of_flow}
-use Rattle.j39_load.specs.LongRuns.{IsLongRunLoad, bits_damaged, bits_queued, counted, is_counted, is_queued_within, seconds}
+use Rattle.j39_load.specs.LongRuns.{IsLongRunLoad, bits_damaged, bits_queued, counts_in_load, is_counted, is_queued_within, seconds}
 use Rattle.j39_load.specs.RequestLoads.{load_of_request}
 use Rattle.j39_load.specs.SentFrames.{FrameSources, Held, IsFrameOf, Source, Single, First, InSession, Asking, Announcing, Carrying, bit_time}
 use Rattle.j39_load.proofs.Attempts.{attempt_few}
@@ -81,12 +81,12 @@ module _ (plan : Plan) (timing : Timing) (stays : UnitPlan → Bool) (tells : De
   module _ (s : Schedule) (queued_first : (p : ℕ) → p < s.count → s.queued p ≤ s.start p) (planned : ℕ → Bool) (sent : FrameSources) (held : Held)
       (keeps : KeepsToPlan plan timing s planned sent held) (from n : ℕ) where
     -- no frame is queued in no time
-    in_no_time : n ≡ 0 → bits_queued timing (seconds n) s (counted planned sent) from ≡ 0
-    in_no_time none = total-none s.count (λ p. cond (counted planned sent p && is_queued_within timing (seconds n) s from p) (s.bits p) 0) (λ p in_p.
-        elim (cases_Bool (counted planned sent p && is_queued_within timing (seconds n) s from p)) [
+    in_no_time : n ≡ 0 → bits_queued timing (seconds n) s (counts_in_load planned sent) from ≡ 0
+    in_no_time none = total-none s.count (λ p. cond (counts_in_load planned sent p && is_queued_within timing (seconds n) s from p) (s.bits p) 0) (λ p in_p.
+        elim (cases_Bool (counts_in_load planned sent p && is_queued_within timing (seconds n) s from p)) [
           | inr fails ↦ rw (fails) refl
           | inl is ↦ absurd (
-              let one = and_parts (counted planned sent p) (is_queued_within timing (seconds n) s from p) is in
+              let one = and_parts (counts_in_load planned sent p) (is_queued_within timing (seconds n) s from p) is in
               let two = and_parts (not (ltb (s.queued p) from))
               (ltb (s.queued p * bit_time timing.bitrate) (from * bit_time timing.bitrate + 1000 * seconds n)) one.1 in
               let high : s.queued p * bit_time timing.bitrate < from * bit_time timing.bitrate =
@@ -145,7 +145,7 @@ module _ (plan : Plan) (timing : Timing) (stays : UnitPlan → Bool) (tells : De
       one_kind : (k : ℕ) → total s.count (λ p. cond (kinds k p) (s.bits p) 0) ≤ total (size k) (of k)
       one_kind k = all_grouped s.count (kinds k) (λ p. index (sent.source p)) s.bits (size k) (λ p in_p passing.
           let two = and_parts (counts p) (eqb (kind (sent.source p)) k) passing in
-          let is = (and_parts (counted planned sent p) (is_queued_within timing (seconds n) s from p) two.0).0 in
+          let is = (and_parts (counts_in_load planned sent p) (is_queued_within timing (seconds n) s from p) two.0).0 in
           let both = and_parts (planned p) (is_counted (sent.source p)) is in
           subst (λ (j : ℕ). index (sent.source p) < size j) (eqb-true (kind (sent.source p)) k two.1) (inside p in_p both.0 (sent.source p) refl both.1))
 
@@ -153,11 +153,11 @@ module _ (plan : Plan) (timing : Timing) (stays : UnitPlan → Bool) (tells : De
       unfolding total
       four f = omega arith
 
-      in_some_time : bits_queued timing (seconds n) s (counted planned sent) from ≤ n * all_rates + more
+      in_some_time : bits_queued timing (seconds n) s (counts_in_load planned sent) from ≤ n * all_rates + more
       in_some_time =
-          let kinds_of : bits_queued timing (seconds n) s (counted planned sent) from ≤ total 4 (λ k. total s.count (λ p. cond (kinds k p) (s.bits p) 0)) =
+          let kinds_of : bits_queued timing (seconds n) s (counts_in_load planned sent) from ≤ total 4 (λ k. total s.count (λ p. cond (kinds k p) (s.bits p) 0)) =
           all_grouped s.count counts (λ p. kind (sent.source p)) s.bits 4 (λ p in_p passing.
-          let is = (and_parts (counted planned sent p) (is_queued_within timing (seconds n) s from p) passing).0 in
+          let is = (and_parts (counts_in_load planned sent p) (is_queued_within timing (seconds n) s from p) passing).0 in
           kind_below (sent.source p) (and_parts (planned p) (is_counted (sent.source p)) is).1) in
           let parts = four (λ k. total s.count (λ p. cond (kinds k p) (s.bits p) 0)) in
           let first = one_kind 0 in
@@ -181,13 +181,13 @@ module _ (plan : Plan) (timing : Timing) (stays : UnitPlan → Bool) (tells : De
 
     -- ---- in any time
 
-    some_seconds : (m : ℕ) → m ≡ n → bits_queued timing (seconds n) s (counted planned sent) from ≤ n * all_rates + more
+    some_seconds : (m : ℕ) → m ≡ n → bits_queued timing (seconds n) s (counts_in_load planned sent) from ≤ n * all_rates + more
     some_seconds zero none = let nothing = in_no_time (sym none) in omega (arith, nothing)
     some_seconds (suc m) some =
         let positive : 0 < seconds n * bits_per_ms timing.bitrate = some_bits timing.bitrate (seconds n) (omega (arith, some)) in
         in_some_time (bits_of_ms timing (seconds n) - 1) (omega (arith, positive))
 
-    planned_most : bits_queued timing (seconds n) s (counted planned sent) from ≤ n * all_rates + more
+    planned_most : bits_queued timing (seconds n) s (counts_in_load planned sent) from ≤ n * all_rates + more
     planned_most = some_seconds n refl
 
   long_run : IsLongRunLoad plan timing (total_load timing (asked_of timing plan stays))

@@ -27,16 +27,16 @@ pub returns-in-Load-clause-ends : goal.returns-in-Load-clause-ends
 returns-in-Load-clause-ends g c = rw c.in-Load.is (rw c.deref-in-Load.ensures at c.load_file.ensures)
 
 pub returns-in-Run-clause-ends : goal.returns-in-Run-clause-ends
-returns-in-Run-clause-ends g c = rw c.in-Run.is (rw (c.deref-in-Run.ensures, c.deref-in-Run-2.ensures) at c.run_files.ensures)
+returns-in-Run-clause-ends g c = rw c.in-Run.is (rw (c.deref-in-Run.ensures, c.deref-in-Run-2.ensures) at c.by_two.ensures)
 
 pub returns-in-Read-clause-ends : goal.returns-in-Read-clause-ends
-returns-in-Read-clause-ends g c = rw c.in-Read.is (rw (c.deref-in-Read.ensures, c.deref-in-Read-2.ensures) at c.read_files.ensures)
+returns-in-Read-clause-ends g c = rw c.in-Read.is (rw (c.deref-in-Read.ensures, c.deref-in-Read-2.ensures) at c.by_two-in-Read.ensures)
 
 pub returns-in-Follow-clause-ends : goal.returns-in-Follow-clause-ends
-returns-in-Follow-clause-ends g c = rw c.in-Follow.is (rw (c.deref-in-Follow.ensures, c.deref-in-Follow-2.ensures) at c.follow_files.ensures)
+returns-in-Follow-clause-ends g c = rw c.in-Follow.is (rw (c.deref-in-Follow.ensures, c.deref-in-Follow-2.ensures) at c.by_two-in-Follow.ensures)
 
 pub returns-in-Audit-clause-ends : goal.returns-in-Audit-clause-ends
-returns-in-Audit-clause-ends g c = rw c.in-Audit.is (rw (c.deref-in-Audit.ensures, c.deref-in-Audit-2.ensures) at c.audit_files.ensures)
+returns-in-Audit-clause-ends g c = rw c.in-Audit.is (rw (c.deref-in-Audit.ensures, c.deref-in-Audit-2.ensures) at c.by_two-in-Audit.ensures)
 
 pub returns-in-Vehicle-clause-ends : goal.returns-in-Vehicle-clause-ends
 returns-in-Vehicle-clause-ends g c = rw c.in-Vehicle.is (rw c.deref-in-Vehicle.ensures at c.vehicle_files.ensures)

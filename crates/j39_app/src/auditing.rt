@@ -1,0 +1,113 @@
+//! What is written of a log that is audited.
+ghost use Rattle.std.specs.Prelude.{◌≡◌, true, false, IfOk};
+ghost use Rattle.std.specs.List.{list_any};
+ghost use Rattle.j39_app.specs.AuditAnswers.{hinders, is_hindered, is_hindering};
+ghost use Rattle.j39_audit.specs.AuditText.{IsAudit};
+ghost use Rattle.j39_plan_text.specs.CheckText.{IsReport};
+ghost use Rattle.j39_stream.specs.CommandEnds.{AnswersWhole, IsOfAny, PutsText};
+ghost use Rattle.j39_stream.specs.Streams.{log_limits};
+
+use crate::by_plan::ReadsByPlan;
+use crate::{Fault, Folder, Sink, Source, Verdict, audit_text, put_all};
+use j39_findings::{Finding, check};
+use j39_network::Plan;
+use j39_plan_text::{PlanFindings, write_check};
+use j39_text::TextBuffer;
+use std::alloc::{AllocError, Global};
+
+// Whether a finding of this number hinders an audit.
+fn is_hindering(number: u8) -> bool
+    ensures { result ≡ is_hindering number }
+{
+    number <= 12 || number == 24 || number >= 26
+}
+
+// Whether one of these findings does.
+fn are_hindering(findings: &[Finding]) -> bool
+    ensures { result ≡ list_any hinders findings.now }
+{
+    findings
+        .iter()
+        .any(|finding| is_hindering(finding.number()))
+}
+
+// What the check command writes of a plan, with its verdict.
+fn findings_of(alloc: Global, plan: &Plan) -> Result<(TextBuffer, Verdict), AllocError>
+    ensures { IfOk result (λ report. IsReport plan.now report.0 report.1) }
+{
+    let found = PlanFindings::new(alloc, plan)?;
+    let mut text = TextBuffer::new(alloc);
+    let verdict = write_check(alloc, &mut text, plan, &found)?;
+    Ok((text, verdict))
+}
+
+fn put_findings<W: Sink>(alloc: Global, plan: &Plan, sink: &mut W) -> Result<Verdict, Fault>
+    ensures { PutsText (IsReport plan.now) W.state sink.old sink.new result }
+{
+    let (text, verdict) = findings_of(alloc, plan)?;
+    put_all(sink, text.as_slice())?;
+    Ok(verdict)
+}
+
+/// Writes which premises of a plan a log refutes. Where addresses or identifiers of the plan aren't what they should be
+/// (findings F1 to F12, F24, F26 to F28) it writes what the check command does, and reads nothing.
+pub fn audit_planned<S: Source, W: Sink>(
+    alloc: Global,
+    plan: &Plan,
+    part: bool,
+    stamps: u64,
+    log: &mut S,
+    sink: &mut W,
+) -> Result<Verdict, Fault>
+    ensures hindered { is_hindered plan.now ≡ true → PutsText (IsReport plan.now) W.state sink.old sink.new result }
+    ensures unread { is_hindered plan.now ≡ true → log.new ≡ log.old }
+    ensures audited { is_hindered plan.now ≡ false → AnswersWhole (IsAudit plan.now part stamps) (IsOfAny (IsAudit plan.now part stamps)) log_limits
+        (S.state log.old) (S.state log.new) W.state sink.old sink.new result }
+{
+    let findings = check(alloc, plan)?;
+    if are_hindering(findings.as_slice()) {
+        put_findings(alloc, plan, sink)
+    } else {
+        audit_text(alloc, plan, part, stamps, log, sink)
+    }
+}
+
+/// Which premises of the plan a log refutes: of a log in which frames may be missing or of a whole one, by a logger of
+/// this error in microseconds.
+#[derive(Drop)]
+pub(crate) struct Auditing {
+    pub(crate) part: bool,
+    pub(crate) stamps: u64,
+}
+
+impl<F: Folder, W: Sink> ReadsByPlan<F, W> for Auditing {
+    ghost use Rattle.j39_app.specs.AuditAnswers.{IsAuditOf};
+    ghost use Rattle.j39_stream.specs.Streams.{log_limits};
+
+    ghost says = { λ auditing. IsAuditOf auditing.part auditing.stamps };
+
+    ghost begins = { λ auditing. IsAuditOf auditing.part auditing.stamps };
+
+    ghost puts_at_once = { Unit {0} };
+
+    ghost limits = { log_limits };
+
+    #[inline(never)]
+    fn write(
+        &self,
+        alloc: Global,
+        files: &F,
+        plan: &Plan,
+        name: &str,
+        sink: &mut W,
+    ) -> Result<Verdict, Fault> {
+        audit_planned(
+            alloc,
+            plan,
+            self.part,
+            self.stamps,
+            &mut files.open(name)?,
+            sink,
+        )
+    }
+}

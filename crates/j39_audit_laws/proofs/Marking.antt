@@ -1,0 +1,181 @@
+-- What is noted at a frame is what the frame is marked with, and each mark that accuses is noted once at most.
+use Rattle.std.proofs.Common.{◌≡◌, ℕ, ◌==◌, ◌∷◌, [], List, Bool, true, false, not, if◌then◌else◌}
+use Rattle.std.proofs.Common.{inl, inr, refl, sym, ap, ◌∙◌, subst, length, Option, Some, None}
+use Rattle.std.specs.Prelude.{count_by}
+use Rattle.std.specs.List.{list_any, position, slice_get}
+use Rattle.std.specs.Option.{option_map_or, option_or}
+use Rattle.std.proofs.lemmas.Bool.{cond_both, true≢false}
+use Rattle.std.proofs.lemmas.Option.{none-some, same_Some}
+use Rattle.j39_id.specs.declared.frame.Frame.{Frame}
+use Rattle.j39_tp.specs.declared.packet.Packet.{Packet}
+use Rattle.j39_audit.specs.Claiming.{Knowledge}
+use Rattle.j39_audit.specs.Counting.{Noted}
+use Rattle.j39_audit.specs.Looking.{message_sent, request_noted, requested}
+use Rattle.j39_audit.specs.Looking.{announced_by, announced_message, is_single, single}
+use Rattle.j39_audit.specs.SentMessages.{SentMessage, all_marked, deviation, flow_group, flows_noted, is_nearest_flow, is_nearest_request, is_of, marked, noted_at, requests_noted, with_fit_flow, without_flow, is_fit, first_group}
+use Rattle.j39_audit.specs.declared.messages.Test.TheVariants.{Fitting, Selected, Any}
+use Rattle.j39_id.specs.Ident.{pgn_of}
+use Rattle.j39_id.specs.FrameMeaning.{requests_group}
+use Rattle.j39_tp.specs.declared.packet.Packet.TheVariants.{Rts, Cts, EndAck, Bam, Abort, Dt}
+use Rattle.j39_audit.specs.Settings.{Settings}
+use Rattle.j39_audit.specs.declared.mark.Mark.{Mark}
+use Rattle.j39_audit.specs.declared.mark.Word.{Word}
+use Rattle.j39_audit.specs.declared.mark.Word.TheVariants.{Short, Stranger, Nobody as NobodyThere, Address, Cannot, Layout, NoFlow, Priority, Urgent, Seen, Unclear, Asked, Counted, Unsure, Break}
+use Rattle.j39_audit_laws.specs.FoundLines.{IsAccusing}
+use Rattle.j39_audit_laws.proofs.Hits.{HaveWords, In, words_below}
+
+-- ---- words
+
+-- the words of flows and requests, and of what is only counted
+abbrev pub is_seen : Word → Bool
+is_seen Seen = true
+is_seen Unclear = true
+is_seen Asked = true
+is_seen Counted = true
+is_seen Unsure = true
+is_seen Break = true
+is_seen _ = false
+
+abbrev pub is_urgent_word : Word → Bool
+is_urgent_word Urgent = true
+is_urgent_word _ = false
+
+-- all but that
+abbrev pub is_another : Word → Bool
+is_another w = not (is_urgent_word w)
+
+pub unseen : (w : Word) → IsAccusing w → is_seen w ≡ false
+unseen Short is = refl
+unseen Stranger is = refl
+unseen NobodyThere is = refl
+unseen Address is = refl
+unseen Cannot is = refl
+unseen Layout is = refl
+unseen NoFlow is = refl
+unseen Priority is = refl
+unseen Urgent is = refl
+unseen Seen is = absurd is
+unseen Unclear is = absurd is
+unseen Asked is = absurd is
+unseen Counted is = absurd is
+unseen Unsure is = absurd is
+unseen Break is = absurd is
+
+seen_another : (w : Word) → is_seen w ≡ true → is_another w ≡ true
+seen_another Short is = refl
+seen_another Stranger is = refl
+seen_another NobodyThere is = refl
+seen_another Address is = refl
+seen_another Cannot is = refl
+seen_another Layout is = refl
+seen_another NoFlow is = refl
+seen_another Priority is = refl
+seen_another Urgent is = absurd (true≢false (sym is))
+seen_another Seen is = refl
+seen_another Unclear is = refl
+seen_another Asked is = refl
+seen_another Counted is = refl
+seen_another Unsure is = refl
+seen_another Break is = refl
+
+-- ---- how a message differs
+
+abbrev pub is_of_message : Word → Bool
+is_of_message Layout = true
+is_of_message NoFlow = true
+is_of_message Priority = true
+is_of_message _ = false
+
+-- the mark of a message that differs is of one of three words, and of its unit
+abbrev pub IsDeviation : SentMessage → Option Mark → Type 0
+IsDeviation m None = Unit {0}
+IsDeviation m (Some k) = (is_of_message k.word ≡ true) × (k.subject ≡ m.unit)
+
+differs_without : (s : Settings) (m : SentMessage) (a b : Option ℕ) → IsDeviation m (without_flow s m a b)
+differs_without s m (Some g) b = (refl, refl)
+differs_without s m None (Some g) = (refl, refl)
+differs_without s m None None = tt
+
+differs_with : (s : Settings) (k : Knowledge) (m : SentMessage) (o : Option ℕ) → IsDeviation m (with_fit_flow s k m o)
+differs_with s k m None = differs_without s m (first_group s m Fitting) (option_or (first_group s m Selected) (first_group s m Any))
+differs_with s k m (Some f) =
+    cond_both (list_any (is_of s k m) s.plan.flows.items) None (Some (record { word = Priority; subject = m.unit; group = flow_group s f }))
+    (IsDeviation m) (λ _. tt) (λ _. (refl, refl))
+
+pub differs_so : (s : Settings) (k : Knowledge) (m : SentMessage) → IsDeviation m (deviation s k m)
+unfolding deviation
+differs_so s k m = differs_with s k m (position (is_fit s k m) s.plan.flows.items)
+
+pub of_message_another : (w : Word) → is_of_message w ≡ true → is_another w ≡ true
+of_message_another Urgent is = absurd (true≢false (sym is))
+of_message_another Short is = refl
+of_message_another Stranger is = refl
+of_message_another NobodyThere is = refl
+of_message_another Address is = refl
+of_message_another Cannot is = refl
+of_message_another Layout is = refl
+of_message_another NoFlow is = refl
+of_message_another Priority is = refl
+of_message_another Seen is = refl
+of_message_another Unclear is = refl
+of_message_another Asked is = refl
+of_message_another Counted is = refl
+of_message_another Unsure is = refl
+of_message_another Break is = refl
+
+-- the unit of a message is its sender
+pub sender_of : (u : ℕ) (f : Frame) (packet : Option Packet) (m : SentMessage) → message_sent u f packet ≡ Some m → m.unit ≡ u
+sender_of u f packet m e =
+    cond_both (is_single (pgn_of f.ident)) (Some (single u f)) (announced_by u f packet) (λ o. o ≡ Some m → m.unit ≡ u)
+    (λ _ is. sym (ap (λ (x : SentMessage). x.unit) (same_Some (single u f) m is)))
+    (λ _ is. announced packet is) e
+  where
+    announced : (packet : Option Packet) → announced_by u f packet ≡ Some m → m.unit ≡ u
+    announced None is = absurd (none-some m is)
+    announced (Some (Rts size limit pgn)) is = sym (ap (λ (x : SentMessage). x.unit) (same_Some (announced_message u f size pgn) m is))
+    announced (Some (Bam size pgn)) is = sym (ap (λ (x : SentMessage). x.unit) (same_Some (announced_message u f size pgn) m is))
+    announced (Some (Cts count first pgn)) is = absurd (none-some m is)
+    announced (Some (EndAck size pgn)) is = absurd (none-some m is)
+    announced (Some (Abort reason pgn)) is = absurd (none-some m is)
+    announced (Some (Dt number chunk)) is = absurd (none-some m is)
+
+-- ---- what is noted of flows and requests
+
+seen_at : {X : Type 0} (line : ℕ) (word : Word) (test : X → Bool) (all : List X) → is_seen word ≡ true
+    → (n : ℕ) → HaveWords is_seen (marked line word test all n)
+seen_at {X} line word test all is n =
+    cond_both (option_map_or test (slice_get all n) false) (noted_at line word n 0 ∷ []) [] (HaveWords is_seen) (λ _. (is, tt)) (λ _. tt)
+
+all_seen : {X : Type 0} (line : ℕ) (word : Word) (test : X → Bool) (all : List X) → is_seen word ≡ true
+    → HaveWords is_seen (all_marked line word test all)
+unfolding all_marked
+all_seen {X} line word test all is = words_below is_seen (marked line word test all) (seen_at line word test all is) (length all)
+
+pub flows_seen : (s : Settings) (k : Knowledge) (m : SentMessage) (line : ℕ) → HaveWords is_seen (flows_noted s k m line)
+unfolding flows_noted
+flows_seen s k m line =
+    all_seen line (if count_by (is_nearest_flow s k m) s.plan.flows.items == 1 then Seen else Unclear) (is_nearest_flow s k m) s.plan.flows.items
+    (cond_both (count_by (is_nearest_flow s k m) s.plan.flows.items == 1) Seen Unclear (λ w. is_seen w ≡ true) (λ _. refl) (λ _. refl))
+
+requests_seen : (s : Settings) (k : Knowledge) (m : SentMessage) (line : ℕ) → HaveWords is_seen (requests_noted s k m line)
+unfolding requests_noted
+requests_seen s k m line =
+    cond_both (count_by (is_nearest_request s k m) s.plan.requests.items == 1)
+    (all_marked line Asked (is_nearest_request s k m) s.plan.requests.items) [] (HaveWords is_seen)
+    (λ _. all_seen line Asked (is_nearest_request s k m) s.plan.requests.items refl) (λ _. tt)
+
+pub request_seen : (s : Settings) (k : Knowledge) (u : ℕ) (f : Frame) (line : ℕ) → HaveWords is_seen (request_noted s k u f line)
+request_seen s k u f line =
+    cond_both (requests_group f) (requests_noted s k (requested u f) line) [] (HaveWords is_seen)
+    (λ _. requests_seen s k (requested u f) line) (λ _. tt)
+
+-- one of these doesn't accuse
+pub seen_word : (xs : List Noted) → HaveWords is_seen xs → (n : Noted) → In n xs → IsAccusing n.mark.word → ⊥
+seen_word [] all n is accuses = is
+seen_word (x ∷ xs) all n (inl e) accuses =
+    true≢false (sym (subst (λ (y : Noted). is_seen y.mark.word ≡ true) e all.0) ∙ unseen n.mark.word accuses)
+seen_word (x ∷ xs) all n (inr is) accuses = seen_word xs all.1 n is accuses
+
+pub more_words : (xs : List Noted) → HaveWords is_seen xs → HaveWords is_another xs
+more_words [] all = tt
+more_words (x ∷ xs) all = (seen_another x.mark.word all.0, more_words xs all.1)

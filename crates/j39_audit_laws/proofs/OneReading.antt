@@ -1,0 +1,101 @@
+-- A log is read in one way.
+use Rattle.std.proofs.Common.{◌≡◌, ◌⊎◌, ◌+◌, ℕ, List, [], ◌∷◌, Option, Some, None, inl, inr, refl, sym, ap, subst, ◌∙◌}
+use Rattle.j39_id.proofs.LineLaws.{not_both, one_fault, one_spelled}
+use Rattle.j39_id.specs.FrameLine.{IsLastWord}
+use Rattle.j39_id.specs.Lines.{Line, Short as ShortLine, Long}
+use Rattle.j39_id.specs.declared.frame.Frame.{Frame}
+use Rattle.j39_id.specs.declared.line_error.LineError.{LineError}
+use Rattle.j39_tp.specs.declared.packet.Packet.{Packet}
+use Rattle.j39_log.proofs.OneText.{one_packet}
+use Rattle.j39_follow.specs.LogLines.{IsElsewhere, IsReadPart, IsTimeText, NamesInterface}
+use Rattle.j39_follow.proofs.Lines.FirstWords.{one_first_word}
+use Rattle.j39_follow.proofs.Lines.Splitting.{one_split}
+use Rattle.j39_audit.specs.AuditText.{AuditPast, AuditsFrame, AuditsLine, AuditsLines, AuditsPart, AuditsShort, passed_by, past_with_frame, with_next_number}
+use Rattle.j39_audit.specs.Breaks.{line_time}
+use Rattle.j39_audit.specs.Looking.{IsPacketOf}
+use Rattle.j39_audit.specs.Settings.{Settings}
+
+-- ---- the parts of a line
+
+pub one_part : (line p q : List ℕ) → IsReadPart line p → IsReadPart line q → p ≡ q
+one_part line p q (inl a) (inl b) =
+    let same = one_split line a.last.front a.word b.last.front b.word (a.last, refl) (b.last, refl) in
+    sym a.front_is ∙ same.0 ∙ b.front_is
+one_part line p q (inl a) (inr b) = absurd (b.0 p a)
+one_part line p q (inr a) (inl b) = absurd (a.0 q b)
+one_part line p q (inr a) (inr b) = a.1 ∙ sym b.1
+
+pub one_interface : (part : List ℕ) (a b : Option (List ℕ)) → NamesInterface part a → NamesInterface part b → a ≡ b
+one_interface part (Some i) (Some j) a b =
+    let same = one_split part a.last.front a.word b.last.front b.word (a.last, refl) (b.last, refl) in
+    let before = subst (λ (f : List ℕ). IsLastWord f i) same.0 a.before in
+    ap Some (one_split b.last.front before.front i b.before.front j (before, refl) (b.before, refl)).1
+one_interface part (Some i) None a b = absurd (b i a)
+one_interface part None (Some j) a b = absurd (a j b)
+one_interface part None None a b = refl
+
+pub one_time : (line t u : List ℕ) → IsTimeText line t → IsTimeText line u → t ≡ u
+one_time line t u (inl a) (inl b) = one_first_word line t u a.0 b.0
+one_time line t u (inl a) (inr b) = absurd (b.0 t a)
+one_time line t u (inr a) (inl b) = absurd (a.0 u b)
+one_time line t u (inr a) (inr b) = a.1 ∙ sym b.1
+
+pub one_packet_of : (f : Frame) (p q : Option Packet) → IsPacketOf f p → IsPacketOf f q → p ≡ q
+one_packet_of f (Some p) (Some q) a b = ap Some (one_packet f p q a b)
+one_packet_of f (Some p) None a b = absurd (b p a)
+one_packet_of f None (Some q) a b = absurd (a q b)
+one_packet_of f None None a b = refl
+
+-- ---- lines
+
+one_frame : (s : Settings) (past : AuditPast) (time : List ℕ) (named : Option (List ℕ)) (f : Frame) (next other : AuditPast)
+    → AuditsFrame s past time named f next → AuditsFrame s past time named f other → next ≡ other
+one_frame s past time named f next other a b =
+    a.2 ∙ ap (past_with_frame s past (line_time s.plan time) named f) (one_packet_of f a.0 b.0 a.1 b.1) ∙ sym b.2
+
+one_part_read : (s : Settings) (past : AuditPast) (line part : List ℕ) (named : Option (List ℕ)) (next other : AuditPast)
+    → AuditsPart s past line part named next → AuditsPart s past line part named other → next ≡ other
+one_part_read s past line part named next other (inl a) (inl b) =
+    let frame = one_spelled part a.0 b.0 a.2 b.2 in
+    let time = one_time line a.1 b.1 a.3 b.3 in
+    one_frame s past b.1 named b.0 next other
+    (subst (λ (x : List ℕ). AuditsFrame s past x named b.0 next) time
+    (subst (λ (f : Frame). AuditsFrame s past a.1 named f next) frame a.4)) b.4
+one_part_read s past line part named next other (inl a) (inr b) = absurd (not_both part a.0 b.0 a.2 b.1)
+one_part_read s past line part named next other (inr a) (inl b) = absurd (not_both part b.0 a.0 b.2 a.1)
+one_part_read s past line part named next other (inr a) (inr b) =
+    a.2 ∙ ap (λ (e : LineError). passed_by e past) (one_fault part a.0 b.0 a.1 b.1) ∙ sym b.2
+
+abbrev ReadsRest : Settings → AuditPast → List ℕ → List ℕ → Option (List ℕ) → AuditPast → Type 0
+ReadsRest s past line part named next =
+    (IsElsewhere past.interface part named × (next ≡ record past { elsewhere = past.elsewhere + 1 }))
+    ⊎ ((¬ IsElsewhere past.interface part named) × AuditsPart s past line part named next)
+
+one_rest_read : (s : Settings) (past : AuditPast) (line part : List ℕ) (named : Option (List ℕ)) (next other : AuditPast)
+    → ReadsRest s past line part named next → ReadsRest s past line part named other → next ≡ other
+one_rest_read s past line part named next other (inl a) (inl b) = a.1 ∙ sym b.1
+one_rest_read s past line part named next other (inl a) (inr b) = absurd (b.0 a.0)
+one_rest_read s past line part named next other (inr a) (inl b) = absurd (a.0 b.0)
+one_rest_read s past line part named next other (inr a) (inr b) = one_part_read s past line part named next other a.1 b.1
+
+one_short_read : (s : Settings) (past : AuditPast) (line : List ℕ) (next other : AuditPast) → AuditsShort s past line next
+    → AuditsShort s past line other → next ≡ other
+one_short_read s past line next other a b =
+    let part = one_part line a.0 b.0 a.2 b.2 in
+    let there = subst (λ (p : List ℕ). NamesInterface p a.1) part a.3 in
+    let named = one_interface b.0 a.1 b.1 there b.3 in
+    one_rest_read s past line b.0 b.1 next other
+    (subst (λ (i : Option (List ℕ)). ReadsRest s past line b.0 i next) named
+    (subst (λ (p : List ℕ). ReadsRest s past line p a.1 next) part a.4)) b.4
+
+pub one_line_read : (s : Settings) (past : AuditPast) (line : Line) (next other : AuditPast) → AuditsLine s past line next
+    → AuditsLine s past line other → next ≡ other
+one_line_read s past Long next other a b = a ∙ sym b
+one_line_read s past (ShortLine line) next other a b = one_short_read s (with_next_number past) line next other a b
+
+pub one_log_read : (s : Settings) (past : AuditPast) (log : List Line) (end other : AuditPast) → AuditsLines s past log end
+    → AuditsLines s past log other → end ≡ other
+one_log_read s past [] end other a b = a ∙ sym b
+one_log_read s past (line ∷ log) end other a b =
+    let here = one_line_read s past line a.0 b.0 a.1 b.1 in
+    one_log_read s b.0 log end other (subst (λ (p : AuditPast). AuditsLines s p log end) here a.2) b.2

@@ -1,0 +1,200 @@
+-- The frames that are read of a log, with the claims before each.
+use Rattle.std.proofs.Common.{◌≡◌, ◌≢◌, ◌⊎◌, ℕ, ◌++◌, ◌∷◌, [], List, Bool, true, false, cond}
+use Rattle.std.proofs.Common.{inl, inr, refl, sym, ap, ◌∙◌, subst, append_assoc, Option, None}
+use Rattle.j39_id.proofs.LineLaws.{not_both, one_fault, one_spelled}
+use Rattle.j39_id.specs.FrameLine.{HasLineFault, Spells}
+use Rattle.j39_id.specs.Lines.{Line, Short as ShortLine, Long}
+use Rattle.j39_id.specs.declared.frame.Frame.{Frame}
+use Rattle.j39_id.specs.declared.line_error.LineError.{LineError}
+use Rattle.j39_id.specs.declared.line_error.LineError.TheVariants.{Empty, NoHash, ShortIdent, BadIdent, TooLong, BadData}
+use Rattle.j39_follow.specs.LogLines.{IsElsewhere, IsReadPart, NamesInterface, interface_behind}
+use Rattle.j39_tp.specs.declared.packet.Packet.{Packet}
+use Rattle.j39_audit.specs.AuditText.{AuditPast, AuditsLine, AuditsLines, claims_before, nothing_read, passed_by, past_with_frame, with_next_number}
+use Rattle.j39_audit.specs.Breaks.{breaks, line_time}
+use Rattle.j39_audit.specs.Claiming.{Heard, HeardClaims, broken_off, with_claim}
+use Rattle.j39_audit.specs.Looking.{claims_behind, is_claim}
+use Rattle.j39_audit.specs.Settings.{Settings}
+use Rattle.j39_audit_laws.specs.AuditedRuns.{AreReadAs}
+use Rattle.j39_audit_laws.specs.FoundLines.{IsFrameAt, IsLineOf, IsShortAt}
+use Rattle.j39_audit_laws.proofs.OneReading.{one_interface, one_part}
+use Rattle.j39_audit_laws.proofs.RunFrames.{claims_behind_those, claims_of, heard_of}
+
+-- ---- one line
+
+-- what is read of a line and the lines behind it, once its part and its interface are known
+abbrev pub ReadsOn : Option (List ℕ) → List ℕ → Option (List ℕ) → List Line → List Frame → Type 0
+ReadsOn interface part named log frames =
+    (IsElsewhere interface part named × AreReadAs interface log frames)
+    ⊎ (((f : Frame) × (more : List Frame) × (¬ IsElsewhere interface part named) × Spells part f × (frames ≡ f ∷ more)
+    × AreReadAs (interface_behind interface named) log more)
+    ⊎ ((e : LineError) × HasLineFault part e × (e ≢ ShortIdent) × AreReadAs interface log frames))
+
+pub reads_on : (interface : Option (List ℕ)) (line part : List ℕ) (named : Option (List ℕ)) (log : List Line) (frames : List Frame)
+    → IsReadPart line part → NamesInterface part named → AreReadAs interface (ShortLine line ∷ log) frames
+    → ReadsOn interface part named log frames
+reads_on interface line part named log frames part_is named_is (p, n, p_is, n_is, rest) =
+    let same = one_part line p part p_is part_is in
+    let there : NamesInterface part n = subst (λ (x : List ℕ). NamesInterface x n) same n_is in
+    subst (λ (x : Option (List ℕ)). ReadsOn interface part x log frames) (one_interface part n named there named_is)
+    (subst (λ (x : List ℕ). ReadsOn interface x n log frames) same rest)
+
+-- none of these lines is short
+pub never_short : (interface : Option (List ℕ)) (part : List ℕ) (named : Option (List ℕ)) (log : List Line) (frames : List Frame)
+    → (¬ IsElsewhere interface part named) → HasLineFault part ShortIdent → ReadsOn interface part named log frames → ⊥
+never_short interface part named log frames here short (inl (there, more)) = here there
+never_short interface part named log frames here short (inr (inl (f, more, other, spelled, row, rest))) = not_both part f ShortIdent spelled short
+never_short interface part named log frames here short (inr (inr (e, fault, other, rest))) = other (one_fault part e ShortIdent fault short)
+
+-- what it is read as is the next of the frames
+pub next_frame : (interface : Option (List ℕ)) (part : List ℕ) (named : Option (List ℕ)) (log : List Line) (frames : List Frame) (f : Frame)
+    → (¬ IsElsewhere interface part named) → Spells part f → ReadsOn interface part named log frames
+    → (more : List Frame) × (frames ≡ f ∷ more) × AreReadAs (interface_behind interface named) log more
+next_frame interface part named log frames f here spelled (inl (there, more)) = absurd (here there)
+next_frame interface part named log frames f here spelled (inr (inl (g, more, other, spelled_g, row, rest))) =
+    (more, row ∙ ap (λ (x : Frame). x ∷ more) (one_spelled part g f spelled_g spelled), rest)
+next_frame interface part named log frames f here spelled (inr (inr (e, fault, other, rest))) = absurd (not_both part f e spelled fault)
+
+passed_on : (interface : Option (List ℕ)) (part : List ℕ) (named : Option (List ℕ)) (log : List Line) (frames : List Frame) (d : LineError)
+    → (¬ IsElsewhere interface part named) → HasLineFault part d → ReadsOn interface part named log frames → AreReadAs interface log frames
+passed_on interface part named log frames d here fault (inl (there, more)) = more
+passed_on interface part named log frames d here fault (inr (inl (g, more, other, spelled, row, rest))) = absurd (not_both part g d spelled fault)
+passed_on interface part named log frames d here fault (inr (inr (e, has, other, rest))) = rest
+
+elsewhere_on : (interface : Option (List ℕ)) (part : List ℕ) (named : Option (List ℕ)) (log : List Line) (frames : List Frame)
+    → IsElsewhere interface part named → ReadsOn interface part named log frames → AreReadAs interface log frames
+elsewhere_on interface part named log frames there (inl (other, more)) = more
+elsewhere_on interface part named log frames there (inr (inl (g, more, other, spelled, row, rest))) = absurd (other there)
+elsewhere_on interface part named log frames there (inr (inr (e, has, other, rest))) = rest
+
+-- ---- lines one after another
+
+-- the claims so far are those of these frames, and those from the last break on are the newest of them
+pub record AreClaimsOf (s : Settings) (claims : HeardClaims) (heard : List Frame) : Type 0 where
+  pub all_are : claims.all ≡ claims_of s.plan [] heard
+  pub older : List Heard
+  pub recent_are : claims.all ≡ claims.recent ++ older
+
+pub break_claims : (s : Settings) (claims : HeardClaims) (heard : List Frame) (broken : Bool) → AreClaimsOf s claims heard
+    → AreClaimsOf s (broken_off broken claims) heard
+break_claims s claims heard true are = record { all_are = are.all_are; older = claims.all; recent_are = refl }
+break_claims s claims heard false are = are
+
+more_claims : (s : Settings) (claims : HeardClaims) (heard : List Frame) (f : Frame) → AreClaimsOf s claims heard
+    → AreClaimsOf s (claims_behind s f claims) (heard ++ f ∷ [])
+more_claims s claims heard f are =
+    let behind : claims_of s.plan [] (heard ++ f ∷ []) ≡ cond (is_claim f) (heard_of s.plan f ∷ claims_of s.plan [] heard) (claims_of s.plan [] heard) =
+    claims_behind_those s.plan [] heard (f ∷ []) in
+    elim (is_claim f) as (λ b. claims_of s.plan [] (heard ++ f ∷ []) ≡ cond b (heard_of s.plan f ∷ claims_of s.plan [] heard) (claims_of s.plan [] heard)
+    → AreClaimsOf s (cond b (with_claim (heard_of s.plan f) claims) claims) (heard ++ f ∷ [])) [
+      | true ↦ λ e. record {
+        all_are = ap (λ (l : List Heard). heard_of s.plan f ∷ l) are.all_are ∙ sym e;
+        older = are.older;
+        recent_are = ap (λ (l : List Heard). heard_of s.plan f ∷ l) are.recent_are;
+      }
+      | false ↦ λ e. record { all_are = are.all_are ∙ sym e; older = are.older; recent_are = are.recent_are }
+    ] behind
+
+-- behind some lines these frames were read, and those are still to be read of the rest
+pub record AreRead (s : Settings) (past : AuditPast) (rest : List Line) (frames : List Frame) : Type 0 where
+  pub heard : List Frame
+  pub left : List Frame
+  pub row : frames ≡ heard ++ left
+  pub claims_are : AreClaimsOf s past.claims heard
+  pub reads : AreReadAs past.interface rest left
+
+same_read : (s : Settings) (past next : AuditPast) (rest : List Line) (frames : List Frame) (r : AreRead s past rest frames) (more : List Line)
+    → next.claims ≡ past.claims → next.interface ≡ past.interface → AreReadAs past.interface more r.left → AreRead s next more frames
+same_read s past next rest frames r more claims interface reads = record {
+  heard = r.heard;
+  left = r.left;
+  row = r.row;
+  claims_are = subst (λ (c : HeardClaims). AreClaimsOf s c r.heard) (sym claims) r.claims_are;
+  reads = subst (λ (i : Option (List ℕ)). AreReadAs i more r.left) (sym interface) reads;
+}
+
+passed_claims : (e : LineError) (past : AuditPast) → ((passed_by e past).claims ≡ past.claims) × ((passed_by e past).interface ≡ past.interface)
+passed_claims Empty past = (refl, refl)
+passed_claims NoHash past = (refl, refl)
+passed_claims ShortIdent past = (refl, refl)
+passed_claims BadIdent past = (refl, refl)
+passed_claims TooLong past = (refl, refl)
+passed_claims BadData past = (refl, refl)
+
+frame_claims : (s : Settings) (past : AuditPast) (time : Option ℕ) (named : Option (List ℕ)) (f : Frame) (packet : Option Packet)
+    → ((past_with_frame s past time named f packet).claims ≡ claims_behind s f (claims_before s past time))
+    × ((past_with_frame s past time named f packet).interface ≡ interface_behind past.interface named)
+unfolding past_with_frame
+frame_claims s past time named f packet = (refl, refl)
+
+pub read_more : (s : Settings) (past : AuditPast) (line : Line) (next : AuditPast) (more : List Line) (frames : List Frame) → AuditsLine s past line next
+    → AreRead s past (line ∷ more) frames → AreRead s next more frames
+read_more s past Long next more frames e r =
+    same_read s past next (Long ∷ more) frames r more (ap (λ (p : AuditPast). p.claims) e) (ap (λ (p : AuditPast). p.interface) e) r.reads
+read_more s past (ShortLine l) next more frames (part, named, part_is, named_is, inl (there, e)) r =
+    same_read s past next (ShortLine l ∷ more) frames r more (ap (λ (p : AuditPast). p.claims) e) (ap (λ (p : AuditPast). p.interface) e)
+    (elsewhere_on past.interface part named more r.left there (reads_on past.interface l part named more r.left part_is named_is r.reads))
+read_more s past (ShortLine l) next more frames (part, named, part_is, named_is, inr (here, inr (fault, has, e))) r =
+    let same = passed_claims fault (with_next_number past) in
+    same_read s past next (ShortLine l ∷ more) frames r more (ap (λ (p : AuditPast). p.claims) e ∙ same.0) (ap (λ (p : AuditPast). p.interface) e ∙ same.1)
+    (passed_on past.interface part named more r.left fault here has (reads_on past.interface l part named more r.left part_is named_is r.reads))
+read_more s past (ShortLine l) next more frames (part, named, part_is, named_is, inr (here, inl (f, time, spelled, text, (packet, packet_is, e)))) r =
+    let begun : AuditPast = with_next_number past in
+    let t : Option ℕ = line_time s.plan time in
+    let (left, row, reads) = next_frame past.interface part named more r.left f here spelled
+    (reads_on past.interface l part named more r.left part_is named_is r.reads) in
+    let same = frame_claims s begun t named f packet in
+    let claims : next.claims ≡ claims_behind s f (claims_before s begun t) = ap (λ (p : AuditPast). p.claims) e ∙ same.0 in
+    let interface : next.interface ≡ interface_behind past.interface named = ap (λ (p : AuditPast). p.interface) e ∙ same.1 in
+    record {
+      heard = r.heard ++ f ∷ [];
+      left = left;
+      row = r.row ∙ ap (λ (x : List Frame). r.heard ++ x) row ∙ sym (append_assoc r.heard (f ∷ []) left);
+      claims_are = subst (λ (c : HeardClaims). AreClaimsOf s c (r.heard ++ f ∷ [])) (sym claims)
+          (more_claims s (claims_before s begun t) r.heard f (break_claims s past.claims r.heard (breaks s.stamps past.newest t) r.claims_are));
+      reads = subst (λ (i : Option (List ℕ)). AreReadAs i more left) (sym interface) reads;
+    }
+
+all_read : (s : Settings) (past : AuditPast) (before : List Line) (end : AuditPast) (more : List Line) (frames : List Frame) → AuditsLines s past before end
+    → AreRead s past (before ++ more) frames → AreRead s end more frames
+all_read s past [] end more frames e r = subst (λ (p : AuditPast). AreRead s p more frames) (sym e) r
+all_read s past (line ∷ before) end more frames (next, takes, rest) r =
+    all_read s next before end more frames rest (read_more s past line next (before ++ more) frames takes r)
+
+-- ---- at a frame
+
+module _ (s : Settings) (log : List Line) (frames : List Frame) (reads : AreReadAs None log frames) where
+  at_line : (number : ℕ) (past : AuditPast) (line : Line) (is : IsLineOf s log number past line) → AreRead s past (line ∷ is.behind) frames
+  at_line number past line is =
+      let start : AreRead s nothing_read log frames =
+      record { heard = []; left = frames; row = refl; claims_are = record { all_are = refl; older = []; recent_are = refl }; reads = reads } in
+      let r = all_read s nothing_read is.before is.just (line ∷ is.behind) frames is.read
+      (subst (λ (l : List Line). AreRead s nothing_read l frames) is.row start) in
+      same_read s is.just past (line ∷ is.behind) frames r (line ∷ is.behind) (ap (λ (p : AuditPast). p.claims) is.past_is)
+      (ap (λ (p : AuditPast). p.interface) is.past_is) r.reads
+
+  -- the frame is one of them, and the claims before it are those of the ones before it
+  pub record IsOneOfThem (claims : HeardClaims) (f : Frame) : Type 0 where
+    pub heard : List Frame
+    pub behind : List Frame
+    pub row : frames ≡ heard ++ f ∷ behind
+    pub claims_are : AreClaimsOf s claims heard
+
+  pub one_of_them : (number : ℕ) (claims : HeardClaims) (f : Frame) (packet : Option Packet) → IsFrameAt s log number claims f packet
+      → IsOneOfThem claims f
+  one_of_them number claims f packet at =
+      let r = at_line number at.past (ShortLine at.line) at.line_is in
+      let (left, row, rest) = next_frame at.past.interface at.part at.named at.line_is.behind r.left f at.reads.here at.spelled
+      (reads_on at.past.interface at.line at.part at.named at.line_is.behind r.left at.reads.part_is at.reads.named_is r.reads) in
+      record {
+        heard = r.heard;
+        behind = left;
+        row = r.row ∙ ap (λ (x : List Frame). r.heard ++ x) row;
+        claims_are = subst (λ (c : HeardClaims). AreClaimsOf s c r.heard) (sym at.claims_are)
+            (break_claims s at.past.claims r.heard (breaks s.stamps at.past.newest (line_time s.plan at.time)) r.claims_are);
+      }
+
+  pub no_short : (number : ℕ) → ¬ IsShortAt s log number
+  no_short number at =
+      let r = at_line number at.past (ShortLine at.line) at.line_is in
+      never_short at.past.interface at.part at.named at.line_is.behind r.left at.reads.here at.short
+      (reads_on at.past.interface at.line at.part at.named at.line_is.behind r.left at.reads.part_is at.reads.named_is r.reads)

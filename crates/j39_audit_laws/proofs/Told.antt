@@ -1,0 +1,156 @@
+-- What is told of a mark at the end of a log are the lines at which it is found.
+use Rattle.std.proofs.Common.{◌≡◌, ◌⊎◌, ℕ, ◌+◌, ◌<◌, ◌≤◌, ◌++◌, ◌∷◌, [], List, length, map, min, get_or}
+use Rattle.std.proofs.Common.{inl, inr, refl, sym, ap, ◌∙◌, subst, arith, append_assoc}
+use Rattle.std.specs.Prelude.{Contains}
+use Rattle.std.specs.List.{AllPairs}
+use Rattle.std.proofs.lemmas.List.{append_cancel_left, append-nil, length-append, length-map, map-append}
+use Rattle.std.proofs.lemmas.List.Elements.{Contains-append_left, Contains-get_or, Contains-push, Contains-push_cases}
+use Rattle.std.proofs.lemmas.List.Quantifiers.{all_pairs_push}
+use Rattle.j39_id.specs.Lines.{Line}
+use Rattle.j39_audit.specs.AuditText.{AuditPast, AuditsLine, AuditsLines, nothing_read}
+use Rattle.j39_audit.specs.Counting.{Noted, most_times, told_at, told_in, told_of}
+use Rattle.j39_audit.specs.Settings.{Settings}
+use Rattle.j39_audit.specs.declared.mark.Mark.{Mark}
+use Rattle.j39_audit.proofs.Hearing.{line_more}
+use Rattle.j39_audit_laws.specs.FoundLines.{IsAccusing, IsFoundAt, IsLineOf, LinesAreOfLog, IsToldAt}
+use Rattle.j39_audit_laws.proofs.Hits.{hits}
+use Rattle.j39_audit_laws.proofs.Lines.{adds, counts_on, found_grows}
+
+-- ---- what was told before a line
+
+cases_le : (m n : ℕ) → (m ≤ n) ⊎ (n < m)
+cases_le m n = grind arith
+
+nothing_in : (n : ℕ) → Contains [] n → ⊥
+nothing_in n (k, inside, is) = absurd (omega (arith, inside))
+
+no_more : (old : List Noted) (n : Noted) (more : List Noted) → old ≡ old ++ n ∷ more → ⊥
+no_more old n more e =
+    let none : n ∷ more ≡ [] = append_cancel_left old (n ∷ more) [] (sym e ∙ sym (append-nil old)) in
+    cc none
+
+module _ (s : Settings) (log : List Line) (m : Mark) (accuses : IsAccusing m.word) where
+  abbrev lines_of : AuditPast → List ℕ
+  lines_of past = map (λ (n : Noted). n.line) (hits m past.noted)
+
+  record ToldSoFar (before : List Line) (past : AuditPast) : Type 0 where
+    count : past.number ≡ length before
+    rising : AllPairs (λ (a b : ℕ). a < b) (lines_of past)
+    below : (n : ℕ) → Contains (lines_of past) n → n ≤ length before
+    sound : (n : ℕ) → Contains (lines_of past) n → IsFoundAt s log n m
+    complete : (n : ℕ) → IsFoundAt s log n m → n ≤ length before → Contains (lines_of past) n
+
+  -- a line is found at its number, counted from 1, inside of the log
+  number_of : (n : ℕ) → IsFoundAt s log n m → (1 ≤ n) × (n ≤ length log)
+  number_of n (inl (at, is)) = number_in at.line_is
+    where
+      number_in : {p : AuditPast} {l : Line} → IsLineOf s log n p l → (1 ≤ n) × (n ≤ length log)
+      number_in {l = l} is =
+          let e = is.number_is in
+          let long = ap length is.row ∙ length-append is.before (l ∷ is.behind) in
+          (omega (arith, e), omega (arith, e, long))
+  number_of n (inr (claims, f, packet, at, marked)) = number_in at.line_is
+    where
+      number_in : {p : AuditPast} {l : Line} → IsLineOf s log n p l → (1 ≤ n) × (n ≤ length log)
+      number_in {l = l} is =
+          let e = is.number_is in
+          let long = ap length is.row ∙ length-append is.before (l ∷ is.behind) in
+          (omega (arith, e), omega (arith, e, long))
+
+  none_read : ToldSoFar [] nothing_read
+  none_read = record {
+    count = refl;
+    rising = λ i j d less inside. absurd (omega (arith, inside));
+    below = λ n is. absurd (nothing_in n is);
+    sound = λ n is. absurd (nothing_in n is);
+    complete = λ n found less. (let some = (number_of n found).0 in absurd (omega (arith, some, less)));
+  }
+
+  module _ (before : List Line) (past : AuditPast) (line : Line) (behind : List Line) (next : AuditPast) (row : log ≡ before ++ line ∷ behind)
+      (read : AuditsLines s nothing_read before past) (takes : AuditsLine s past line next) (told : ToldSoFar before past) where
+    long : length (before ++ line ∷ []) ≡ length before + 1
+    long = length-append before (line ∷ [])
+
+    next_told : ToldSoFar (before ++ line ∷ []) next
+    next_told = elim (adds s log m accuses before past line behind next row read takes told.count) [
+      | inl same ↦
+          let lines : lines_of next ≡ lines_of past = ap (map (λ (n : Noted). n.line)) same in
+          record {
+            count = counts_on s log m accuses before past line behind next row read takes told.count;
+            rising = subst (AllPairs (λ (a b : ℕ). a < b)) (sym lines) told.rising;
+            below = λ n is. (let least = told.below n (subst (λ (l : List ℕ). Contains l n) lines is) in omega (arith, long, least));
+            sound = λ n is. told.sound n (subst (λ (l : List ℕ). Contains l n) lines is);
+            complete = λ n found less. subst (λ (l : List ℕ). Contains l n) (sym lines) (elim (cases_le n (length before)) [
+              | inl inside ↦ told.complete n found inside
+              | inr above ↦
+                  let is : n ≡ length before + 1 = omega (arith, long, less, above) in
+                  let grows = found_grows s log m accuses before past line behind next row read takes told.count (subst (λ (k : ℕ). IsFoundAt s log k m) is found) in
+                  absurd (no_more (hits m past.noted) grows.0 grows.1 (sym same ∙ grows.2))
+            ]);
+          }
+      | inr (x, more, number, found) ↦
+          let lines : lines_of next ≡ lines_of past ++ (length before + 1) ∷ [] =
+          ap (map (λ (n : Noted). n.line)) more ∙ map-append (λ (n : Noted). n.line) (hits m past.noted) (x ∷ [])
+          ∙ ap (λ (k : ℕ). lines_of past ++ k ∷ []) number in
+          record {
+            count = counts_on s log m accuses before past line behind next row read takes told.count;
+            rising = subst (AllPairs (λ (a b : ℕ). a < b)) (sym lines) (all_pairs_push (λ (a b : ℕ). a < b) (lines_of past) (length before + 1) told.rising
+                (λ k d inside. (let least = told.below (get_or (lines_of past) k d) (Contains-get_or (lines_of past) k d inside) in omega (arith, least))));
+            below = λ n is. elim (Contains-push_cases (lines_of past) (length before + 1) n (subst (λ (l : List ℕ). Contains l n) lines is)) [
+              | inl old ↦ (let least = told.below n old in omega (arith, long, least))
+              | inr new ↦ omega (arith, long, new)
+            ];
+            sound = λ n is. elim (Contains-push_cases (lines_of past) (length before + 1) n (subst (λ (l : List ℕ). Contains l n) lines is)) [
+              | inl old ↦ told.sound n old
+              | inr new ↦ subst (λ (k : ℕ). IsFoundAt s log k m) new found
+            ];
+            complete = λ n is less. subst (λ (l : List ℕ). Contains l n) (sym lines) (elim (cases_le n (length before)) [
+              | inl inside ↦ Contains-append_left (lines_of past) ((length before + 1) ∷ []) n (told.complete n is inside)
+              | inr above ↦
+                  let same : length before + 1 ≡ n = omega (arith, long, less, above) in
+                  subst (λ (k : ℕ). Contains (lines_of past ++ (length before + 1) ∷ []) k) same (Contains-push (lines_of past) (length before + 1))
+            ]);
+          }
+    ]
+
+  all_told : (before rest : List Line) (past end : AuditPast) → log ≡ before ++ rest → AuditsLines s nothing_read before past → ToldSoFar before past
+      → AuditsLines s past rest end → ToldSoFar log end
+  all_told before [] past end row read told e =
+      subst (λ (p : AuditPast). ToldSoFar log p) (sym e) (subst (λ (l : List Line). ToldSoFar l past) (sym (row ∙ append-nil before)) told)
+  all_told before (line ∷ rest) past end row read told (next, takes, more) =
+      all_told (before ++ line ∷ []) rest next end (row ∙ sym (append_assoc before (line ∷ []) rest))
+      (line_more s before line nothing_read past next read takes) (next_told before past line rest next row read takes told) more
+
+  tells : (end : AuditPast) → ToldSoFar log end → IsToldAt s log m (told_in end.noted m)
+  unfolding told_at
+  tells end told =
+      elim (hits m end.noted) as (λ xs. hits m end.noted ≡ xs → IsToldAt s log m (told_of xs)) [
+        | [] ↦ λ is. record {
+          lines = [];
+          rising = λ i j d less inside. absurd (omega (arith, inside));
+          exact = λ n. (
+            λ never. absurd (nothing_in n never),
+            λ found.
+                subst (λ (l : List Noted). Contains (map (λ (x : Noted). x.line) l) n) is (told.complete n found (number_of n found).1),
+          );
+          times = refl;
+          first = λ n rest e. absurd (cc e);
+        }
+        | x ∷ more ↦ λ is.
+            let lines : List ℕ = map (λ (y : Noted). y.line) (x ∷ more) in
+            let same : lines_of end ≡ lines = ap (map (λ (y : Noted). y.line)) is in
+            let size : length lines ≡ length more + 1 = (let size = length-map more (λ (y : Noted). y.line) in omega (arith, size)) in
+            record {
+              lines = lines;
+              rising = subst (AllPairs (λ (a b : ℕ). a < b)) same told.rising;
+              exact = λ n. (
+                λ inside. told.sound n (subst (λ (l : List ℕ). Contains l n) (sym same) inside),
+                λ found. subst (λ (l : List ℕ). Contains l n) same (told.complete n found (number_of n found).1),
+              );
+              times = ap (λ (k : ℕ). min k most_times) (sym size);
+              first = λ n rest e. cc e;
+            }
+      ] refl
+
+pub lines_are_of_log : LinesAreOfLog
+lines_are_of_log s log end read m accuses = tells s log m accuses end (all_told s log m accuses [] log nothing_read end refl refl (none_read s log m accuses) read)

@@ -1,0 +1,4 @@
+pub mod AuditedRuns
+pub mod FoundLines
+pub mod OneAudit
+pub mod OwnPart

@@ -1,0 +1,81 @@
+//! Laws of the lines by which the audit command accuses.
+ghost use Rattle.std.specs.Prelude.{ℕ, List};
+ghost use Rattle.j39_audit.specs.Settings.{AreMoving, Settings};
+ghost use Rattle.j39_audit.specs.declared.mark.Word.TheVariants.{Address, Cannot, Layout, NoFlow, Priority, Urgent};
+ghost use Rattle.j39_audit.specs.declared.mark.Word.TheVariants.{Nobody, Short, Stranger};
+ghost use Rattle.j39_audit_laws.specs.AuditedRuns.{ArePartsKept, IsNotWrittenOf};
+ghost use Rattle.j39_audit_laws.specs.FoundLines.{FoundAreListed, LinesAreOfLog};
+ghost use Rattle.j39_audit_laws.specs.OneAudit.{AuditHasOneText};
+ghost use Rattle.j39_audit_laws.specs.OwnPart.{AlwaysCan, AreItsOwn, ClaimsItsOwn, IsNotNamed, LooksAsPlanned, SentBy};
+ghost use Rattle.j39_audit_laws.specs.OwnPart.{WaitsForPlanned};
+ghost use Rattle.j39_findings.specs.Findings.{Clean};
+ghost use Rattle.j39_id.specs.Lines.{Line as ALine};
+ghost use Rattle.j39_network.specs.declared.plan.Plan.{Plan as Plans};
+ghost use Rattle.j39_network.specs.declared.steps.Step.{Step as Steps};
+ghost use Rattle.j39_world.specs.Run.{Run};
+ghost use Rattle.j39_world.specs.World.{World, all_off};
+
+/// For a plan, a log and the options the definition allows one text, with one verdict.
+pub fn an_audit_has_one_text()
+    ensures { AuditHasOneText }
+{}
+
+/// A word that accuses is told with as many lines of the log as have what it is for, each counted once, and with the
+/// first of them (`exact`), and has its line in the text if there is one (`listed`): so this is written exactly where
+/// such a line is in the log.
+pub fn lines_are_of_the_log()
+    ensures exact { LinesAreOfLog }
+    ensures listed { FoundAreListed }
+{}
+
+/// Whatever others do, and however the log was cut: a unit that never says that it can't claim an address gets no
+/// line `cannot` (`cannot`), and none `address` where it claims by the plan, and only its own addresses (`address`).
+/// Frames from an address at which it alone may be have to be its own, and so have claims of its NAMEs.
+pub fn who_claims_by_the_plan_is_not_accused()
+    ensures cannot { (s : Settings) (log : List ALine) (sent : SentBy) (u : ℕ) → AreMoving s.plan s.moving
+        → AreItsOwn s log sent u → AlwaysCan s log sent u → IsNotNamed s log Cannot u }
+    ensures address { (s : Settings) (log : List ALine) (sent : SentBy) (u : ℕ) → AreMoving s.plan s.moving
+        → AreItsOwn s log sent u → ClaimsItsOwn s log sent u → IsNotNamed s log Address u }
+{}
+
+/// Nor does one get a line `layout`, `no_flow` or `priority` each of whose messages with a number of one of its groups
+/// is of one of its flows; nor `urgent`, where all that isn't planned has `unplanned_priority` or a larger number.
+pub fn who_sends_by_the_plan_is_not_accused()
+    ensures layout { (s : Settings) (log : List ALine) (sent : SentBy) (u : ℕ) → AreMoving s.plan s.moving
+        → AreItsOwn s log sent u → LooksAsPlanned s log sent u → IsNotNamed s log Layout u }
+    ensures no_flow { (s : Settings) (log : List ALine) (sent : SentBy) (u : ℕ) → AreMoving s.plan s.moving
+        → AreItsOwn s log sent u → LooksAsPlanned s log sent u → IsNotNamed s log NoFlow u }
+    ensures priority { (s : Settings) (log : List ALine) (sent : SentBy) (u : ℕ) → AreMoving s.plan s.moving
+        → AreItsOwn s log sent u → LooksAsPlanned s log sent u → IsNotNamed s log Priority u }
+    ensures urgent { (s : Settings) (log : List ALine) (sent : SentBy) (u : ℕ) → AreMoving s.plan s.moving
+        → AreItsOwn s log sent u → WaitsForPlanned s log sent u → IsNotNamed s log Urgent u }
+{}
+
+/// Of the frames of any world of any run of a plan without findings, with all lawful choices, cut in front anywhere,
+/// or in a part of a log with any of them missing, with any times or none, no line `short`, `stranger`, `nobody`,
+/// `address`, `cannot`, `layout`, `no_flow` or `priority` is written.
+pub fn runs_are_not_accused()
+    ensures short { (plan : Plans) (steps : List Steps) (w : World) → Clean plan → Run plan all_off steps w
+        → IsNotWrittenOf Short plan w }
+    ensures stranger { (plan : Plans) (steps : List Steps) (w : World) → Clean plan → Run plan all_off steps w
+        → IsNotWrittenOf Stranger plan w }
+    ensures nobody { (plan : Plans) (steps : List Steps) (w : World) → Clean plan → Run plan all_off steps w
+        → IsNotWrittenOf Nobody plan w }
+    ensures address { (plan : Plans) (steps : List Steps) (w : World) → Clean plan → Run plan all_off steps w
+        → IsNotWrittenOf Address plan w }
+    ensures cannot { (plan : Plans) (steps : List Steps) (w : World) → Clean plan → Run plan all_off steps w
+        → IsNotWrittenOf Cannot plan w }
+    ensures layout { (plan : Plans) (steps : List Steps) (w : World) → Clean plan → Run plan all_off steps w
+        → IsNotWrittenOf Layout plan w }
+    ensures no_flow { (plan : Plans) (steps : List Steps) (w : World) → Clean plan → Run plan all_off steps w
+        → IsNotWrittenOf NoFlow plan w }
+    ensures priority { (plan : Plans) (steps : List Steps) (w : World) → Clean plan → Run plan all_off steps w
+        → IsNotWrittenOf Priority plan w }
+{}
+
+/// Who sent the frames of such a log can be told so that what the laws above ask of each unit, but `WaitsForPlanned`, is
+/// kept.
+pub fn runs_keep_all_parts()
+    ensures { (plan : Plans) (steps : List Steps) (w : World) → Clean plan → Run plan all_off steps w
+        → ArePartsKept plan w }
+{}

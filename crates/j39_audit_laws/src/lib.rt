@@ -1,0 +1,9 @@
+//! What the lines of an audit mean, and whom they don't accuse.
+#![tactic(auto)]
+
+mod laws;
+
+pub use laws::{
+    an_audit_has_one_text, lines_are_of_the_log, runs_are_not_accused, runs_keep_all_parts,
+    who_claims_by_the_plan_is_not_accused, who_sends_by_the_plan_is_not_accused,
+};
