@@ -128,7 +128,7 @@ class Report(InFolder):
             self.page(plan)
 
     def test_a_plan_with_choices_has_none(self) -> None:
-        self.assertEqual(run("report.py", example("line.toml")), (1, "", "report: refused plan Choices\n"))
+        self.assertEqual(run("report.py", example("line.toml")), (1, "", "report: refused plan Choices  (--variant LABEL,.. takes the plan of one vehicle)\n"))
 
     def test_plans_in_other_words_have_one_page(self) -> None:
         pages = [run("report.py", self.write("plan.toml", text))[1] for text in (NEWER, MARKED)]
