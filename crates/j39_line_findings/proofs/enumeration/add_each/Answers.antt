@@ -1,4 +1,3 @@
-use Rattle.std.proofs.Common.{sym}
 use Rattle.j39_line_findings.proofs.Enumerating.{one_each}
 use Rattle.j39_line_findings.proofs.enumeration.add_each.Goals as goal
 

@@ -1,5 +1,5 @@
-use Rattle.std.proofs.Common.{◌≡◌, ◌∷◌, ◌++◌, [], ℕ, ◌+◌, ◌≤◌, length, map, drop}
-use Rattle.j39_line_findings.specs.AllVariants.{all_behind, all_variants, combinations, longer, with_each}
+use Rattle.std.proofs.Common.{◌≡◌, ◌++◌, map, drop}
+use Rattle.j39_line_findings.specs.AllVariants.{longer}
 use Rattle.j39_line_findings.proofs.enumeration.longer.Given as goal
 
 abbrev pub invariant-loop-places : goal.invariant-loop-places
