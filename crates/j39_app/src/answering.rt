@@ -8,7 +8,7 @@ ghost use Rattle.j39_app.specs.Faults.{PutsAtOnce};
 ghost use Rattle.j39_app.specs.Known.{MayBeTooLong};
 ghost use Rattle.j39_plan_text.specs.AddressesText.{IsAddressesText};
 ghost use Rattle.j39_plan_text.specs.LoadText.{IsLoadText};
-ghost use Rattle.j39_plan_text.specs.CheckText.{IsCheckText};
+ghost use Rattle.j39_line_text.specs.LineCheckText.{IsLineCheckText};
 ghost use Rattle.j39_plan_text.specs.PlanText.{IsLineText, RefusesChoices};
 ghost use Rattle.j39_plan_text.specs.ShownLines.{IsShowText};
 ghost use Rattle.j39_plan_text.specs.VariantText.{IsVariantText};
@@ -19,7 +19,7 @@ ghost use Rattle.j39_text.specs.FrameText.{IsInputText};
 use crate::answering_audits::audit_files;
 use crate::answering_vehicles::vehicle_files;
 use crate::{
-    Fault, Folder, Order, Sink, Source, Verdict, addresses_text, check_text, follow_text,
+    Fault, Folder, Order, Sink, Source, Verdict, addresses_text, check_line_text, follow_text,
     frame_text, input_text, line_text, load_text, put_all, read_text, refuse_choices, run_planned,
     show_text, variant_text,
 };
@@ -103,10 +103,10 @@ fn check_file<F: Folder, W: Sink>(
     plan: &str,
     sink: &mut W,
 ) -> Result<Verdict, Fault>
-    ensures { EndsByFile (IsOfBytes IsCheckText) (λ known. IsOfSome (IsOfBytes IsCheckText known)) (Unit {0}) plan_limits
+    ensures { EndsByFile (IsOfBytes IsLineCheckText) (λ known. IsOfSome (IsOfBytes IsLineCheckText known)) (Unit {0}) plan_limits
         (F.stays_shut files.now) (F.bytes_of files.now) F.File.state plan.now W.state sink.old sink.new result }
 {
-    check_text(alloc, &mut files.open(plan)?, sink)
+    check_line_text(alloc, &mut files.open(plan)?, sink)
 }
 
 #[inline(never)]
