@@ -5,7 +5,7 @@ use Rattle.j39_app.specs.Known.{AreFrontOf, AreOf, Names}
 use Rattle.j39_app.specs.VehicleAnswers.{IsAnswerOfVehicle}
 use Rattle.j39_plan_text.specs.AddressesText.{IsAddressesText}
 use Rattle.j39_plan_text.specs.LoadText.{IsLoadText}
-use Rattle.j39_plan_text.specs.CheckText.{IsCheckText}
+use Rattle.j39_line_text.specs.LineCheckText.{IsLineCheckText}
 use Rattle.j39_plan_text.specs.ShownLines.{IsShowText}
 use Rattle.j39_plan_text.specs.VariantText.{IsVariantText}
 use Rattle.j39_variants.specs.declared.line.ProductLine.{ProductLine}
@@ -64,7 +64,7 @@ IsAnswer files input (Frame line) text verdict = IsFrameText (string_bytes line)
 IsAnswer files input (Show plan) text verdict = IsOfBytes IsShowText (files (string_bytes plan)) text verdict
 IsAnswer files input (Variant plan labels) text verdict =
     IsOfBytes (IsVariantText (map string_bytes labels.items)) (files (string_bytes plan)) text verdict
-IsAnswer files input (Check plan) text verdict = IsOfBytes IsCheckText (files (string_bytes plan)) text verdict
+IsAnswer files input (Check plan) text verdict = IsOfBytes IsLineCheckText (files (string_bytes plan)) text verdict
 IsAnswer files input (Addresses plan) text verdict = IsOfBytes IsAddressesText (files (string_bytes plan)) text verdict
 IsAnswer files input (Load plan) text verdict = IsOfBytes IsLoadText (files (string_bytes plan)) text verdict
 IsAnswer files input (Run plan schedule) text verdict =

@@ -5,7 +5,7 @@ ghost use Rattle.j39_app.specs.Faults.{AsksForMemory, Ends, EndsByFile, HasFileF
 ghost use Rattle.j39_app.specs.Known.{MayBeTooLong};
 ghost use Rattle.j39_plan_text.specs.AddressesText.{IsAddressesText};
 ghost use Rattle.j39_plan_text.specs.LoadText.{IsLoadText};
-ghost use Rattle.j39_plan_text.specs.CheckText.{IsCheckText};
+ghost use Rattle.j39_line_text.specs.LineCheckText.{IsLineCheckText};
 ghost use Rattle.j39_plan_text.specs.ShownLines.{IsShowText};
 ghost use Rattle.j39_plan_text.specs.VariantText.{IsVariantText};
 ghost use Rattle.j39_stream.specs.CommandEnds.{AnswersWhole, IsOfAny};
@@ -16,7 +16,7 @@ use crate::answering_vehicles::vehicle_files;
 use crate::auditing::Auditing;
 use crate::by_plan::{Following, Reading, Running, by_two};
 use crate::{
-    Fault, Folder, Order, Sink, Source, Verdict, addresses_text, check_text, frame_text,
+    Fault, Folder, Order, Sink, Source, Verdict, addresses_text, check_line_text, frame_text,
     input_text, load_text, put_all, show_text, variant_text,
 };
 use std::alloc::Global;
@@ -69,10 +69,10 @@ fn check_file<F: Folder, W: Sink>(
     plan: &str,
     sink: &mut W,
 ) -> Result<Verdict, Fault>
-    ensures { EndsByFile (IsOfBytes IsCheckText) (λ known. IsOfSome (IsOfBytes IsCheckText known)) (Unit {0}) plan_limits
+    ensures { EndsByFile (IsOfBytes IsLineCheckText) (λ known. IsOfSome (IsOfBytes IsLineCheckText known)) (Unit {0}) plan_limits
         (F.stays_shut files.now) (F.bytes_of files.now) F.File.state plan.now W.state sink.old sink.new result }
 {
-    check_text(alloc, &mut files.open(plan)?, sink)
+    check_line_text(alloc, &mut files.open(plan)?, sink)
 }
 
 #[inline(never)]

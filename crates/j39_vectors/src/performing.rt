@@ -1,7 +1,7 @@
 //! Commands, by what they read.
 use crate::Command;
 use j39_app::{
-    Fault, Sink, Source, Verdict, addresses_text, audit_planned, bus_plan, check_text, follow_text,
+    Fault, Sink, Source, Verdict, addresses_text, audit_planned, bus_plan, check_line_text, follow_text,
     input_text, line_text, load_text, read_text, refuse_choices, run_planned, show_text,
     variant_text, vehicle_file, vehicle_text,
 };
@@ -53,7 +53,7 @@ pub fn perform<P: Source, S: Source, W: Sink>(
 ) -> Result<Verdict, Fault> {
     match command {
         Command::Frame => return input_text(alloc, input, sink),
-        Command::Check => return check_text(alloc, plan, sink),
+        Command::Check => return check_line_text(alloc, plan, sink),
         Command::Show => return show_text(alloc, plan, sink),
         Command::Variant => return variant_text(alloc, &[], plan, sink),
         Command::Addresses => return addresses_text(alloc, plan, sink),

@@ -1,0 +1,3 @@
+pub mod Enumerating
+pub mod EveryVariant
+pub mod VariantVerdicts

@@ -1,0 +1,3 @@
+pub mod AllVariants
+pub mod LineAnswers
+pub mod MissedNeeds

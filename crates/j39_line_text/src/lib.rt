@@ -1,0 +1,8 @@
+//! What is written of the plan of a line of vehicles.
+#![tactic(auto)]
+
+mod certificate;
+mod check;
+mod line_report;
+
+pub use check::check_line_text;
