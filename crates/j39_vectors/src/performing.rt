@@ -1,9 +1,9 @@
 //! Commands, by what they read.
 use crate::Command;
 use j39_app::{
-    Fault, Sink, Source, Verdict, addresses_text, audit_planned, bus_plan, check_line_text, follow_text,
-    input_text, line_text, load_text, read_text, refuse_choices, run_planned, show_text,
-    variant_text, vehicle_file, vehicle_text,
+    Fault, Sink, Source, Verdict, addresses_text, audit_planned, bus_plan, check_line_text,
+    follow_text, input_text, line_text, load_text, read_text, refuse_choices, run_planned,
+    show_text, variant_text, vehicle_file, vehicle_text,
 };
 use j39_id::Label;
 use j39_network::Plan;
