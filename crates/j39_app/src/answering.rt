@@ -13,8 +13,8 @@ ghost use Rattle.j39_stream.specs.Streams.{HasFailed, plan_limits};
 ghost use Rattle.j39_text.specs.FrameText.{IsInputText};
 
 use crate::answering_vehicles::vehicle_files;
-use crate::auditing::Auditing;
-use crate::by_plan::{Following, Reading, Running, by_two};
+use crate::auditing::AuditCommand;
+use crate::by_plan::{FollowCommand, ReadCommand, RunCommand, by_two};
 use crate::{
     Fault, Folder, Order, Sink, Source, Verdict, addresses_text, check_line_text, frame_text,
     input_text, load_text, put_all, show_text, variant_text,
@@ -128,16 +128,16 @@ pub fn answer<F: Folder, S: Source, W: Sink>(
         Order::Check(plan) => check_file(alloc, files, plan, sink),
         Order::Addresses(plan) => addresses_file(alloc, files, plan, sink),
         Order::Load(plan) => load_file(alloc, files, plan, sink),
-        Order::Run(plan, schedule) => by_two(alloc, files, &Running, plan, schedule, sink),
-        Order::Read(plan, log) => by_two(alloc, files, &Reading, plan, log, sink),
+        Order::Run(plan, schedule) => by_two(alloc, files, &RunCommand, plan, schedule, sink),
+        Order::Read(plan, log) => by_two(alloc, files, &ReadCommand, plan, log, sink),
         Order::Follow(plan, log, all_frames) => {
-            let following = Following {
+            let following = FollowCommand {
                 all_frames: *all_frames,
             };
             by_two(alloc, files, &following, plan, log, sink)
         }
         Order::Audit(plan, log, part, stamps) => {
-            let auditing = Auditing {
+            let auditing = AuditCommand {
                 part: *part,
                 stamps: *stamps,
             };

@@ -75,12 +75,12 @@ pub fn audit_planned<S: Source, W: Sink>(
 /// Which premises of the plan a log refutes: of a log in which frames may be missing or of a whole one, by a logger of
 /// this error in microseconds.
 #[derive(Drop)]
-pub(crate) struct Auditing {
+pub(crate) struct AuditCommand {
     pub(crate) part: bool,
     pub(crate) stamps: u64,
 }
 
-impl<F: Folder, W: Sink> ReadsByPlan<F, W> for Auditing {
+impl<F: Folder, W: Sink> ReadsByPlan<F, W> for AuditCommand {
     ghost use Rattle.j39_app.specs.AuditAnswers.{IsAuditOf};
     ghost use Rattle.j39_stream.specs.Streams.{log_limits};
 

@@ -46,9 +46,9 @@ pub(crate) trait ReadsByPlan<F: Folder, W: Sink> {
 }
 
 /// What happens on the bus of the plan by a schedule.
-pub(crate) struct Running;
+pub(crate) struct RunCommand;
 
-impl<F: Folder, W: Sink> ReadsByPlan<F, W> for Running {
+impl<F: Folder, W: Sink> ReadsByPlan<F, W> for RunCommand {
     ghost use Rattle.j39_app.specs.Answers.{IsRunFrontOf, IsRunOf};
     ghost use Rattle.j39_stream.specs.Streams.{plan_limits};
 
@@ -74,9 +74,9 @@ impl<F: Folder, W: Sink> ReadsByPlan<F, W> for Running {
 }
 
 /// What a log says of the groups of the plan.
-pub(crate) struct Reading;
+pub(crate) struct ReadCommand;
 
-impl<F: Folder, W: Sink> ReadsByPlan<F, W> for Reading {
+impl<F: Folder, W: Sink> ReadsByPlan<F, W> for ReadCommand {
     ghost use Rattle.j39_app.specs.Answers.{IsReadFrontOf, IsReadOf};
     ghost use Rattle.j39_stream.specs.Streams.{log_limits};
 
@@ -103,11 +103,11 @@ impl<F: Folder, W: Sink> ReadsByPlan<F, W> for Reading {
 
 /// Who sent what in a log, by its own claims: of all frames, or of those of planned groups.
 #[derive(Drop)]
-pub(crate) struct Following {
+pub(crate) struct FollowCommand {
     pub(crate) all_frames: bool,
 }
 
-impl<F: Folder, W: Sink> ReadsByPlan<F, W> for Following {
+impl<F: Folder, W: Sink> ReadsByPlan<F, W> for FollowCommand {
     ghost use Rattle.j39_app.specs.Answers.{IsFollowFrontOf, IsFollowOf};
     ghost use Rattle.j39_stream.specs.Streams.{log_limits};
 

@@ -1,7 +1,7 @@
 use Rattle.std.proofs.Common.{rules, inl, inr, ap, ◌∙◌}
 use Rattle.j39_app.proofs.AuditEnds.{audit_ends}
 use Rattle.j39_app.proofs.Ending.{not_opened}
-use Rattle.j39_app.proofs.auditing.AuditingReadsByPlan.write.Goals as goal
+use Rattle.j39_app.proofs.auditing.AuditCommandReadsByPlan.write.Goals as goal
 
 pub returns-in_err-open : goal.returns-in_err-open
 returns-in_err-open g c = not_opened _ (search rules) (inl c.in_err-open.ensures.shut)

@@ -1,7 +1,7 @@
 use Rattle.std.proofs.Common.{rules, inl, inr}
 use Rattle.j39_app.proofs.Ending.{not_opened, pieces_end}
 use Rattle.j39_app.proofs.WholeInputs.{whole_where}
-use Rattle.j39_app.proofs.by_plan.FollowingReadsByPlan.write.Goals as goal
+use Rattle.j39_app.proofs.by_plan.FollowCommandReadsByPlan.write.Goals as goal
 
 pub returns-in_err-open : goal.returns-in_err-open
 returns-in_err-open g c = not_opened _ (search rules) (inl c.in_err-open.ensures.shut)
