@@ -40,7 +40,8 @@ ghost use Rattle.j39_load.specs.Ranks.{AreHeldApart, AreHeldByPlan, AreTwinFlows
 ghost use Rattle.j39_load.specs.Ranks.{IsShortFlow, LieBetween, RequestLiesBetween};
 ghost use Rattle.j39_load.specs.ReadInTime.{AreNeedsRead, AreWritten};
 ghost use Rattle.j39_load.specs.RequestLoads.{request_ident};
-ghost use Rattle.j39_load.specs.SentFrames.{First, FrameSources, Held, Single, bit_time};
+ghost use Rattle.j39_load.specs.Clocks.{bit_time};
+ghost use Rattle.j39_load.specs.SentFrames.{First, FrameSources, Held, Single};
 ghost use Rattle.j39_findings.specs.Standing.{DecidesWhoStays};
 ghost use Rattle.j39_load.specs.ToldBytes.{IsToldOf, LeaveSelector};
 ghost use Rattle.j39_load.specs.ValuesInTime.{AreValuesInTime};

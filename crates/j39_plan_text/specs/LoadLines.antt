@@ -19,7 +19,7 @@ use Rattle.j39_load.specs.Ages.{has_several, least_age, youngest_flow}
 use Rattle.j39_load.specs.Asked.{Asked, total_load}
 use Rattle.j39_load.specs.LoadFindings.{load_finding_number, time_of_each}
 use Rattle.j39_load.specs.Loads.{bits_of_ms, bits_of_second}
-use Rattle.j39_load.specs.SentFrames.{bit_time}
+use Rattle.j39_load.specs.Clocks.{bit_time}
 use Rattle.j39_load.specs.LineLists.{lines_of_each}
 use Rattle.j39_plan_text.specs.FindingLines.{is_between}
 use Rattle.j39_text.specs.Labels.{group_label, need_text, unit_label}

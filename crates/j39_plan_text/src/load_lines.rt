@@ -8,7 +8,7 @@ ghost use Rattle.j39_plan_text.specs.LoadLines.{microseconds_field, need_line, r
 ghost use Rattle.j39_plan_text.specs.LoadLines.{within_text};
 ghost use Rattle.j39_load.specs.AskedLoads.{asked_in};
 ghost use Rattle.j39_load.specs.LineLists.{lines_of_each};
-ghost use Rattle.j39_load.specs.SentFrames.{bit_time};
+ghost use Rattle.j39_load.specs.Clocks.{bit_time};
 
 use crate::finding_lines::is_between;
 use j39_load::{

@@ -204,6 +204,7 @@ unplanned_priority = 3
 transport_priority = 6
 broadcast_gap = 10
 broadcast_gap_most = 20
+drift = 50
 errors = { count = 2, every = 500 }
 
 [[unit]]
@@ -300,6 +301,7 @@ fn what_version_4_knows_is_read_whole(rt: HostRuntime) -> Result<(), Fail> {
         transport_priority: 6,
         broadcast_gap: 10,
         broadcast_gap_most: 20,
+        drift: 50,
         errors: Some(ErrorRate {
             count: 2,
             every: 500,
