@@ -23,6 +23,7 @@ use Rattle.j39_load.specs.Loads.{bits_per_ms, is_any}
 use Rattle.j39_load.specs.SentFrames.{Asking, Announcing, Broadcasts, Carrying, First, FrameSources, Held, InSession, IsBroadcastFrame, IsFrameOf, IsSentByUnit, Single}
 use Rattle.j39_load.specs.SentFrames.{IsWithinUnitMs, Source}
 use Rattle.j39_load.proofs.KeepingApart as alone
+use Rattle.std.proofs.Math.Nat.{mul-le-mul_right}
 use Rattle.j39_load.proofs.Milliseconds.{at_once, in_ms_behind, in_unit_ms}
 use Rattle.j39_load.proofs.Slots.{ends_before, slots, slots_any_order, slots_legal}
 use Rattle.j39_timing.specs.AnyOrder.{Controllers}

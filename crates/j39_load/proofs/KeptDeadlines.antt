@@ -33,7 +33,7 @@ use Rattle.j39_load.specs.KeepsPlan.{KeepsQueues, KeepsToPlan, origins_of, sourc
 use Rattle.j39_load.specs.KeptDeadlines.{AreEachInTime, AreSentWhole, TakeTurns, whole_from}
 use Rattle.j39_load.specs.LoadFindings.{AreLoadFindings, AsksOfBus, load_findings}
 use Rattle.j39_load.specs.Loads.{bits_at_least, bits_at_most, bits_inside, load_of_flow}
-use Rattle.j39_load.specs.SentFrames.{Announcing, Broadcasts, Carrying, FrameSources, Held, IsToAllBy, IsWithinMs}
+use Rattle.j39_load.specs.SentFrames.{Announcing, Broadcasts, Carrying, FrameSources, Held, IsToAllBy, IsWithinUnitMs}
 use Rattle.j39_load.proofs.BoundedFlows.{sent_in_any_order}
 use Rattle.j39_load.proofs.KeepingTurns.{broadcasts_in_any_order}
 use Rattle.j39_load.proofs.Milliseconds.{before_bits, behind_bits, in_ms, within_bits}

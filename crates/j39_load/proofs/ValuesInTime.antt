@@ -40,8 +40,8 @@ use Rattle.j39_timing.specs.TimedFrames.{Schedule}
 -- a time that is over in so many bits more
 aged : (timing : Timing) (time : ℕ → ℕ) → IsTrueTime timing time → (pause within bits born last now : ℕ) → last + bits ≡ now → time last < time born + 1000 * pause * longest_million timing
     → us_of_unit_ms timing pause + us_of_bits timing bits ≤ within → time now ≤ time born + within * million
-aged timing time true pause within bits born last now sum near asked =
-    let on = true.at_most last now (omega (arith, sum)) in
+aged timing time clock pause within bits born last now sum near asked =
+    let on = clock.at_most last now (omega (arith, sum)) in
     let span : now - last ≡ bits = omega (arith, sum) in
     let same : (now - last) * bit_time timing.bitrate * longest_million timing ≡ bits * bit_time timing.bitrate * longest_million timing =
     ap (λ (n : ℕ). n * bit_time timing.bitrate * longest_million timing) span in
@@ -118,7 +118,7 @@ module _ (plan : Plan) (timing : Timing) (clean : Clean plan) (stays : UnitPlan 
       → AreReadYoung s planned (origins_of plan sent) read.fresh.place read.group bytes written (silent + read.fresh.bits)
       (from + read.fresh.bits) (to + read.fresh.bits))
       → ArriveOn plan timing s planned sent read.fresh.place its_pace.pace read.fresh.pause read.group within
-  arrive s planned sent young bytes written time true from to pausing shown t behind up =
+  arrive s planned sent young bytes written time clock from to pausing shown t behind up =
       let seen = before_bits timing its_pace.pace.period to s.now shown in
       let fewer = least_inside timing its_pace.pace.period in
       let low = behind_bits timing its_pace.pace.period from t behind in
@@ -136,8 +136,8 @@ module _ (plan : Plan) (timing : Timing) (clean : Clean plan) (stays : UnitPlan 
             let reads = each q newest in
             let age = reads.young in
             let later : sent.release p ≤ sent.release q = omega (arith, age, back, release) in
-            let on = true.at_least (sent.release p) (sent.release q) later in
-            let old = aged timing time true read.fresh.pause (1000 * within) read.fresh.bits (sent.release p) last t back near read.fresh.young in
+            let on = clock.at_least (sent.release p) (sent.release q) later in
+            let old = aged timing time clock read.fresh.pause (1000 * within) read.fresh.bits (sent.release p) last t back near read.fresh.young in
             (omega (arith, on, old), reads.read),
       )
 
