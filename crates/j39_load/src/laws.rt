@@ -264,8 +264,8 @@ pub fn long_messages_can_be_sent_whole()
         → CanBeSentWhole plan timing f flow.sender packets }
 {}
 
-/// What `load` counts bounds the planned frames of a bus: on each bus that keeps to a clean plan in the plan's own words
-/// no more bits of them are queued than `total_load` a second, and a number more that is the same however long the bus
+/// What `load` counts bounds the planned frames of a bus whose clocks agree (`drift` is 0): on each bus that keeps to a
+/// clean plan in the plan's own words no more bits of them are queued than `total_load` a second, and a number more that is the same however long the bus
 /// runs; so it is with the bits of damaged attempts and of the error frames behind them.
 pub fn loads_hold_in_the_long_run()
     ensures { (plan : Plans) (timing : Timings) (stays : PlannedUnits → Bool) → Clean plan
