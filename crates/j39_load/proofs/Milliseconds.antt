@@ -252,9 +252,9 @@ exact_up x f m same some =
     one q low high = elim (cases_lt q x) [
       | inl less ↦ absurd (let times : suc q * m ≤ x * m = mul-le-mul_right m less in omega (arith, times, low, some))
       | inr from ↦ elim (cases_lt x q) [
-          | inl more ↦ absurd (let times : suc x * m ≤ q * m = mul-le-mul_right m more in omega (arith, times, high))
-          | inr back ↦ omega (arith, from, back)
-        ]
+        | inl more ↦ absurd (let times : suc x * m ≤ q * m = mul-le-mul_right m more in omega (arith, times, high))
+        | inr back ↦ omega (arith, from, back)
+      ]
     ]
 
 pub agreed_least : (timing : Timing) (ms : ℕ) → timing.drift ≡ 0 → bits_at_least timing ms ≡ bits_of_ms timing ms

@@ -24,5 +24,5 @@ pub(crate) use planned_bus::PlannedBus;
 pub use streams::{bits_of_ms, bits_of_second, us_of_bits};
 pub(crate) use streams::{
     bits_at_least, bits_at_most, bits_each, bits_inside, frames_to_all, load_of, longest_million,
-    us_of_unit_ms, packet_stream, request_stream, single_stream, spaced_stream,
+    packet_stream, request_stream, single_stream, spaced_stream, us_of_unit_ms,
 };

@@ -83,12 +83,7 @@ fn write_time(text: &mut TextBuffer, word: &str, us: u128) -> Result<(), AllocEr
 }
 
 #[tactic(auto, unfolding(crate::specs::LoadLines::within_text))]
-fn write_within(
-    text: &mut TextBuffer,
-    word: &str,
-    limit: u32,
-    us: u128,
-) -> Result<(), AllocError>
+fn write_within(text: &mut TextBuffer, word: &str, limit: u32, us: u128) -> Result<(), AllocError>
     ensures { OnOk result (text.new ≡ text.old ++ within_text word.now limit us) }
 {
     text.field(word, us)?;
@@ -137,7 +132,13 @@ fn write_whole(
     match (deadline, whole.bits) {
         (Some(deadline), _) => {
             let us = us_of_each(timing, whole);
-            write_limited(text, " whole within ", " late ", 1_000 * u32::from(deadline), us)
+            write_limited(
+                text,
+                " whole within ",
+                " late ",
+                1_000 * u32::from(deadline),
+                us,
+            )
         }
         (None, Some(bits)) => write_time(text, " whole within ", us_of_bits(timing, bits)),
         (None, None) => Ok(()),

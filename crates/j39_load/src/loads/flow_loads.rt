@@ -13,8 +13,8 @@ ghost use Rattle.j39_tp.specs.Chunks.{packets_of};
 
 use crate::frames::{
     Broadcast, Extreme, FlowFrames, Messages, PlannedBus, any_unit, bits_at_least, bits_at_most,
-    bits_inside, group_ident,
-    load_of, packet_ident, packet_stream, session_ident, single_stream, twin_ident,
+    bits_inside, group_ident, load_of, packet_ident, packet_stream, session_ident, single_stream,
+    twin_ident,
 };
 use crate::loads::flow_load::FlowLoad;
 use j39_id::limits::FRAME_BYTES;

@@ -35,8 +35,11 @@ returns-then-has_drift-clause-answers g c =
     let label : List ℕ = c.args.label.now.bytes in
     let read = c.in_ok-input.ensures.whole in
     let reads : ReadsProductLine (Ok c.in-Ok.line) (tree_of input) = rw c.as_slice.ensures.value at c.in-Ok.ensures.reads in
-    let has : DescribesDrift input = (c.in-Ok.line.plan, (c.in-Ok.line, reads, c.has_choices.ensures.none c.if-has_choices.false, refl),
-    sym c.has_drift.ensures ∙ c.if-has_drift.true) in
+    let has : DescribesDrift input = (
+      c.in-Ok.line.plan,
+      (c.in-Ok.line, reads, c.has_choices.ensures.none c.if-has_choices.false, refl),
+      sym c.has_drift.ensures ∙ c.if-has_drift.true,
+    ) in
     read_and_put input
     (λ text plan is. let refused : IsRefusedBus label input text = inr (inr (has, is.0)) in (rw is.1 refused, refused))
     c.refuse_drift.result read.0 read.1 c.in_ok-input.ensures.limits (c.in_ok-input.ensures.calm (λ e. cc e)) c.refuse_drift.ensures
