@@ -1,0 +1,3 @@
+pub mod Enumerating
+pub mod Ranking
+pub mod Witnesses
