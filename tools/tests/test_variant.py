@@ -178,7 +178,7 @@ class Taken(InFolder):
         answer = run("against.py", line, log, "--variant", "DETROIT,RETARDER")[1]
         self.assertIn("line.toml: flow 3, ERC1 from R to all: never sent", answer)
         status, compared, _ = run("compare.py", line, example("truck.toml"), "--variant", "DETROIT")
-        self.assertIn("line.toml:23: unit D: gone", compared)
+        self.assertIn(f"{example('truck.toml')}:6: unit ENGINE: it was called D ({line}:24)\n", compared)
 
     def test_its_page_has_the_choices(self) -> None:
         status, page, _ = run("report.py", example("line.toml"), "--variant", "RETARDER")
