@@ -87,7 +87,7 @@ known_timing_lines t =
     ++ (value_line at.Timing key.UnplannedPriority (decimal t.unplanned_priority)
     ++ (value_line at.Timing key.TransportPriority (decimal t.transport_priority)
     ++ (value_line at.Timing key.BroadcastGap (decimal t.broadcast_gap) ++ (value_line at.Timing key.BroadcastGapMost (decimal t.broadcast_gap_most)
-    ++ error_lines t.errors)))))
+    ++ (value_line at.Timing key.Drift (decimal t.drift) ++ error_lines t.errors))))))
 
 unfoldable pub timing_lines : Option Timing → List ℕ
 timing_lines None = []

@@ -90,6 +90,7 @@ fn write_known_timing(text: &mut TextBuffer, timing: Timing) -> Result<(), Alloc
         Key::BroadcastGapMost,
         timing.broadcast_gap_most,
     )?;
+    write_number(text, table, Key::Drift, timing.drift)?;
     write_errors(text, timing.errors)
 }
 
