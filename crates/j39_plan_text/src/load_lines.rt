@@ -310,6 +310,13 @@ fn write_known_age(
     write_age_flow(text, plan, timing, delays, need)
 }
 
+// The microseconds of a need's age, which its file has in milliseconds.
+fn us_of_within(within: u16) -> u32
+    ensures { result ≡ 1000 * within }
+{
+    1_000 * u32::from(within)
+}
+
 // A need and its age, where it asks for one.
 #[tactic(auto, unfolding(crate::specs::LoadLines::need_line))]
 fn write_need_line(
@@ -327,8 +334,7 @@ fn write_need_line(
         return Ok(());
     };
     write_need(text, plan, place, need)?;
-    let limit = 1_000 * u32::from(within);
-    write_known_age(text, plan, timing, delays, need, limit)?;
+    write_known_age(text, plan, timing, delays, need, us_of_within(within))?;
     text.end_line()
 }
 
