@@ -214,6 +214,14 @@ class Lint(InFolder):
         taken = self.lines(LINTED.replace("version = 2", "version = 4") + flow + needs + 'from = "B"\n[[need]]\nunit = "A"\ngroup = "TSC1"\n')[1]
         self.assertEqual([hint for hint in taken if " need" in hint], [])
 
+    def test_clocks_that_agree(self) -> None:
+        """A plan of version 4 with timing whose clocks are taken for exact; not one with a drift, nor one of version 3, nor without timing."""
+        plan = LINTED.replace("version = 2", "version = 4\ntiming = { bitrate = 250000, unplanned = 0 }")
+        hint = "2: hint drift 0: no two clocks agree for ever"
+        for text, told in ((plan, [hint]), (plan.replace("unplanned = 0", "unplanned = 0, drift = 500"), []), (plan.replace("version = 4", "version = 3"), []),
+                           (plan.replace("timing =", "#"), [])):
+            self.assertEqual([line for line in self.lines(text)[1] if "drift" in line], told)
+
     def test_hints_at_broadcasts(self) -> None:
         """Those that take longer than their period, at the gap of the plan; to one unit, and without timing, there are none."""
         plan = LINTED.replace("version = 2", "version = 4\ntiming = { bitrate = 250000, unplanned = 0 }").replace("length = 7", "length = 8\nmost = 140")

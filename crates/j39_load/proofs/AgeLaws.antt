@@ -1,5 +1,5 @@
 -- How old what a unit needs is at most.
-use Rattle.std.proofs.Common.{◌≡◌, ℕ, suc, if◌then◌else◌, ◌+◌, ◌<◌, ◌≤◌, ◌⊎◌, Bool, true, false, not, ◌&&◌, List, [], ◌∷◌, ◌++◌, length, get_or, Option, Some}
+use Rattle.std.proofs.Common.{◌≡◌, ℕ, suc, if◌then◌else◌, ◌+◌, ◌*◌, ◌<◌, ◌≤◌, ◌⊎◌, Bool, true, false, not, ◌&&◌, List, [], ◌∷◌, ◌++◌, length, get_or, Option, Some}
 use Rattle.std.proofs.Common.{None, refl, sym, ap, ◌∙◌, subst, inl, inr, arith}
 use Rattle.std.proofs.lemmas.Bool.{cases_Bool, cases_lt, false≢true, leb-true, true≢false}
 use Rattle.std.proofs.lemmas.List.{length-map}
@@ -27,7 +27,7 @@ use Rattle.j39_load.specs.Ages.{ages_for, ages_of, is_in_limit, is_too_old, leas
 use Rattle.j39_load.specs.FreshNeeds.{AreNeedAgesBounds, AreNeedsFresh, IsNeedFresh}
 use Rattle.j39_load.specs.LoadFindings.{AreLoadFindings, AsksOfBus, load_findings}
 use Rattle.j39_load.specs.Asked.{asked_of, total_load}
-use Rattle.j39_load.specs.Loads.{bits_of_ms, load_of_flow, loads_of}
+use Rattle.j39_load.specs.Loads.{load_of_flow, loads_of, us_of_bits, us_of_unit_ms}
 use Rattle.j39_load.specs.LineLists.{lines_of_each}
 use Rattle.j39_load.proofs.BoundedFlows.{bounded}
 use Rattle.j39_load.proofs.LeastKnown.{least_of_both}
@@ -58,10 +58,10 @@ module _ (timing : Timing) (age : ℕ) where
     pub paused : flow.pause ≡ Some pause
     pub bits : ℕ
     pub delayed : delay ≡ Some (Within bits)
-    pub sum : age ≡ bits_of_ms timing pause + bits
+    pub sum : age ≡ us_of_unit_ms timing pause + us_of_bits timing bits
 
   sum_within : (flow : FlowPlan) (bits : ℕ) (asked : Bool) (pause : Option ℕ) → flow.on_request ≡ asked → flow.pause ≡ pause
-      → least (if asked then [] else option_map_or (λ p. (bits_of_ms timing p + bits) ∷ []) pause []) ≡ Some age
+      → least (if asked then [] else option_map_or (λ p. (us_of_unit_ms timing p + us_of_bits timing bits) ∷ []) pause []) ≡ Some age
       → IsSumOf true flow (Some (Within bits))
   sum_within flow bits true pause asked paused is = absurd (none-some age is)
   sum_within flow bits false None asked paused is = absurd (none-some age is)
@@ -123,7 +123,7 @@ young_where true young met none = absurd (true≢false met)
 young_where false true met none = refl
 young_where false false met none = absurd (true≢false none)
 
--- what has an age brings it on every bus, where this is no more than so many bits
+-- what has an age brings it on every bus, where this is no more than so many microseconds
 module _ (plan : Plan) (timing : Timing) (stays : UnitPlan → Bool) (delays : List (Option Delay)) (asks : AsksOfBus plan timing stays delays)
     (need : NeedPlan) (age most : ℕ) (is_age : least_age timing plan.requests.items plan.flows.items delays need ≡ Some age) (young : age ≤ most) where
   pub aged_need : IsNeedFresh plan timing (asked_of timing plan stays) delays need most
@@ -152,13 +152,13 @@ module _ (plan : Plan) (timing : Timing) (stays : UnitPlan → Bool) (delays : L
         delayed = delayed;
         young = omega (arith, young, sum.sum);
         bounded = bound;
-        in_any_order = λ s controllers planned of legal known from to coming seen.
-            subst (λ (b : ℕ). IsFresh s planned of place (bits_of_ms timing sum.pause + b) (from + b) (to + b)) (sym bound.sum)
-            (fresh s planned of place bound.frames.stream bound.wait (bits_of_ms timing sum.pause) from to
+        in_any_order = λ silent s controllers planned of legal known from to coming seen.
+            subst (λ (b : ℕ). IsFresh s planned of place (silent + b) (from + b) (to + b)) (sym bound.sum)
+            (fresh s planned of place bound.frames.stream bound.wait silent from to
             (bound.in_any_order s controllers planned of legal known) coming seen);
-        fresh = λ ordered s planned of legal known from to coming seen.
-            subst (λ (b : ℕ). IsFresh s planned of place (bits_of_ms timing sum.pause + b) (from + b) (to + b)) (sym bound.sum)
-            (fresh s planned of place bound.frames.stream bound.wait (bits_of_ms timing sum.pause) from to
+        fresh = λ silent ordered s planned of legal known from to coming seen.
+            subst (λ (b : ℕ). IsFresh s planned of place (silent + b) (from + b) (to + b)) (sym bound.sum)
+            (fresh s planned of place bound.frames.stream bound.wait silent from to
             (bound.bounds ordered s planned of legal known) coming seen);
       }
 
@@ -187,10 +187,10 @@ module _ (plan : Plan) (timing : Timing) (clean : Clean plan) (stays : UnitPlan 
             let here : get_or plan.needs.items k d ≡ d = get_or_from_slice_get plan.needs.items k d d is in
             subst (λ (x : NeedPlan). SomeMeets (Meets plan.requests.items x) plan.flows.items) here ((parts_of plan clean).needs k d below)
 
-    fresh_need : IsNeedFresh plan timing (asked_of timing plan stays) delays need (bits_of_ms timing within)
+    fresh_need : IsNeedFresh plan timing (asked_of timing plan stays) delays need (1000 * within)
     fresh_need =
         let (age, is_age, young) = young_age _ _ (young_where _ _ met not_too_old) in
-        aged_need plan timing stays delays asks need age (bits_of_ms timing within) is_age young
+        aged_need plan timing stays delays asks need age (1000 * within) is_age young
 
 pub fresh_where_checked : (plan : Plan) (timing : Timing) → Clean plan → AreLoadFindings plan (Some timing) [] → AreNeedsFresh plan timing
 fresh_where_checked plan timing clean (stays, delays, asks, none) =

@@ -4,8 +4,10 @@ use Rattle.std.proofs.Common.{ℕ, zero, suc, ◌+◌, ◌*◌, ◌<◌, ◌≤�
 use Rattle.std.proofs.Math.Nat.{mul-le-mul_right}
 use Rattle.std.proofs.lemmas.Bool.{cases_Bool, cases_lt, le-ltb, lt-ltb}
 use Rattle.j39_network.specs.declared.plan.timing.Timing.{Timing}
+use Rattle.j39_load.specs.Clocks.{bit_time, longest_million, million}
 use Rattle.j39_load.specs.KeepsErrors.{attempts_within, begins_within}
-use Rattle.j39_load.specs.SentFrames.{IsMsBehind, bit_time}
+use Rattle.j39_load.specs.Loads.{bits_inside}
+use Rattle.j39_load.proofs.Milliseconds.{window_apart}
 use Rattle.j39_timing.specs.Errors.{Damaged, IsBusWithErrors}
 use Rattle.j39_timing.specs.Sums.{total}
 use Rattle.j39_timing.specs.TimedFrames.{Schedule}
@@ -38,18 +40,19 @@ attempt_few s d bus short e below = elim (cases_Bool (d.lost e)) [
 module _ (timing : Timing) (ms many : ℕ) (d : Damaged) (in_order : (e f : ℕ) → e ≤ f → f < d.count → d.begin e ≤ d.begin f)
     (seldom : (from : ℕ) → attempts_within timing ms d from ≤ many) (e : ℕ) (below : e + many < d.count) where
   abbrev micros : ℕ → ℕ
-  micros f = d.begin f * bit_time timing.bitrate
+  micros f = d.begin f * bit_time timing.bitrate * longest_million timing
 
-  counts : micros (e + many) < micros e + 1000 * ms
+  counts : micros (e + many) < micros e + 1000 * ms * million
       → (i : ℕ) → e ≤ i → i < e + suc many → 1 ≤ cond (begins_within timing ms d (d.begin e) i) 1 0
   counts near i from before =
       let first = in_order e i from (omega (arith, before, below)) in
-      let last : micros i ≤ micros (e + many) = mul-le-mul_right (bit_time timing.bitrate) (in_order i (e + many) (omega (arith, before)) below) in
-      rw (le-ltb (d.begin i) (d.begin e) first, lt-ltb (micros i) (micros e + 1000 * ms) (omega (arith, last, near))) (omega arith)
+      let last : micros i ≤ micros (e + many) =
+      mul-le-mul_right (longest_million timing) (mul-le-mul_right (bit_time timing.bitrate) (in_order i (e + many) (omega (arith, before)) below)) in
+      rw (le-ltb (d.begin i) (d.begin e) first, lt-ltb (micros i) (micros e + 1000 * ms * million) (omega (arith, last, near))) (omega arith)
 
-  pub a_window_apart : IsMsBehind timing ms (d.begin e) (d.begin (e + many))
-  a_window_apart = elim (cases_lt (micros (e + many)) (micros e + 1000 * ms)) [
-    | inr apart ↦ apart
+  pub a_window_apart : d.begin e + bits_inside timing ms ≤ d.begin (e + many)
+  a_window_apart = elim (cases_lt (micros (e + many)) (micros e + 1000 * ms * million)) [
+    | inr apart ↦ window_apart timing ms (d.begin e) (d.begin (e + many)) apart
     | inl near ↦ absurd (
         let few = seldom (d.begin e) in
         let more : suc many ≤ attempts_within timing ms d (d.begin e) =

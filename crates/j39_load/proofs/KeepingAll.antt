@@ -27,10 +27,12 @@ use Rattle.j39_load.specs.KeptTogether.{CanSendAll, HasBeenSent}
 use Rattle.j39_load.specs.Loads.{bits_per_ms, is_any}
 use Rattle.j39_load.specs.Ranks.{AreHeldApart}
 use Rattle.j39_load.specs.SentFrames.{Broadcasts, IsBroadcastFrame, FrameSources, Held, IsFrameOf, IsPart, IsSentByUnit, IsRequestFrame, IsSessionFrame}
-use Rattle.j39_load.specs.SentFrames.{IsSingleFrame, Part, SendsPart, Source, bit_time, goes_to, part_identifier}
+use Rattle.j39_load.specs.Clocks.{bit_time}
+use Rattle.j39_load.specs.SentFrames.{IsSingleFrame, IsWithinUnitMs, Part, SendsPart, Source, goes_to, part_identifier}
 use Rattle.j39_load.specs.SentFrames.{Announcing, Carrying, Single, First, InSession, Asking, RequestToSend, Packet, ClearToSend, EndAcknowledged}
 use Rattle.j39_load.proofs.KeepingApart as alone
 use Rattle.j39_load.proofs.KeepingFrames.{one_to}
+use Rattle.j39_load.proofs.Milliseconds.{at_once, in_ms_behind, in_unit_ms, own_ms}
 use Rattle.j39_load.proofs.Slots.{ends_before, slots, slots_any_order, slots_legal}
 use Rattle.j39_timing.specs.AnyOrder.{Controllers}
 use Rattle.j39_timing.specs.Rounds.{all_planned}
@@ -187,7 +189,7 @@ module _ (plan : Plan) (timing : Timing) (apart : ArePlannedApart (units_of plan
     short = short;
     length = omega arith;
     release_first = omega arith;
-    jitter_at_most = omega arith;
+    jitter_at_most = at_once timing pace.jitter (p * width);
     sender_named = λ t queued. alone.sender_named plan timing apart f flow pace group its paced of short 0;
     receiver_named = λ t w queued goes. alone.receiver_named plan timing apart f flow pace group its paced of short 0 w goes;
     identifier = λ t queued. is;
@@ -206,11 +208,11 @@ module _ (plan : Plan) (timing : Timing) (apart : ArePlannedApart (units_of plan
     identifier = λ t queued. is;
   }
 
-  in_time : (p : ℕ) → p < n → p * width * bit_time timing.bitrate ≤ 0 * bit_time timing.bitrate + 1000 * (its_pace.period + its_pace.jitter)
+  in_time : (p : ℕ) → p < n → IsWithinUnitMs timing (its_pace.period + its_pace.jitter) 0 (p * width)
   in_time p below =
       let slots : p * width ≤ n * width = mul-le-mul_right width (omega (arith, below)) in
       let most : p * width * bit_time timing.bitrate ≤ n * width * bit_time timing.bitrate = mul-le-mul_right (bit_time timing.bitrate) slots in
-      omega (arith, most, fits)
+      in_unit_ms timing (its_pace.period + its_pace.jitter) 0 (p * width) (own_ms timing (its_pace.period + its_pace.jitter) 0 (p * width) (omega (arith, most, fits)))
 
   sends_to_all : w < length plan.units.items
   sends_to_all = all_at (λ (y : FlowPlan). y.sender < length plan.units.items) plan.flows.items plan.flow_senders h to_all h_is
@@ -318,7 +320,7 @@ module _ (plan : Plan) (timing : Timing) (apart : ArePlannedApart (units_of plan
       shortest = shortest;
       longest = longest;
       release_first = omega arith;
-      jitter_at_most = omega arith;
+      jitter_at_most = at_once timing h_pace.jitter _;
       wanted_first = omega arith;
     };
     apart = λ x m k ms pair. absurd (never_two x m k pair.0 pair.1);
@@ -332,8 +334,8 @@ module _ (plan : Plan) (timing : Timing) (apart : ArePlannedApart (units_of plan
         mul-le-mul_right width (omega (arith, slot));
     before = λ p x m k later in_p is source less below. absurd (never_two x m later less below);
     gaps = λ p q x m later j k in_p in_q other is_p is_q first second. elim (cases_lt p q) [
-      | inl less ↦ inl (alone.in_ms_behind timing.bitrate timing.broadcast_gap (p * width) (q * width) (let far = ends_before width p q less in omega (arith, far)))
-      | inr past ↦ inr (alone.in_ms_behind timing.bitrate timing.broadcast_gap (q * width) (p * width)
+      | inl less ↦ inl (in_ms_behind timing timing.broadcast_gap (p * width) (q * width) (let far = ends_before width p q less in omega (arith, far)))
+      | inr past ↦ inr (in_ms_behind timing timing.broadcast_gap (q * width) (p * width)
           (let far = ends_before width q p (omega (arith, past, other)) in omega (arith, far)))
     ];
   }

@@ -31,11 +31,12 @@ use Rattle.j39_load.specs.KeptTogether.{CanBeKeptTogether}
 use Rattle.j39_load.specs.Loads.{bits_per_ms, is_any}
 use Rattle.j39_load.specs.Ranks.{AreHeldApart}
 use Rattle.j39_load.specs.KeepsBroadcasts.{KeepsBroadcasts}
-use Rattle.j39_load.specs.SentFrames.{Announcing, Broadcasts, Carrying, FrameSources, HasPeriodMs, Held, IsMsBehind, IsSingleFrame, Single, bit_time, goes_to}
+use Rattle.j39_load.specs.SentFrames.{Announcing, Broadcasts, Carrying, FrameSources, HasPeriodMs, Held, IsMsBehind, IsSingleFrame, Single, goes_to}
 use Rattle.j39_load.proofs.DamagedFirst as damaged_first
 use Rattle.j39_findings.proofs.WhoStays.{placed}
 use Rattle.j39_timing.proofs.Rounds.{rounds_legal}
 use Rattle.j39_timing.proofs.Sums.{total-none}
+use Rattle.j39_load.proofs.Milliseconds.{at_once, in_ms_behind, in_unit_ms}
 use Rattle.j39_timing.specs.AnyOrder.{Controllers}
 use Rattle.j39_timing.specs.QueueGroups.{unplanned_queued}
 use Rattle.j39_timing.specs.Errors.{Damaged, with_errors}
@@ -45,18 +46,6 @@ use Rattle.j39_timing.specs.TimedFrames.{Schedule}
 use Rattle.j39_timing.specs.Traffic.{others_queued}
 use Rattle.j39_network.specs.PlannedUnits.{planned_unit, unit_at, units_of}
 use Rattle.j39_world.specs.HeldAddresses.{ArePlannedApart}
-
-pub in_ms_behind : (bitrate : Bitrate) (ms a b : ℕ) → a + ms * bits_per_ms bitrate ≤ b → a * bit_time bitrate + 1000 * ms ≤ b * bit_time bitrate
-in_ms_behind Kbit125 ms a b behind = omega arith
-in_ms_behind Kbit250 ms a b behind = omega arith
-in_ms_behind Kbit500 ms a b behind = omega arith
-in_ms_behind Mbit1 ms a b behind = omega arith
-
-within_ms : (bitrate : Bitrate) (ms a : ℕ) → (a + ms * bits_per_ms bitrate) * bit_time bitrate ≤ a * bit_time bitrate + 1000 * ms
-within_ms Kbit125 ms a = omega arith
-within_ms Kbit250 ms a = omega arith
-within_ms Kbit500 ms a = omega arith
-within_ms Mbit1 ms a = omega arith
 
 -- an identifier has 29 bits
 pub few_bits : (priority pgn d s : ℕ) → priority ≤ 7 → IsPgn pgn → d ≤ 255 → s ≤ 255 → identifier_of priority pgn d s < 2 ^ 29
@@ -203,7 +192,7 @@ module _ (plan : Plan) (timing : Timing) (apart : ArePlannedApart (units_of plan
   period_behind : (p q : ℕ) → p < q → IsMsBehind timing pace.period (p * step) (q * step)
   period_behind p q less =
       let more : step * (p + 1) ≤ step * q = mul-le-mul_left step (omega (arith, less)) in
-      in_ms_behind timing.bitrate pace.period (p * step) (q * step) (omega (arith, more))
+      in_ms_behind timing pace.period (p * step) (q * step) (omega (arith, more))
 
   pub held_apart : (t : ℕ) → AreHeldApart (held.named t) (held.address t)
   held_apart t = planned_apart plan apart t
@@ -225,7 +214,7 @@ module _ (plan : Plan) (timing : Timing) (apart : ArePlannedApart (units_of plan
     short = short;
     length = omega arith;
     release_first = omega arith;
-    jitter_at_most = omega arith;
+    jitter_at_most = at_once timing pace.jitter (p * step);
     sender_named = λ t queued. sender_named;
     receiver_named = λ t v queued goes. receiver_named v goes;
     identifier = λ t queued. refl;
@@ -292,7 +281,7 @@ module _ (plan : Plan) (timing : Timing) (apart : ArePlannedApart (units_of plan
   long_period_behind : (p q : ℕ) → p < q → IsMsBehind timing pace.period (p * long_step) (q * long_step)
   long_period_behind p q less =
       let more : long_step * (p + 1) ≤ long_step * q = mul-le-mul_left long_step (omega (arith, less)) in
-      in_ms_behind timing.bitrate pace.period (p * long_step) (q * long_step) (omega (arith, more))
+      in_ms_behind timing pace.period (p * long_step) (q * long_step) (omega (arith, more))
 
   late_frame : (p : ℕ) → IsSingleFrame plan timing late_bus held f (p * long_step) p
   late_frame p = record {
@@ -305,7 +294,7 @@ module _ (plan : Plan) (timing : Timing) (apart : ArePlannedApart (units_of plan
     short = short;
     length = omega arith;
     release_first = omega arith;
-    jitter_at_most = within_ms timing.bitrate pace.jitter (p * long_step);
+    jitter_at_most = in_unit_ms timing pace.jitter (p * long_step) (p * long_step + jitter) (omega arith);
     sender_named = λ t queued. sender_named;
     receiver_named = λ t v queued goes. receiver_named v goes;
     identifier = λ t queued. refl;
@@ -411,7 +400,7 @@ module _ (plan : Plan) (timing : Timing) (apart : ArePlannedApart (units_of plan
           frames = refl;
           of_flow = λ p. refl;
           all_planned = λ p. refl;
-          jitter = λ p. in_ms_behind timing.bitrate pace.jitter (p * long_step) (p * long_step + jitter) (omega arith);
+          jitter = λ p. in_ms_behind timing pace.jitter (p * long_step) (p * long_step + jitter) (omega arith);
           once = refl;
           of_first = λ e. refl;
           of_another = λ e. refl;

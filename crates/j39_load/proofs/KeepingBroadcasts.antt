@@ -18,7 +18,7 @@ use Rattle.j39_load.specs.Asked.{frames_asked, own_frames, wanting}
 use Rattle.j39_load.specs.Damage.{damage_frames, damage_streams, first_of_all}
 use Rattle.j39_load.specs.declared.frames.broadcast.BroadcastPart.TheVariants.{Announcements, Packets}
 use Rattle.j39_load.specs.Demands.{announcements_demand, demand_by, demands_of, most_packets, packets_demand, want_of, wanted_by, wanted_from, wants_of}
-use Rattle.j39_load.specs.Loads.{bits_of_ms}
+use Rattle.j39_load.specs.Loads.{bits_at_least}
 use Rattle.j39_load.specs.KeepsBroadcasts.{IsMessageToAll, KeepsBroadcasts}
 use Rattle.j39_load.specs.KeepsPlan.{source_place}
 use Rattle.j39_load.specs.SentFrames.{Broadcasts, FrameSources, Held, IsFrameOf, Source, Single, First, InSession, Asking, Announcing, Carrying}
@@ -44,7 +44,7 @@ use Rattle.j39_timing.proofs.AskedFrames.{announcements_asked, packets_asked}
 -- ---- messages of a unit are wanted after a period only
 
 pub record IsTimed (timing : Timing) (b : Broadcast) : Type 0 where
-  pub apart : b.apart ≡ bits_of_ms timing b.period
+  pub apart : b.apart ≡ bits_at_least timing b.period
   pub period : 1 ≤ b.period
 
 module _ (timing : Timing) where
@@ -195,7 +195,7 @@ module _ (plan : Plan) (timing : Timing) (stays : UnitPlan → Bool) (s : Schedu
       | inl below ↦
           let its = each_timed timing plan stays u f blank below in
           let apart = its.apart in
-          let some = some_bits timing.bitrate (get_or bs f blank).period its.period in
+          let some = some_bits timing (get_or bs f blank).period its.period in
           let is = ap (λ (w : Want). w.period) (get_or-map want bs f blank nothing below) in
           let period = its_period (get_or bs f blank) in
           omega (arith, apart, some, is, period)
@@ -221,13 +221,13 @@ module _ (plan : Plan) (timing : Timing) (stays : UnitPlan → Bool) (s : Schedu
             paced = second.paced;
             is = refl;
           }) in
-          let bits = behind_bits timing.bitrate second.pace.period (b.release u m) (b.release u n) far in
+          let bits = behind_bits timing second.pace.period (b.release u m) (b.release u n) far in
           let period = ap (λ (w : Want). w.period) (want_is u n below want under_way) in
           let same = its_period (its u n below) in
           omega (arith, bits, period, same);
       release_first = λ m below. (one u m below).release_first;
       jitter_at_most = λ m below.
-          let bits = within_bits timing.bitrate (one u m below).pace.jitter (b.release u m) (b.wanted u m) (one u m below).jitter_at_most in
+          let bits = within_bits timing (one u m below).pace.jitter (b.release u m) (b.wanted u m) (one u m below).jitter_at_most in
           let late = ap (λ (w : Want). w.jitter) (want_is u m below want under_way) in
           let same = its_jitter (its u m below) in
           omega (arith, bits, late, same);
@@ -378,7 +378,7 @@ module _ (plan : Plan) (timing : Timing) (stays : UnitPlan → Bool) (s : Schedu
                 let x = announcement u m p below some its in
                 let at = announced_at p its in
                 let message : message_of (sent.source p) ≡ x.message = ap message_of x.source in
-                let gap = behind_bits timing.bitrate (b.packets u x.message * timing.broadcast_gap) (b.announced u x.message) (b.announced u n)
+                let gap = behind_bits timing (b.packets u x.message * timing.broadcast_gap) (b.announced u x.message) (b.announced u n)
                 (keeps.in_turn u x.message n (subst (λ (y : ℕ). y < n) message less) last) in
                 let there = ap (b.announced u) message in
                 omega (arith, at, gap, there);

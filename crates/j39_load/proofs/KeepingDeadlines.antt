@@ -21,8 +21,10 @@ use Rattle.j39_load.specs.KeepsPlan.{KeepsQueues, KeepsToPlan}
 use Rattle.j39_load.specs.KeptDeadlines.{AreSentWhole, CanBeSentWhole, TakeTurns, whole_from}
 use Rattle.j39_load.specs.Loads.{bits_per_ms, is_any}
 use Rattle.j39_load.specs.SentFrames.{Asking, Announcing, Broadcasts, Carrying, First, FrameSources, Held, InSession, IsBroadcastFrame, IsFrameOf, IsSentByUnit, Single}
-use Rattle.j39_load.specs.SentFrames.{Source, bit_time}
+use Rattle.j39_load.specs.SentFrames.{IsWithinUnitMs, Source}
 use Rattle.j39_load.proofs.KeepingApart as alone
+use Rattle.std.proofs.Math.Nat.{mul-le-mul_right}
+use Rattle.j39_load.proofs.Milliseconds.{at_once, in_ms_behind, in_unit_ms}
 use Rattle.j39_load.proofs.Slots.{ends_before, slots, slots_any_order, slots_legal}
 use Rattle.j39_timing.specs.AnyOrder.{Controllers}
 use Rattle.j39_timing.specs.Rounds.{all_planned}
@@ -30,12 +32,6 @@ use Rattle.j39_timing.specs.TimedFrames.{Schedule}
 use Rattle.j39_world.specs.HeldAddresses.{ArePlannedApart}
 
 -- so many milliseconds are no more than these bits
-in_ms_within : (bitrate : Bitrate) (few most a : ℕ) → few ≤ most → (a + few * bits_per_ms bitrate) * bit_time bitrate ≤ a * bit_time bitrate + 1000 * most
-in_ms_within Kbit125 few most a less = omega (arith, less)
-in_ms_within Kbit250 few most a less = omega (arith, less)
-in_ms_within Kbit500 few most a less = omega (arith, less)
-in_ms_within Mbit1 few most a less = omega (arith, less)
-
 -- the announcement, and packets behind it
 abbrev source_at : ℕ → ℕ → Source
 source_at u zero = Announcing u 0
@@ -140,7 +136,7 @@ module _ (plan : Plan) (timing : Timing) (apart : ArePlannedApart (units_of plan
       shortest = shortest;
       longest = longest;
       release_first = omega arith;
-      jitter_at_most = omega arith;
+      jitter_at_most = at_once timing pace.jitter _;
       wanted_first = omega arith;
     };
     apart = λ x m k ms pair. absurd (never_two x m k pair.0 pair.1);
@@ -155,8 +151,8 @@ module _ (plan : Plan) (timing : Timing) (apart : ArePlannedApart (units_of plan
     behind = λ p x m k in_p is source. omega arith;
     before = λ p x m k later in_p is source less below. absurd (never_two x m later less below);
     gaps = λ p q x m later j k in_p in_q other is_p is_q first second. elim (cases_lt p q) [
-      | inl less ↦ inl (alone.in_ms_behind timing.bitrate timing.broadcast_gap (p * width) (q * width) (let far = ends_before width p q less in omega (arith, far)))
-      | inr past ↦ inr (alone.in_ms_behind timing.bitrate timing.broadcast_gap (q * width) (p * width)
+      | inl less ↦ inl (in_ms_behind timing timing.broadcast_gap (p * width) (q * width) (let far = ends_before width p q less in omega (arith, far)))
+      | inr past ↦ inr (in_ms_behind timing timing.broadcast_gap (q * width) (p * width)
           (let far = ends_before width q p (omega (arith, past, other)) in omega (arith, far)))
     ];
   }
@@ -216,12 +212,11 @@ module _ (plan : Plan) (timing : Timing) (apart : ArePlannedApart (units_of plan
   -- ---- to its end
 
   -- a packet is queued a gap behind the end of the frame before
-  gap_behind : (p : ℕ) → (suc p * width) * bit_time timing.bitrate ≤ (p * width + 80) * bit_time timing.bitrate + 1000 * timing.broadcast_gap_most
+  gap_behind : (p : ℕ) → IsWithinUnitMs timing timing.broadcast_gap_most (p * width + 80) (suc p * width)
   gap_behind p =
-      let order = timing.broadcast_gap_order in
-      let most = in_ms_within timing.bitrate timing.broadcast_gap timing.broadcast_gap_most (p * width + 80) order in
-      let next : suc p * width ≡ p * width + 80 + timing.broadcast_gap * bits_per_ms timing.bitrate = omega arith in
-      subst (λ (n : ℕ). n * bit_time timing.bitrate ≤ (p * width + 80) * bit_time timing.bitrate + 1000 * timing.broadcast_gap_most) (sym next) most
+      let more : timing.broadcast_gap * bits_per_ms timing.bitrate ≤ timing.broadcast_gap_most * bits_per_ms timing.bitrate =
+      mul-le-mul_right (bits_per_ms timing.bitrate) timing.broadcast_gap_order in
+      in_unit_ms timing timing.broadcast_gap_most (p * width + 80) (suc p * width) (omega (arith, more))
 
   sends : AreSentWhole timing bus all_planned sent
   sends = record {

@@ -24,7 +24,7 @@ use Rattle.j39_load.specs.Asked.{announcements_of_unit, asked_of, frames_asked, 
 use Rattle.j39_load.specs.Damage.{damage_frames, damage_stream, first_frames}
 use Rattle.j39_load.specs.KeepsErrors.{KeepsErrors, origins_with, planned_with}
 use Rattle.j39_load.specs.KeepsPlan.{IsSingleFlow, KeepsToPlan, origins_of, source_place, source_turn}
-use Rattle.j39_load.specs.Loads.{bits_of_ms, destination_at, load_of_flow}
+use Rattle.j39_load.specs.Loads.{bits_inside, destination_at, load_of_flow}
 use Rattle.j39_load.specs.PlannedFrames.{AreFramesOfPlan, no_frames, planned_at}
 use Rattle.j39_load.specs.SentFrames.{FrameSources, Announcing, Carrying, HasTime, Held, IsBroadcastFrame, IsFrameOf, Part, Single, First, InSession}
 use Rattle.j39_load.specs.SentFrames.{Asking, Source, goes_to, part_identifier}
@@ -36,7 +36,6 @@ use Rattle.j39_load.proofs.KeepingBroadcasts.{IsCopy, as_wanted}
 use Rattle.j39_load.proofs.KeepingFrames.{IsBelowGreatest, inside_asked}
 use Rattle.j39_load.proofs.PlacedFrames.{traffic}
 use Rattle.j39_load.proofs.KeepingPlan.{at_its_place, keeps_stream, of_flow, of_source, of_streams, own_identifier, told_stream}
-use Rattle.j39_load.proofs.Milliseconds.{behind_bits}
 use Rattle.j39_load.proofs.SharedIdentifiers.{IsGroupFrame, of_first, of_single}
 use Rattle.j39_timing.specs.Errors.{Damaged, IsBusWithErrors, IsLegalWithErrors, with_errors}
 use Rattle.j39_timing.specs.FrameBits.{error_frame, longest_frame}
@@ -260,10 +259,10 @@ module _ (plan : Plan) (timing : Timing) (stays : UnitPlan → Bool) (tells : De
 
   -- ---- releases apart
 
-  far : (e f : ℕ) → f < d.count → e < f → e % rate.count ≡ f % rate.count → d.begin e + bits_of_ms timing rate.every ≤ d.begin f
+  far : (e f : ℕ) → f < d.count → e < f → e % rate.count ≡ f % rate.count → d.begin e + bits_inside timing rate.every ≤ d.begin f
   far e f below less same =
       let next = next_turn e f rate.count same less in
-      let window = behind_bits timing.bitrate rate.every (d.begin e) (d.begin (e + rate.count)) (a_window_apart timing rate.every rate.count d errors.in_order errors.seldom e (omega (arith, next, below))) in
+      let window = a_window_apart timing rate.every rate.count d errors.in_order errors.seldom e (omega (arith, next, below)) in
       let later = errors.in_order (e + rate.count) f next below in
       omega (arith, window, later)
 
@@ -276,7 +275,7 @@ module _ (plan : Plan) (timing : Timing) (stays : UnitPlan → Bool) (tells : De
   period : ℕ → ℕ
   period p = (planned_at streams (of.source p)).stream.period
 
-  damage_period : (p : ℕ) → IsDamage p → period p ≡ bits_of_ms timing rate.every
+  damage_period : (p : ℕ) → IsDamage p → period p ≡ bits_inside timing rate.every
   unfolding period
   damage_period p at = ap (λ (f : FlowFrames). f.stream.period) (ap (planned_at streams) at.source ∙ damage_read at.error)
 

@@ -14,6 +14,7 @@ use Rattle.j39_load.specs.KeepsPlan.{CanBeKept, KeepsToPlan}
 use Rattle.j39_load.specs.Loads.{bits_per_ms}
 use Rattle.j39_load.specs.SentFrames.{First, FrameSources, Held, IsFirstFrame, IsMsBehind, goes_to}
 use Rattle.j39_load.proofs.KeepingApart as apart_from
+use Rattle.j39_load.proofs.Milliseconds.{at_once, in_ms_behind}
 use Rattle.j39_load.proofs.Slots.{ends_before, slots, slots_legal}
 use Rattle.j39_timing.specs.Rounds.{all_planned}
 use Rattle.j39_timing.specs.TimedFrames.{Schedule}
@@ -50,7 +51,7 @@ module _ (plan : Plan) (timing : Timing) (apart : ArePlannedApart (units_of plan
     long = long;
     length = omega arith;
     release_first = omega arith;
-    jitter_at_most = omega arith;
+    jitter_at_most = at_once timing pace.jitter (p * width);
     sender_named = λ t queued. apart_from.planned_sender plan apart f flow its;
     receiver_named = λ t v queued goes. apart_from.planned_receiver plan apart f flow its v goes;
     identifier = λ t queued. refl;
@@ -59,7 +60,7 @@ module _ (plan : Plan) (timing : Timing) (apart : ArePlannedApart (units_of plan
   behind : (p q : ℕ) → p < q → IsMsBehind timing pace.period (p * width) (q * width)
   behind p q less =
       let far = ends_before width p q less in
-      apart_from.in_ms_behind timing.bitrate pace.period (p * width) (q * width) (omega (arith, far))
+      in_ms_behind timing pace.period (p * width) (q * width) (omega (arith, far))
 
   keeps : KeepsToPlan plan timing bus all_planned sent held
   keeps = record {

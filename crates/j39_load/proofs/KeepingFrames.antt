@@ -25,7 +25,7 @@ use Rattle.j39_load.specs.Asked.{frames_asked}
 use Rattle.j39_load.specs.Broadcasts.{broadcasts_by}
 use Rattle.j39_load.specs.Damage.{damage_frames}
 use Rattle.j39_load.specs.KeepsPlan.{packets_at, source_place, source_turn, turn_of_part}
-use Rattle.j39_load.specs.Loads.{any_unit, bits_of_ms, destination_at, greatest_address, group_ident, is_any, least_address, of_unit}
+use Rattle.j39_load.specs.Loads.{any_unit, bits_at_least, destination_at, greatest_address, group_ident, is_any, least_address, of_unit}
 use Rattle.j39_load.specs.PlannedFrames.{planned_at}
 use Rattle.j39_load.specs.Ranks.{AreHeldApart, AreHeldByPlan, AreUnitsPlanned}
 use Rattle.j39_load.specs.RequestLoads.{request_ident}
@@ -136,7 +136,7 @@ module _ (plan : Plan) (timing : Timing) (stays : UnitPlan → Bool) where
   pub record IsPacedBy (source : Source) (stream : Stream) : Type 0 where
     pub ms : ℕ
     pub every : IsSentEvery plan source ms
-    pub period : stream.period ≡ bits_of_ms timing ms
+    pub period : stream.period ≡ bits_at_least timing ms
     pub unwanted : stream.wanted ≡ None
 
   abbrev pub IsPaced : Source → Stream → Type 0
@@ -221,7 +221,7 @@ module _ (plan : Plan) (timing : Timing) (stays : UnitPlan → Bool) where
         bits_at_most = rw (le-leb one.group.most 8 one.short) (let few = one.length in omega (arith, few));
         turns = omega arith;
         release_first = one.release_first;
-        jitter_at_most = within_bits timing.bitrate one.pace.jitter release (s.queued p) one.jitter_at_most;
+        jitter_at_most = within_bits timing one.pace.jitter release (s.queued p) one.jitter_at_most;
         paced = record {
           ms = one.pace.period;
           every = record { flow = one.flow; its = one.its; pace = one.pace; paced = one.paced; is = refl };
@@ -262,7 +262,7 @@ module _ (plan : Plan) (timing : Timing) (stays : UnitPlan → Bool) where
         bits_at_most = rw (lt-leb one.group.most 8 one.long) (let few = one.length in omega (arith, few));
         turns = omega arith;
         release_first = one.release_first;
-        jitter_at_most = within_bits timing.bitrate one.pace.jitter release (s.queued p) one.jitter_at_most;
+        jitter_at_most = within_bits timing one.pace.jitter release (s.queued p) one.jitter_at_most;
         paced = record {
           ms = one.pace.period;
           every = record { flow = one.flow; its = one.its; pace = one.pace; paced = one.paced; is = refl };
@@ -449,7 +449,7 @@ module _ (plan : Plan) (timing : Timing) (stays : UnitPlan → Bool) where
             bits_at_most = omega (arith, few);
             turns = turns_below;
             release_first = one.release_first;
-            jitter_at_most = within_both timing.bitrate one.pace.period one.pace.jitter release (s.queued p) one.jitter_at_most;
+            jitter_at_most = within_both timing one.pace.period one.pace.jitter release (s.queued p) one.jitter_at_most;
             paced = record {
               ms = one.pace.period;
               every = record { flow = one.flow; its = one.its; pace = one.pace; paced = one.paced; is = refl };

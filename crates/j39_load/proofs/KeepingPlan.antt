@@ -16,7 +16,7 @@ use Rattle.j39_signal.specs.declared.selector.Selector.{Selector}
 use Rattle.j39_load.specs.declared.frames.flow_frames.FlowFrames.{FlowFrames}
 use Rattle.j39_load.specs.Asked.{asked_of, frames_asked}
 use Rattle.j39_load.specs.Broadcasts.{broadcasts_by, least_packets}
-use Rattle.j39_load.specs.Loads.{bits_of_ms}
+use Rattle.j39_load.specs.Loads.{bits_at_least}
 use Rattle.j39_load.specs.KeepsPlan.{source_turn, IsSingleFlow, KeepsToPlan, origins_of, source_place, units_told}
 use Rattle.j39_load.specs.PlannedFrames.{AreFramesOfPlan, planned_at}
 use Rattle.j39_load.specs.SentFrames.{FrameSources, HasOwnIdentifier, HasTime, Held, IsFirstFrame, IsFrameOf, IsSessionFrame, IsSingleFrame, Part, Source}
@@ -68,8 +68,8 @@ module _ (plan : Plan) (timing : Timing) (stays : UnitPlan → Bool) (tells : De
   by_pace p q in_p in_q other is_p is_q one stream told =
       let period = told.period in
       elim (keeps.apart p q told.ms in_p in_q other is_p is_q one told.every) [
-        | inl before ↦ inl (let bits = behind_bits timing.bitrate told.ms (sent.release p) (sent.release q) before in omega (arith, bits, period))
-        | inr after ↦ inr (let bits = behind_bits timing.bitrate told.ms (sent.release q) (sent.release p) after in omega (arith, bits, period))
+        | inl before ↦ inl (let bits = behind_bits timing told.ms (sent.release p) (sent.release q) before in omega (arith, bits, period))
+        | inr after ↦ inr (let bits = behind_bits timing told.ms (sent.release q) (sent.release p) after in omega (arith, bits, period))
       ]
 
   module _ (p q : ℕ) (in_p : p < s.count) (in_q : q < s.count) (other : p ≢ q) (is_p : planned p ≡ true) (is_q : planned q ≡ true) where
@@ -95,19 +95,19 @@ module _ (plan : Plan) (timing : Timing) (stays : UnitPlan → Bool) (tells : De
           | inl same ↦ absurd (other (keeps.broadcasts.once p q u m in_p in_q is_p is_q first (second ∙ ap (λ (k : ℕ). Announcing u k) (sym same))))
           | inr differ ↦ elim (cases_lt m n) [
             | inl less ↦
-                let gap = gaps_bits timing.bitrate (sent.broadcasts.packets u m) timing.broadcast_gap (sent.broadcasts.announced u m) (sent.broadcasts.announced u n)
+                let gap = gaps_bits timing (sent.broadcasts.packets u m) timing.broadcast_gap (sent.broadcasts.announced u m) (sent.broadcasts.announced u n)
                 (keeps.broadcasts.in_turn u m n less two.known) in
-                let few : least_packets (broadcasts_by u (asked plan timing stays).flows) * bits_of_ms timing timing.broadcast_gap
-                ≤ sent.broadcasts.packets u m * bits_of_ms timing timing.broadcast_gap =
-                mul-le-mul_right (bits_of_ms timing timing.broadcast_gap)
+                let few : least_packets (broadcasts_by u (asked plan timing stays).flows) * bits_at_least timing timing.broadcast_gap
+                ≤ sent.broadcasts.packets u m * bits_at_least timing timing.broadcast_gap =
+                mul-le-mul_right (bits_at_least timing timing.broadcast_gap)
                 (fewest plan timing stays sent.broadcasts u m (keeps.broadcasts.messages u m one.known)) in
                 inl (omega (arith, gap, few, period, at_p, at_q, release_p, release_q))
             | inr more ↦
-                let gap = gaps_bits timing.bitrate (sent.broadcasts.packets u n) timing.broadcast_gap (sent.broadcasts.announced u n) (sent.broadcasts.announced u m)
+                let gap = gaps_bits timing (sent.broadcasts.packets u n) timing.broadcast_gap (sent.broadcasts.announced u n) (sent.broadcasts.announced u m)
                 (keeps.broadcasts.in_turn u n m (omega (arith, more, differ)) one.known) in
-                let few : least_packets (broadcasts_by u (asked plan timing stays).flows) * bits_of_ms timing timing.broadcast_gap
-                ≤ sent.broadcasts.packets u n * bits_of_ms timing timing.broadcast_gap =
-                mul-le-mul_right (bits_of_ms timing timing.broadcast_gap)
+                let few : least_packets (broadcasts_by u (asked plan timing stays).flows) * bits_at_least timing timing.broadcast_gap
+                ≤ sent.broadcasts.packets u n * bits_at_least timing timing.broadcast_gap =
+                mul-le-mul_right (bits_at_least timing timing.broadcast_gap)
                 (fewest plan timing stays sent.broadcasts u n (keeps.broadcasts.messages u n two.known)) in
                 inr (omega (arith, gap, few, period, at_p, at_q, release_p, release_q))
           ]
@@ -125,9 +125,9 @@ module _ (plan : Plan) (timing : Timing) (stays : UnitPlan → Bool) (tells : De
         let release_q = two.0.at_once in
         elim (keeps.broadcasts.gaps p q u m n j k in_p in_q other is_p is_q first second) [
           | inl before ↦
-              inl (let gap = behind_bits timing.bitrate timing.broadcast_gap (s.queued p) (s.queued q) before in omega (arith, gap, period, release_p, release_q))
+              inl (let gap = behind_bits timing timing.broadcast_gap (s.queued p) (s.queued q) before in omega (arith, gap, period, release_p, release_q))
           | inr after ↦
-              inr (let gap = behind_bits timing.bitrate timing.broadcast_gap (s.queued q) (s.queued p) after in omega (arith, gap, period, release_p, release_q))
+              inr (let gap = behind_bits timing timing.broadcast_gap (s.queued q) (s.queued p) after in omega (arith, gap, period, release_p, release_q))
         ]
 
     -- of what comes by its own pace

@@ -24,6 +24,7 @@ use Rattle.j39_load.specs.Loads.{bits_per_ms, is_any}
 use Rattle.j39_load.specs.SentFrames.{Announcing, Carrying, FrameSources, Held, IsFrameOf, IsMsBehind, IsSentByUnit, IsSentEvery, IsSingleFrame}
 use Rattle.j39_load.specs.SentFrames.{Single, TakesPart, goes_to}
 use Rattle.j39_load.proofs.KeepingApart as alone
+use Rattle.j39_load.proofs.Milliseconds.{at_once, in_ms_behind}
 use Rattle.j39_load.proofs.Slots.{ends_before, slots, slots_any_order, slots_legal}
 use Rattle.j39_timing.specs.AnyOrder.{Controllers}
 use Rattle.j39_timing.specs.Rounds.{all_planned}
@@ -72,7 +73,7 @@ module _ (plan : Plan) (timing : Timing) (apart : ArePlannedApart (units_of plan
     short = short;
     length = omega arith;
     release_first = omega arith;
-    jitter_at_most = omega arith;
+    jitter_at_most = at_once timing pace.jitter (p * width);
     sender_named = λ t queued. alone.sender_named plan timing apart f flow pace group its paced of short n;
     receiver_named = λ t v queued goes. alone.receiver_named plan timing apart f flow pace group its paced of short n v goes;
     identifier = λ t queued. is;
@@ -89,7 +90,7 @@ module _ (plan : Plan) (timing : Timing) (apart : ArePlannedApart (units_of plan
     short = also_short;
     length = omega arith;
     release_first = omega arith;
-    jitter_at_most = omega arith;
+    jitter_at_most = at_once timing its_pace.jitter (p * width);
     sender_named = λ t queued. alone.sender_named plan timing apart g other its_pace second other_is other_paced second_is also_short n;
     receiver_named = λ t v queued goes. alone.receiver_named plan timing apart g other its_pace second other_is other_paced second_is also_short n v goes;
     identifier = λ t queued. is;
@@ -101,23 +102,23 @@ module _ (plan : Plan) (timing : Timing) (apart : ArePlannedApart (units_of plan
   frame p false is = other_frame p is
 
   -- the period of either
-  within_both : (b : Bool) (ms : ℕ) → IsSentEvery plan (cond b (Single f) (Single g)) ms → ms ≤ both
-  within_both true ms every =
+  either_ms : (b : Bool) (ms : ℕ) → IsSentEvery plan (cond b (Single f) (Single g)) ms → ms ≤ both
+  either_ms true ms every =
       let same = alone.same_period plan timing apart f flow pace group its paced of short n ms every in omega (arith, same)
-  within_both false ms every =
+  either_ms false ms every =
       let same = alone.same_period plan timing apart g other its_pace second other_is other_paced second_is also_short n ms every in omega (arith, same)
 
   behind : (p q ms : ℕ) → p < q → ms ≤ both → IsMsBehind timing ms (p * width) (q * width)
   behind p q ms less few =
       let far = ends_before width p q less in
       let most : ms * bits_per_ms timing.bitrate ≤ both * bits_per_ms timing.bitrate = mul-le-mul_right (bits_per_ms timing.bitrate) few in
-      alone.in_ms_behind timing.bitrate ms (p * width) (q * width) (omega (arith, far, most))
+      in_ms_behind timing ms (p * width) (q * width) (omega (arith, far, most))
 
   keeps : KeepsToPlan plan timing bus all_planned sent held
   keeps = record {
     frames = λ p in_p is. frame p (first p) refl;
     apart = λ p q ms in_p in_q differ is_p is_q one_source every.
-        let few = within_both (first p) ms every in
+        let few = either_ms (first p) ms every in
         elim (cases_lt p q) [
           | inl less ↦ inl (behind p q ms less few)
           | inr more ↦ inr (behind q p ms (omega (arith, more, differ)) few)

@@ -32,12 +32,11 @@ use Rattle.j39_load.specs.KeepsBroadcasts.{KeepsTurns}
 use Rattle.j39_load.specs.KeepsPlan.{KeepsQueues, KeepsToPlan, origins_of, source_place}
 use Rattle.j39_load.specs.KeptDeadlines.{AreEachInTime, AreSentWhole, TakeTurns, whole_from}
 use Rattle.j39_load.specs.LoadFindings.{AreLoadFindings, AsksOfBus, load_findings}
-use Rattle.j39_load.specs.Loads.{bits_of_ms, load_of_flow}
-use Rattle.j39_load.specs.SentFrames.{Announcing, Broadcasts, Carrying, FrameSources, Held, IsToAllBy, IsWithinMs}
+use Rattle.j39_load.specs.Loads.{bits_at_least, bits_at_most, bits_inside, load_of_flow}
+use Rattle.j39_load.specs.SentFrames.{Announcing, Broadcasts, Carrying, FrameSources, Held, IsToAllBy, IsWithinUnitMs}
 use Rattle.j39_load.proofs.BoundedFlows.{sent_in_any_order}
 use Rattle.j39_load.proofs.KeepingTurns.{broadcasts_in_any_order}
-use Rattle.j39_load.proofs.KeptInTime.{before_bits}
-use Rattle.j39_load.proofs.Milliseconds.{behind_bits, in_ms, within_bits}
+use Rattle.j39_load.proofs.Milliseconds.{before_bits, behind_bits, in_ms, within_bits}
 use Rattle.j39_load.proofs.OnceEach.{each_once, picked_sum, value_of}
 use Rattle.j39_load.proofs.PlacedFrames.{at_place, is_by, its_broadcast, load, same_units, to_all_units, unit_asks, unit_read}
 use Rattle.j39_load.proofs.PositivePeriods.{all_paced}
@@ -213,14 +212,14 @@ module _ (plan : Plan) (timing : Timing) (clean : Clean plan) (stays : UnitPlan 
   abbrev message : ℕ → LongMessage
   message m = record { announcement = sends.announcement u m; packets = packets_from m 0 (b.packets u m) }
 
-  follow : (m k n p : ℕ) → m < count → k + n ≤ b.packets u m → (0 < n → s.queued (sends.packet u m k) ≤ frame_end s p + bits_of_ms timing timing.broadcast_gap_most)
-      → FollowInTurn s (bits_of_ms timing timing.broadcast_gap_most) p (packets_from m k n)
+  follow : (m k n p : ℕ) → m < count → k + n ≤ b.packets u m → (0 < n → s.queued (sends.packet u m k) ≤ frame_end s p + bits_at_most timing timing.broadcast_gap_most)
+      → FollowInTurn s (bits_at_most timing timing.broadcast_gap_most) p (packets_from m k n)
   unfolding packets_from FollowInTurn
   follow m k zero p below inside soon = tt
   follow m k (suc n) p below inside soon = (
     soon (omega arith),
     follow m (suc k) n (sends.packet u m k) below (omega (arith, inside)) (λ some.
-        within_bits timing.bitrate timing.broadcast_gap_most (frame_end s (sends.packet u m k)) (s.queued (sends.packet u m (suc k)))
+        within_bits timing timing.broadcast_gap_most (frame_end s (sends.packet u m k)) (s.queued (sends.packet u m (suc k)))
         (sends.next_gap u m k below (omega (arith, inside, some)))),
   )
 
@@ -269,7 +268,7 @@ module _ (plan : Plan) (timing : Timing) (clean : Clean plan) (stays : UnitPlan 
     packet_bits = has.sent + has.load.packets.stream.bits
 
     abbrev time : ℕ → ℕ
-    time m = time_of_message first_time (bits_of_ms timing timing.broadcast_gap_most) packet_bits (b.packets u m)
+    time m = time_of_message first_time (bits_at_most timing timing.broadcast_gap_most) packet_bits (b.packets u m)
 
     -- what the unit asks is what is told of it
     asks_of : (m : ℕ) (below : m < count) → has.load ≡ unit_asks plan timing stays b u m (keeps.broadcasts.messages u m below)
@@ -297,12 +296,12 @@ module _ (plan : Plan) (timing : Timing) (clean : Clean plan) (stays : UnitPlan 
         let announced : s.queued (sends.announcement u m) ≡ b.announced u m = keeps.broadcasts.announced (sends.announcement u m) u m in_q is_q of_q in
         let queued : s.queued (sends.announcement u m) ≤ by = omega (arith, announced, soon) in
         let follows = follow m 0 (b.packets u m) (sends.announcement u m) below (omega arith)
-        (λ some. within_bits timing.bitrate timing.broadcast_gap_most (frame_end s (sends.announcement u m)) (s.queued (sends.packet u m 0)) (sends.first_gap u m below)) in
-        let sum = sum_by-cons (λ (x : LongMessage). time_of_message first_time (bits_of_ms timing timing.broadcast_gap_most) packet_bits (length x.packets)) (message m) [] in
-        let counted = ap (time_of_message first_time (bits_of_ms timing timing.broadcast_gap_most) packet_bits) (packets_count m 0 (b.packets u m)) in
-        let size : time_of_messages first_time (bits_of_ms timing timing.broadcast_gap_most) packet_bits (message m ∷ []) ≡ time m =
+        (λ some. within_bits timing timing.broadcast_gap_most (frame_end s (sends.announcement u m)) (s.queued (sends.packet u m 0)) (sends.first_gap u m below)) in
+        let sum = sum_by-cons (λ (x : LongMessage). time_of_message first_time (bits_at_most timing timing.broadcast_gap_most) packet_bits (length x.packets)) (message m) [] in
+        let counted = ap (time_of_message first_time (bits_at_most timing timing.broadcast_gap_most) packet_bits) (packets_count m 0 (b.packets u m)) in
+        let size : time_of_messages first_time (bits_at_most timing timing.broadcast_gap_most) packet_bits (message m ∷ []) ≡ time m =
         omega (arith, sum, counted) in
-        let whole = messages_whole s planned of (announcements_place asked u) (packets_place asked u) (bits_of_ms timing timing.broadcast_gap_most) has.announced
+        let whole = messages_whole s planned of (announcements_place asked u) (packets_place asked u) (bits_at_most timing timing.broadcast_gap_most) has.announced
         has.sent has.load.announcements.stream has.load.packets.stream (sent_first m below) (sent_rest m below) (message m ∷ []) by (queued, follows, tt)
         (All-cons (IsBroadcast s planned of (announcements_place asked u) (packets_place asked u)) (message m) [] (is_broadcast m below)
         (λ j d least. absurd (omega (arith, least))))
@@ -329,10 +328,10 @@ module _ (plan : Plan) (timing : Timing) (clean : Clean plan) (stays : UnitPlan 
 
     -- of flows none of which is twice among them they take no longer than a turn
     abbrev value : Broadcast → ℕ
-    value x = first_time + x.packets * (bits_of_ms timing timing.broadcast_gap_most + packet_bits)
+    value x = first_time + x.packets * (bits_at_most timing timing.broadcast_gap_most + packet_bits)
 
     value_sum : (xs : List Broadcast) → sum_by value xs
-        ≡ length xs * first_time + sum_by (λ (x : Broadcast). x.packets) xs * (bits_of_ms timing timing.broadcast_gap_most + packet_bits)
+        ≡ length xs * first_time + sum_by (λ (x : Broadcast). x.packets) xs * (bits_at_most timing timing.broadcast_gap_most + packet_bits)
     value_sum [] = omega arith
     value_sum (x ∷ xs) =
         let rest = value_sum xs in
@@ -349,7 +348,7 @@ module _ (plan : Plan) (timing : Timing) (clean : Clean plan) (stays : UnitPlan 
     within_value m below =
         let one = keeps.broadcasts.messages u m below in
         let few : b.packets u m ≤ (its_broadcast plan timing stays b u m one).packets = let longest = one.longest in omega (arith, longest) in
-        let more = mul-le-mul_left (bits_of_ms timing timing.broadcast_gap_most + packet_bits) few in
+        let more = mul-le-mul_left (bits_at_most timing timing.broadcast_gap_most + packet_bits) few in
         subst (λ (o : Option Broadcast). time m ≤ option_map_or value o 0) (sym (is_by plan timing stays b u m one)) (omega (arith, more))
 
     turn_most : (j n m : ℕ) → j + n ≡ m → m < count → ((k l : ℕ) → j ≤ k → k < l → l ≤ m → b.flow u k ≢ b.flow u l)
@@ -450,12 +449,12 @@ module _ (plan : Plan) (timing : Timing) (clean : Clean plan) (stays : UnitPlan 
       let one = keeps.broadcasts.messages u m below in
       let same_flow : one.flow ≡ flow = same_Some _ _ (sym one.its ∙ flow_is) in
       let same_pace : one.pace ≡ pace = same_Some _ _ (sym one.paced ∙ (ap (λ (x : FlowPlan). x.pace) same_flow ∙ paced)) in
-      let deadline : (its_broadcast plan timing stays b u m one).deadline ≡ Some (bits_of_ms timing limit) =
-      ap (option_map (bits_of_ms timing)) (ap (λ (x : Pace). x.deadline) same_pace ∙ written) in
+      let deadline : (its_broadcast plan timing stays b u m one).deadline ≡ Some (bits_inside timing limit) =
+      ap (option_map (bits_inside timing)) (ap (λ (x : Pace). x.deadline) same_pace ∙ written) in
       let its_load : FlowLoad = load plan timing stays (b.flow u m) one.flow one.pace one.group one.its one.paced one.of in
       let at = at_place plan timing stays (b.flow u m) one.flow one.pace one.group one.its one.paced one.of in
       let long = to_all_units plan timing stays b u m one in
-      let (whole, bits, told, each, within, is) = deadlines_kept plan timing stays delays asks none (b.flow u m) (bits_of_ms timing limit) its_load
+      let (whole, bits, told, each, within, is) = deadlines_kept plan timing stays delays asks none (b.flow u m) (bits_inside timing limit) its_load
       (its_broadcast plan timing stays b u m one) at long deadline in
       let same_load : is.load ≡ its_load = same_Some _ _ (same_Some _ _ (sym is.its ∙ at)) in
       let same_broadcast : is.broadcast ≡ its_broadcast plan timing stays b u m one =
@@ -470,17 +469,17 @@ module _ (plan : Plan) (timing : Timing) (clean : Clean plan) (stays : UnitPlan 
       let other = keeps.broadcasts.messages u n inside in
       let same : other.flow ≡ one.flow = same_Some _ _ (sym other.its ∙ (ap (slice_get plan.flows.items) its_flow ∙ one.its)) in
       same_Some _ _ (sym other.paced ∙ (ap (λ (x : FlowPlan). x.pace) same ∙ one.paced)) in
-      let release_seen = before_bits timing.bitrate limit (b.release u m) s.now seen in
+      let release_seen = before_bits timing limit (b.release u m) s.now seen in
       let sum = up.sum in
       let ended = flow_ends plan timing clean stays delays asks s controllers planned sent held legal keeps queues turns sends u is.buffering is.is up.turn has takes
-      (b.flow u m) (bits_of_ms timing one.pace.jitter) (bits_of_ms timing one.pace.period) up.inside
+      (b.flow u m) (bits_at_most timing one.pace.jitter) (bits_at_least timing one.pace.period) up.inside
       (λ n inside its_flow.
       let other = keeps.broadcasts.messages u n inside in
-      within_bits timing.bitrate one.pace.jitter (b.release u n) (b.wanted u n)
-      (subst (λ (x : Pace). IsWithinMs timing x.jitter (b.release u n) (b.wanted u n)) (pace_at n inside its_flow) other.jitter_at_most))
+      within_bits timing one.pace.jitter (b.release u n) (b.wanted u n)
+      (subst (λ (x : Pace). IsWithinUnitMs timing x.jitter (b.release u n) (b.wanted u n)) (pace_at n inside its_flow) other.jitter_at_most))
       (λ l n first inside its_flow other_flow.
       let other = keeps.broadcasts.messages u l (omega (arith, first, inside)) in
-      behind_bits timing.bitrate one.pace.period (b.release u l) (b.release u n)
+      behind_bits timing one.pace.period (b.release u l) (b.release u n)
       (keeps.broadcasts.apart u l n one.pace.period (first, inside, its_flow ∙ sym other_flow)
       (record {
         flow = other.flow;
@@ -490,7 +489,7 @@ module _ (plan : Plan) (timing : Timing) (clean : Clean plan) (stays : UnitPlan 
         is = ap (λ (x : Pace). x.period) (pace_at l (omega (arith, first, inside)) its_flow);
       })))
       (suc m) m (omega arith) below refl (omega (arith, release_seen, sum, within)) in
-      in_ms timing.bitrate limit (b.release u m) (whole_from timing s planned sent sends u m) (omega (arith, ended, sum, within))
+      in_ms timing limit (b.release u m) (whole_from timing s planned sent sends u m) (omega (arith, ended, sum, within))
     where
       same_to_all : (x y : Broadcast) → ToAll x ≡ ToAll y → x ≡ y
       same_to_all x y same = cc

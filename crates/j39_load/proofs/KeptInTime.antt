@@ -1,13 +1,11 @@
 -- On a bus that keeps to a plan with whose load nothing is wrong each frame is sent in time, in milliseconds.
-use Rattle.std.proofs.Common.{◌≡◌, ℕ, ◌+◌, ◌*◌, ◌<◌, ◌≤◌, Bool, true, List, [], min, unwrap_or, Option, Some, length}
+use Rattle.std.proofs.Common.{◌≡◌, ℕ, ◌+◌, ◌*◌, ◌<◌, ◌≤◌, Bool, true, List, [], Option, Some, None, length}
 use Rattle.std.proofs.Common.{sym, ap, ◌∙◌, subst, arith}
-use Rattle.std.proofs.lemmas.Option.{same_Some}
+use Rattle.std.proofs.lemmas.Option.{none-some, same_Some}
 use Rattle.j39_findings.specs.Findings.{Clean}
 use Rattle.j39_network.specs.declared.plan.Plan.{Plan}
 use Rattle.j39_network.specs.declared.plan.flow_plan.FlowPlan.{FlowPlan}
 use Rattle.j39_network.specs.declared.plan.pace.Pace.{Pace}
-use Rattle.j39_network.specs.declared.plan.timing.Bitrate.{Bitrate}
-use Rattle.j39_network.specs.declared.plan.timing.Bitrate.TheVariants.{Kbit125, Kbit250, Kbit500, Mbit1}
 use Rattle.j39_network.specs.declared.plan.timing.Timing.{Timing}
 use Rattle.j39_network.specs.declared.plan.unit_plan.UnitPlan.{UnitPlan}
 use Rattle.j39_load.specs.declared.waits.delay.Delay.{Delay}
@@ -17,16 +15,16 @@ use Rattle.j39_load.specs.Asked.{asked_of, frames_asked, total_load}
 use Rattle.j39_load.specs.KeepsErrors.{AreInTimeWithErrors, AreInTimeWithErrorsInAnyOrder, origins_with, planned_with}
 use Rattle.j39_load.specs.KeepsPlan.{AreFramesInTime, AreSentInTime, IsSingleFlow, KeepsToPlan, origins_of, source_place}
 use Rattle.j39_load.specs.LoadFindings.{AreLoadFindings, AsksOfBus, load_findings}
-use Rattle.j39_load.specs.Loads.{bits_per_ms, deadline_of, time_limit}
+use Rattle.j39_load.specs.Loads.{bits_at_least, bits_inside, limit_by, time_limit}
 use Rattle.j39_load.specs.PlannedFrames.{IsBounded}
-use Rattle.j39_load.specs.SentFrames.{FrameSources, Held, IsFrameOf, IsMsBefore, IsSingleFrame, IsWithinMs, Single, Source, bit_time}
+use Rattle.j39_load.specs.SentFrames.{FrameSources, Held, IsFrameOf, IsMsBefore, IsSingleFrame, IsWithinMs, Single, Source}
 use Rattle.j39_load.proofs.BoundedFlows.{short_bounded}
 use Rattle.j39_load.proofs.KeepingErrors.{frames_in_time, keeps_with_errors}
 use Rattle.j39_load.proofs.KeepingAnyErrors.{keeps_any_with_errors}
 use Rattle.j39_load.proofs.KeepingAnyOrder.{keeps_in_any_order}
 use Rattle.j39_load.proofs.PlacedFrames.{at_place, load, of_one_frame, own}
 use Rattle.j39_load.proofs.KeepingPlan.{keeps_in_order}
-use Rattle.j39_load.proofs.Milliseconds.{in_ms}
+use Rattle.j39_load.proofs.Milliseconds.{before_bits, in_ms, least_inside}
 use Rattle.j39_load.proofs.Sending.{in_order}
 use Rattle.j39_load.proofs.StreamsBefore.{none_of_two}
 use Rattle.j39_timing.proofs.Errors.{legal_in_any_order_with_errors, legal_with_errors}
@@ -37,23 +35,16 @@ use Rattle.j39_timing.specs.Traffic.{IsStreamInTime}
 
 -- ---- the smaller one of two times
 
-at_most_first : (bitrate : Bitrate) (a b : ℕ) → min a b * bits_per_ms bitrate ≤ a * bits_per_ms bitrate
-at_most_first Kbit125 a b = omega arith
-at_most_first Kbit250 a b = omega arith
-at_most_first Kbit500 a b = omega arith
-at_most_first Mbit1 a b = omega arith
+-- a limit is within the period, and within a deadline that is written
+pub in_period : (timing : Timing) (period : ℕ) (deadline : Option ℕ) → limit_by timing period deadline ≤ bits_at_least timing period
+in_period timing period None = omega arith
+in_period timing period (Some deadline) = omega arith
 
-pub at_most_second : (bitrate : Bitrate) (a b : ℕ) → min a b * bits_per_ms bitrate ≤ b * bits_per_ms bitrate
-at_most_second Kbit125 a b = omega arith
-at_most_second Kbit250 a b = omega arith
-at_most_second Kbit500 a b = omega arith
-at_most_second Mbit1 a b = omega arith
-
-pub before_bits : (bitrate : Bitrate) (ms a b : ℕ) → a * bit_time bitrate + 1000 * ms < b * bit_time bitrate → a + ms * bits_per_ms bitrate < b
-before_bits Kbit125 ms a b before = omega arith
-before_bits Kbit250 ms a b before = omega arith
-before_bits Kbit500 ms a b before = omega arith
-before_bits Mbit1 ms a b before = omega arith
+in_deadline : (timing : Timing) (period : ℕ) (deadline : Option ℕ) (ms : ℕ) → deadline ≡ Some ms → limit_by timing period deadline ≤ bits_inside timing ms
+in_deadline timing period None ms is = absurd (none-some ms is)
+in_deadline timing period (Some deadline) ms is =
+    let same : bits_inside timing deadline ≡ bits_inside timing ms = ap (bits_inside timing) (same_Some deadline ms is) in
+    omega (arith, same)
 
 module _ (plan : Plan) (timing : Timing) (stays : UnitPlan → Bool) (delays : List (Option Delay)) (asks : AsksOfBus plan timing stays delays)
     (none : load_findings timing (total_load timing (asked_of timing plan stays)) delays ≡ []) where
@@ -96,18 +87,16 @@ module _ (plan : Plan) (timing : Timing) (stays : UnitPlan → Bool) (delays : L
           × ((deadline : ℕ) → one.pace.deadline ≡ Some deadline → IsWithinMs timing deadline (sent.release p) (frame_end s p))
       its_own seen =
           let told = bound_of s held f (sent.release p) p one in
-          let period = at_most_second timing.bitrate (deadline_of one.pace) one.pace.period in
+          let period = in_period timing one.pace.period one.pace.deadline in
+          let inside = least_inside timing one.pace.period in
           let sum = told.bound.sum in
           let limited = told.limited in
-          let shown = before_bits timing.bitrate one.pace.period (sent.release p) s.now seen in
-          let ended = (in_time f told.bits single told.bound p in_p is (ap (source_place plan) source) (omega (arith, shown, limited, period, sum))).1 in (
-            in_ms timing.bitrate one.pace.period (sent.release p) (frame_end s p) (omega (arith, ended, sum, limited, period)),
+          let shown = before_bits timing one.pace.period (sent.release p) s.now seen in
+          let ended = (in_time f told.bits single told.bound p in_p is (ap (source_place plan) source) (omega (arith, shown, limited, period, inside, sum))).1 in (
+            in_ms timing one.pace.period (sent.release p) (frame_end s p) (omega (arith, ended, sum, limited, period, inside)),
             λ deadline written.
-                let first = at_most_first timing.bitrate (deadline_of one.pace) one.pace.period in
-                let its : deadline_of one.pace ≡ deadline = ap (λ (d : Option ℕ). unwrap_or d one.pace.period) written in
-                let time : deadline_of one.pace * bits_per_ms timing.bitrate ≡ deadline * bits_per_ms timing.bitrate =
-                ap (λ (ms : ℕ). ms * bits_per_ms timing.bitrate) its in
-                in_ms timing.bitrate deadline (sent.release p) (frame_end s p) (omega (arith, ended, sum, limited, first, time)),
+                let first = in_deadline timing one.pace.period one.pace.deadline deadline written in
+                in_ms timing deadline (sent.release p) (frame_end s p) (omega (arith, ended, sum, limited, first)),
           )
 
     pub sent_in_time : AreSentInTime plan timing s planned sent

@@ -29,12 +29,11 @@ use Rattle.j39_load.specs.Delays.{IsTurn, IsTurnBy, IsWaitIn, known_turn, longes
 use Rattle.j39_load.specs.KeepsPlan.{origins_of, source_place}
 use Rattle.j39_load.specs.KeptReceivers.{AreNotGivenUp}
 use Rattle.j39_load.specs.LoadFindings.{AreLoadFindings, AsksOfBus, load_findings}
-use Rattle.j39_load.specs.Loads.{bits_of_ms, broadcast_of, load_of_flow, long_messages}
+use Rattle.j39_load.specs.Loads.{bits_inside, broadcast_of, load_of_flow, long_messages}
 use Rattle.j39_load.specs.SentFrames.{Carrying, IsFrameOf, Source}
 use Rattle.j39_load.proofs.BoundedFlows.{sent_in_any_order}
 use Rattle.j39_load.proofs.KeepingTurns.{broadcasts_in_any_order}
-use Rattle.j39_load.proofs.KeptInTime.{before_bits}
-use Rattle.j39_load.proofs.Milliseconds.{in_ms, within_bits}
+use Rattle.j39_load.proofs.Milliseconds.{before_bits, in_each_ms, least_inside, within_bits}
 use Rattle.j39_load.proofs.PlacedFrames.{at_place, carrying_read, load, own, unit_asks}
 use Rattle.j39_load.proofs.PositivePeriods.{all_paced}
 use Rattle.j39_load.proofs.Sending.{all_sent}
@@ -94,8 +93,8 @@ module _ (plan : Plan) (timing : Timing) (clean : Clean plan) (stays : UnitPlan 
       ap (λ (x : Bool). if x then Short (own plan timing stays f flow pace group its paced of)
       else long_messages timing plan.units.items stays flow pace group flow.to) (lt-leb group.most 8 long)
       ∙ ap (long_messages timing plan.units.items stays flow pace group) goes in
-      let deadline : (broadcast_of timing flow pace group).deadline ≡ Some (bits_of_ms timing limit) = ap (option_map (bits_of_ms timing)) written in
-      let (whole, bits, told, each, within, is) = deadlines_kept plan timing stays delays asks none f (bits_of_ms timing limit) its_load
+      let deadline : (broadcast_of timing flow pace group).deadline ≡ Some (bits_inside timing limit) = ap (option_map (bits_inside timing)) written in
+      let (whole, bits, told, each, within, is) = deadlines_kept plan timing stays delays asks none f (bits_inside timing limit) its_load
       (broadcast_of timing flow pace group) at messages deadline in
       let same : is.load ≡ its_load = same_Some _ _ (same_Some _ _ (sym is.its ∙ at)) in
       let sender : is.broadcast.sender ≡ flow.sender = ap sender_of (sym is.long ∙ (ap (λ (l : FlowLoad). l.messages) same ∙ messages)) in
@@ -120,11 +119,12 @@ module _ (plan : Plan) (timing : Timing) (clean : Clean plan) (stays : UnitPlan 
       let single : pause.load.packets.twin_ident ≡ None = ap (λ (x : FlowFrames). x.twin_ident) frames in
       let within = sent_in_any_order timing (frames_asked asked) (all_paced timing plan stays) (all_sent timing plan stays) buffering is_buffering (packets_place asked u)
       pause.load.packets first pause.wait s controllers planned (origins_of plan sent) legal come single pause.is in
-      let queued = within_bits timing.bitrate timing.broadcast_gap_most (frame_end s p) (s.queued q) gap in
-      let shown = before_bits timing.bitrate 750 (frame_end s p) s.now seen in
+      let queued = within_bits timing timing.broadcast_gap_most (frame_end s p) (s.queued q) gap in
+      let fewer = least_inside timing 750 in
+      let shown = before_bits timing 750 (frame_end s p) s.now seen in
       let short = pause.short in
-      let ended = within q in_q is (ap (source_place plan) source ∙ place) (omega (arith, queued, shown, short)) in
-      in_ms timing.bitrate 750 (frame_end s p) (frame_end s q) (omega (arith, ended, queued, short))
+      let ended = within q in_q is (ap (source_place plan) source ∙ place) (omega (arith, queued, shown, short, fewer)) in
+      in_each_ms timing 750 (frame_end s p) (frame_end s q) (omega (arith, ended, queued, short))
 
 pub kept_receivers : (plan : Plan) (timing : Timing) → Clean plan → AreLoadFindings plan (Some timing) [] → AreNotGivenUp plan timing
 kept_receivers plan timing clean (stays, delays, asks, none) = not_given_up plan timing clean stays delays asks

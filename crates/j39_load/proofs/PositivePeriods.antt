@@ -12,8 +12,6 @@ use Rattle.j39_network.specs.declared.plan.flow_plan.FlowPlan.{FlowPlan}
 use Rattle.j39_network.specs.declared.plan.group_plan.GroupPlan.{GroupPlan}
 use Rattle.j39_network.specs.declared.plan.pace.Pace.{Pace}
 use Rattle.j39_network.specs.declared.plan.request_plan.RequestPlan.{RequestPlan}
-use Rattle.j39_network.specs.declared.plan.timing.Bitrate.{Bitrate}
-use Rattle.j39_network.specs.declared.plan.timing.Bitrate.TheVariants.{Kbit125, Kbit250, Kbit500, Mbit1}
 use Rattle.j39_network.specs.declared.plan.timing.ErrorRate.{ErrorRate}
 use Rattle.j39_network.specs.declared.plan.timing.Timing.{Timing}
 use Rattle.j39_id.specs.Limits.{frame_bytes}
@@ -30,9 +28,10 @@ use Rattle.j39_load.specs.declared.loads.unit_load.UnitLoad.{UnitLoad}
 use Rattle.j39_load.specs.Asked.{announcements_of_unit, asked_of, frames_asked, frames_of_flow, frames_of_request, own_frames, packets_of_unit, singles_of_flow}
 use Rattle.j39_load.specs.Broadcasts.{broadcast_by, broadcast_from, broadcasts_by, known_unit_load, least_announced, least_packets, unit_loads_of}
 use Rattle.j39_load.specs.Damage.{damage_frames, damage_stream, first_of_all}
-use Rattle.j39_load.specs.Loads.{bits_per_ms, deadline_of, flow_load, has_short, is_always_short, load_of_flow, load_of_messages, loads_of, long_messages}
-use Rattle.j39_load.specs.Loads.{single_frames, time_limit}
+use Rattle.j39_load.specs.Loads.{bits_at_least, bits_inside, flow_load, has_short, is_always_short, load_of_flow, load_of_messages, loads_of, long_messages}
+use Rattle.j39_load.specs.Loads.{limit_by, single_frames, time_limit}
 use Rattle.j39_load.specs.RequestLoads.{load_of_request, request_load, request_loads_of}
+use Rattle.j39_load.proofs.Milliseconds.{some_bits, some_inside}
 use Rattle.j39_timing.specs.FrameBits.{error_frame, longest_frame}
 use Rattle.j39_timing.specs.Traffic.{IsSingle}
 
@@ -53,27 +52,19 @@ pub record IsOfFlow (load : FlowLoad) : Type 0 where
 abbrev IsOfFlowIfKnown : Option FlowLoad → Type 0
 IsOfFlowIfKnown load = IfSome load IsOfFlow
 
-positive_ms : (bitrate : Bitrate) (ms : ℕ) → 1 ≤ ms → 0 < ms * bits_per_ms bitrate
-positive_ms Kbit125 ms some = omega arith
-positive_ms Kbit250 ms some = omega arith
-positive_ms Kbit500 ms some = omega arith
-positive_ms Mbit1 ms some = omega arith
-
-fewer_ms : (bitrate : Bitrate) (a b : ℕ) → min a b * bits_per_ms bitrate ≤ b * bits_per_ms bitrate
-fewer_ms Kbit125 a b = omega arith
-fewer_ms Kbit250 a b = omega arith
-fewer_ms Kbit500 a b = omega arith
-fewer_ms Mbit1 a b = omega arith
+fewer_bits : (timing : Timing) (period : ℕ) (deadline : Option ℕ) → limit_by timing period deadline ≤ bits_at_least timing period
+fewer_bits timing period None = omega arith
+fewer_bits timing period (Some deadline) = omega arith
 
 of_flow : (timing : Timing) (plan : Plan) (stays : UnitPlan → Bool) (flow : FlowPlan) (pace : Pace) (group : GroupPlan)
     → IsOfFlow (flow_load timing plan.units.items stays flow pace group)
 of_flow timing plan stays flow pace group = by (is_always_short group) (has_short group)
   where
-    pos : 0 < pace.period * bits_per_ms timing.bitrate
-    pos = positive_ms timing.bitrate pace.period pace.period_positive
+    pos : 0 < bits_at_least timing pace.period
+    pos = some_bits timing pace.period pace.period_positive
 
-    fewer : min (deadline_of pace) pace.period * bits_per_ms timing.bitrate ≤ pace.period * bits_per_ms timing.bitrate
-    fewer = fewer_ms timing.bitrate (deadline_of pace) pace.period
+    fewer : time_limit timing pace ≤ bits_at_least timing pace.period
+    fewer = fewer_bits timing pace.period pace.deadline
 
     single : FlowFrames
     single = single_frames timing plan.units.items stays flow pace group
@@ -86,7 +77,7 @@ of_flow timing plan stays flow pace group = by (is_always_short group) (has_shor
       messages = if short then Short single else long_messages timing plan.units.items stays flow pace group flow.to;
       singles = if not short && has then Some single else None;
       limit = time_limit timing pace;
-      bits_per_second = load_of_messages (if short then Short single else long_messages timing plan.units.items stays flow pace group flow.to) pace.period;
+      bits_per_second = load_of_messages timing (if short then Short single else long_messages timing plan.units.items stays flow pace group flow.to) pace.period;
     })
     by true has = record { messages = (pos, refl, fewer); singles = tt }
     by false true = record { messages = long flow.to; singles = pos }
@@ -136,13 +127,11 @@ singles_paced (Some load) known = known.singles
 
 -- ---- frames of units
 
-positive_gaps : (bitrate : Bitrate) (gaps gap : ℕ) → 1 ≤ gaps → 10 ≤ gap → 0 < gaps * (gap * bits_per_ms bitrate)
-positive_gaps bitrate gaps gap some long = go (positive_ms bitrate gap (omega arith))
-  where
-    go : 0 < gap * bits_per_ms bitrate → 0 < gaps * (gap * bits_per_ms bitrate)
-    go one =
-        let most : (gap * bits_per_ms bitrate) * 1 ≤ (gap * bits_per_ms bitrate) * gaps = mul-le-mul_left (gap * bits_per_ms bitrate) some in
-        omega arith
+positive_gaps : (timing : Timing) (gaps gap : ℕ) → 1 ≤ gaps → 10 ≤ gap → 0 < gaps * bits_at_least timing gap
+positive_gaps timing gaps gap some long =
+    let one = some_bits timing gap (omega (arith, long)) in
+    let most : bits_at_least timing gap * 1 ≤ bits_at_least timing gap * gaps = mul-le-mul_left (bits_at_least timing gap) some in
+    omega (arith, one, most)
 
 abbrev pub HasPackets : Broadcast → Type 0
 HasPackets broadcast = 2 ≤ broadcast.least_packets
@@ -195,8 +184,8 @@ unit_paced : (timing : Timing) (units : List UnitPlan) (stays : UnitPlan → Boo
     × HasPeriod (announcements_of_unit (known_unit_load timing units stays u broadcasts))
 unit_paced timing units stays u [] all = (tt, tt)
 unit_paced timing units stays u (b ∷ bs) all = (
-  positive_gaps timing.bitrate 1 timing.broadcast_gap (omega arith) timing.broadcast_gap_least,
-  positive_gaps timing.bitrate (least_packets (b ∷ bs)) timing.broadcast_gap (some_packets (b ∷ bs) all) timing.broadcast_gap_least,
+  positive_gaps timing 1 timing.broadcast_gap (omega arith) timing.broadcast_gap_least,
+  positive_gaps timing (least_packets (b ∷ bs)) timing.broadcast_gap (some_packets (b ∷ bs) all) timing.broadcast_gap_least,
 )
 
 -- ---- requests
@@ -207,7 +196,7 @@ IsPacedRequest load = HasPeriod (frames_of_request load)
 request_paced : (timing : Timing) (units : List UnitPlan) (stays : UnitPlan → Bool) (request : RequestPlan) (period : Option ℕ)
     → ForSome period (λ n. 1 ≤ n) → IsPacedRequest (option_map (request_load timing units stays request) period)
 request_paced timing units stays request None some = tt
-request_paced timing units stays request (Some period) some = positive_ms timing.bitrate period (some period refl)
+request_paced timing units stays request (Some period) some = some_bits timing period (some period refl)
 
 -- ---- all of them
 
@@ -269,7 +258,7 @@ asked_paced timing plan stays =
 damage_paced : (timing : Timing) (errors : Option ErrorRate) → timing.errors ≡ errors → All HasPeriod (damage_frames timing)
 damage_paced timing None is = rw (is) (λ k d below. absurd (omega arith))
 damage_paced timing (Some rate) is =
-    let one : 0 < rate.every * bits_per_ms timing.bitrate = positive_ms timing.bitrate rate.every rate.every_positive in
+    let one : 0 < bits_inside timing rate.every = some_inside timing rate.every rate.every_positive in
     rw (is) (All-cons HasPeriod (first_of_all (damage_stream timing rate (longest_frame frame_bytes))) (first_of_all (damage_stream timing rate error_frame) ∷ []) one
     (All-cons HasPeriod (first_of_all (damage_stream timing rate error_frame)) [] one (λ k d below. absurd (omega arith))))
 

@@ -1,5 +1,5 @@
 -- What was received last of a flow that meets a need is young, and reads as it was written.
-use Rattle.std.proofs.Common.{◌≡◌, ℕ, ◌+◌, ◌<◌, ◌≤◌, Bool, List, [], ◌∷◌, ◌++◌, length, get_or, All, Option, Some, None}
+use Rattle.std.proofs.Common.{◌≡◌, ℕ, ◌+◌, ◌*◌, ◌<◌, ◌≤◌, Bool, List, [], ◌∷◌, ◌++◌, length, get_or, All, Option, Some, None}
 use Rattle.std.proofs.Common.{sym, ap, ◌∙◌, subst, inl, inr, arith}
 use Rattle.std.proofs.lemmas.Option.{get_or_from_slice_get, slice_get_cases, slice_get_within}
 use Rattle.std.specs.List.{HoldsAt, slice_get}
@@ -28,7 +28,6 @@ use Rattle.j39_load.specs.Asked.{asked_of, frames_asked}
 use Rattle.j39_load.specs.Damage.{damage_frames}
 use Rattle.j39_load.specs.FreshNeeds.{IsNeedFresh}
 use Rattle.j39_load.specs.LoadFindings.{AreLoadFindings}
-use Rattle.j39_load.specs.Loads.{bits_of_ms}
 use Rattle.j39_load.specs.PlannedFrames.{AreFramesOfPlan, IsBounded, planned_at, traffic_of}
 use Rattle.j39_load.specs.ReadInTime.{AreNeedsRead, AreReadYoung, AreWritten, CarryWritten, IsNeedRead, ReadAsWritten, signals_of_bytes}
 use Rattle.j39_load.proofs.AgeLaws.{fresh_where_checked}
@@ -172,7 +171,7 @@ both plan clean g group at s planned of flow bytes written age from to fresh t l
     )
 
 module _ (plan : Plan) (timing : Timing) (clean : Clean plan) (stays : UnitPlan → Bool) (delays : List (Option Delay)) (need : NeedPlan) (within : ℕ)
-    (fresh : IsNeedFresh plan timing (asked_of timing plan stays) delays need (bits_of_ms timing within)) where
+    (fresh : IsNeedFresh plan timing (asked_of timing plan stays) delays need (1000 * within)) where
   group_below : fresh.flow.group < length plan.groups.items
   group_below =
       let here : get_or plan.flows.items fresh.place fresh.flow ≡ fresh.flow =
@@ -192,20 +191,20 @@ module _ (plan : Plan) (timing : Timing) (clean : Clean plan) (stays : UnitPlan 
         fresh = fresh;
         group = group;
         of = at;
-        in_any_order = λ s controllers planned of legal known bytes written from to coming seen.
-            both plan clean fresh.flow.group group at s planned of fresh.place bytes written (bits_of_ms timing fresh.pause + fresh.bits)
+        in_any_order = λ silent s controllers planned of legal known bytes written from to coming seen.
+            both plan clean fresh.flow.group group at s planned of fresh.place bytes written (silent + fresh.bits)
             (from + fresh.bits) (to + fresh.bits)
             (of_flow plan timing stays fresh.place fresh.bits fresh.bounded s planned of known.known (fresh.bounded.in_any_order s controllers planned of legal known)
-            (bits_of_ms timing fresh.pause) from to
-            (newest_in_any_order s controllers planned of _ _ fresh.place fresh.bounded.wait (bits_of_ms timing fresh.pause) from to legal
+            silent from to
+            (newest_in_any_order s controllers planned of _ _ fresh.place fresh.bounded.wait silent from to legal
             (come plan timing stays fresh.place fresh.bits fresh.bounded s planned of known.known (fresh.bounded.in_any_order s controllers planned of legal known)) coming)
             seen);
-        in_order = λ ordered s planned of legal known bytes written from to coming seen.
-            both plan clean fresh.flow.group group at s planned of fresh.place bytes written (bits_of_ms timing fresh.pause + fresh.bits)
+        in_order = λ silent ordered s planned of legal known bytes written from to coming seen.
+            both plan clean fresh.flow.group group at s planned of fresh.place bytes written (silent + fresh.bits)
             (from + fresh.bits) (to + fresh.bits)
             (of_flow plan timing stays fresh.place fresh.bits fresh.bounded s planned of known (fresh.bounded.bounds ordered s planned of legal known)
-            (bits_of_ms timing fresh.pause) from to
-            (newest_in_order s planned of _ _ fresh.place fresh.bounded.wait (bits_of_ms timing fresh.pause) from to legal
+            silent from to
+            (newest_in_order s planned of _ _ fresh.place fresh.bounded.wait silent from to legal
             (come plan timing stays fresh.place fresh.bits fresh.bounded s planned of known (fresh.bounded.bounds ordered s planned of legal known)) coming)
             seen);
       }

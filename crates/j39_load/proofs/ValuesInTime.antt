@@ -1,7 +1,9 @@
 -- On a bus that keeps to a plan with whose load nothing is wrong values arrive in time, in milliseconds.
-use Rattle.std.proofs.Common.{◌≡◌, ℕ, ◌+◌, ◌*◌, ◌<◌, ◌≤◌, Bool, true, false, if◌then◌else◌, List, [], Option, Some, None}
+use Rattle.std.proofs.Common.{◌≡◌, ℕ, ◌+◌, ◌*◌, ◌-◌, ◌<◌, ◌≤◌, Bool, true, false, if◌then◌else◌, List, [], Option, Some, None}
 use Rattle.std.proofs.Common.{refl, sym, ap, ◌∙◌, arith, option_map}
 use Rattle.std.proofs.lemmas.Bool.{leb-true}
+use Rattle.std.proofs.Math.Nat.{mul-le-mul_right}
+use Rattle.std.proofs.lemmas.Grind.{div_ceil_times}
 use Rattle.std.proofs.lemmas.Option.{none-some, same_Some, slice_get-map}
 use Rattle.std.specs.List.{slice_get}
 use Rattle.j39_findings.specs.Findings.{Clean}
@@ -10,8 +12,6 @@ use Rattle.j39_network.specs.declared.plan.flow_plan.FlowPlan.{FlowPlan}
 use Rattle.j39_network.specs.declared.plan.group_plan.GroupPlan.{GroupPlan}
 use Rattle.j39_network.specs.declared.plan.need_plan.NeedPlan.{NeedPlan}
 use Rattle.j39_network.specs.declared.plan.pace.Pace.{Pace}
-use Rattle.j39_network.specs.declared.plan.timing.Bitrate.{Bitrate}
-use Rattle.j39_network.specs.declared.plan.timing.Bitrate.TheVariants.{Kbit125, Kbit250, Kbit500, Mbit1}
 use Rattle.j39_network.specs.declared.plan.timing.Timing.{Timing}
 use Rattle.j39_network.specs.declared.plan.to.To.{To}
 use Rattle.j39_network.specs.declared.plan.to.To.TheVariants.{All as ToAllUnits, One}
@@ -23,24 +23,32 @@ use Rattle.j39_load.specs.declared.frames.messages.Messages.TheVariants.{Short}
 use Rattle.j39_load.specs.Asked.{asked_of}
 use Rattle.j39_load.specs.KeepsPlan.{IsSingleFlow, origins_of}
 use Rattle.j39_load.specs.LoadFindings.{AreLoadFindings, AsksOfBus}
-use Rattle.j39_load.specs.Loads.{bits_of_ms, bits_per_ms, deadline_of, is_always_short, load_of_flow, long_messages, single_frames, time_limit}
+use Rattle.j39_load.specs.Loads.{bits_at_least, is_always_short, load_of_flow, long_messages, single_frames, time_limit, us_of_bits, us_of_unit_ms}
 use Rattle.j39_load.specs.ReadInTime.{AreReadYoung, CarryWritten, IsNeedRead}
-use Rattle.j39_load.specs.SentFrames.{FrameSources, bit_time}
+use Rattle.j39_load.specs.Clocks.{IsTrueTime, bit_time, longest_million, million}
+use Rattle.j39_load.specs.SentFrames.{FrameSources}
 use Rattle.j39_load.specs.ValuesInTime.{AreValuesInTime, ArriveOn, IsValueInTime}
 use Rattle.j39_load.proofs.KeepingAnyOrder.{keeps_in_any_order}
 use Rattle.j39_load.proofs.KeepingPlan.{keeps_in_order}
-use Rattle.j39_load.proofs.Milliseconds.{behind_bits, in_ms}
-use Rattle.j39_load.proofs.KeptInTime.{at_most_second, before_bits}
+use Rattle.j39_load.proofs.Milliseconds.{before_bits, behind_bits, least_inside, told_in_time}
+use Rattle.j39_load.proofs.KeptInTime.{in_period}
 use Rattle.j39_load.proofs.ReadingInTime.{read_where_checked}
 use Rattle.j39_load.proofs.Sending.{in_order}
 use Rattle.j39_timing.specs.FreshFrames.{KeepsComing}
 use Rattle.j39_timing.specs.TimedFrames.{Schedule}
 
-under_bits : (bitrate : Bitrate) (ms a b : ℕ) → b * bit_time bitrate < a * bit_time bitrate + 1000 * ms → b < a + ms * bits_per_ms bitrate
-under_bits Kbit125 ms a b under = omega arith
-under_bits Kbit250 ms a b under = omega arith
-under_bits Kbit500 ms a b under = omega arith
-under_bits Mbit1 ms a b under = omega arith
+-- a time that is over in so many bits more
+aged : (timing : Timing) (time : ℕ → ℕ) → IsTrueTime timing time → (pause within bits born last now : ℕ) → last + bits ≡ now → time last < time born + 1000 * pause * longest_million timing
+    → us_of_unit_ms timing pause + us_of_bits timing bits ≤ within → time now ≤ time born + within * million
+aged timing time clock pause within bits born last now sum near asked =
+    let on = clock.at_most last now (omega (arith, sum)) in
+    let span : now - last ≡ bits = omega (arith, sum) in
+    let same : (now - last) * bit_time timing.bitrate * longest_million timing ≡ bits * bit_time timing.bitrate * longest_million timing =
+    ap (λ (n : ℕ). n * bit_time timing.bitrate * longest_million timing) span in
+    let told = told_in_time timing bits in
+    let silent = (div_ceil_times (1000 * pause * longest_million timing) million (omega arith)).0 in
+    let both : (us_of_unit_ms timing pause + us_of_bits timing bits) * million ≤ within * million = mul-le-mul_right million asked in
+    omega (arith, on, same, told, silent, both, near)
 
 -- the pace of a flow of which a load is told
 record IsPaceOf (timing : Timing) (flow : FlowPlan) (load : FlowLoad) : Type 0 where
@@ -96,35 +104,41 @@ module _ (plan : Plan) (timing : Timing) (clean : Clean plan) (stays : UnitPlan 
   }
 
   -- its delay is within its period
-  delay_within : read.fresh.bits ≤ its_pace.pace.period * bits_per_ms timing.bitrate
+  delay_within : read.fresh.bits ≤ bits_at_least timing its_pace.pace.period
   delay_within =
       let inside = read.fresh.bounded.inside in
       let limit = its_pace.limit in
-      let period = at_most_second timing.bitrate (deadline_of its_pace.pace) its_pace.pace.period in
+      let period = in_period timing its_pace.pace.period its_pace.pace.deadline in
       omega (arith, inside, limit, period)
 
   arrive : (s : Schedule) (planned : ℕ → Bool) (sent : FrameSources)
-      → ((bytes : ℕ → List ℕ) (written : CarryWritten s planned (origins_of plan sent) read.fresh.place read.group bytes) (from to : ℕ)
-      → KeepsComing s planned (origins_of plan sent) read.fresh.place (bits_of_ms timing read.fresh.pause) from to
+      → ((silent : ℕ) (bytes : ℕ → List ℕ) (written : CarryWritten s planned (origins_of plan sent) read.fresh.place read.group bytes) (from to : ℕ)
+      → KeepsComing s planned (origins_of plan sent) read.fresh.place silent from to
       → to + (read.fresh.bounded.frames.stream.jitter + read.fresh.bounded.wait) < s.now
-      → AreReadYoung s planned (origins_of plan sent) read.fresh.place read.group bytes written (bits_of_ms timing read.fresh.pause + read.fresh.bits)
+      → AreReadYoung s planned (origins_of plan sent) read.fresh.place read.group bytes written (silent + read.fresh.bits)
       (from + read.fresh.bits) (to + read.fresh.bits))
       → ArriveOn plan timing s planned sent read.fresh.place its_pace.pace read.fresh.pause read.group within
-  arrive s planned sent young bytes written from to pausing shown t behind up =
-      let seen = before_bits timing.bitrate its_pace.pace.period to s.now shown in
-      let low = behind_bits timing.bitrate its_pace.pace.period from t behind in
+  arrive s planned sent young bytes written time clock from to pausing shown t behind up =
+      let seen = before_bits timing its_pace.pace.period to s.now shown in
+      let fewer = least_inside timing its_pace.pace.period in
+      let low = behind_bits timing its_pace.pace.period from t behind in
       let sum = read.fresh.bounded.sum in
       let delay = delay_within in
-      let coming : KeepsComing s planned (origins_of plan sent) read.fresh.place (bits_of_ms timing read.fresh.pause) from to =
-      λ u first last. let (p, (in_p, is, source), release, near) = pausing u first last in
-      (p, in_p, is, source, release, under_bits timing.bitrate read.fresh.pause (sent.release p) u near) in
-      let (some, each) = young bytes written from to coming (omega (arith, seen, sum, delay)) t (omega (arith, low, delay)) (omega (arith, up)) in (
+      let last = t - read.fresh.bits in
+      let back : last + read.fresh.bits ≡ t = omega (arith, low, delay) in
+      let (p, (in_p, is, source), release, near) = pausing last (omega (arith, low, delay, back)) (omega (arith, up, back)) in
+      let silent = last - sent.release p + 1 in
+      let coming : KeepsComing s planned (origins_of plan sent) read.fresh.place silent last last =
+      λ u first end. (p, in_p, is, source, omega (arith, release, first), omega (arith, release, end)) in
+      let (some, each) = young silent bytes written last last coming (omega (arith, seen, sum, delay, fewer, up, back)) t (omega (arith, back)) (omega (arith, back)) in (
         some,
-        λ p newest.
-            let reads = each p newest in
+        λ q newest.
+            let reads = each q newest in
             let age = reads.young in
-            let asked = read.fresh.young in
-            (in_ms timing.bitrate within (sent.release p) t (omega (arith, age, asked)), reads.read),
+            let later : sent.release p ≤ sent.release q = omega (arith, age, back, release) in
+            let on = clock.at_least (sent.release p) (sent.release q) later in
+            let old = aged timing time clock read.fresh.pause (1000 * within) read.fresh.bits (sent.release p) last t back near read.fresh.young in
+            (omega (arith, on, old), reads.read),
       )
 
   value_in_time : IsValueInTime plan timing need within
@@ -141,10 +155,10 @@ module _ (plan : Plan) (timing : Timing) (clean : Clean plan) (stays : UnitPlan 
     group = read.group;
     of = read.of;
     in_any_order = λ s controllers planned sent held legal keeps queues.
-        arrive s planned sent (read.in_any_order s controllers planned (origins_of plan sent) legal
+        arrive s planned sent (λ silent. read.in_any_order silent s controllers planned (origins_of plan sent) legal
         (keeps_in_any_order plan timing stays clean asks.standing s controllers planned sent held read.fresh.place single legal keeps queues));
     in_order = λ ordered s planned sent held legal keeps.
-        arrive s planned sent (read.in_order (in_order timing plan stays ordered) s planned (origins_of plan sent) legal
+        arrive s planned sent (λ silent. read.in_order silent (in_order timing plan stays ordered) s planned (origins_of plan sent) legal
         (keeps_in_order plan timing stays clean asks.standing s planned sent held read.fresh.place single legal keeps));
   }
 

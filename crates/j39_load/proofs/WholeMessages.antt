@@ -33,7 +33,7 @@ use Rattle.j39_load.specs.Broadcasts.{broadcasts_by, known_unit_load, unit_loads
 use Rattle.j39_load.specs.Delays.{IsDelayOf, IsTurnBy, IsWaitIn, IsWholeTime, announcements_place, known_turn, longest_pause, packet_time}
 use Rattle.j39_load.specs.Delays.{packets_place, flow_turn, turn_time, whole_time}
 use Rattle.j39_load.specs.LoadFindings.{AreLoadFindings, AsksOfBus, is_whole_late, lateness, load_findings, time_of_each, without_period}
-use Rattle.j39_load.specs.Loads.{bits_of_ms}
+use Rattle.j39_load.specs.Loads.{bits_at_most}
 use Rattle.j39_load.specs.LineLists.{lines_of_each}
 use Rattle.j39_load.specs.PlannedFrames.{AreAllOrdered, AreDeadlinesKept, AreMessagesOf, ArePlannedFramesInTime, AreTimesBounds, AreWholeInAnyOrder}
 use Rattle.j39_load.specs.PlannedFrames.{AreWholeOnEveryBus, AreWholeWithin, ComeInAnyOrder, ComeInTurn, IsOneTurn}
@@ -170,7 +170,7 @@ module _ (plan : Plan) (timing : Timing) (stays : UnitPlan → Bool) where
       in_any_order s controllers planned of legal of_announcements of_packets messages release turn known in_turn seen =
           let a = announcements_place asked u in
           let p = packets_place asked u in
-          let gap = bits_of_ms timing timing.broadcast_gap_most in
+          let gap = bits_at_most timing timing.broadcast_gap_most in
           let counts = of_unit_load timing plan.units.items stays asked.flows u load its in
           let announcements = sent_in_any_order timing (frames_asked asked) (all_paced timing plan stays) (all_sent timing plan stays) buffering is_buffering
           a load.announcements (announcements_read asked u load its) announced s controllers planned of legal of_announcements counts.2 first in

@@ -1,6 +1,6 @@
 -- How old what a unit needs is at most, where it is received: the time for which a flow that brings it is silent at most, and the delay of
 -- this flow together.
-use Rattle.std.specs.Prelude.{ℕ, ◌+◌, min, nat_le, nat_lt, Bool, false, not, ◌&&◌, ◌==◌, if◌then◌else◌, List, [], ◌∷◌, count_by, slice_index_or, Option, Some, None}
+use Rattle.std.specs.Prelude.{ℕ, ◌+◌, ◌*◌, min, nat_le, nat_lt, Bool, false, not, ◌&&◌, ◌==◌, if◌then◌else◌, List, [], ◌∷◌, count_by, slice_index_or, Option, Some, None}
 use Rattle.std.specs.Option.{option_and_then, option_map_or}
 use Rattle.j39_findings.specs.Found.{is_unmet}
 use Rattle.j39_network.specs.Serving.{meets}
@@ -12,13 +12,13 @@ use Rattle.j39_load.specs.declared.waits.delay.Delay.{Delay}
 use Rattle.j39_load.specs.declared.waits.delay.Delay.TheVariants.{Within}
 use Rattle.j39_load.specs.declared.findings.load_finding.LoadFinding.{LoadFinding}
 use Rattle.j39_load.specs.declared.findings.load_finding.LoadFinding.TheVariants.{NeedTooOld}
-use Rattle.j39_load.specs.Loads.{bits_of_ms}
+use Rattle.j39_load.specs.Loads.{us_of_bits, us_of_unit_ms}
 use Rattle.j39_load.specs.LineLists.{lines_of_each}
 
--- the age of what a flow brings, in bits: that of one with a pause and with a delay that is told, which isn't sent as an answer
+-- the age of what a flow brings, in microseconds: that of one with a pause and with a delay that is told, which isn't sent as an answer
 abbrev pub ages_of : Timing → FlowPlan → Option Delay → List ℕ
 ages_of timing flow (Some (Within bits)) =
-    if flow.on_request then [] else option_map_or (λ pause. (bits_of_ms timing pause + bits) ∷ []) flow.pause []
+    if flow.on_request then [] else option_map_or (λ pause. (us_of_unit_ms timing pause + us_of_bits timing bits) ∷ []) flow.pause []
 ages_of timing flow _ = []
 
 -- the same of the flow at a place, where it meets the need
@@ -68,15 +68,15 @@ youngest_flow timing requests flows delays need =
 abbrev pub has_several : List RequestPlan → List FlowPlan → NeedPlan → Bool
 has_several requests flows need = nat_lt 1 (count_by (meets requests need) flows)
 
--- a time is known, and within so many bits
+-- a time is known, and within this limit
 abbrev pub is_in_limit : ℕ → Option ℕ → Bool
 is_in_limit limit None = false
-is_in_limit limit (Some bits) = nat_le bits limit
+is_in_limit limit (Some time) = nat_le time limit
 
 -- some flow meets the need, and what none of these brings is shown to be within so many milliseconds
 abbrev pub is_too_old : Timing → List RequestPlan → List FlowPlan → List (Option Delay) → NeedPlan → ℕ → Bool
 is_too_old timing requests flows delays need within =
-    not (is_unmet requests flows need) && not (is_in_limit (bits_of_ms timing within) (least_age timing requests flows delays need))
+    not (is_unmet requests flows need) && not (is_in_limit (1000 * within) (least_age timing requests flows delays need))
 
 -- what is wrong with the need at a place: nothing where it asks for no age
 abbrev pub oldness : Timing → List RequestPlan → List FlowPlan → List (Option Delay) → ℕ → NeedPlan → List LoadFinding

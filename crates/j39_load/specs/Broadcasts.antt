@@ -1,7 +1,6 @@
 -- What the long messages to all ask of the bus: of each unit two streams of single frames, its packets and its announcements, since it sends
 -- one such message at a time, and the packets of each a gap apart (SAE J1939-21, ISO 11783-3).
 use Rattle.std.specs.Prelude.{ℕ, ◌+◌, ◌*◌, ◌==◌, min, if◌then◌else◌, Bool, List, [], ◌∷◌, length, map, sum_by, Option, Some, None}
-use Rattle.std.specs.Int.{div_ceil}
 use Rattle.std.specs.List.{filter_map, range_with_len}
 use Rattle.j39_id.specs.Limits.{frame_bytes}
 use Rattle.j39_id.specs.Services.{connection_management, data_transfer}
@@ -14,7 +13,7 @@ use Rattle.j39_load.specs.declared.frames.messages.Messages.{Messages}
 use Rattle.j39_load.specs.declared.frames.messages.Messages.TheVariants.{Short, ToAll, ToOne}
 use Rattle.j39_load.specs.declared.loads.unit_load.UnitLoad.{UnitLoad}
 use Rattle.j39_load.specs.Demands.{announcements_demand, packets_demand}
-use Rattle.j39_load.specs.Loads.{any_unit, bits_of_ms, broadcast_ident, greatest_address, least_address, of_unit}
+use Rattle.j39_load.specs.Loads.{any_unit, bits_a_second, bits_at_least, broadcast_ident, greatest_address, least_address, of_unit}
 use Rattle.j39_timing.specs.FrameBits.{longest_frame}
 use Rattle.j39_timing.specs.declared.stream.Stream.{Stream}
 
@@ -41,7 +40,7 @@ least_packets (broadcast ∷ broadcasts) = min broadcast.least_packets (least_pa
 abbrev pub spaced_stream : Timing → ℕ → ℕ → Stream
 spaced_stream timing gaps place = record {
   frames = 1;
-  period = gaps * bits_of_ms timing timing.broadcast_gap;
+  period = gaps * bits_at_least timing timing.broadcast_gap;
   bits = longest_frame frame_bytes;
   jitter = 0;
   wanted = Some place;
@@ -61,24 +60,24 @@ broadcast_frames timing units stays pgn u gaps place = record {
 }
 
 -- the bits that so many frames take in a second at most, which are sent again after so many milliseconds
-abbrev pub bits_each : ℕ → ℕ → ℕ
-bits_each frames ms = div_ceil (1000 * (frames * longest_frame frame_bytes)) ms
+abbrev pub bits_each : Timing → ℕ → ℕ → ℕ
+bits_each timing frames ms = bits_a_second timing (frames * longest_frame frame_bytes) ms
 
 -- the bits that the packets of these broadcasts take in a second at most: no more than are wanted, and no more than one for each gap
 abbrev pub load_of_packets : Timing → List Broadcast → ℕ
 load_of_packets timing broadcasts =
-    min (sum_by (λ b. bits_each b.packets b.period) broadcasts) (bits_each 1 timing.broadcast_gap)
+    min (sum_by (λ b. bits_each timing b.packets b.period) broadcasts) (bits_each timing 1 timing.broadcast_gap)
 
 -- those of the first frames of a broadcast's messages, where some go in one frame: an announcement, or such a frame, which no packets have to follow
-abbrev pub bits_of_firsts : Broadcast → ℕ
-bits_of_firsts broadcast = if broadcast.has_short then bits_each 1 broadcast.period else 0
+abbrev pub bits_of_firsts : Timing → Broadcast → ℕ
+bits_of_firsts timing broadcast = if broadcast.has_short then bits_each timing 1 broadcast.period else 0
 
-abbrev pub load_of_firsts : List Broadcast → ℕ
-load_of_firsts broadcasts = sum_by bits_of_firsts broadcasts
+abbrev pub load_of_firsts : Timing → List Broadcast → ℕ
+load_of_firsts timing broadcasts = sum_by (bits_of_firsts timing) broadcasts
 
 -- those of the announcements of one of which none does
-abbrev pub bits_of_announcements : Broadcast → ℕ
-bits_of_announcements broadcast = if broadcast.has_short then 0 else bits_each 1 broadcast.period
+abbrev pub bits_of_announcements : Timing → Broadcast → ℕ
+bits_of_announcements timing broadcast = if broadcast.has_short then 0 else bits_each timing 1 broadcast.period
 
 -- the least number of packets of these
 abbrev pub announced_packets : Broadcast → ℕ
@@ -91,7 +90,7 @@ least_announced (broadcast ∷ broadcasts) = min (announced_packets broadcast) (
 -- the packets of a message lie between two of these announcements
 abbrev pub load_of_announcements : Timing → List Broadcast → ℕ
 load_of_announcements timing broadcasts =
-    min (sum_by bits_of_announcements broadcasts) (bits_each 1 (least_announced broadcasts * timing.broadcast_gap))
+    min (sum_by (bits_of_announcements timing) broadcasts) (bits_each timing 1 (least_announced broadcasts * timing.broadcast_gap))
 
 -- what these broadcasts of the unit at a place ask of the bus
 abbrev pub unit_load : Timing → List UnitPlan → (UnitPlan → Bool) → ℕ → List Broadcast → UnitLoad
@@ -100,7 +99,7 @@ unit_load timing units stays u broadcasts = record {
   announcements = broadcast_frames timing units stays connection_management u (least_packets broadcasts) (announcements_demand u);
   flows = length broadcasts;
   all_packets = sum_by (λ b. b.packets) broadcasts;
-  bits_per_second = load_of_packets timing broadcasts + (load_of_firsts broadcasts + load_of_announcements timing broadcasts);
+  bits_per_second = load_of_packets timing broadcasts + (load_of_firsts timing broadcasts + load_of_announcements timing broadcasts);
 }
 
 -- where there are any

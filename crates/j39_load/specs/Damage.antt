@@ -6,13 +6,14 @@ use Rattle.j39_id.specs.Limits.{frame_bytes}
 use Rattle.j39_network.specs.declared.plan.timing.ErrorRate.{ErrorRate}
 use Rattle.j39_network.specs.declared.plan.timing.Timing.{Timing}
 use Rattle.j39_load.specs.declared.frames.flow_frames.FlowFrames.{FlowFrames}
-use Rattle.j39_load.specs.Loads.{bits_of_ms}
+use Rattle.j39_load.specs.Clocks.{longest_million, million}
+use Rattle.j39_load.specs.Loads.{bits_inside}
 use Rattle.j39_timing.specs.FrameBits.{error_frame, longest_frame}
 use Rattle.j39_timing.specs.declared.stream.Stream.{Stream}
 
 -- frames of so many bits, of which as many come in a window as attempts are damaged
 abbrev pub damage_stream : Timing → ErrorRate → ℕ → Stream
-damage_stream timing rate bits = record { frames = rate.count; period = bits_of_ms timing rate.every; bits = bits; jitter = 0; wanted = None }
+damage_stream timing rate bits = record { frames = rate.count; period = bits_inside timing rate.every; bits = bits; jitter = 0; wanted = None }
 
 -- the attempts, and the error frames
 abbrev pub damage_streams : Timing → List Stream
@@ -41,4 +42,5 @@ damage_frames timing = map first_of_all (damage_streams timing)
 -- the bits that they take in a second at most
 abbrev pub load_of_damage : Timing → ℕ
 load_of_damage timing =
-    option_map_or (λ (rate : ErrorRate). div_ceil (1000 * (rate.count * (longest_frame frame_bytes + error_frame))) rate.every) timing.errors 0
+    option_map_or (λ (rate : ErrorRate). div_ceil (1000 * (rate.count * (longest_frame frame_bytes + error_frame)) * longest_million timing)
+    (rate.every * million)) timing.errors 0

@@ -19,7 +19,7 @@ use Rattle.j39_load.specs.AnyQueues.{IsBuffering, Buffering, keep_order, may_be_
 use Rattle.j39_load.specs.Asked.{Asked, frames_asked}
 use Rattle.j39_load.specs.Damage.{damage_streams}
 use Rattle.j39_load.specs.Demands.{demands_of}
-use Rattle.j39_load.specs.Loads.{bits_of_ms, frames_to_all, longest_wait}
+use Rattle.j39_load.specs.Loads.{bits_at_least, bits_at_most, frames_to_all, longest_wait}
 use Rattle.j39_load.specs.LineLists.{lines_of_each}
 use Rattle.j39_load.specs.Twins.{may_precede}
 use Rattle.j39_timing.specs.FrameBits.{longest_frame}
@@ -122,11 +122,11 @@ announcements_place asked u = 2 * length asked.flows + (length asked.units + u)
 
 -- the longest time from the end of one frame of a message to the end of the next packet, where packets wait for so long
 abbrev pub packet_time : Timing → UnitLoad → ℕ → ℕ
-packet_time timing load sent = bits_of_ms timing timing.broadcast_gap_most + (sent + load.packets.stream.bits)
+packet_time timing load sent = bits_at_most timing timing.broadcast_gap_most + (sent + load.packets.stream.bits)
 
 -- a receiver gives a message up of which no packet comes in 750 ms (SAE J1939-21, T1)
 abbrev pub longest_pause : Timing → ℕ
-longest_pause timing = bits_of_ms timing 750
+longest_pause timing = bits_at_least timing 750
 
 -- the time of the longest message of each flow of the unit, one after the other, where announcements and packets wait
 -- for so long

@@ -1,6 +1,6 @@
 -- What a plan is good for that finds no need too old: on every bus, while some flow that meets the need keeps its `pause`, what this flow
 -- brings is never older than the need asks for.
-use Rattle.std.specs.Prelude.{◌≡◌, ℕ, ◌+◌, ◌<◌, ◌≤◌, Bool, false, List, Option, Some}
+use Rattle.std.specs.Prelude.{◌≡◌, ℕ, ◌+◌, ◌*◌, ◌<◌, ◌≤◌, Bool, false, List, Option, Some}
 use Rattle.std.specs.List.{slice_get}
 use Rattle.j39_network.specs.Serving.{Meets}
 use Rattle.j39_network.specs.declared.plan.Plan.{Plan}
@@ -13,7 +13,7 @@ use Rattle.j39_load.specs.declared.waits.delay.Delay.TheVariants.{Within}
 use Rattle.j39_load.specs.Ages.{least_age}
 use Rattle.j39_load.specs.Asked.{Asked, asked_of, frames_asked}
 use Rattle.j39_load.specs.LoadFindings.{AsksOfBus}
-use Rattle.j39_load.specs.Loads.{bits_of_ms}
+use Rattle.j39_load.specs.Loads.{us_of_bits, us_of_unit_ms}
 use Rattle.j39_load.specs.PlannedFrames.{AreAllOrdered, AreFramesInAnyOrder, AreFramesOfPlan, IsBounded}
 use Rattle.j39_timing.specs.FreshFrames.{IsFresh, KeepsComing}
 use Rattle.j39_timing.specs.AnyOrder.{Controllers, IsLegalInAnyOrder}
@@ -36,7 +36,7 @@ IsFreshInAnyOrder timing asked flow pause stream wait delay = (s : Schedule) (co
     → IsFresh s planned of flow (pause + delay) (from + delay) (to + delay)
 
 -- some flow that isn't sent as an answer meets the need; the longest time that it may be silent and its delay, which bounds its frames' time on every bus, are together
--- so many bits at most; and what comes by it is never older
+-- so many microseconds at most; and what comes by it is never older, however many bits it is silent for
 pub record IsNeedFresh (plan : Plan) (timing : Timing) (asked : Asked) (delays : List (Option Delay)) (need : NeedPlan) (most : ℕ) : Type 0 where
   pub place : ℕ
   pub flow : FlowPlan
@@ -47,18 +47,18 @@ pub record IsNeedFresh (plan : Plan) (timing : Timing) (asked : Asked) (delays :
   pub paused : flow.pause ≡ Some pause
   pub bits : ℕ
   pub delayed : slice_get delays place ≡ Some (Some (Within bits))
-  pub young : bits_of_ms timing pause + bits ≤ most
+  pub young : us_of_unit_ms timing pause + us_of_bits timing bits ≤ most
   pub bounded : IsBounded timing asked place bits
-  pub in_any_order :
-      IsFreshInAnyOrder timing asked place (bits_of_ms timing pause) bounded.frames.stream bounded.wait bits
-  pub fresh : AreAllOrdered (frames_asked asked)
-      → IsFreshOnEveryBus timing asked place (bits_of_ms timing pause) bounded.frames.stream bounded.wait bits
+  pub in_any_order : (silent : ℕ) →
+      IsFreshInAnyOrder timing asked place silent bounded.frames.stream bounded.wait bits
+  pub fresh : (silent : ℕ) → AreAllOrdered (frames_asked asked)
+      → IsFreshOnEveryBus timing asked place silent bounded.frames.stream bounded.wait bits
 
 -- so it is of each need of a plan that asks for an age: whoever tells who stays tells the same
 abbrev pub AreNeedsFresh : Plan → Timing → Type 0
 AreNeedsFresh plan timing = (stays : UnitPlan → Bool) × (delays : List (Option Delay)) × AsksOfBus plan timing stays delays
     × ((n : ℕ) (need : NeedPlan) (within : ℕ) → slice_get plan.needs.items n ≡ Some need → need.within ≡ Some within
-    → IsNeedFresh plan timing (asked_of timing plan stays) delays need (bits_of_ms timing within))
+    → IsNeedFresh plan timing (asked_of timing plan stays) delays need (1000 * within))
 
 -- and each age that is told of a need is one, whether the need asks for less or not
 abbrev pub AreNeedAgesBounds : Plan → Timing → Asked → List (Option Delay) → Type 0

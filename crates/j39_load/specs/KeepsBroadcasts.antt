@@ -8,7 +8,7 @@ use Rattle.j39_network.specs.declared.plan.group_plan.GroupPlan.{GroupPlan}
 use Rattle.j39_network.specs.declared.plan.pace.Pace.{Pace}
 use Rattle.j39_network.specs.declared.plan.timing.Timing.{Timing}
 use Rattle.j39_network.specs.declared.plan.to.To.TheVariants.{All}
-use Rattle.j39_load.specs.SentFrames.{Broadcasts, FrameSources, HasPeriodMs, Held, IsMsBehind, IsToAllBy, IsWithinMs, Announcing, Carrying}
+use Rattle.j39_load.specs.SentFrames.{Broadcasts, FrameSources, HasPeriodMs, Held, IsMsBehind, IsToAllBy, IsWithinUnitMs, Announcing, Carrying}
 use Rattle.j39_timing.specs.Messages.{frame_end}
 use Rattle.j39_timing.specs.TimedFrames.{Schedule}
 use Rattle.j39_timing.specs.Traffic.{PlannedFramesWait}
@@ -31,7 +31,7 @@ pub record IsMessageToAll (plan : Plan) (timing : Timing) (b : Broadcasts) (u m 
   pub longest : 7 * b.packets u m < group.most + 7
   -- it is wanted at its release, or as much behind it as the jitter allows, and announced then or later
   pub release_first : b.release u m ≤ b.wanted u m
-  pub jitter_at_most : IsWithinMs timing pace.jitter (b.release u m) (b.wanted u m)
+  pub jitter_at_most : IsWithinUnitMs timing pace.jitter (b.release u m) (b.wanted u m)
   pub wanted_first : b.wanted u m ≤ b.announced u m
 
 -- two messages of the unit are of one flow, the second behind the first

@@ -6,8 +6,9 @@ use Rattle.j39_network.specs.declared.plan.queue.Queue.TheVariants.{Any}
 use Rattle.j39_network.specs.declared.plan.timing.ErrorRate.{ErrorRate}
 use Rattle.j39_network.specs.declared.plan.timing.Timing.{Timing}
 use Rattle.j39_network.specs.declared.plan.unit_plan.UnitPlan.{UnitPlan}
+use Rattle.j39_load.specs.Clocks.{bit_time, longest_million, million}
 use Rattle.j39_load.specs.KeepsPlan.{AreSentInTime, KeepsAllOrder, KeepsQueues, KeepsToPlan, source_place, source_turn}
-use Rattle.j39_load.specs.SentFrames.{FrameSources, HasTime, Held, TakesPart, bit_time}
+use Rattle.j39_load.specs.SentFrames.{FrameSources, HasTime, Held, TakesPart}
 use Rattle.j39_timing.specs.AnyOrder.{Controllers}
 use Rattle.j39_timing.specs.QueueGroups.{unplanned_queued}
 use Rattle.j39_timing.specs.Errors.{Damaged, IsLegalInAnyOrderWithErrors, IsLegalWithErrors, at_place, with_errors}
@@ -20,10 +21,11 @@ use Rattle.j39_timing.specs.Traffic.{PlannedFramesWait, others_queued}
 abbrev pub planned_with : Schedule → (ℕ → Bool) → ℕ → Bool
 planned_with s planned p = cond (nat_lt p s.count) (planned p) true
 
--- an attempt begins at a bit or in so many milliseconds from it on
+-- an attempt begins at a bit or in so many milliseconds of true time from it on
 abbrev pub begins_within : Timing → ℕ → Damaged → ℕ → ℕ → Bool
 begins_within timing ms d from e =
-    not (nat_lt (d.begin e) from) && nat_lt (d.begin e * bit_time timing.bitrate) (from * bit_time timing.bitrate + 1000 * ms)
+    not (nat_lt (d.begin e) from) && nat_lt (d.begin e * bit_time timing.bitrate * longest_million timing)
+    (from * bit_time timing.bitrate * longest_million timing + 1000 * ms * million)
 
 -- how many do
 abbrev pub attempts_within : Timing → ℕ → Damaged → ℕ → ℕ

@@ -8,7 +8,7 @@ use Rattle.j39_network.specs.declared.plan.pace.Pace.{Pace}
 use Rattle.j39_network.specs.declared.plan.timing.Timing.{Timing}
 use Rattle.j39_load.specs.KeepsBroadcasts.{KeepsTurns}
 use Rattle.j39_load.specs.KeepsPlan.{KeepsQueues, KeepsToPlan}
-use Rattle.j39_load.specs.SentFrames.{Announcing, Broadcasts, Carrying, FrameSources, Held, IsMsBefore, IsWithinMs, Source}
+use Rattle.j39_load.specs.SentFrames.{Announcing, Broadcasts, Carrying, FrameSources, Held, IsMsBefore, IsWithinMs, IsWithinUnitMs, Source}
 use Rattle.j39_timing.specs.AnyOrder.{Controllers, IsLegalInAnyOrder}
 use Rattle.j39_timing.specs.Messages.{frame_end}
 use Rattle.j39_timing.specs.TimedFrames.{IsLegal, Schedule}
@@ -26,9 +26,9 @@ pub record AreSentWhole (timing : Timing) (s : Schedule) (planned : ℕ → Bool
   pub carries : (u m k : ℕ) → m < sent.broadcasts.count u → k < sent.broadcasts.packets u m → IsSentAs s planned sent (Carrying u m k) (packet u m k)
   -- a packet is queued no more than the longest gap behind the end of the frame before
   pub first_gap : (u m : ℕ) → m < sent.broadcasts.count u
-      → IsWithinMs timing timing.broadcast_gap_most (frame_end s (announcement u m)) (s.queued (packet u m 0))
+      → IsWithinUnitMs timing timing.broadcast_gap_most (frame_end s (announcement u m)) (s.queued (packet u m 0))
   pub next_gap : (u m k : ℕ) → m < sent.broadcasts.count u → suc k < sent.broadcasts.packets u m
-      → IsWithinMs timing timing.broadcast_gap_most (frame_end s (packet u m k)) (s.queued (packet u m (suc k)))
+      → IsWithinUnitMs timing timing.broadcast_gap_most (frame_end s (packet u m k)) (s.queued (packet u m (suc k)))
 
 -- from this bit on the receivers have the unit's message whole
 abbrev pub whole_from : (timing : Timing) (s : Schedule) (planned : ℕ → Bool) (sent : FrameSources) → AreSentWhole timing s planned sent → ℕ → ℕ → ℕ

@@ -4,6 +4,7 @@ pub mod Asked
 pub mod AskedLoads
 pub mod Broadcasts
 pub mod BusTimes
+pub mod Clocks
 pub mod Damage
 pub mod Delays
 pub mod Demands

@@ -1,5 +1,5 @@
 -- What each flow of a plan asks of the bus: how many frames, how long, how often, and how urgent.
-use Rattle.std.specs.Prelude.{ℕ, ◌+◌, ◌*◌, min, max, nat_le, Bool, true, false, not, ◌&&◌, if◌then◌else◌, List, map, Option, Some, None, unwrap_or}
+use Rattle.std.specs.Prelude.{ℕ, ◌+◌, ◌*◌, ◌/◌, min, max, nat_le, Bool, true, false, not, ◌&&◌, if◌then◌else◌, List, map, Option, Some, None, unwrap_or}
 use Rattle.std.specs.Int.{div_ceil}
 use Rattle.std.specs.List.{slice_get}
 use Rattle.std.specs.Option.{option_and_then, option_map, option_map_or}
@@ -25,6 +25,7 @@ use Rattle.j39_load.specs.declared.frames.flow_frames.FlowFrames.{FlowFrames}
 use Rattle.j39_load.specs.declared.loads.flow_load.FlowLoad.{FlowLoad}
 use Rattle.j39_load.specs.declared.frames.messages.Messages.{Messages}
 use Rattle.j39_load.specs.declared.frames.messages.Messages.TheVariants.{Short, ToAll, ToOne}
+use Rattle.j39_load.specs.Clocks.{bit_time, longest_million, million, shortest_million}
 use Rattle.j39_timing.specs.FrameBits.{longest_frame}
 use Rattle.j39_timing.specs.declared.stream.Stream.{Stream}
 use Rattle.j39_tp.specs.Chunks.{packets_of}
@@ -41,8 +42,31 @@ bits_per_ms Mbit1 = 1000
 abbrev pub bits_of_second : Bitrate → ℕ
 bits_of_second bitrate = 1000 * bits_per_ms bitrate
 
+-- the bits of so many milliseconds of the bus's own clock
 abbrev pub bits_of_ms : Timing → ℕ → ℕ
 bits_of_ms timing ms = ms * bits_per_ms timing.bitrate
+
+-- the bits of the bus in so many milliseconds of a unit's clock, at least and at most
+abbrev pub bits_at_least : Timing → ℕ → ℕ
+bits_at_least timing ms = bits_of_ms timing ms * shortest_million timing / longest_million timing
+
+abbrev pub bits_at_most : Timing → ℕ → ℕ
+bits_at_most timing ms = div_ceil (bits_of_ms timing ms * longest_million timing) (shortest_million timing)
+
+-- the most bits that last no longer than so many milliseconds of true time
+abbrev pub bits_inside : Timing → ℕ → ℕ
+bits_inside timing ms = bits_of_ms timing ms * million / longest_million timing
+
+-- the microseconds of true time that so many bits last at most, and so many milliseconds of a unit's clock
+abbrev pub us_of_bits : Timing → ℕ → ℕ
+us_of_bits timing bits = div_ceil (bits * bit_time timing.bitrate * longest_million timing) million
+
+abbrev pub us_of_unit_ms : Timing → ℕ → ℕ
+us_of_unit_ms timing ms = div_ceil (1000 * ms * longest_million timing) million
+
+-- the bits that the bus carries at most in a second of its own clock, where so many come once in so many milliseconds of a unit's
+abbrev pub bits_a_second : Timing → ℕ → ℕ → ℕ
+bits_a_second timing bits ms = div_ceil (1000 * bits * longest_million timing) (ms * shortest_million timing)
 
 -- no longer wait is looked for where the limit isn't a flow's
 abbrev pub longest_wait : Timing → ℕ
@@ -88,9 +112,9 @@ frames_to_all packets = 1 + packets
 abbrev pub single_stream : Timing → GroupPlan → Pace → Stream
 single_stream timing group pace = record {
   frames = 1;
-  period = bits_of_ms timing pace.period;
+  period = bits_at_least timing pace.period;
   bits = longest_frame (most_bytes group);
-  jitter = bits_of_ms timing pace.jitter;
+  jitter = bits_at_most timing pace.jitter;
   wanted = None;
 }
 
@@ -98,9 +122,9 @@ single_stream timing group pace = record {
 abbrev pub packet_stream : Timing → List UnitPlan → ℕ → ℕ → Pace → Stream
 packet_stream timing units packets v pace = record {
   frames = frames_to_one units packets v;
-  period = bits_of_ms timing pace.period;
+  period = bits_at_least timing pace.period;
   bits = longest_frame frame_bytes;
-  jitter = bits_of_ms timing pace.period + bits_of_ms timing pace.jitter;
+  jitter = bits_at_most timing pace.period + bits_at_most timing pace.jitter;
   wanted = None;
 }
 
@@ -154,13 +178,18 @@ twin_ident group flow = option_map (λ _. group_ident (λ u. u) group flow) grou
 abbrev pub deadline_of : Pace → ℕ
 deadline_of pace = unwrap_or pace.deadline pace.period
 
--- within so many bits each frame of the flow has to be on the bus; never later than the next message is queued
+-- within so many bits each frame of the flow has to be on the bus, where these milliseconds are written; never later than the next message is
+-- queued
+abbrev pub limit_by : Timing → ℕ → Option ℕ → ℕ
+limit_by timing period None = bits_at_least timing period
+limit_by timing period (Some deadline) = min (bits_inside timing deadline) (bits_at_least timing period)
+
 abbrev pub time_limit : Timing → Pace → ℕ
-time_limit timing pace = bits_of_ms timing (min (deadline_of pace) pace.period)
+time_limit timing pace = limit_by timing pace.period pace.deadline
 
 -- the bits that a stream takes in a second at most
-abbrev pub load_of : Stream → ℕ → ℕ
-load_of stream period = div_ceil (1000 * (stream.frames * stream.bits)) period
+abbrev pub load_of : Timing → Stream → ℕ → ℕ
+load_of timing stream period = bits_a_second timing (stream.frames * stream.bits) period
 
 -- the frames of a flow's messages that go in one frame
 abbrev pub single_frames : Timing → List UnitPlan → (UnitPlan → Bool) → FlowPlan → Pace → GroupPlan → FlowFrames
@@ -196,9 +225,9 @@ broadcast_of timing flow pace group = record {
   least_packets = max 2 (packets_of group.length);
   has_short = has_short group;
   period = pace.period;
-  apart = bits_of_ms timing pace.period;
-  jitter = bits_of_ms timing pace.jitter;
-  deadline = option_map (bits_of_ms timing) pace.deadline;
+  apart = bits_at_least timing pace.period;
+  jitter = bits_at_most timing pace.jitter;
+  deadline = option_map (bits_inside timing) pace.deadline;
 }
 
 abbrev pub long_messages : Timing → List UnitPlan → (UnitPlan → Bool) → FlowPlan → Pace → GroupPlan → To → Messages
@@ -217,17 +246,17 @@ singles_of timing units stays flow pace group =
     if not (is_always_short group) && has_short group then Some (single_frames timing units stays flow pace group) else None
 
 -- the bits that a flow takes in a second at most; broadcasts count with those of their unit
-abbrev pub load_of_messages : Messages → ℕ → ℕ
-load_of_messages (Short frames) period = load_of frames.stream period
-load_of_messages (ToOne frames) period = load_of frames.stream period
-load_of_messages (ToAll broadcast) period = 0
+abbrev pub load_of_messages : Timing → Messages → ℕ → ℕ
+load_of_messages timing (Short frames) period = load_of timing frames.stream period
+load_of_messages timing (ToOne frames) period = load_of timing frames.stream period
+load_of_messages timing (ToAll broadcast) period = 0
 
 abbrev pub flow_load : Timing → List UnitPlan → (UnitPlan → Bool) → FlowPlan → Pace → GroupPlan → FlowLoad
 flow_load timing units stays flow pace group = record {
   messages = messages_of timing units stays flow pace group;
   singles = singles_of timing units stays flow pace group;
   limit = time_limit timing pace;
-  bits_per_second = load_of_messages (messages_of timing units stays flow pace group) pace.period;
+  bits_per_second = load_of_messages timing (messages_of timing units stays flow pace group) pace.period;
 }
 
 -- what a flow asks of the bus, where it is known how often it is sent

@@ -19,7 +19,7 @@ use Rattle.j39_load.specs.Damage.{damage_frames}
 use Rattle.j39_load.specs.Demands.{demands_of}
 use Rattle.j39_load.specs.Delays.{IsFrameDelay, IsWholeTime, announcements_place, packets_place, unplanned_idents}
 use Rattle.j39_load.specs.LoadFindings.{AsksOfBus}
-use Rattle.j39_load.specs.Loads.{bits_of_ms}
+use Rattle.j39_load.specs.Loads.{bits_at_most}
 use Rattle.j39_load.specs.Twins.{are_twins}
 use Rattle.j39_timing.specs.AnyOrder.{Controllers, IsLegalInAnyOrder, IsUnordered}
 use Rattle.j39_timing.specs.QueueGroups.{QueueGroup, QueueGroupWaits, unplanned_queued}
@@ -208,7 +208,7 @@ AreWholeOnEveryBus timing asked u jitter bits = (s : Schedule) (planned : ℕ �
     → ComeInTurn timing (frames_asked asked) s planned of (packets_place asked u)
     → (messages : List LongMessage) (release : ℕ) → IsOneTurn (broadcasts_by u asked.flows) messages
     → All (IsBroadcast s planned of (announcements_place asked u) (packets_place asked u)) messages
-    → AreSentInTurn s (bits_of_ms timing timing.broadcast_gap_most) (release + jitter) messages → release + bits < s.now
+    → AreSentInTurn s (bits_at_most timing timing.broadcast_gap_most) (release + jitter) messages → release + bits < s.now
     → all_whole_at s (release + jitter) messages ≤ release + bits
 
 -- the same where units keep order or don't
@@ -219,7 +219,7 @@ AreWholeInAnyOrder timing asked u jitter bits = (s : Schedule) (controllers : Co
     → ComeInAnyOrder timing (frames_asked asked) s controllers planned of (packets_place asked u)
     → (messages : List LongMessage) (release : ℕ) → IsOneTurn (broadcasts_by u asked.flows) messages
     → All (IsBroadcast s planned of (announcements_place asked u) (packets_place asked u)) messages
-    → AreSentInTurn s (bits_of_ms timing timing.broadcast_gap_most) (release + jitter) messages → release + bits < s.now
+    → AreSentInTurn s (bits_at_most timing timing.broadcast_gap_most) (release + jitter) messages → release + bits < s.now
     → all_whole_at s (release + jitter) messages ≤ release + bits
 
 -- the flow's long messages go to all, this is their time, and it bounds them on every bus

@@ -1,7 +1,7 @@
 -- A value arrives in time: on every bus, while a flow that brings a unit what it needs keeps its `pause`, what was received last of it is never
 -- older than the need asks for, and each signal in its bytes reads there what was last written to it. How long frames wait and how signals
 -- read back, put together.
-use Rattle.std.specs.Prelude.{◌≡◌, ℕ, ◌+◌, ◌<◌, ◌≤◌, ℤ, Bool, List, ◌∷◌, ◌++◌, length as count, Option, Some, None}
+use Rattle.std.specs.Prelude.{◌≡◌, ℕ, ◌+◌, ◌*◌, ◌<◌, ◌≤◌, ℤ, Bool, List, ◌∷◌, ◌++◌, length as count, Option, Some, None}
 use Rattle.std.specs.List.{HoldsAt, slice_get}
 use Rattle.j39_signal.specs.Bits.{all_ones, raw_of}
 use Rattle.j39_signal.specs.Laid.{Chain, Write, last_payload}
@@ -19,7 +19,6 @@ use Rattle.j39_load.specs.declared.waits.delay.Delay.{Delay}
 use Rattle.j39_load.specs.Asked.{Asked, asked_of, frames_asked}
 use Rattle.j39_load.specs.FreshNeeds.{IsNeedFresh}
 use Rattle.j39_load.specs.LoadFindings.{AsksOfBus}
-use Rattle.j39_load.specs.Loads.{bits_of_ms}
 use Rattle.j39_load.specs.PlannedFrames.{AreAllOrdered, AreFramesInAnyOrder, AreFramesOfPlan}
 use Rattle.j39_timing.specs.AnyOrder.{Controllers, IsLegalInAnyOrder}
 use Rattle.j39_timing.specs.FrameStreams.{Origins}
@@ -93,12 +92,12 @@ AreReadInAnyOrder timing asked flow group pause stream wait delay = (s : Schedul
 
 -- the need is fresh by a flow, and what was received last of this flow reads as it was written
 pub record IsNeedRead (plan : Plan) (timing : Timing) (asked : Asked) (delays : List (Option Delay)) (need : NeedPlan) (within : ℕ) : Type 0 where
-  pub fresh : IsNeedFresh plan timing asked delays need (bits_of_ms timing within)
+  pub fresh : IsNeedFresh plan timing asked delays need (1000 * within)
   pub group : GroupPlan
   pub of : slice_get plan.groups.items fresh.flow.group ≡ Some group
-  pub in_any_order : AreReadInAnyOrder timing asked fresh.place group (bits_of_ms timing fresh.pause) fresh.bounded.frames.stream fresh.bounded.wait fresh.bits
-  pub in_order : AreAllOrdered (frames_asked asked)
-      → AreReadOnEveryBus timing asked fresh.place group (bits_of_ms timing fresh.pause) fresh.bounded.frames.stream fresh.bounded.wait fresh.bits
+  pub in_any_order : (silent : ℕ) → AreReadInAnyOrder timing asked fresh.place group silent fresh.bounded.frames.stream fresh.bounded.wait fresh.bits
+  pub in_order : (silent : ℕ) → AreAllOrdered (frames_asked asked)
+      → AreReadOnEveryBus timing asked fresh.place group silent fresh.bounded.frames.stream fresh.bounded.wait fresh.bits
 
 -- so it is of each need of a plan that asks for an age: whoever tells who stays tells the same
 abbrev pub AreNeedsRead : Plan → Timing → Type 0

@@ -9,7 +9,7 @@ use Rattle.j39_network.specs.declared.plan.request_plan.RequestPlan.{RequestPlan
 use Rattle.j39_network.specs.declared.plan.timing.Timing.{Timing}
 use Rattle.j39_network.specs.declared.plan.unit_plan.UnitPlan.{UnitPlan}
 use Rattle.j39_load.specs.declared.loads.request_load.RequestLoad.{RequestLoad}
-use Rattle.j39_load.specs.Loads.{any_unit, bits_of_ms, destination_at, greatest_address, least_address, load_of, of_unit}
+use Rattle.j39_load.specs.Loads.{any_unit, bits_at_least, destination_at, greatest_address, least_address, load_of, of_unit}
 use Rattle.j39_timing.specs.FrameBits.{longest_frame}
 use Rattle.j39_timing.specs.declared.stream.Stream.{Stream}
 
@@ -18,7 +18,7 @@ abbrev pub request_bytes : ℕ
 request_bytes = 3
 
 abbrev pub request_stream : Timing → ℕ → Stream
-request_stream timing period = record { frames = 1; period = bits_of_ms timing period; bits = longest_frame request_bytes; jitter = 0; wanted = None }
+request_stream timing period = record { frames = 1; period = bits_at_least timing period; bits = longest_frame request_bytes; jitter = 0; wanted = None }
 
 -- the identifier of a request, where the units hold these addresses
 abbrev pub request_ident : (ℕ → ℕ) → RequestPlan → ℕ
@@ -36,7 +36,7 @@ request_load timing units stays request period = record {
     twin_ident = None;
     want = None;
   };
-  bits_per_second = load_of (request_stream timing period) period;
+  bits_per_second = load_of timing (request_stream timing period) period;
 }
 
 abbrev pub load_of_request : Timing → List UnitPlan → (UnitPlan → Bool) → RequestPlan → Option RequestLoad

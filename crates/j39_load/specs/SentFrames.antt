@@ -10,35 +10,40 @@ use Rattle.j39_network.specs.declared.plan.flow_plan.FlowPlan.{FlowPlan}
 use Rattle.j39_network.specs.declared.plan.group_plan.GroupPlan.{GroupPlan}
 use Rattle.j39_network.specs.declared.plan.pace.Pace.{Pace}
 use Rattle.j39_network.specs.declared.plan.request_plan.RequestPlan.{RequestPlan}
-use Rattle.j39_network.specs.declared.plan.timing.Bitrate.{Bitrate}
-use Rattle.j39_network.specs.declared.plan.timing.Bitrate.TheVariants.{Kbit125, Kbit250, Kbit500, Mbit1}
 use Rattle.j39_network.specs.declared.plan.timing.Timing.{Timing}
 use Rattle.j39_network.specs.declared.plan.to.To.{To}
 use Rattle.j39_network.specs.declared.plan.to.To.TheVariants.{All, One}
 use Rattle.j39_network.specs.declared.plan.unit_plan.UnitPlan.{UnitPlan}
+use Rattle.j39_load.specs.Clocks.{bit_time, longest_million, million, shortest_million}
 use Rattle.j39_timing.specs.TimedFrames.{Schedule}
 use Rattle.j39_timing.specs.Traffic.{IsQueuedAt}
 
 -- ---- time
 
--- the microseconds that a bit takes
-abbrev pub bit_time : Bitrate → ℕ
-bit_time Kbit125 = 8
-bit_time Kbit250 = 4
-bit_time Kbit500 = 2
-bit_time Mbit1 = 1
+-- in millionths of a microsecond, by whichever clocks: a moment counts at the bit that begins next, less than a bit later
 
--- the second of two bits is so many milliseconds behind the first at most
+-- the second of two bits is so many milliseconds of true time behind the first at most
 abbrev pub IsWithinMs : Timing → ℕ → ℕ → ℕ → Type 0
-IsWithinMs timing ms a b = b * bit_time timing.bitrate ≤ a * bit_time timing.bitrate + 1000 * ms
+IsWithinMs timing ms a b = b * bit_time timing.bitrate * longest_million timing ≤ a * bit_time timing.bitrate * longest_million timing + 1000 * ms * million
+
+-- or it may be more
+abbrev pub IsMsBefore : Timing → ℕ → ℕ → ℕ → Type 0
+IsMsBefore timing ms a b = a * bit_time timing.bitrate * longest_million timing + 1000 * ms * million < b * bit_time timing.bitrate * longest_million timing
+
+-- so many milliseconds at most of each clock that a unit can have
+abbrev pub IsWithinEachMs : Timing → ℕ → ℕ → ℕ → Type 0
+IsWithinEachMs timing ms a b =
+    b * bit_time timing.bitrate * longest_million timing ≤ a * bit_time timing.bitrate * longest_million timing + 1000 * ms * shortest_million timing
+
+-- so many milliseconds at most of some clock that a unit can have
+abbrev pub IsWithinUnitMs : Timing → ℕ → ℕ → ℕ → Type 0
+IsWithinUnitMs timing ms a b =
+    b * bit_time timing.bitrate * shortest_million timing < (a + 1) * bit_time timing.bitrate * shortest_million timing + 1000 * ms * longest_million timing
 
 -- or at least
 abbrev pub IsMsBehind : Timing → ℕ → ℕ → ℕ → Type 0
-IsMsBehind timing ms a b = a * bit_time timing.bitrate + 1000 * ms ≤ b * bit_time timing.bitrate
-
--- or more
-abbrev pub IsMsBefore : Timing → ℕ → ℕ → ℕ → Type 0
-IsMsBefore timing ms a b = a * bit_time timing.bitrate + 1000 * ms < b * bit_time timing.bitrate
+IsMsBehind timing ms a b =
+    a * bit_time timing.bitrate * longest_million timing + 1000 * ms * shortest_million timing < (b + 1) * bit_time timing.bitrate * longest_million timing
 
 -- ---- sources
 
@@ -105,7 +110,7 @@ pub record IsSingleFrame (plan : Plan) (timing : Timing) (s : Schedule) (held : 
   pub length : s.bits p ≤ 80 + 10 * group.most
   -- it is queued at its release, or as much behind it as the jitter allows
   pub release_first : release ≤ s.queued p
-  pub jitter_at_most : IsWithinMs timing pace.jitter release (s.queued p)
+  pub jitter_at_most : IsWithinUnitMs timing pace.jitter release (s.queued p)
   -- while it is queued its units are named, and it has the group's priority and number, and the addresses that they hold
   pub sender_named : (t : ℕ) → IsQueuedAt s p t → held.named t flow.sender ≡ true
   pub receiver_named : (t v : ℕ) → IsQueuedAt s p t → flow.to ≡ One v → held.named t v ≡ true
@@ -124,7 +129,7 @@ pub record IsFirstFrame (plan : Plan) (timing : Timing) (s : Schedule) (held : H
   pub long : 8 < group.most
   pub length : s.bits p ≤ 160
   pub release_first : release ≤ s.queued p
-  pub jitter_at_most : IsWithinMs timing pace.jitter release (s.queued p)
+  pub jitter_at_most : IsWithinUnitMs timing pace.jitter release (s.queued p)
   -- while it is queued its units are named, and it has the group's priority and number, and the addresses that they hold
   pub sender_named : (t : ℕ) → IsQueuedAt s p t → held.named t flow.sender ≡ true
   pub receiver_named : (t v : ℕ) → IsQueuedAt s p t → flow.to ≡ One v → held.named t v ≡ true
@@ -165,7 +170,7 @@ pub record IsSessionFrame (plan : Plan) (timing : Timing) (s : Schedule) (held :
   pub length : s.bits p ≤ 160
   -- the message has ended before the next one of its flow is queued
   pub release_first : release ≤ s.queued p
-  pub jitter_at_most : IsWithinMs timing (pace.period + pace.jitter) release (s.queued p)
+  pub jitter_at_most : IsWithinUnitMs timing (pace.period + pace.jitter) release (s.queued p)
   -- while it is queued both units are named, and it has the addresses that they hold
   pub sender_named : (t : ℕ) → IsQueuedAt s p t → held.named t flow.sender ≡ true
   pub receiver_named : (t : ℕ) → IsQueuedAt s p t → held.named t receiver ≡ true

@@ -21,7 +21,8 @@ pub(crate) use identifiers::{
 };
 pub use messages::Messages;
 pub(crate) use planned_bus::PlannedBus;
-pub use streams::{bits_of_ms, bits_of_second};
+pub use streams::{bits_of_ms, bits_of_second, us_of_bits};
 pub(crate) use streams::{
-    bits_each, frames_to_all, load_of, packet_stream, request_stream, single_stream, spaced_stream,
+    bits_at_least, bits_at_most, bits_each, bits_inside, frames_to_all, load_of, longest_million,
+    packet_stream, request_stream, single_stream, spaced_stream, us_of_unit_ms,
 };

@@ -1,5 +1,5 @@
 //! Laws of the frames of a plan's flows.
-ghost use Rattle.std.specs.Prelude.{◌≡◌, ◌≢◌, ℕ, ◌+◌, ◌*◌, ◌<◌, ◌≤◌, List, [], length, Bool, Option, Some};
+ghost use Rattle.std.specs.Prelude.{◌≡◌, ◌≢◌, ◌↔◌, ℕ, ◌+◌, ◌*◌, ◌<◌, ◌≤◌, List, [], length, Bool, Option, Some};
 ghost use Rattle.std.specs.List.{slice_get};
 ghost use Rattle.j39_id.specs.Pgn.{IsPgn};
 ghost use Rattle.j39_findings.specs.Findings.{Clean};
@@ -30,7 +30,8 @@ ghost use Rattle.j39_load.specs.KeptWithout.{CanBeKeptWithout};
 ghost use Rattle.j39_load.specs.Delays.{announcements_place, packets_place};
 ghost use Rattle.j39_load.specs.LoadFindings.{AreLoadFindings, AsksOfBus, load_findings};
 ghost use Rattle.j39_load.specs.LongRuns.{IsLongRunLoad};
-ghost use Rattle.j39_load.specs.Loads.{bits_of_ms, frames_to_all, frames_to_one, group_ident};
+ghost use Rattle.j39_load.specs.Loads.{bits_at_least, bits_at_most, bits_inside, bits_of_ms, frames_to_all};
+ghost use Rattle.j39_load.specs.Loads.{frames_to_one, group_ident, us_of_bits};
 ghost use Rattle.j39_load.specs.LosslessTransfers.{IsReceiverOf, TakeFramesTold, TakesFrames};
 ghost use Rattle.j39_load.specs.Asked.{asked_of, frames_asked, total_load};
 ghost use Rattle.j39_load.specs.PlannedFrames.{AreAllOrdered, AreDeadlinesKept, AreDelaysBounds, AreFramesInAnyOrder};
@@ -41,7 +42,8 @@ ghost use Rattle.j39_load.specs.Ranks.{AreHeldApart, AreHeldByPlan, AreTwinFlows
 ghost use Rattle.j39_load.specs.Ranks.{IsShortFlow, LieBetween, RequestLiesBetween};
 ghost use Rattle.j39_load.specs.ReadInTime.{AreNeedsRead, AreWritten};
 ghost use Rattle.j39_load.specs.RequestLoads.{request_ident};
-ghost use Rattle.j39_load.specs.SentFrames.{First, FrameSources, Held, Single, bit_time};
+ghost use Rattle.j39_load.specs.Clocks.{bit_time};
+ghost use Rattle.j39_load.specs.SentFrames.{First, FrameSources, Held, Single};
 ghost use Rattle.j39_findings.specs.Standing.{DecidesWhoStays};
 ghost use Rattle.j39_load.specs.ToldBytes.{IsToldOf, LeaveSelector};
 ghost use Rattle.j39_load.specs.ValuesInTime.{AreValuesInTime};
@@ -264,8 +266,21 @@ pub fn long_messages_can_be_sent_whole()
         → CanBeSentWhole plan timing f flow.sender packets }
 {}
 
-/// What `load` counts bounds the planned frames of a bus: on each bus that keeps to a clean plan in the plan's own words
-/// no more bits of them are queued than `total_load` a second, and a number more that is the same however long the bus
+/// A time in bits that is told is within so many milliseconds exactly where no more bits are told than last no longer
+/// (`told`). And where clocks agree (`drift` is 0) so many milliseconds have the bits of the bus's own, by whichever clock
+/// (`least`, `most`, `inside`), and a time that is told is that of its bits (`exact`).
+pub fn clocks_are_counted()
+    ensures told { (timing : Timings) (bits ms : ℕ)
+        → (us_of_bits timing bits ≤ 1000 * ms) ↔ (bits ≤ bits_inside timing ms) }
+    ensures least { (timing : Timings) (ms : ℕ) → timing.drift ≡ 0 → bits_at_least timing ms ≡ bits_of_ms timing ms }
+    ensures most { (timing : Timings) (ms : ℕ) → timing.drift ≡ 0 → bits_at_most timing ms ≡ bits_of_ms timing ms }
+    ensures inside { (timing : Timings) (ms : ℕ) → timing.drift ≡ 0 → bits_inside timing ms ≡ bits_of_ms timing ms }
+    ensures exact { (timing : Timings) (bits : ℕ) → timing.drift ≡ 0
+        → us_of_bits timing bits ≡ bits * bit_time timing.bitrate }
+{}
+
+/// What `load` counts bounds the planned frames of a bus whose clocks agree (`drift` is 0): on each bus that keeps to a
+/// clean plan in the plan's own words no more bits of them are queued than `total_load` a second, and a number more that is the same however long the bus
 /// runs; so it is with the bits of damaged attempts and of the error frames behind them.
 pub fn loads_hold_in_the_long_run()
     ensures { (plan : Plans) (timing : Timings) (stays : PlannedUnits → Bool) → Clean plan

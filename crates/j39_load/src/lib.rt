@@ -11,9 +11,9 @@ mod queues;
 mod waits;
 
 pub use findings::{LoadAnswer, LoadFinding, check_load, has_several, least_age, youngest_flow};
-pub use frames::{Broadcast, FlowFrames, Messages, bits_of_ms, bits_of_second};
+pub use frames::{Broadcast, FlowFrames, Messages, bits_of_ms, bits_of_second, us_of_bits};
 pub use laws::{
-    broadcasts_that_keep_a_plan, delays_are_bounds, frames_that_keep_a_plan,
+    broadcasts_that_keep_a_plan, clocks_are_counted, delays_are_bounds, frames_that_keep_a_plan,
     identifiers_lie_between, kept_plans_are_in_time, kept_plans_bring_values_in_time,
     kept_plans_keep_told_times, kept_plans_lose_no_receiver, kept_plans_meet_deadlines,
     loads_hold_in_the_long_run, long_messages_can_be_sent_whole,

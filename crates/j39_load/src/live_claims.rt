@@ -43,6 +43,7 @@ fn with_claims(plan: &Plan, timing: Timing) -> Timing
         transport_priority: timing.transport_priority,
         broadcast_gap: timing.broadcast_gap,
         broadcast_gap_most: timing.broadcast_gap_most,
+        drift: timing.drift,
         errors: timing.errors,
     }
 }

@@ -17,7 +17,7 @@ use Rattle.j39_plan.specs.Since.{versioned_faults, faults_beside, with_key}
 use Rattle.j39_toml.specs.InOrder.{inside}
 use Rattle.j39_plan.specs.FlowTables.{period_rule, given_period, jitter_rule, jitter_most, jitter_of, pause_rule, on_request_rule, on_request_of, flow_rules}
 use Rattle.j39_plan.specs.FlowTables.{flow_table_faults, flow_faults}
-use Rattle.j39_plan.specs.TimingTables.{bitrate_of, bitrate_rule, unplanned_priority_rule, transport_priority_rule, gap_rule, gap_most_rule, errors_rule}
+use Rattle.j39_plan.specs.TimingTables.{bitrate_of, bitrate_rule, unplanned_priority_rule, transport_priority_rule, gap_rule, gap_most_rule, drift_rule, errors_rule}
 use Rattle.j39_plan.specs.TimingTables.{timing_table_faults, errors_table}
 use Rattle.j39_plan.specs.Versions.{fourth_bus_keys, fourth_flow_keys, IsThirdBus, IsThirdFlow}
 use Rattle.j39_plan.proofs.SameParts.{SameFlow, SameBus}
@@ -116,6 +116,7 @@ record Without (ms : Members) : Type 0 where
   transport_priority : get_member (word_of key.TransportPriority) ms ≡ None
   gap : get_member (word_of key.BroadcastGap) ms ≡ None
   gap_most : get_member (word_of key.BroadcastGapMost) ms ≡ None
+  drift : get_member (word_of key.Drift) ms ≡ None
   errors : get_member (word_of key.Errors) ms ≡ None
 
 without : (ms : Members) → IsThirdBus ms → Without ms
@@ -124,7 +125,8 @@ without ms third = record {
   transport_priority = lacked key.TransportPriority ms (third.keys 1 key.TransportPriority (omega arith));
   gap = lacked key.BroadcastGap ms (third.keys 2 key.BroadcastGap (omega arith));
   gap_most = lacked key.BroadcastGapMost ms (third.keys 3 key.BroadcastGapMost (omega arith));
-  errors = lacked key.Errors ms (third.keys 4 key.Errors (omega arith));
+  drift = lacked key.Drift ms (third.keys 4 key.Drift (omega arith));
+  errors = lacked key.Errors ms (third.keys 5 key.Errors (omega arith));
 }
 
 -- the keys of the bus in the fourth version, and in the third
@@ -141,7 +143,8 @@ bus_words l none = rw (
   none 1 key.TransportPriority (omega arith),
   none 2 key.BroadcastGap (omega arith),
   none 3 key.BroadcastGapMost (omega arith),
-  none 4 key.Errors (omega arith),
+  none 4 key.Drift (omega arith),
+  none 5 key.Errors (omega arith),
 )
 
 bitrate_same : (n : ℕ) → n ≢ 125000 → n ≢ 1000000 → is_bitrate true n ≡ is_bitrate false n
@@ -173,6 +176,7 @@ record Unfaulted (ms : Members) : Type 0 where
   transport_priority : key_faults at.Timing ms transport_priority_rule ≡ []
   gap : key_faults at.Timing ms gap_rule ≡ []
   gap_most : key_faults at.Timing ms (gap_most_rule (number_of gap_rule ms)) ≡ []
+  drift : key_faults at.Timing ms drift_rule ≡ []
   errors : key_faults at.Timing ms errors_rule ≡ []
 
 unfaulted : (ms : Members) → Without ms → Unfaulted ms
@@ -182,6 +186,7 @@ unfaulted ms w = record {
   transport_priority = rw w.transport_priority;
   gap = rw w.gap;
   gap_most = rw (gap_is ms w, w.gap_most);
+  drift = rw w.drift;
   errors = rw w.errors;
 }
 
@@ -196,7 +201,7 @@ timing_alike ms third =
     let u = unfaulted ms w in
     alike_both _ _ _ _
     (alike_both _ _ _ _ (alike_unknown at.Timing _ _ ms ms (only_same later_bus_keys older_bus_keys fourth_bus_keys bus_words ms third.keys))
-    (rw (bitrate_alike ms third, u.unplanned_priority, u.transport_priority, u.gap, u.gap_most, u.errors) refl))
+    (rw (bitrate_alike ms third, u.unplanned_priority, u.transport_priority, u.gap, u.gap_most, u.drift, u.errors) refl))
     (rw (no_errors ms w) refl)
 
 -- what is taken as given
@@ -205,6 +210,7 @@ record Given (ms : Members) : Type 0 where
   transport_priority : number_of transport_priority_rule ms ≡ 7
   gap : number_of gap_rule ms ≡ 50
   gap_most : number_of (gap_most_rule (number_of gap_rule ms)) ms ≡ 200
+  drift : number_of drift_rule ms ≡ 0
 
 given : (ms : Members) → Without ms → Given ms
 unfolding number_of
@@ -213,6 +219,7 @@ given ms w = record {
   transport_priority = rw w.transport_priority;
   gap = rw w.gap;
   gap_most = rw w.gap_most;
+  drift = rw w.drift;
 }
 
 bitrate_told : (ms : Members) → number_of (bitrate_rule Fourth) ms ≡ number_of (bitrate_rule Third) ms
@@ -229,5 +236,6 @@ same_bus ms third =
       transport_priority = g.transport_priority;
       gap = g.gap;
       gap_most = g.gap_most;
+      drift = g.drift;
       errors = no_errors ms w;
     }

@@ -138,6 +138,7 @@ one_bus version ms t u a b = record {
   transport_priorities = a.has_transport_priority ∙ sym b.has_transport_priority;
   gaps = a.has_gap ∙ sym b.has_gap;
   gaps_most = a.has_gap_most ∙ sym b.has_gap_most;
+  drifts = a.has_drift ∙ sym b.has_drift;
   errors = one_errors (errors_table version ms) t.errors u.errors a.has_errors b.has_errors;
 }
 

@@ -19,7 +19,7 @@ use Rattle.j39_plan.specs.SelectorTables.{when_table, DescribesWhen}
 use Rattle.j39_plan.specs.TextTables.{IsTextOf}
 use Rattle.j39_plan.specs.GroupTables.{length_rule, private_of, most_of, every_of, signal_rule, text_tables_of, IsGroupOf}
 use Rattle.j39_plan.specs.FlowTables.{given_period, given_deadline, jitter_of, pause_of, on_request_of, IsFlowOf}
-use Rattle.j39_plan.specs.TimingTables.{bitrate_of, bitrate_rule, unplanned_priority_of, transport_priority_of, gap_of, gap_most_of, errors_table}
+use Rattle.j39_plan.specs.TimingTables.{bitrate_of, bitrate_rule, unplanned_priority_of, transport_priority_of, gap_of, gap_most_of, drift_of, errors_table}
 use Rattle.j39_plan.specs.TimingTables.{DescribesErrors, DescribesBus, DescribesTiming}
 use Rattle.j39_plan.specs.NeedTables.{IsNeedOf}
 use Rattle.j39_plan.specs.RequestTables.{IsRequestOf}
@@ -180,6 +180,7 @@ pub record SameBus (one other : Version) (ms : Members) : Type 0 where
   pub transport_priority : transport_priority_of one ms ≡ transport_priority_of other ms
   pub gap : gap_of one ms ≡ gap_of other ms
   pub gap_most : gap_most_of one ms ≡ gap_most_of other ms
+  pub drift : drift_of one ms ≡ drift_of other ms
   pub errors : errors_table one ms ≡ errors_table other ms
 
 bus_back : {one other : Version} {ms : Members} → SameBus one other ms → SameBus other one ms
@@ -189,6 +190,7 @@ bus_back same = record {
   transport_priority = sym same.transport_priority;
   gap = sym same.gap;
   gap_most = sym same.gap_most;
+  drift = sym same.drift;
   errors = sym same.errors;
 }
 
@@ -200,6 +202,7 @@ bus_as t same told = record {
   has_transport_priority = told.has_transport_priority ∙ same.transport_priority;
   has_gap = told.has_gap ∙ same.gap;
   has_gap_most = told.has_gap_most ∙ same.gap_most;
+  has_drift = told.has_drift ∙ same.drift;
   has_errors = subst (λ found. DescribesErrors found t.errors) same.errors told.has_errors;
 }
 

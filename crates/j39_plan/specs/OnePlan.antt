@@ -90,6 +90,7 @@ pub record AreOneBus (t u : Timing) : Type 0 where
   pub transport_priorities : t.transport_priority ≡ u.transport_priority
   pub gaps : t.broadcast_gap ≡ u.broadcast_gap
   pub gaps_most : t.broadcast_gap_most ≡ u.broadcast_gap_most
+  pub drifts : t.drift ≡ u.drift
   pub errors : AreOneErrorRate t.errors u.errors
 
 -- one bus, or none

@@ -65,6 +65,10 @@ gap_rule = number key.BroadcastGap 10 200 (Some 50)
 abbrev pub gap_most_rule : ℕ → PlanRule
 gap_most_rule gap = number key.BroadcastGapMost gap 750 (Some 200)
 
+-- how far a clock may be from true time, in parts in a million
+abbrev pub drift_rule : PlanRule
+drift_rule = number key.Drift 0 20000 (Some 0)
+
 abbrev pub errors_rule : PlanRule
 errors_rule = optional_table key.Errors
 
@@ -75,6 +79,7 @@ later_timing_rules ms =
     ∷ since Fourth transport_priority_rule
     ∷ since Fourth gap_rule
     ∷ since Fourth (gap_most_rule (number_of gap_rule ms))
+    ∷ since Fourth drift_rule
     ∷ since Fourth errors_rule
     ∷ []
 
@@ -104,6 +109,9 @@ gap_of version ms = if is_known Fourth version then number_of gap_rule ms else 5
 abbrev pub gap_most_of : Version → Members → ℕ
 gap_most_of version ms = if is_known Fourth version then number_of (gap_most_rule (number_of gap_rule ms)) ms else 200
 
+abbrev pub drift_of : Version → Members → ℕ
+drift_of version ms = if is_known Fourth version then number_of drift_rule ms else 0
+
 abbrev pub errors_table : Version → Members → Option Members
 errors_table version ms = if is_known Fourth version then table_of errors_rule ms else None
 
@@ -115,6 +123,7 @@ pub record DescribesBus (version : Version) (ms : Members) (timing : Timing) : T
   pub has_transport_priority : timing.transport_priority ≡ transport_priority_of version ms
   pub has_gap : timing.broadcast_gap ≡ gap_of version ms
   pub has_gap_most : timing.broadcast_gap_most ≡ gap_most_of version ms
+  pub has_drift : timing.drift ≡ drift_of version ms
   pub has_errors : DescribesErrors (errors_table version ms) timing.errors
 
 -- what is known of the bus, where there is a table of it

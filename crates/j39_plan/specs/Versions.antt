@@ -39,7 +39,7 @@ ReadAlike s t = (answer : Result Plan PlanError) → Reads answer (Some s) ↔ R
 -- ---- what the fourth version alone knows
 
 abbrev pub fourth_bus_keys : List Key
-fourth_bus_keys = key.UnplannedPriority ∷ key.TransportPriority ∷ key.BroadcastGap ∷ key.BroadcastGapMost ∷ key.Errors ∷ []
+fourth_bus_keys = key.UnplannedPriority ∷ key.TransportPriority ∷ key.BroadcastGap ∷ key.BroadcastGapMost ∷ key.Drift ∷ key.Errors ∷ []
 
 -- nothing of it stands in the table of the bus
 pub record IsThirdBus (ms : Members) : Type 0 where

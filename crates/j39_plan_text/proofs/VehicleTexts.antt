@@ -1,5 +1,5 @@
 -- The texts of the plan of each vehicle are those of the plan: no line has a NAME.
-use Rattle.std.proofs.Common.{◌≡◌, ℕ, ◌+◌, codes, List, [], ◌∷◌, ◌++◌, Option, Some, None, refl, ap, ◌∙◌}
+use Rattle.std.proofs.Common.{◌≡◌, ℕ, ◌+◌, ◌*◌, codes, List, [], ◌∷◌, ◌++◌, Option, Some, None, refl, ap, ◌∙◌}
 use Rattle.std.proofs.lemmas.Slice.Zip.{AllZip-long}
 use Rattle.std.specs.List.{slice_get}
 use Rattle.std.specs.Option.{option_map_or}
@@ -28,7 +28,6 @@ use Rattle.j39_load.specs.declared.loads.flow_load.FlowLoad.{FlowLoad}
 use Rattle.j39_load.specs.declared.findings.load_finding.LoadFinding.{LoadFinding}
 use Rattle.j39_load.specs.Asked.{Asked}
 use Rattle.j39_load.specs.LineLists.{lines_of_each}
-use Rattle.j39_load.specs.Loads.{bits_of_ms}
 use Rattle.j39_schedule.specs.StepLines.{step_line, step_lines, step_text, step_unit_text}
 use Rattle.j39_text.specs.Labels.{group_label, group_pgn, group_selector_end, group_text, need_signal_text, need_text, signal_bits, signal_end, signal_label}
 use Rattle.j39_text.specs.Labels.{signals_of, text_end, text_label, texts_of, unit_address, unit_label, units_text}
@@ -238,10 +237,10 @@ module _ (plan vehicle : Plan) (is : IsVehicleOf plan vehicle) where
   receiver_same All = refl
   receiver_same (One v) = unit_label_same v
 
-  flow_line_same : (bitrate : Bitrate) (loads : List (Option FlowLoad)) (delays : List (Option Delay)) (place : ℕ) (flow : FlowPlan)
-      → flow_line vehicle bitrate loads delays place flow ≡ flow_line plan bitrate loads delays place flow
+  flow_line_same : (timing : Timing) (delays : List (Option Delay)) (place : ℕ) (flow : FlowPlan)
+      → flow_line vehicle timing delays place flow ≡ flow_line plan timing delays place flow
   unfolding flow_line flow_text
-  flow_line_same bitrate loads delays place flow = rw (group_label_same flow.group, unit_label_same flow.sender, receiver_same flow.to) refl
+  flow_line_same timing delays place flow = rw (group_label_same flow.group, unit_label_same flow.sender, receiver_same flow.to) refl
 
   need_signal_same : (need : NeedPlan) → need_signal_text vehicle need ≡ need_signal_text plan need
   unfolding need_signal_text
@@ -265,18 +264,17 @@ module _ (plan vehicle : Plan) (is : IsVehicleOf plan vehicle) where
   unfolding need_line
   need_line_same timing delays place need = go need.within where
     go : (within : Option ℕ)
-        → option_map_or (λ ms. need_text vehicle place need ++ (known_age_text vehicle timing delays need (bits_of_ms timing ms) ++ 10 ∷ [])) within []
-        ≡ option_map_or (λ ms. need_text plan place need ++ (known_age_text plan timing delays need (bits_of_ms timing ms) ++ 10 ∷ [])) within []
+        → option_map_or (λ ms. need_text vehicle place need ++ (known_age_text vehicle timing delays need (1000 * ms) ++ 10 ∷ [])) within []
+        ≡ option_map_or (λ ms. need_text plan place need ++ (known_age_text plan timing delays need (1000 * ms) ++ 10 ∷ [])) within []
     go None = refl
-    go (Some ms) = rw (need_text_same place need, age_same timing delays need (bits_of_ms timing ms)) refl
+    go (Some ms) = rw (need_text_same place need, age_same timing delays need (1000 * ms)) refl
 
   pub loads_text_same : (timing : Timing) (asked : Asked) (delays : List (Option Delay))
       → loads_text vehicle timing asked delays ≡ loads_text plan timing asked delays
   unfolding loads_text
   loads_text_same timing asked delays =
-      let flows = ap (lines_of_each (flow_line vehicle timing.bitrate asked.flows delays) 0) is.flows
-      ∙ each_same (flow_line vehicle timing.bitrate asked.flows delays) (flow_line plan timing.bitrate asked.flows delays)
-      (flow_line_same timing.bitrate asked.flows delays) 0 plan.flows.items in
+      let flows = ap (lines_of_each (flow_line vehicle timing delays) 0) is.flows
+      ∙ each_same (flow_line vehicle timing delays) (flow_line plan timing delays) (flow_line_same timing delays) 0 plan.flows.items in
       let needs = ap (lines_of_each (need_line vehicle timing delays) 0) is.needs
       ∙ each_same (need_line vehicle timing delays) (need_line plan timing delays) (need_line_same timing delays) 0 plan.needs.items in
       rw (flows, needs) refl

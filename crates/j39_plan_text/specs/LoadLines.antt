@@ -1,25 +1,23 @@
 -- The lines of findings on what a plan asks of its bus, and those of the times of its flows and of the ages of what its units need.
-use Rattle.std.specs.Prelude.{ℕ, ◌*◌, nat_le, if◌then◌else◌, List, [], ◌∷◌, ◌++◌, codes, slice_index_or, Option, Some, None}
-use Rattle.std.specs.Option.{option_map_or}
+use Rattle.std.specs.Prelude.{ℕ, ◌*◌, min, nat_le, if◌then◌else◌, List, [], ◌∷◌, ◌++◌, codes, slice_index_or, Option, Some, None}
+use Rattle.std.specs.Option.{option_map, option_map_or}
 use Rattle.j39_findings.specs.Found.{is_unmet}
 use Rattle.j39_network.specs.declared.plan.Plan.{Plan}
 use Rattle.j39_network.specs.declared.plan.flow_plan.FlowPlan.{FlowPlan}
 use Rattle.j39_network.specs.declared.plan.need_plan.NeedPlan.{NeedPlan}
-use Rattle.j39_network.specs.declared.plan.timing.Bitrate.{Bitrate}
+use Rattle.j39_network.specs.declared.plan.pace.Pace.{Pace}
 use Rattle.j39_network.specs.declared.plan.timing.Timing.{Timing}
 use Rattle.j39_network.specs.declared.plan.to.To.{To}
 use Rattle.j39_network.specs.declared.plan.to.To.TheVariants.{All, One}
 use Rattle.j39_load.specs.declared.waits.delay.Delay.{Delay}
 use Rattle.j39_load.specs.declared.waits.delay.Delay.TheVariants.{Within, Beyond, Late, Long, Whole}
 use Rattle.j39_load.specs.declared.waits.whole_time.WholeTime.{WholeTime}
-use Rattle.j39_load.specs.declared.loads.flow_load.FlowLoad.{FlowLoad}
 use Rattle.j39_load.specs.declared.findings.load_finding.LoadFinding.{LoadFinding}
 use Rattle.j39_load.specs.declared.findings.load_finding.LoadFinding.TheVariants.{NoPeriod, Overload, LateFlow, NeedTooOld}
 use Rattle.j39_load.specs.Ages.{has_several, least_age, youngest_flow}
 use Rattle.j39_load.specs.Asked.{Asked, total_load}
 use Rattle.j39_load.specs.LoadFindings.{load_finding_number, time_of_each}
-use Rattle.j39_load.specs.Loads.{bits_of_ms, bits_of_second}
-use Rattle.j39_load.specs.SentFrames.{bit_time}
+use Rattle.j39_load.specs.Loads.{bits_of_second, deadline_of, us_of_bits}
 use Rattle.j39_load.specs.LineLists.{lines_of_each}
 use Rattle.j39_plan_text.specs.FindingLines.{is_between}
 use Rattle.j39_text.specs.Labels.{group_label, need_text, unit_label}
@@ -46,42 +44,42 @@ load_finding_lines from below = lines_of_each (λ _. load_finding_part from belo
 
 -- ---- delays
 
--- so many bits, in microseconds
-unfoldable pub microseconds_field : List ℕ → Bitrate → ℕ → List ℕ
-microseconds_field word bitrate bits = field word (bits * bit_time bitrate)
+-- so many microseconds
+unfoldable pub time_text : List ℕ → ℕ → List ℕ
+time_text word us = field word us ++ codes " us"
 
--- with their unit
-unfoldable pub time_text : List ℕ → Bitrate → ℕ → List ℕ
-time_text word bitrate bits = microseconds_field word bitrate bits ++ codes " us"
+-- of a limit
+unfoldable pub within_text : List ℕ → ℕ → ℕ → List ℕ
+within_text word limit us = field word us ++ time_text (codes " of ") limit
 
--- so many bits, of a limit in bits
-unfoldable pub within_text : List ℕ → Bitrate → ℕ → ℕ → List ℕ
-within_text word bitrate limit bits = microseconds_field word bitrate bits ++ time_text (codes " of ") bitrate limit
+-- the same of a time that is known, with another word where it is beyond its limit; of others this word and the limit alone
+unfoldable pub limited_text : List ℕ → List ℕ → ℕ → Option ℕ → List ℕ
+limited_text within beyond limit None = beyond ++ time_text (codes "of ") limit
+limited_text within beyond limit (Some us) = if nat_le us limit then within_text within limit us else within_text beyond limit us
 
--- the same of bits that are known, with another word where they are beyond their limit; of others this word and the limit alone
-unfoldable pub limited_text : List ℕ → List ℕ → Bitrate → ℕ → Option ℕ → List ℕ
-limited_text within beyond bitrate limit None = beyond ++ time_text (codes "of ") bitrate limit
-limited_text within beyond bitrate limit (Some bits) =
-    if nat_le bits limit then within_text within bitrate limit bits else within_text beyond bitrate limit bits
+-- when long messages are whole: each of them, where a deadline is written
+unfoldable pub whole_text : Timing → WholeTime → Option ℕ → Option ℕ → List ℕ
+whole_text timing whole (Some deadline) bits =
+    limited_text (codes " whole within ") (codes " late ") (1000 * deadline) (option_map (us_of_bits timing) (time_of_each whole))
+whole_text timing whole None (Some bits) = time_text (codes " whole within ") (us_of_bits timing bits)
+whole_text timing whole None None = []
 
--- when long messages are whole: each of them, where a limit is written
-unfoldable pub whole_text : Bitrate → WholeTime → Option ℕ → Option ℕ → List ℕ
-whole_text bitrate whole (Some limit) bits = limited_text (codes " whole within ") (codes " late ") bitrate limit (time_of_each whole)
-whole_text bitrate whole None (Some bits) = time_text (codes " whole within ") bitrate bits
-whole_text bitrate whole None None = []
+-- so many microseconds are allowed of each frame
+abbrev pub us_allowed : Pace → ℕ
+us_allowed pace = 1000 * min (deadline_of pace) pace.period
 
--- a delay, of a limit in bits
-unfoldable pub delay_text : Bitrate → ℕ → Delay → List ℕ
-delay_text bitrate limit (Within bits) = within_text (codes " within ") bitrate limit bits
-delay_text bitrate limit (Beyond bits) = within_text (codes " late ") bitrate limit bits
-delay_text bitrate limit Late = time_text (codes " late of ") bitrate limit
-delay_text bitrate limit (Long frames) = field (codes " frames ") frames
-delay_text bitrate limit (Whole whole) = field (codes " frames ") whole.frames ++ whole_text bitrate whole whole.limit whole.bits
+-- a delay, of what is allowed
+unfoldable pub delay_text : Timing → Pace → Delay → List ℕ
+delay_text timing pace (Within bits) = within_text (codes " within ") (us_allowed pace) (us_of_bits timing bits)
+delay_text timing pace (Beyond bits) = within_text (codes " late ") (us_allowed pace) (us_of_bits timing bits)
+delay_text timing pace Late = time_text (codes " late of ") (us_allowed pace)
+delay_text timing pace (Long frames) = field (codes " frames ") frames
+delay_text timing pace (Whole whole) = field (codes " frames ") whole.frames ++ whole_text timing whole pace.deadline whole.bits
 
 -- that of a flow, where it is known how often it is sent
-unfoldable pub known_delay_text : Bitrate → Option FlowLoad → Option Delay → List ℕ
-known_delay_text bitrate (Some load) (Some delay) = delay_text bitrate load.limit delay
-known_delay_text bitrate _ _ = codes " no period"
+unfoldable pub known_delay_text : Timing → Option Pace → Option Delay → List ℕ
+known_delay_text timing (Some pace) (Some delay) = delay_text timing pace delay
+known_delay_text timing _ _ = codes " no period"
 
 unfoldable pub receiver_text : Plan → To → List ℕ
 receiver_text plan All = codes "all"
@@ -93,15 +91,15 @@ flow_text plan place flow = place_field (codes "flow ") place ++ (codes " " ++ (
     ++ (codes " " ++ (unit_label plan flow.sender ++ (codes " " ++ receiver_text plan flow.to)))))
 
 -- a flow and its delay
-unfoldable pub flow_line : Plan → Bitrate → List (Option FlowLoad) → List (Option Delay) → ℕ → FlowPlan → List ℕ
-flow_line plan bitrate loads delays place flow = flow_text plan place flow
-    ++ (known_delay_text bitrate (slice_index_or loads place None) (slice_index_or delays place None) ++ 10 ∷ [])
+unfoldable pub flow_line : Plan → Timing → List (Option Delay) → ℕ → FlowPlan → List ℕ
+flow_line plan timing delays place flow = flow_text plan place flow
+    ++ (known_delay_text timing flow.pace (slice_index_or delays place None) ++ 10 ∷ [])
 
 -- ---- needs
 
--- how old what is needed is at most, of a limit in bits, which may be less
-unfoldable pub age_text : Bitrate → ℕ → Option ℕ → List ℕ
-age_text bitrate limit age = limited_text (codes " age ") (codes " old ") bitrate limit age
+-- how old what is needed is at most, of a limit, which may be less
+unfoldable pub age_text : ℕ → Option ℕ → List ℕ
+age_text limit age = limited_text (codes " age ") (codes " old ") limit age
 
 -- which flow's age it is, where several meet the need
 unfoldable pub age_flow_text : Plan → Timing → List (Option Delay) → NeedPlan → List ℕ
@@ -112,14 +110,14 @@ age_flow_text plan timing delays need =
 -- the age of what is needed, or that no flow meets the need
 unfoldable pub known_age_text : Plan → Timing → List (Option Delay) → NeedPlan → ℕ → List ℕ
 known_age_text plan timing delays need limit =
-    if is_unmet plan.requests.items plan.flows.items need then time_text (codes " unmet of ") timing.bitrate limit
-    else age_text timing.bitrate limit (least_age timing plan.requests.items plan.flows.items delays need)
+    if is_unmet plan.requests.items plan.flows.items need then time_text (codes " unmet of ") limit
+    else age_text limit (least_age timing plan.requests.items plan.flows.items delays need)
     ++ age_flow_text plan timing delays need
 
 -- a need and its age, where it asks for one
 unfoldable pub need_line : Plan → Timing → List (Option Delay) → ℕ → NeedPlan → List ℕ
 need_line plan timing delays place need = option_map_or
-    (λ within. need_text plan place need ++ (known_age_text plan timing delays need (bits_of_ms timing within) ++ 10 ∷ [])) need.within []
+    (λ within. need_text plan place need ++ (known_age_text plan timing delays need (1000 * within) ++ 10 ∷ [])) need.within []
 
 -- ---- all of it
 
@@ -129,5 +127,5 @@ load_line timing asked = field (codes "load ") (total_load timing asked) ++ (fie
 
 -- each flow with its delay, each need that asks for an age with it, and the load
 unfoldable pub loads_text : Plan → Timing → Asked → List (Option Delay) → List ℕ
-loads_text plan timing asked delays = lines_of_each (flow_line plan timing.bitrate asked.flows delays) 0 plan.flows.items
+loads_text plan timing asked delays = lines_of_each (flow_line plan timing delays) 0 plan.flows.items
     ++ (lines_of_each (need_line plan timing delays) 0 plan.needs.items ++ load_line timing asked)

@@ -81,13 +81,17 @@ error_lines None = []
 error_lines (Some errors) =
     value_line at.TimingErrors key.Count (decimal errors.count) ++ value_line at.TimingErrors key.Every (decimal errors.every)
 
+-- the gaps between packets of long messages to all, and how far clocks are from true time
+unfoldable pub gap_lines : Timing → List ℕ
+gap_lines t = value_line at.Timing key.BroadcastGap (decimal t.broadcast_gap)
+    ++ (value_line at.Timing key.BroadcastGapMost (decimal t.broadcast_gap_most) ++ value_line at.Timing key.Drift (decimal t.drift))
+
 unfoldable pub known_timing_lines : Timing → List ℕ
 known_timing_lines t =
     value_line at.Timing key.Bitrate (decimal (bits_of_second t.bitrate)) ++ (value_line at.Timing key.Unplanned (decimal t.unplanned)
     ++ (value_line at.Timing key.UnplannedPriority (decimal t.unplanned_priority)
     ++ (value_line at.Timing key.TransportPriority (decimal t.transport_priority)
-    ++ (value_line at.Timing key.BroadcastGap (decimal t.broadcast_gap) ++ (value_line at.Timing key.BroadcastGapMost (decimal t.broadcast_gap_most)
-    ++ error_lines t.errors)))))
+    ++ (gap_lines t ++ error_lines t.errors))))
 
 unfoldable pub timing_lines : Option Timing → List ℕ
 timing_lines None = []

@@ -4,18 +4,20 @@ ghost use Rattle.j39_plan_text.specs.LoadLines.{age_flow_text, age_text, delay_t
 ghost use Rattle.j39_plan_text.specs.LoadLines.{known_age_text, known_delay_text, limited_text};
 ghost use Rattle.j39_plan_text.specs.LoadLines.{load_finding_line, load_finding_lines, load_finding_part};
 ghost use Rattle.j39_plan_text.specs.LoadLines.{load_finding_text, load_line, loads_text};
-ghost use Rattle.j39_plan_text.specs.LoadLines.{microseconds_field, need_line, receiver_text, time_text, whole_text};
+ghost use Rattle.j39_plan_text.specs.LoadLines.{need_line, receiver_text, time_text, us_allowed, whole_text};
 ghost use Rattle.j39_plan_text.specs.LoadLines.{within_text};
+ghost use Rattle.std.specs.Option.{option_map};
 ghost use Rattle.j39_load.specs.AskedLoads.{asked_in};
 ghost use Rattle.j39_load.specs.LineLists.{lines_of_each};
-ghost use Rattle.j39_load.specs.SentFrames.{bit_time};
+ghost use Rattle.j39_load.specs.LoadFindings.{time_of_each};
+ghost use Rattle.j39_load.specs.Loads.{us_of_bits};
 
 use crate::finding_lines::is_between;
 use j39_load::{
-    Delay, FlowLoad, LoadFinding, Loads, WholeTime, bits_of_ms, bits_of_second, has_several,
-    least_age, youngest_flow,
+    Delay, LoadFinding, Loads, WholeTime, bits_of_second, has_several, least_age, us_of_bits,
+    youngest_flow,
 };
-use j39_network::{Bitrate, FlowPlan, NeedPlan, Plan, Timing, To, is_met};
+use j39_network::{FlowPlan, NeedPlan, Pace, Plan, Timing, To, is_met};
 use j39_text::{TextBuffer, group_label, unit_label, write_need};
 use std::alloc::AllocError;
 
@@ -72,54 +74,20 @@ pub(super) fn write_load_findings(
     Ok(())
 }
 
-fn bit_time(bitrate: Bitrate) -> u64
-    ensures { result ≡ bit_time bitrate }
-{
-    match bitrate {
-        Bitrate::Kbit125 => 8,
-        Bitrate::Kbit250 => 4,
-        Bitrate::Kbit500 => 2,
-        Bitrate::Mbit1 => 1,
-    }
-}
-
-#[tactic(auto, unfolding(crate::specs::LoadLines::microseconds_field))]
-fn write_microseconds(
-    text: &mut TextBuffer,
-    word: &str,
-    bitrate: Bitrate,
-    bits: u64,
-) -> Result<(), AllocError>
-    ensures { OnOk result (text.new ≡ text.old ++ microseconds_field word.now bitrate bits) }
-{
-    text.field(word, u128::from(bits) * u128::from(bit_time(bitrate)))
-}
-
 #[tactic(auto, unfolding(crate::specs::LoadLines::time_text))]
-fn write_time(
-    text: &mut TextBuffer,
-    word: &str,
-    bitrate: Bitrate,
-    bits: u64,
-) -> Result<(), AllocError>
-    ensures { OnOk result (text.new ≡ text.old ++ time_text word.now bitrate bits) }
+fn write_time(text: &mut TextBuffer, word: &str, us: u128) -> Result<(), AllocError>
+    ensures { OnOk result (text.new ≡ text.old ++ time_text word.now us) }
 {
-    write_microseconds(text, word, bitrate, bits)?;
+    text.field(word, us)?;
     text.word(" us")
 }
 
 #[tactic(auto, unfolding(crate::specs::LoadLines::within_text))]
-fn write_within(
-    text: &mut TextBuffer,
-    word: &str,
-    bitrate: Bitrate,
-    limit: u32,
-    bits: u64,
-) -> Result<(), AllocError>
-    ensures { OnOk result (text.new ≡ text.old ++ within_text word.now bitrate limit bits) }
+fn write_within(text: &mut TextBuffer, word: &str, limit: u32, us: u128) -> Result<(), AllocError>
+    ensures { OnOk result (text.new ≡ text.old ++ within_text word.now limit us) }
 {
-    write_microseconds(text, word, bitrate, bits)?;
-    write_time(text, " of ", bitrate, u64::from(limit))
+    text.field(word, us)?;
+    write_time(text, " of ", u128::from(limit))
 }
 
 #[tactic(auto, unfolding(crate::specs::LoadLines::limited_text))]
@@ -127,53 +95,87 @@ fn write_limited(
     text: &mut TextBuffer,
     within: &str,
     beyond: &str,
-    bitrate: Bitrate,
     limit: u32,
-    bits: Option<u64>,
+    us: Option<u128>,
 ) -> Result<(), AllocError>
-    ensures { OnOk result (text.new ≡ text.old ++ limited_text within.now beyond.now bitrate limit bits) }
+    ensures { OnOk result (text.new ≡ text.old ++ limited_text within.now beyond.now limit us) }
 {
-    match bits {
-        Some(bits) if bits <= u64::from(limit) => write_within(text, within, bitrate, limit, bits),
-        Some(bits) => write_within(text, beyond, bitrate, limit, bits),
+    match us {
+        Some(us) if us <= u128::from(limit) => write_within(text, within, limit, us),
+        Some(us) => write_within(text, beyond, limit, us),
         None => {
             text.word(beyond)?;
-            write_time(text, "of ", bitrate, u64::from(limit))
+            write_time(text, "of ", u128::from(limit))
         }
     }
 }
 
-#[tactic(auto, unfolding(crate::specs::LoadLines::whole_text))]
-fn write_whole(text: &mut TextBuffer, bitrate: Bitrate, whole: WholeTime) -> Result<(), AllocError>
-    ensures { OnOk result (text.new ≡ text.old ++ whole_text bitrate whole whole.limit whole.bits) }
+// When each long message is whole, where this is known.
+fn us_of_each(timing: Timing, whole: WholeTime) -> Option<u128>
+    ensures { result ≡ option_map (us_of_bits timing) (time_of_each whole) }
 {
-    match (whole.limit, whole.bits) {
-        (Some(limit), _) => {
-            let bits = whole.time_of_each();
-            write_limited(text, " whole within ", " late ", bitrate, limit, bits)
+    match whole.time_of_each() {
+        Some(bits) => Some(us_of_bits(timing, bits)),
+        None => None,
+    }
+}
+
+#[tactic(auto, unfolding(crate::specs::LoadLines::whole_text))]
+fn write_whole(
+    text: &mut TextBuffer,
+    timing: Timing,
+    whole: WholeTime,
+    deadline: Option<u16>,
+) -> Result<(), AllocError>
+    ensures { OnOk result (text.new ≡ text.old ++ whole_text timing whole deadline whole.bits) }
+{
+    match (deadline, whole.bits) {
+        (Some(deadline), _) => {
+            let us = us_of_each(timing, whole);
+            write_limited(
+                text,
+                " whole within ",
+                " late ",
+                1_000 * u32::from(deadline),
+                us,
+            )
         }
-        (None, Some(bits)) => write_time(text, " whole within ", bitrate, bits),
+        (None, Some(bits)) => write_time(text, " whole within ", us_of_bits(timing, bits)),
         (None, None) => Ok(()),
     }
+}
+
+// How many microseconds are allowed of each frame.
+fn us_allowed(pace: Pace) -> u32
+    ensures { result ≡ us_allowed pace }
+{
+    let deadline = pace.deadline.unwrap_or(pace.period);
+    1_000 * u32::from(deadline.min(pace.period))
 }
 
 #[tactic(auto, unfolding(crate::specs::LoadLines::delay_text))]
 fn write_delay(
     text: &mut TextBuffer,
-    bitrate: Bitrate,
-    limit: u32,
+    timing: Timing,
+    pace: Pace,
     delay: Delay,
 ) -> Result<(), AllocError>
-    ensures { OnOk result (text.new ≡ text.old ++ delay_text bitrate limit delay) }
+    ensures { OnOk result (text.new ≡ text.old ++ delay_text timing pace delay) }
 {
     match delay {
-        Delay::Within(bits) => write_within(text, " within ", bitrate, limit, u64::from(bits)),
-        Delay::Beyond(bits) => write_within(text, " late ", bitrate, limit, u64::from(bits)),
-        Delay::Late => write_time(text, " late of ", bitrate, u64::from(limit)),
+        Delay::Within(bits) => {
+            let us = us_of_bits(timing, u64::from(bits));
+            write_within(text, " within ", us_allowed(pace), us)
+        }
+        Delay::Beyond(bits) => {
+            let us = us_of_bits(timing, u64::from(bits));
+            write_within(text, " late ", us_allowed(pace), us)
+        }
+        Delay::Late => write_time(text, " late of ", u128::from(us_allowed(pace))),
         Delay::Long(frames) => text.field(" frames ", frames),
         Delay::Whole(whole) => {
             text.field(" frames ", whole.frames)?;
-            write_whole(text, bitrate, whole)
+            write_whole(text, timing, whole, pace.deadline)
         }
     }
 }
@@ -181,14 +183,14 @@ fn write_delay(
 #[tactic(auto, unfolding(crate::specs::LoadLines::known_delay_text))]
 fn write_known_delay(
     text: &mut TextBuffer,
-    bitrate: Bitrate,
-    load: &Option<FlowLoad>,
+    timing: Timing,
+    pace: Option<Pace>,
     delay: &Option<Delay>,
 ) -> Result<(), AllocError>
-    ensures { OnOk result (text.new ≡ text.old ++ known_delay_text bitrate load.now delay.now) }
+    ensures { OnOk result (text.new ≡ text.old ++ known_delay_text timing pace delay.now) }
 {
-    match (load, delay) {
-        (Some(load), Some(delay)) => write_delay(text, bitrate, load.limit, *delay),
+    match (pace, delay) {
+        (Some(pace), Some(delay)) => write_delay(text, timing, pace, *delay),
         _ => text.word(" no period"),
     }
 }
@@ -225,23 +227,16 @@ fn write_flow(
 fn write_flow_line(
     text: &mut TextBuffer,
     plan: &Plan,
-    loads: &Loads,
+    timing: Timing,
     delays: &[Option<Delay>],
     place: usize,
     flow: &FlowPlan,
 ) -> Result<(), AllocError>
-    requires loads { place < length loads.now.flows.items }
-    requires delays { place < length delays.now }
-    ensures { OnOk result (text.new ≡ text.old
-        ++ flow_line plan.now loads.now.timing.bitrate loads.now.flows.items delays.now place flow.now) }
+    requires { place < length delays.now }
+    ensures { OnOk result (text.new ≡ text.old ++ flow_line plan.now timing delays.now place flow.now) }
 {
     write_flow(text, plan, place, flow)?;
-    write_known_delay(
-        text,
-        loads.timing.bitrate,
-        &loads.flows[place],
-        &delays[place],
-    )?;
+    write_known_delay(text, timing, flow.pace, &delays[place])?;
     text.end_line()
 }
 
@@ -249,30 +244,28 @@ fn write_flow_line(
 fn write_flows(
     text: &mut TextBuffer,
     plan: &Plan,
-    loads: &Loads,
+    timing: Timing,
     delays: &[Option<Delay>],
 ) -> Result<(), AllocError>
-    requires loads { length loads.now.flows.items ≡ length plan.now.flows.items }
-    requires delays { length delays.now ≡ length plan.now.flows.items }
+    requires { length delays.now ≡ length plan.now.flows.items }
     ensures { OnOk result (text.new ≡ text.old
-        ++ lines_of_each (flow_line plan.now loads.now.timing.bitrate loads.now.flows.items delays.now) 0 plan.now.flows.items) }
+        ++ lines_of_each (flow_line plan.now timing delays.now) 0 plan.now.flows.items) }
 {
     for (place, flow) in plan.flows.iter().enumerate() {
-        write_flow_line(text, plan, loads, delays, place, flow)?;
+        write_flow_line(text, plan, timing, delays, place, flow)?;
     }
     Ok(())
 }
 
 #[tactic(auto, unfolding(crate::specs::LoadLines::age_text))]
-fn write_age(
-    text: &mut TextBuffer,
-    bitrate: Bitrate,
-    limit: u32,
-    age: Option<u64>,
-) -> Result<(), AllocError>
-    ensures { OnOk result (text.new ≡ text.old ++ age_text bitrate limit age) }
+fn write_age(text: &mut TextBuffer, limit: u32, age: Option<u64>) -> Result<(), AllocError>
+    ensures { OnOk result (text.new ≡ text.old ++ age_text limit age) }
 {
-    write_limited(text, " age ", " old ", bitrate, limit, age)
+    let us = match age {
+        Some(age) => Some(u128::from(age)),
+        None => None,
+    };
+    write_limited(text, " age ", " old ", limit, us)
 }
 
 // Which flow's age it is, where several meet the need.
@@ -310,11 +303,18 @@ fn write_known_age(
     ensures { OnOk result (text.new ≡ text.old ++ known_age_text plan.now timing delays.now need.now limit) }
 {
     if !is_met(&plan.requests, &plan.flows, need) {
-        return write_time(text, " unmet of ", timing.bitrate, u64::from(limit));
+        return write_time(text, " unmet of ", u128::from(limit));
     }
     let age = least_age(timing, &plan.requests, &plan.flows, delays, need);
-    write_age(text, timing.bitrate, limit, age)?;
+    write_age(text, limit, age)?;
     write_age_flow(text, plan, timing, delays, need)
+}
+
+// The microseconds of a need's age, which its file has in milliseconds.
+fn us_of_within(within: u16) -> u32
+    ensures { result ≡ 1000 * within }
+{
+    1_000 * u32::from(within)
 }
 
 // A need and its age, where it asks for one.
@@ -334,7 +334,7 @@ fn write_need_line(
         return Ok(());
     };
     write_need(text, plan, place, need)?;
-    write_known_age(text, plan, timing, delays, need, bits_of_ms(timing, within))?;
+    write_known_age(text, plan, timing, delays, need, us_of_within(within))?;
     text.end_line()
 }
 
@@ -373,12 +373,11 @@ pub(super) fn write_loads(
     loads: &Loads,
     delays: &[Option<Delay>],
 ) -> Result<(), AllocError>
-    requires loads { length loads.now.flows.items ≡ length plan.now.flows.items }
-    requires delays { length delays.now ≡ length plan.now.flows.items }
+    requires { length delays.now ≡ length plan.now.flows.items }
     ensures { OnOk result (text.new ≡ text.old
         ++ loads_text plan.now loads.now.timing (asked_in loads.now) delays.now) }
 {
-    write_flows(text, plan, loads, delays)?;
+    write_flows(text, plan, loads.timing, delays)?;
     write_needs(text, plan, loads.timing, delays)?;
     write_load(text, loads)
 }

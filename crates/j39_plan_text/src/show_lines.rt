@@ -1,6 +1,6 @@
 //! The lines of the values of a plan.
 ghost use Rattle.std.specs.Prelude.{◌≡◌, ◌<◌, ◌++◌, OnOk};
-ghost use Rattle.j39_plan_text.specs.ShowText.{error_lines, kept_line, kept_lines, known_timing_lines};
+ghost use Rattle.j39_plan_text.specs.ShowText.{error_lines, kept_line, kept_lines, gap_lines, known_timing_lines};
 ghost use Rattle.j39_plan_text.specs.ShownLines.{line_text};
 ghost use Rattle.j39_plan_text.specs.ShowText.{show_text, timing_lines, top_lines};
 
@@ -64,6 +64,21 @@ fn write_errors(text: &mut TextBuffer, errors: Option<ErrorRate>) -> Result<(), 
     }
 }
 
+#[tactic(auto, unfolding(crate::specs::ShowText::gap_lines))]
+fn write_gaps(text: &mut TextBuffer, timing: Timing) -> Result<(), AllocError>
+    ensures { OnOk result (text.new ≡ text.old ++ gap_lines timing) }
+{
+    let table = Table::Timing;
+    write_number(text, table, Key::BroadcastGap, timing.broadcast_gap)?;
+    write_number(
+        text,
+        table,
+        Key::BroadcastGapMost,
+        timing.broadcast_gap_most,
+    )?;
+    write_number(text, table, Key::Drift, timing.drift)
+}
+
 #[tactic(auto, unfolding(crate::specs::ShowText::known_timing_lines))]
 fn write_known_timing(text: &mut TextBuffer, timing: Timing) -> Result<(), AllocError>
     ensures { OnOk result (text.new ≡ text.old ++ known_timing_lines timing) }
@@ -83,13 +98,7 @@ fn write_known_timing(text: &mut TextBuffer, timing: Timing) -> Result<(), Alloc
         Key::TransportPriority,
         timing.transport_priority,
     )?;
-    write_number(text, table, Key::BroadcastGap, timing.broadcast_gap)?;
-    write_number(
-        text,
-        table,
-        Key::BroadcastGapMost,
-        timing.broadcast_gap_most,
-    )?;
+    write_gaps(text, timing)?;
     write_errors(text, timing.errors)
 }
 

@@ -6,7 +6,7 @@ use Rattle.std.proofs.lemmas.Option.{same_Some}
 use Rattle.std.specs.Option.{option_and_then, option_map_or}
 use Rattle.j39_network.specs.declared.plan.flow_plan.FlowPlan.{FlowPlan}
 use Rattle.j39_network.specs.declared.plan.timing.Timing.{Timing}
-use Rattle.j39_load.specs.BusTimes.{timing_of}
+use Rattle.j39_vehicle_times.specs.BusDelays.{AreDelays, agreed_timing, delays_on}
 use Rattle.j39_load.specs.Asked.{Asked, asked_of, frames_asked}
 use Rattle.j39_load.specs.LoadFindings.{AsksOfBus}
 use Rattle.j39_load.proofs.OneLoad.{one_asked}
@@ -21,7 +21,6 @@ use Rattle.j39_vehicle.specs.declared.vehicle.Vehicle.{Vehicle}
 use Rattle.j39_vehicle.specs.declared.vehicle.bus_plan.BusPlan.{BusPlan}
 use Rattle.j39_vehicle.specs.declared.vehicle.forward.Forward.{Forward}
 use Rattle.j39_vehicle_findings.specs.declared.point.FlowAt.{FlowAt}
-use Rattle.j39_vehicle_times.specs.BusDelays.{AreDelays, delays_on}
 use Rattle.j39_vehicle_times.specs.declared.bus_delays.Delays.{Delays}
 use Rattle.j39_vehicle_times.specs.TimeFindings.{period_ms}
 use Rattle.j39_vehicle_times.specs.Times.{behind_at, behind_by, delay_at, direct_feeder, flow_at, first_input_at, jitter_ms, own, queued_of, sum_known, timed, timing_on}
@@ -60,7 +59,7 @@ pub one_traffic : (v : Vehicle) (delays : Delays) (b : ℕ) (timing other : Timi
     → streams_of timing (frames_asked (asked_on one)) ≡ streams_of other (frames_asked (asked_on two))
 one_traffic v delays b timing other one two =
     let bus : one.bus ≡ two.bus = same_Some _ _ (sym one.its ∙ two.its) in
-    let time : timing ≡ other = same_Some _ _ (sym one.timed ∙ (ap (λ (x : BusPlan). timing_of x.plan) bus ∙ two.timed)) in
+    let time : timing ≡ other = same_Some _ _ (sym one.timed ∙ (ap (λ (x : BusPlan). agreed_timing x.plan) bus ∙ two.timed)) in
     let asks : AsksOfBus two.bus.plan other one.stays (delays_on delays b) =
     subst (λ (x : BusPlan). AsksOfBus x.plan other one.stays (delays_on delays b)) bus (subst (λ (x : Timing). AsksOfBus one.bus.plan x one.stays
     (delays_on delays b)) time one.asks) in
@@ -404,7 +403,7 @@ module _ (v : Vehicle) (delays : Delays) (told : AreDelays v delays) (seen : See
 
   pub buses_kept : AreKeptBuses v delays seen
   buses_kept b timing its =
-      let timed_here : timing_on v.buses.items b ≡ Some timing = ap (option_and_then (λ (bus : BusPlan). timing_of bus.plan)) its.its ∙ its.timed in
+      let timed_here : timing_on v.buses.items b ≡ Some timing = ap (option_and_then (λ (bus : BusPlan). agreed_timing bus.plan)) its.its ∙ its.timed in
       let (t, view_is) = viewed v b timing timed_here in
       let streams : KeepsItsStreams (with_bus b (Some t)) = subst (λ (o : Option (TimedBus v b)). KeepsItsStreams (with_bus b o)) view_is (streams_kept b) in
       let same = one_traffic v delays b t.timing timing (of_bus v delays told seen t) its in

@@ -1,10 +1,10 @@
 -- One flow of which a delay is told, on its own bus.
 use Rattle.std.proofs.Common.{◌≡◌, ◌≢◌, ℕ, ◌+◌, ◌*◌, ◌-◌, ◌<◌, ◌≤◌, ◌⊎◌, Bool, true, false, List, [], ◌++◌, if◌then◌else◌, Option, Some, refl, sym, ap, ◌∙◌}
-use Rattle.std.proofs.Common.{subst, arith}
-use Rattle.std.proofs.lemmas.Bool.{leb-true}
-use Rattle.std.proofs.lemmas.Option.{same_Some, slice_get-map}
+use Rattle.std.proofs.Common.{None, eqb, inl, inr, subst, arith}
+use Rattle.std.proofs.lemmas.Bool.{cases_Bool, eqb-true, leb-true}
+use Rattle.std.proofs.lemmas.Option.{none-some, same_Some, slice_get-map}
 use Rattle.std.specs.List.{slice_get}
-use Rattle.std.specs.Option.{option_map, option_map_or}
+use Rattle.std.specs.Option.{option_and_then, option_map, option_map_or}
 use Rattle.j39_network.specs.declared.plan.Plan.{Plan}
 use Rattle.j39_network.specs.declared.plan.flow_plan.FlowPlan.{FlowPlan}
 use Rattle.j39_network.specs.declared.plan.group_plan.GroupPlan.{GroupPlan}
@@ -14,6 +14,8 @@ use Rattle.j39_network.specs.declared.plan.to.To.{To}
 use Rattle.j39_network.specs.declared.plan.to.To.TheVariants.{All, One}
 use Rattle.j39_network.specs.declared.plan.unit_plan.UnitPlan.{UnitPlan}
 use Rattle.j39_load.specs.BusTimes.{timing_of}
+use Rattle.j39_load.proofs.Milliseconds.{agreed_least, agreed_most}
+use Rattle.j39_vehicle_times.specs.BusDelays.{where_exact, AreDelays, AreDelaysOn, agreed_timing, delays_on}
 use Rattle.j39_load.specs.declared.waits.delay.Delay.{Delay}
 use Rattle.j39_load.specs.declared.waits.delay.Delay.TheVariants.{Within}
 use Rattle.j39_load.specs.declared.frames.flow_frames.FlowFrames.{FlowFrames}
@@ -36,7 +38,6 @@ use Rattle.j39_vehicle_findings.specs.declared.point.FlowAt.{FlowAt}
 use Rattle.j39_vehicle_times.specs.declared.bus_delays.Delays.{Delays}
 use Rattle.j39_vehicle_times.specs.TimeFindings.{period_ms}
 use Rattle.j39_vehicle_times.specs.Times.{behind_release, us_of_bit, bits_within, delay_at, flow_at, jitter_ms, own, own_of, sum_known, timing_on, us_of_ms}
-use Rattle.j39_vehicle_times.specs.BusDelays.{AreDelays, AreDelaysOn, delays_on}
 use Rattle.j39_vehicle_times.proofs.DecidingTimes.{and_then_some, map_some}
 use Rattle.j39_vehicle_time_laws.specs.KeptBuses.{AreKeptBuses, IsKeptBus, IsKnownBus, asked_on}
 use Rattle.j39_vehicle_time_laws.specs.Seen.{SeenBuses, frames_at, unit_on}
@@ -66,7 +67,7 @@ own_parts v delays at time is =
 pub known_bus : (v : Vehicle) (delays : Delays) → AreDelays v delays → (b : ℕ) (timing : Timing) → timing_on v.buses.items b ≡ Some timing
     → IsKnownBus v delays b timing
 known_bus v delays told b timing timed =
-    let (bus, its, has) = and_then_some (λ (bus : BusPlan). timing_of bus.plan) (slice_get v.buses.items b) timing timed in
+    let (bus, its, has) = and_then_some (λ (bus : BusPlan). agreed_timing bus.plan) (slice_get v.buses.items b) timing timed in
     let (stays, asks) = subst (λ (o : Option Timing). AreDelaysOn bus.plan o (delays_on delays b)) has (told.each b bus its) in
     record { bus = bus; its = its; timed = has; stays = stays; asks = asks }
 
@@ -99,10 +100,20 @@ short_frames timing units stays flow pace group frames is = go (is_always_short 
     go true at = short_is _ _ at
     go false at = absurd (long_short timing units stays flow pace group flow.to frames at)
 
-pub stream_of : (timing : Timing) (plan : Plan) (stays : UnitPlan → Bool) (place : ℕ) (flow : FlowPlan) → slice_get plan.flows.items place ≡ Some flow
+-- its clocks agree
+exact_timing : (timing : Timing) (known : Option Timing) → option_and_then where_exact known ≡ Some timing → timing.drift ≡ 0
+exact_timing timing None is = absurd (none-some timing is)
+exact_timing timing (Some found) is = elim (cases_Bool (eqb found.drift 0)) [
+  | inl none ↦
+      let same : found ≡ timing = same_Some _ _ (sym (ap (λ (b : Bool). if b then Some found else None) none) ∙ is) in
+      ap (λ (t : Timing). t.drift) (sym same) ∙ eqb-true found.drift 0 none
+  | inr some ↦ absurd (none-some timing (sym (ap (λ (b : Bool). if b then Some found else None) some) ∙ is))
+]
+
+pub stream_of : (timing : Timing) → timing.drift ≡ 0 → (plan : Plan) (stays : UnitPlan → Bool) (place : ℕ) (flow : FlowPlan) → slice_get plan.flows.items place ≡ Some flow
     → (load : FlowLoad) → slice_get (loads_of timing plan stays) place ≡ Some (Some load) → (frames : FlowFrames) → load.messages ≡ Short frames
     → HasStream timing flow frames load.limit
-stream_of timing plan stays place flow its load at frames short =
+stream_of timing exact plan stays place flow its load at frames short =
     let told : load_of_flow timing plan stays flow ≡ Some load =
     same_Some _ _ (sym (slice_get-map (load_of_flow timing plan stays) plan.flows.items place ∙ ap (option_map (load_of_flow timing plan stays)) its) ∙ at) in
     let (pace, paced, rest) = and_then_some _ flow.pace load told in
@@ -114,11 +125,11 @@ stream_of timing plan stays place flow its load at frames short =
     record {
       single = paces.1;
       limited = paces.2;
-      jitter = ap (λ (f : FlowFrames). f.stream.jitter) (sym same) ∙ ap (λ (p : Option Pace). bits_of_ms timing (option_map_or (λ (x : Pace). x.jitter) p 0))
-          (sym paced);
+      jitter = ap (λ (f : FlowFrames). f.stream.jitter) (sym same) ∙ (agreed_most timing pace.jitter exact
+          ∙ ap (λ (p : Option Pace). bits_of_ms timing (option_map_or (λ (x : Pace). x.jitter) p 0)) (sym paced));
       period = pace.period;
       period_is = ap (option_map (λ (x : Pace). x.period)) paced;
-      apart = ap (λ (f : FlowFrames). f.stream.period) (sym same);
+      apart = ap (λ (f : FlowFrames). f.stream.period) (sym same) ∙ agreed_least timing pace.period exact;
     }
 
 short_is_short : (timing : Timing) (units : List UnitPlan) (stays : UnitPlan → Bool) (flow : FlowPlan) (pace : Pace) (group : GroupPlan) (frames : FlowFrames)
@@ -188,7 +199,7 @@ module _ (v : Vehicle) (delays : Delays) (told : AreDelays v delays) (at : FlowA
   bound = bounded of_bus.bus.plan has.timing of_bus.stays (delays_on delays at.bus) of_bus.asks at.flow has.bits delay_here
 
   pub its_stream : HasStream has.timing has.flow bound.frames bound.load.limit
-  its_stream = stream_of has.timing of_bus.bus.plan of_bus.stays at.flow has.flow flow_here bound.load bound.its bound.frames bound.short
+  its_stream = stream_of has.timing (exact_timing has.timing (timing_of of_bus.bus.plan) of_bus.timed) of_bus.bus.plan of_bus.stays at.flow has.flow flow_here bound.load bound.its bound.frames bound.short
 
   -- its group
   pub short_group : (group : GroupPlan) × (slice_get of_bus.bus.plan.groups.items has.flow.group ≡ Some group) × (group.most ≤ 8)

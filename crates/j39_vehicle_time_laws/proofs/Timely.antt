@@ -10,7 +10,7 @@ use Rattle.std.specs.Option.{option_and_then, option_map, option_map_or}
 use Rattle.j39_network.specs.declared.plan.flow_plan.FlowPlan.{FlowPlan}
 use Rattle.j39_network.specs.declared.plan.group_plan.GroupPlan.{GroupPlan}
 use Rattle.j39_network.specs.declared.plan.timing.Timing.{Timing}
-use Rattle.j39_load.specs.BusTimes.{timing_of}
+use Rattle.j39_vehicle_times.specs.BusDelays.{AreDelays, AreDelaysOn, agreed_timing, delays_on}
 use Rattle.j39_load.specs.declared.waits.delay.Delay.{Delay}
 use Rattle.j39_vehicle.specs.declared.vehicle.Vehicle.{Vehicle}
 use Rattle.j39_vehicle.specs.declared.vehicle.bus_plan.BusPlan.{BusPlan}
@@ -23,7 +23,6 @@ use Rattle.j39_vehicle_findings.specs.VehicleFindings.{AreFindings, HasNoInput}
 use Rattle.j39_vehicle_findings.specs.declared.finding.VehicleFinding.TheVariants.{ManyOutputs, NoInput}
 use Rattle.j39_vehicle_findings.specs.declared.point.FlowAt.{FlowAt}
 use Rattle.j39_vehicle_findings.proofs.Deciding.{Decides-has_many_outputs, Decides-is_direct, Decides-is_input}
-use Rattle.j39_vehicle_times.specs.BusDelays.{AreDelays, AreDelaysOn, delays_on}
 use Rattle.j39_vehicle_times.specs.TimeFindings.{AreTimeFindings, IsDirectBetween, IsUnlimited, first_output, period_ms}
 use Rattle.j39_vehicle_times.specs.Times.{bits_within, delay_at, direct_feeder, flow_at, first_input_at, jitter_ms, queued_of, interval, timing_on, us_of_ms}
 use Rattle.j39_vehicle_times.specs.declared.bus_delays.Delays.{Delays}
@@ -159,7 +158,7 @@ module _ (v : Vehicle) (delays : Delays) (none : AreFindings v []) (told : AreDe
   unfolding bus
   bus_is = (bus_of v.buses.items at.bus at.flow sends.flow sends.its).1
 
-  no_delays : timing_of bus.plan ≡ None → ⊥
+  no_delays : agreed_timing bus.plan ≡ None → ⊥
   no_delays untimed =
       let empty : delays_on delays at.bus ≡ [] = subst (λ (o : Option Timing). AreDelaysOn bus.plan o (delays_on delays at.bus)) untimed
       (told.each at.bus bus bus_is) in
@@ -168,14 +167,14 @@ module _ (v : Vehicle) (delays : Delays) (none : AreFindings v []) (told : AreDe
       omega (arith, inside)
 
   has_timing : ¬ (timing_on v.buses.items n.output.bus ≡ None)
-  has_timing missing = no_delays (sym (ap (option_and_then (λ (x : BusPlan). timing_of x.plan)) bus_is)
+  has_timing missing = no_delays (sym (ap (option_and_then (λ (x : BusPlan). agreed_timing x.plan)) bus_is)
       ∙ subst (λ (b : ℕ). timing_on v.buses.items b ≡ None) sends.bus missing)
 
   is_short : (group : GroupPlan) → slice_get (groups_on v.buses.items n.output.bus) sends.flow.group ≡ Some group → group.most ≤ 8
-  is_short group its = some_cases (timing_of bus.plan) (group.most ≤ 8)
+  is_short group its = some_cases (agreed_timing bus.plan) (group.most ≤ 8)
       (λ untimed. absurd (no_delays untimed))
       (λ timing timed.
-      let time : timing_on v.buses.items at.bus ≡ Some timing = ap (option_and_then (λ (x : BusPlan). timing_of x.plan)) bus_is ∙ timed in
+      let time : timing_on v.buses.items at.bus ≡ Some timing = ap (option_and_then (λ (x : BusPlan). agreed_timing x.plan)) bus_is ∙ timed in
       let has : HasOwn v delays at (Rattle.j39_vehicle_times.specs.Times.own_of timing sends.flow bits) =
       record { timing = timing; timed = time; flow = sends.flow; its = sends.its; bits = bits; delayed = delayed; sum = refl } in
       let (short, of_flow, few) = short_group v delays told at (Rattle.j39_vehicle_times.specs.Times.own_of timing sends.flow bits) has in

@@ -3,7 +3,7 @@ use Rattle.std.specs.Prelude.{◌≡◌, ℕ, ◌≤◌, Bool, List, Option, Som
 use Rattle.std.specs.List.{slice_get}
 use Rattle.j39_network.specs.declared.plan.timing.Timing.{Timing}
 use Rattle.j39_network.specs.declared.plan.unit_plan.UnitPlan.{UnitPlan}
-use Rattle.j39_load.specs.BusTimes.{timing_of}
+use Rattle.j39_vehicle_times.specs.BusDelays.{agreed_timing, delays_on}
 use Rattle.j39_load.specs.declared.waits.delay.Delay.{Delay}
 use Rattle.j39_load.specs.declared.waits.delay.Delay.TheVariants.{Within}
 use Rattle.j39_load.specs.Asked.{Asked, asked_of, frames_asked}
@@ -14,7 +14,6 @@ use Rattle.j39_timing.specs.Gateways.{time_of}
 use Rattle.j39_vehicle.specs.declared.vehicle.Vehicle.{Vehicle}
 use Rattle.j39_vehicle.specs.declared.vehicle.bus_plan.BusPlan.{BusPlan}
 use Rattle.j39_vehicle_times.specs.declared.bus_delays.Delays.{Delays}
-use Rattle.j39_vehicle_times.specs.BusDelays.{delays_on}
 use Rattle.j39_vehicle_times.specs.Times.{timing_on}
 use Rattle.j39_vehicle_time_laws.specs.Seen.{SeenBus, SeenBuses, clock_on}
 
@@ -22,7 +21,7 @@ use Rattle.j39_vehicle_time_laws.specs.Seen.{SeenBus, SeenBuses, clock_on}
 pub record IsKnownBus (v : Vehicle) (delays : Delays) (b : ℕ) (timing : Timing) : Type 0 where
   pub bus : BusPlan
   pub its : slice_get v.buses.items b ≡ Some bus
-  pub timed : timing_of bus.plan ≡ Some timing
+  pub timed : agreed_timing bus.plan ≡ Some timing
   pub stays : UnitPlan → Bool
   pub asks : AsksOfBus bus.plan timing stays (delays_on delays b)
 

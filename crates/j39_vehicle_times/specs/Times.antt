@@ -8,7 +8,7 @@ use Rattle.j39_network.specs.declared.plan.pace.Pace.{Pace}
 use Rattle.j39_network.specs.declared.plan.timing.Bitrate.{Bitrate}
 use Rattle.j39_network.specs.declared.plan.timing.Bitrate.TheVariants.{Kbit125, Kbit250, Kbit500, Mbit1}
 use Rattle.j39_network.specs.declared.plan.timing.Timing.{Timing}
-use Rattle.j39_load.specs.BusTimes.{timing_of}
+use Rattle.j39_vehicle_times.specs.BusDelays.{agreed_timing, delays_on}
 use Rattle.j39_load.specs.Loads.{bits_of_ms}
 use Rattle.j39_load.specs.declared.waits.delay.Delay.{Delay}
 use Rattle.j39_load.specs.declared.waits.delay.Delay.TheVariants.{Within}
@@ -20,7 +20,6 @@ use Rattle.j39_vehicle_findings.specs.ForwardTests.{feeds, is_direct}
 use Rattle.j39_vehicle_findings.specs.Traces.{first_input, goes_on, next_forward}
 use Rattle.j39_vehicle_findings.specs.declared.point.FlowAt.{FlowAt}
 use Rattle.j39_vehicle_findings.specs.declared.point.Point.{Point}
-use Rattle.j39_vehicle_times.specs.BusDelays.{delays_on}
 use Rattle.j39_vehicle_times.specs.declared.bus_delays.Delays.{Delays}
 
 -- ---- numbers
@@ -45,7 +44,7 @@ sum_known (Some a) (Some b) = Some (a + b)
 
 -- of the bus at a place, where its plan has it
 abbrev pub timing_on : List BusPlan → ℕ → Option Timing
-timing_on buses b = option_and_then (λ (bus : BusPlan). timing_of bus.plan) (slice_get buses b)
+timing_on buses b = option_and_then (λ (bus : BusPlan). agreed_timing bus.plan) (slice_get buses b)
 
 abbrev pub flow_at : List BusPlan → FlowAt → Option FlowPlan
 flow_at buses at = slice_get (flows_on buses at.bus) at.flow

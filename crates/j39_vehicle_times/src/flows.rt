@@ -6,8 +6,8 @@ ghost use Rattle.j39_vehicle_times.specs.Times.{us_of_bit, flow_at, first_input_
 ghost use Rattle.j39_vehicle_times.specs.Times.{timing_on, us_of_ms, within_of};
 ghost use Rattle.j39_vehicle_times.specs.inside.Chains.{direct_place, input_by, is_direct_at};
 
-use crate::bus_delays::{Delays, delay_at};
-use j39_load::{bits_of_ms, timing_of};
+use crate::bus_delays::{Delays, agreed_timing, delay_at};
+use j39_load::bits_of_ms;
 use j39_network::{Bitrate, FlowPlan, Timing};
 use j39_vehicle::{BusPlan, Forward, Vehicle};
 use j39_vehicle_findings::{FlowAt, Routes, first_input, flows_on, is_direct};
@@ -59,7 +59,7 @@ pub fn timing_on(buses: &[BusPlan], bus: usize) -> Option<Timing>
     ensures { result ≡ timing_on buses.now bus }
 {
     match buses.get(bus) {
-        Some(bus) => timing_of(&bus.plan),
+        Some(bus) => agreed_timing(&bus.plan),
         None => None,
     }
 }

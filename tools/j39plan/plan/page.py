@@ -313,6 +313,7 @@ def premises(tables: Tables) -> list[str]:
         "Unplanned frames that may go before a planned one": f"{timing.unplanned}, of priority {timing.unplanned_priority} to 7",
         "Priority of the transport protocol": str(timing.transport_priority),
         "Between packets to all": f"{timing.broadcast_gap} to {timing.broadcast_gap_most} ms",
+        "Clocks": f"{timing.drift} ppm from true time at most",
         "Damaged frames": f"{errors.count} in {errors.every} ms at most" if errors else "none",
         "Controllers that keep no order of priority": ", ".join(unordered) or "none",
     }

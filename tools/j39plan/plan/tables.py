@@ -267,7 +267,8 @@ class Errors:
 @dataclass(frozen=True)
 class Timing:
     """What a plan says of its bus: its bits a second, how many frames that aren't planned go before one that waits, of which priority they are at most, and
-    that of the transport protocol; how far apart packets to all are, in ms; and how many frames are damaged, None where none is."""
+    that of the transport protocol; how far apart packets to all are, in ms; how many frames are damaged, None where none is; and how far clocks
+    are from true time, in ppm."""
 
     bitrate: int
     unplanned: int
@@ -276,6 +277,7 @@ class Timing:
     broadcast_gap: int
     broadcast_gap_most: int
     errors: Errors | None = None
+    drift: int = 0
 
 
 class Keys(Protocol):
@@ -418,4 +420,4 @@ class Tables:
         timing, errors = self._shown["timing"], self._shown.get("timing errors")
         damaged = Errors(errors.number("count"), errors.number("every")) if errors else None
         keys = ("bitrate", "unplanned", "unplanned_priority", "transport_priority", "broadcast_gap", "broadcast_gap_most")
-        return Timing(**{key: timing.number(key) for key in keys}, errors=damaged)
+        return Timing(**{key: timing.number(key) for key in keys}, errors=damaged, drift=timing.number_if_any("drift") or 0)

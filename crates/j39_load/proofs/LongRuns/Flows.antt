@@ -16,7 +16,7 @@ use Rattle.j39_load.specs.declared.loads.flow_load.FlowLoad.{FlowLoad}
 use Rattle.j39_load.specs.declared.loads.request_load.RequestLoad.{RequestLoad}
 use Rattle.j39_load.specs.Asked.{frames_asked}
 use Rattle.j39_load.specs.KeepsPlan.{KeepsToPlan, source_place}
-use Rattle.j39_load.specs.Loads.{bits_of_ms, load_of, load_of_messages}
+use Rattle.j39_load.specs.Loads.{bits_at_least, bits_of_ms, load_of, load_of_messages}
 use Rattle.j39_load.specs.LongRuns.{seconds}
 use Rattle.j39_load.specs.PlannedFrames.{planned_at}
 use Rattle.j39_load.specs.SentFrames.{FrameSources, Held, IsRequestFrame, IsSessionFrame, IsSingleFrame, Source, Single, First, InSession, Asking, Announcing, Carrying}
@@ -38,15 +38,15 @@ module _ (plan : Plan) (timing : Timing) (stays : UnitPlan → Bool) where
 
 module _ (plan : Plan) (timing : Timing) (stays : UnitPlan → Bool) (tells : DecidesWhoStays plan stays) (clean : Clean plan) (s : Schedule)
     (queued_first : (p : ℕ) → p < s.count → s.queued p ≤ s.start p) (planned : ℕ → Bool) (sent : FrameSources) (held : Held)
-    (keeps : KeepsToPlan plan timing s planned sent held) (from wait n : ℕ) (span : wait + 1 ≡ bits_of_ms timing (seconds n)) where
+    (keeps : KeepsToPlan plan timing s planned sent held) (from wait n : ℕ) (span : wait + 1 ≡ bits_of_ms timing (seconds n)) (agree : timing.drift ≡ 0) where
   abbrev place : ℕ → ℕ
   place p = source_place plan (sent.source p)
 
   abbrev bits : ℕ → ℕ → ℕ
-  bits = bits_at plan timing stays tells clean s queued_first planned sent held keeps from wait n span
+  bits = bits_at plan timing stays tells clean s queued_first planned sent held keeps from wait n span agree
 
   abbrev IsCounted : ℕ → ℕ → ℕ → Type 0
-  IsCounted = Counts plan timing stays tells clean s queued_first planned sent held keeps from wait n span
+  IsCounted = Counts plan timing stays tells clean s queued_first planned sent held keeps from wait n span agree
 
   -- ---- a flow
 
@@ -55,7 +55,7 @@ module _ (plan : Plan) (timing : Timing) (stays : UnitPlan → Bool) (tells : De
   flow_bits i = elim (cases_lt 0 (bits 0 i)) [
     | inr none ↦ omega (arith, none)
     | inl some ↦
-        let (p, in_p, x) = some_counts plan timing stays tells clean s queued_first planned sent held keeps from wait n span 0 i some in
+        let (p, in_p, x) = some_counts plan timing stays tells clean s queued_first planned sent held keeps from wait n span agree 0 i some in
         rated p in_p x.is (sent.source p) refl x.its_kind x.its_index
   ]
     where
@@ -74,41 +74,41 @@ module _ (plan : Plan) (timing : Timing) (stays : UnitPlan → Bool) (tells : De
       Rated = bits 0 i ≤ n * rate_of_flow plan timing stays (get_or (asked plan timing stays).flows i None) + more_at plan timing stays i
 
       of_frames : (frames : FlowFrames) (ms : ℕ) (load : FlowLoad) → planned_at (whole plan timing stays) i ≡ frames → 1 ≤ ms
-          → frames.stream.period ≡ bits_of_ms timing ms → load.bits_per_second ≡ load_of frames.stream ms
+          → frames.stream.period ≡ bits_at_least timing ms → load.bits_per_second ≡ load_of timing frames.stream ms
           → get_or (asked plan timing stays).flows i None ≡ Some load → Rated
       of_frames frames ms load there some period rate its =
-          let positive_period : 0 < frames.stream.period = (let bits = some_bits timing.bitrate ms some in omega (arith, bits, period)) in
-          at_rate plan timing stays tells clean s queued_first planned sent held keeps from wait n span 0 i i
+          let positive_period : 0 < frames.stream.period = (let bits = some_bits timing ms some in omega (arith, bits, period)) in
+          at_rate plan timing stays tells clean s queued_first planned sent held keeps from wait n span agree 0 i i
           (rate_of_flow plan timing stays (get_or (asked plan timing stays).flows i None)) one_place
           (subst (λ (f : FlowFrames). 0 < f.stream.period) (sym there) positive_period)
           (subst (λ (f : FlowFrames). IsRate timing (f.stream.frames * f.stream.bits) f.stream.period
           (rate_of_flow plan timing stays (get_or (asked plan timing stays).flows i None)))
           (sym there)
           (subst (λ (x : ℕ). IsRate timing (frames.stream.frames * frames.stream.bits) frames.stream.period x)
-          (sym (ap (rate_of_flow plan timing stays) its ∙ rate)) (load_is_rate timing frames.stream ms some period)))
+          (sym (ap (rate_of_flow plan timing stays) its ∙ rate)) (load_is_rate timing agree frames.stream ms some period)))
 
       rated : (p : ℕ) → p < s.count → planned p ≡ true → (x : Source) → sent.source p ≡ x → kind x ≡ 0 → index x ≡ i → Rated
       rated p in_p is (Single f) at of_kind place =
           let one = subst (λ (g : ℕ). IsSingleFrame plan timing s held g (sent.release p) p) place
-          (frame_of plan timing stays tells clean s queued_first planned sent held keeps from wait n span p in_p is (Single f) at) in
+          (frame_of plan timing stays tells clean s queued_first planned sent held keeps from wait n span agree p in_p is (Single f) at) in
           let asks = load plan timing stays i one.flow one.pace one.group one.its one.paced one.of in
           let frames = own plan timing stays i one.flow one.pace one.group one.its one.paced one.of in
           of_frames frames one.pace.period asks
           (there plan timing stays tells clean s queued_first planned sent held keeps i (sent.release p) p one) one.pace.period_positive refl
-          (ap (λ (m : Messages). load_of_messages m one.pace.period)
+          (ap (λ (m : Messages). load_of_messages timing m one.pace.period)
           (of_one_frame plan timing stays i one.flow one.pace one.group one.its one.paced one.of one.short))
           (get_or_from_slice_get (asked plan timing stays).flows i (Some asks) None
           (at_place plan timing stays i one.flow one.pace one.group one.its one.paced one.of))
       rated p in_p is (First f) at of_kind place = absurd (omega (arith, of_kind))
       rated p in_p is (InSession f part) at of_kind place =
           let one = subst (λ (g : ℕ). IsSessionFrame plan timing s held g part (sent.release p) p) place
-          (frame_of plan timing stays tells clean s queued_first planned sent held keeps from wait n span p in_p is (InSession f part) at) in
+          (frame_of plan timing stays tells clean s queued_first planned sent held keeps from wait n span agree p in_p is (InSession f part) at) in
           let asks = load plan timing stays i one.flow one.pace one.group one.its one.paced one.of in
           let frames = in_session plan timing stays i one.flow one.pace one.group one.its one.paced one.of one.receiver in
           of_frames frames one.pace.period asks
           (with_damage timing (frames_asked (asked plan timing stays)) i frames
           (session_read plan timing stays i one.flow one.pace one.group one.its one.paced one.of one.receiver one.long one.to_one)) one.pace.period_positive refl
-          (ap (λ (m : Messages). load_of_messages m one.pace.period)
+          (ap (λ (m : Messages). load_of_messages timing m one.pace.period)
           (to_one plan timing stays i one.flow one.pace one.group one.its one.paced one.of one.receiver one.long one.to_one))
           (get_or_from_slice_get (asked plan timing stays).flows i (Some asks) None
           (at_place plan timing stays i one.flow one.pace one.group one.its one.paced one.of))
@@ -126,7 +126,7 @@ module _ (plan : Plan) (timing : Timing) (stays : UnitPlan → Bool) (tells : De
   request_bits r = elim (cases_lt 0 (bits 1 r)) [
     | inr none ↦ omega (arith, none)
     | inl some ↦
-        let (p, in_p, x) = some_counts plan timing stays tells clean s queued_first planned sent held keeps from wait n span 1 r some in
+        let (p, in_p, x) = some_counts plan timing stays tells clean s queued_first planned sent held keeps from wait n span agree 1 r some in
         rated p in_p x.is (sent.source p) refl x.its_kind x.its_index
   ]
     where
@@ -151,7 +151,7 @@ module _ (plan : Plan) (timing : Timing) (stays : UnitPlan → Bool) (tells : De
       rated p in_p is (InSession f part) at of_kind place = absurd (omega (arith, of_kind))
       rated p in_p is (Asking q) at of_kind place =
           let one = subst (λ (g : ℕ). IsRequestFrame plan s held g (sent.release p) p) place
-          (frame_of plan timing stays tells clean s queued_first planned sent held keeps from wait n span p in_p is (Asking q) at) in
+          (frame_of plan timing stays tells clean s queued_first planned sent held keeps from wait n span agree p in_p is (Asking q) at) in
           let some : 1 ≤ one.ms = one.asked.period_positive one.ms one.paced in
           let frames = in_request plan timing stays r one.asked one.ms one.its one.paced in
           let its : get_or (asked plan timing stays).requests r None ≡ Some (request_asks plan timing stays r one.asked one.ms one.its one.paced) =
@@ -160,11 +160,11 @@ module _ (plan : Plan) (timing : Timing) (stays : UnitPlan → Bool) (tells : De
           let at_its_place : planned_at (whole plan timing stays) (request_place r) ≡ frames =
           with_damage timing (frames_asked (asked plan timing stays)) (request_place r) frames
           (request_frames_read plan timing stays r one.asked one.ms one.its one.paced) in
-          at_rate plan timing stays tells clean s queued_first planned sent held keeps from wait n span 1 r (request_place r) rate one_place
-          (subst (λ (f : FlowFrames). 0 < f.stream.period) (sym at_its_place) (some_bits timing.bitrate one.ms some))
+          at_rate plan timing stays tells clean s queued_first planned sent held keeps from wait n span agree 1 r (request_place r) rate one_place
+          (subst (λ (f : FlowFrames). 0 < f.stream.period) (sym at_its_place) (some_bits timing one.ms some))
           (subst (λ (f : FlowFrames). IsRate timing (f.stream.frames * f.stream.bits) f.stream.period rate) (sym at_its_place)
           (subst (λ (x : ℕ). IsRate timing (frames.stream.frames * frames.stream.bits) frames.stream.period x)
           (sym (ap (rate_of_request plan timing stays) its))
-          (load_is_rate timing frames.stream one.ms some refl)))
+          (load_is_rate timing agree frames.stream one.ms some refl)))
       rated p in_p is (Announcing u m) at of_kind place = absurd (omega (arith, of_kind))
       rated p in_p is (Carrying u m k) at of_kind place = absurd (omega (arith, of_kind))

@@ -14,7 +14,8 @@ use Rattle.j39_load.specs.Demands.{demands_of}
 use Rattle.j39_load.specs.KeepsPlan.{KeepsToPlan, origins_of, source_place}
 use Rattle.j39_load.specs.Loads.{bits_of_ms, bits_per_ms}
 use Rattle.j39_load.specs.LongRuns.{counts_in_load, is_counted, is_queued_within, seconds}
-use Rattle.j39_load.specs.SentFrames.{Broadcasts, FrameSources, Held, IsFrameOf, Source, Single, First, InSession, Asking, Announcing, Carrying, bit_time}
+use Rattle.j39_load.specs.Clocks.{bit_time}
+use Rattle.j39_load.specs.SentFrames.{Broadcasts, FrameSources, Held, IsFrameOf, Source, Single, First, InSession, Asking, Announcing, Carrying}
 use Rattle.j39_load.proofs.AnyTraffic.{positive as positive_at}
 use Rattle.j39_load.proofs.KeepingPlan.{as_wanted, of_streams}
 use Rattle.j39_load.proofs.LongRuns.Rates.{IsRate, stream_rate}
@@ -76,7 +77,7 @@ module _ (plan : Plan) (timing : Timing) (stays : UnitPlan → Bool) where
 
 module _ (plan : Plan) (timing : Timing) (stays : UnitPlan → Bool) (tells : DecidesWhoStays plan stays) (clean : Clean plan) (s : Schedule)
     (queued_first : (p : ℕ) → p < s.count → s.queued p ≤ s.start p) (planned : ℕ → Bool) (sent : FrameSources) (held : Held)
-    (keeps : KeepsToPlan plan timing s planned sent held) (from wait n : ℕ) (span : wait + 1 ≡ bits_of_ms timing (seconds n)) where
+    (keeps : KeepsToPlan plan timing s planned sent held) (from wait n : ℕ) (span : wait + 1 ≡ bits_of_ms timing (seconds n)) (agree : timing.drift ≡ 0) where
   abbrev b : Broadcasts
   b = sent.broadcasts
 

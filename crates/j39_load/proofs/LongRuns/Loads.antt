@@ -16,12 +16,12 @@ use Rattle.j39_network.specs.declared.plan.timing.Timing.{Timing}
 use Rattle.j39_network.specs.declared.plan.unit_plan.UnitPlan.{UnitPlan}
 use Rattle.j39_load.specs.Asked.{asked_of, total_load}
 use Rattle.j39_load.specs.Damage.{load_of_damage}
-use Rattle.j39_load.specs.KeepsErrors.{attempts_within, begins_within}
 use Rattle.j39_load.specs.KeepsPlan.{KeepsToPlan, source_place}
 use Rattle.j39_load.specs.Loads.{bits_of_ms, bits_per_ms, load_of_flow}
-use Rattle.j39_load.specs.LongRuns.{IsLongRunLoad, bits_damaged, bits_queued, counts_in_load, is_counted, is_queued_within, seconds}
+use Rattle.j39_load.specs.LongRuns.{IsLongRunLoad, bits_damaged, bits_queued, counts_in_load, is_begun_within, is_counted, is_queued_within, seconds}
 use Rattle.j39_load.specs.RequestLoads.{load_of_request}
-use Rattle.j39_load.specs.SentFrames.{FrameSources, Held, IsFrameOf, Source, Single, First, InSession, Asking, Announcing, Carrying, bit_time}
+use Rattle.j39_load.specs.Clocks.{bit_time, longest_million, million}
+use Rattle.j39_load.specs.SentFrames.{FrameSources, Held, IsFrameOf, Source, Single, First, InSession, Asking, Announcing, Carrying}
 use Rattle.j39_load.proofs.Attempts.{attempt_few}
 use Rattle.j39_load.proofs.LongRuns.Flows.{flow_bits}
 use Rattle.j39_load.proofs.LongRuns.Frames.{bits_at, index, kind, kind_below, more_at, of_kind, passes}
@@ -31,13 +31,13 @@ use Rattle.j39_load.proofs.LongRuns.Units.{rate_of_unit, unit_bits}
 use Rattle.j39_load.proofs.LongRuns.Rates.{both, sum_by-times}
 use Rattle.j39_load.proofs.LongRuns.Streams.{by_places, total-both}
 use Rattle.j39_load.proofs.KeepingPlan.{of_source}
-use Rattle.j39_load.proofs.Milliseconds.{some_bits}
+use Rattle.j39_load.proofs.Milliseconds.{agreed_rate, some_own}
 use Rattle.j39_load.proofs.PlacedFrames.{asked, same_units, unit_told}
 use Rattle.j39_timing.specs.Sums.{total}
 use Rattle.j39_timing.specs.TimedFrames.{Schedule}
 use Rattle.j39_timing.proofs.AskedFrames.{all_grouped}
 use Rattle.j39_timing.proofs.Sums.{total-none, total-times, total-two}
-use Rattle.j39_load.proofs.LongRuns.Damage.{damage_rate, not_before}
+use Rattle.j39_load.proofs.LongRuns.Damage.{attempts_in, damage_rate, in_true_time, not_before}
 
 -- element by element, and so many more at each place
 summed : {A : Type 0} (none : A) (rate : A → ℕ) (more : ℕ → ℕ) (n : ℕ) (xs : List A) (f : ℕ → ℕ)
@@ -97,15 +97,15 @@ module _ (plan : Plan) (timing : Timing) (stays : UnitPlan → Bool) (tells : De
               omega (arith, high, times))
         ])
 
-    module _ (wait : ℕ) (span : wait + 1 ≡ bits_of_ms timing (seconds n)) where
+    module _ (wait : ℕ) (span : wait + 1 ≡ bits_of_ms timing (seconds n)) (agree : timing.drift ≡ 0) where
       abbrev of : ℕ → ℕ → ℕ
-      of = bits_at plan timing stays tells clean s queued_first planned sent held keeps from wait n span
+      of = bits_at plan timing stays tells clean s queued_first planned sent held keeps from wait n span agree
 
       abbrev counts : ℕ → Bool
-      counts = passes plan timing stays tells clean s queued_first planned sent held keeps from wait n span
+      counts = passes plan timing stays tells clean s queued_first planned sent held keeps from wait n span agree
 
       abbrev kinds : ℕ → ℕ → Bool
-      kinds = of_kind plan timing stays tells clean s queued_first planned sent held keeps from wait n span
+      kinds = of_kind plan timing stays tells clean s queued_first planned sent held keeps from wait n span agree
 
       -- a frame's place is one of its kind
       abbrev size : ℕ → ℕ
@@ -165,11 +165,11 @@ module _ (plan : Plan) (timing : Timing) (stays : UnitPlan → Bool) (tells : De
           let third = one_kind 2 in
           let fourth = one_kind 3 in
           let of_flows = summed None (rate_of_flow plan timing stays) (more_at plan timing stays) n (asked plan timing stays).flows (of 0)
-          (λ i below. flow_bits plan timing stays tells clean s queued_first planned sent held keeps from wait n span i) in
+          (λ i below. flow_bits plan timing stays tells clean s queued_first planned sent held keeps from wait n span agree i) in
           let of_requests = summed None (rate_of_request plan timing stays) more_of_request n (asked plan timing stays).requests (of 1)
-          (λ r below. request_bits plan timing stays tells clean s queued_first planned sent held keeps from wait n span r) in
+          (λ r below. request_bits plan timing stays tells clean s queued_first planned sent held keeps from wait n span agree r) in
           let of_units = summed None (rate_of_unit plan timing stays) more_of_unit n (asked plan timing stays).units (λ u. of 2 u + of 3 u)
-          (λ u below. unit_bits plan timing stays tells clean s queued_first planned sent held keeps from wait n span u) in
+          (λ u below. unit_bits plan timing stays tells clean s queued_first planned sent held keeps from wait n span agree u) in
           let together = total-both units (of 2) (of 3) in
           let times : n * all_rates ≡ n * sum_by (rate_of_flow plan timing stays) (asked plan timing stays).flows
           + (n * sum_by (rate_of_unit plan timing stays) (asked plan timing stays).units
@@ -181,33 +181,35 @@ module _ (plan : Plan) (timing : Timing) (stays : UnitPlan → Bool) (tells : De
 
     -- ---- in any time
 
-    some_seconds : (m : ℕ) → m ≡ n → bits_queued timing (seconds n) s (counts_in_load planned sent) from ≤ n * all_rates + more
-    some_seconds zero none = let nothing = in_no_time (sym none) in omega (arith, nothing)
-    some_seconds (suc m) some =
-        let positive : 0 < seconds n * bits_per_ms timing.bitrate = some_bits timing.bitrate (seconds n) (omega (arith, some)) in
-        in_some_time (bits_of_ms timing (seconds n) - 1) (omega (arith, positive))
+    some_seconds : timing.drift ≡ 0 → (m : ℕ) → m ≡ n → bits_queued timing (seconds n) s (counts_in_load planned sent) from ≤ n * all_rates + more
+    some_seconds agree zero none = let nothing = in_no_time (sym none) in omega (arith, nothing)
+    some_seconds agree (suc m) some =
+        let positive : 0 < seconds n * bits_per_ms timing.bitrate = some_own timing.bitrate (seconds n) (omega (arith, some)) in
+        in_some_time (bits_of_ms timing (seconds n) - 1) (omega (arith, positive)) agree
 
-    planned_most : bits_queued timing (seconds n) s (counts_in_load planned sent) from ≤ n * all_rates + more
-    planned_most = some_seconds n refl
+    planned_most : timing.drift ≡ 0 → bits_queued timing (seconds n) s (counts_in_load planned sent) from ≤ n * all_rates + more
+    planned_most agree = some_seconds agree n refl
 
   long_run : IsLongRunLoad plan timing (total_load timing (asked_of timing plan stays))
   long_run = record {
     more = more + more_damage timing.errors;
-    queued = λ s planned sent held queued_first keeps from n.
-        let most = planned_most s queued_first planned sent held keeps from n in
+    queued = λ agree s planned sent held queued_first keeps from n.
+        let most = planned_most s queued_first planned sent held keeps from n agree in
         let all = both n (load_of_damage timing) all_rates in
         omega (arith, most, all);
-    with_damage = λ s d planned sent held rate bus keeps errors from n.
-        let most = planned_most s bus.queued_first planned sent held keeps from n in
+    with_damage = λ agree s d planned sent held rate bus keeps errors from n.
+        let most = planned_most s bus.queued_first planned sent held keeps from n agree in
         let all = both n (load_of_damage timing) all_rates in
-        let each : bits_damaged timing (seconds n) d from ≤ 191 * attempts_within timing (seconds n) d from =
-        total-times d.count (begins_within timing (seconds n) d from) (begins_within timing (seconds n) d from) (λ e. d.sent e + d.error e) 191 (λ e below is.
+        let each : bits_damaged timing (seconds n) d from ≤ 191 * attempts_in timing d (seconds n) from =
+        total-times d.count (is_begun_within timing (seconds n) d from) (is_begun_within timing (seconds n) d from) (λ e. d.sent e + d.error e) 191 (λ e below is.
         let sent_bits = attempt_few s d bus (shortest s bus.queued_first planned sent held keeps) e below in
         let error_bits = bus.error_at_most e below in
         (is, omega (arith, sent_bits, error_bits))) in
-        let damaged = damage_rate timing d rate.every rate.count errors.seldom 191 n from rate.every_positive in
+        let damaged = damage_rate timing d rate.every rate.count
+        (λ at. let own = in_true_time timing d agree rate.every at in let few = errors.seldom at in omega (arith, own, few)) 191 n from rate.every_positive in
         let load : load_of_damage timing ≡ div_ceil (1000 * (rate.count * 191)) rate.every =
-        ap (λ (x : Option ErrorRate). option_map_or (λ (r : ErrorRate). div_ceil (1000 * (r.count * 191)) r.every) x 0) errors.told in
+        ap (λ (x : Option ErrorRate). option_map_or (λ (r : ErrorRate). div_ceil (1000 * (r.count * 191) * longest_million timing) (r.every * million)) x 0) errors.told
+        ∙ agreed_rate (1000 * (rate.count * 191)) rate.every (longest_million timing) million million (omega (arith, agree)) refl (omega arith) rate.every_positive in
         let times : n * load_of_damage timing ≡ n * div_ceil (1000 * (rate.count * 191)) rate.every = ap (λ (x : ℕ). n * x) load in
         let once : more_damage timing.errors ≡ rate.count * 191 = ap more_damage errors.told in
         omega (arith, most, all, each, damaged, times, once);

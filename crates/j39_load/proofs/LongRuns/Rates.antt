@@ -12,11 +12,11 @@ use Rattle.j39_network.specs.declared.plan.timing.Bitrate.{Bitrate}
 use Rattle.j39_network.specs.declared.plan.timing.Timing.{Timing}
 use Rattle.j39_load.specs.declared.frames.broadcast.Broadcast.{Broadcast}
 use Rattle.j39_load.specs.Broadcasts.{bits_each, bits_of_announcements, bits_of_firsts}
-use Rattle.j39_load.specs.Loads.{bits_of_ms, bits_per_ms, load_of}
+use Rattle.j39_load.specs.Loads.{bits_a_second, bits_at_least, bits_of_ms, bits_per_ms, load_of}
 use Rattle.j39_load.specs.LongRuns.{seconds}
 use Rattle.j39_load.proofs.KeepingBroadcasts.{IsTimed}
 use Rattle.j39_load.proofs.LongRuns.Streams.{more_bits, share_rate, want_rate}
-use Rattle.j39_load.proofs.Milliseconds.{some_bits}
+use Rattle.j39_load.proofs.Milliseconds.{agreed_least, agreed_second, some_bits}
 use Rattle.j39_timing.specs.declared.stream.Stream.{Stream}
 use Rattle.j39_timing.specs.declared.wants.Want.{Want}
 use Rattle.j39_timing.specs.Waits.{frames_of_want, share}
@@ -59,24 +59,36 @@ module _ (timing : Timing) where
   stream_rate stream n rate positive is =
       share_rate stream (bits_of_ms timing (seconds n)) (n * rate) positive (in_seconds n (stream.frames * stream.bits) stream.period rate is)
 
-  -- a stream whose load is told by its period
-  pub load_is_rate : (stream : Stream) (ms : ℕ) → 1 ≤ ms → stream.period ≡ bits_of_ms timing ms
-      → IsRate (stream.frames * stream.bits) stream.period (load_of stream ms)
-  load_is_rate stream ms some period = subst (λ (p : ℕ). IsRate (stream.frames * stream.bits) p (load_of stream ms)) (sym period)
-      (per_second bitrate (stream.frames * stream.bits) ms some)
+  module _ (agree : timing.drift ≡ 0) where
+    -- by clocks that agree
+    once_is_rate : (bits ms : ℕ) → 1 ≤ ms → IsRate bits (bits_at_least timing ms) (bits_a_second timing bits ms)
+    once_is_rate bits ms some =
+        subst (λ (p : ℕ). IsRate bits p (bits_a_second timing bits ms)) (sym (agreed_least timing ms agree))
+        (subst (λ (r : ℕ). IsRate bits (bits_of_ms timing ms) r) (sym (agreed_second timing bits ms agree some)) (per_second bitrate bits ms some))
 
-  -- frames of eight bytes
-  pub each_is_rate : (frames ms : ℕ) → 1 ≤ ms → IsRate (frames * 160) (bits_of_ms timing ms) (bits_each frames ms)
-  each_is_rate frames ms some = per_second bitrate (frames * 160) ms some
+    -- a stream whose load is told by its period
+    pub load_is_rate : (stream : Stream) (ms : ℕ) → 1 ≤ ms → stream.period ≡ bits_at_least timing ms
+        → IsRate (stream.frames * stream.bits) stream.period (load_of timing stream ms)
+    load_is_rate stream ms some period = subst (λ (p : ℕ). IsRate (stream.frames * stream.bits) p (load_of timing stream ms)) (sym period)
+        (once_is_rate (stream.frames * stream.bits) ms some)
 
-  -- as many gaps apart
-  pub gaps_are_rate : (gaps gap : ℕ) → 1 ≤ gaps * gap → IsRate 160 (gaps * bits_of_ms timing gap) (bits_each 1 (gaps * gap))
-  gaps_are_rate gaps gap some =
-      let same : gaps * gap * bits_per_ms bitrate ≡ gaps * (gap * bits_per_ms bitrate) = grind arith in
-      subst (IsRatedBy (bits_each 1 (gaps * gap))) same (each_is_rate 1 (gaps * gap) some)
-    where
-      IsRatedBy : ℕ → ℕ → Type 0
-      IsRatedBy rate period = IsRate 160 period rate
+    -- frames of eight bytes
+    pub each_is_rate : (frames ms : ℕ) → 1 ≤ ms → IsRate (frames * 160) (bits_at_least timing ms) (bits_each timing frames ms)
+    each_is_rate frames ms some = once_is_rate (frames * 160) ms some
+
+    -- as many gaps apart
+    pub gaps_are_rate : (gaps gap : ℕ) → 1 ≤ gaps * gap → IsRate 160 (gaps * bits_at_least timing gap) (bits_each timing 1 (gaps * gap))
+    gaps_are_rate gaps gap some =
+        let same : bits_at_least timing (gaps * gap) ≡ gaps * bits_at_least timing gap =
+        agreed_least timing (gaps * gap) agree
+        ∙ (gaps_of gaps gap (bits_per_ms bitrate) ∙ ap (λ (k : ℕ). gaps * k) (sym (agreed_least timing gap agree))) in
+        subst (IsRatedBy (bits_each timing 1 (gaps * gap))) same (each_is_rate 1 (gaps * gap) some)
+      where
+        IsRatedBy : ℕ → ℕ → Type 0
+        IsRatedBy rate period = IsRate 160 period rate
+
+        gaps_of : (k g per : ℕ) → k * g * per ≡ k * (g * per)
+        gaps_of k g per = grind arith
 
   -- ---- what flows want of a unit
 
@@ -91,7 +103,7 @@ module _ (timing : Timing) where
     wants_rate (b ∷ bs) each =
         let timed = All-head (IsTimed timing) b bs each in
         let apart = timed.apart in
-        let some = some_bits bitrate b.period timed.period in
+        let some = some_bits timing b.period timed.period in
         let period = its_period b in
         let rest = wants_rate bs (All-tail (IsTimed timing) b bs each) in
         let is = in_seconds n ((want b).frames * 160) b.apart (rate b) (rated b timed) in
@@ -106,20 +118,22 @@ module _ (timing : Timing) where
         let times : n * sum_by rate (b ∷ bs) ≡ n * rate b + n * sum_by rate bs = ap (λ (k : ℕ). n * k) rates ∙ both n (rate b) (sum_by rate bs) in
         omega (arith, rest, one, all, times, mores)
 
-  -- of a flow some of whose messages go in one frame each announcement counts, or none does
-  pub announcement_rate : (b : Broadcast) → IsTimed timing b → IsRate 160 b.apart (bits_of_firsts b + bits_of_announcements b)
-  announcement_rate b timed = subst (λ (p : ℕ). IsRate 160 p (bits_of_firsts b + bits_of_announcements b)) (sym timed.apart) (go b.has_short)
-    where
-      go : (has : Bool) → IsRate 160 (bits_of_ms timing b.period) ((if has then bits_each 1 b.period else 0) + (if has then 0 else bits_each 1 b.period))
-      go true = let one = each_is_rate 1 b.period timed.period in omega (arith, one)
-      go false = let one = each_is_rate 1 b.period timed.period in omega (arith, one)
+  module _ (agree : timing.drift ≡ 0) where
+    -- of a flow some of whose messages go in one frame each announcement counts, or none does
+    pub announcement_rate : (b : Broadcast) → IsTimed timing b → IsRate 160 b.apart (bits_of_firsts timing b + bits_of_announcements timing b)
+    announcement_rate b timed = subst (λ (p : ℕ). IsRate 160 p (bits_of_firsts timing b + bits_of_announcements timing b)) (sym timed.apart) (go b.has_short)
+      where
+        go : (has : Bool) → IsRate 160 (bits_at_least timing b.period)
+            ((if has then bits_each timing 1 b.period else 0) + (if has then 0 else bits_each timing 1 b.period))
+        go true = let one = each_is_rate agree 1 b.period timed.period in omega (arith, one)
+        go false = let one = each_is_rate agree 1 b.period timed.period in omega (arith, one)
 
-  pub first_rate : (b : Broadcast) → IsTimed timing b → IsRate (cond b.has_short 1 0 * 160) b.apart (bits_of_firsts b)
-  first_rate b timed = subst (λ (p : ℕ). IsRate (cond b.has_short 1 0 * 160) p (bits_of_firsts b)) (sym timed.apart) (go b.has_short)
-    where
-      go : (has : Bool) → IsRate (cond has 1 0 * 160) (bits_of_ms timing b.period) (if has then bits_each 1 b.period else 0)
-      go true = each_is_rate 1 b.period timed.period
-      go false = omega arith
+    pub first_rate : (b : Broadcast) → IsTimed timing b → IsRate (cond b.has_short 1 0 * 160) b.apart (bits_of_firsts timing b)
+    first_rate b timed = subst (λ (p : ℕ). IsRate (cond b.has_short 1 0 * 160) p (bits_of_firsts timing b)) (sym timed.apart) (go b.has_short)
+      where
+        go : (has : Bool) → IsRate (cond has 1 0 * 160) (bits_at_least timing b.period) (if has then bits_each timing 1 b.period else 0)
+        go true = each_is_rate agree 1 b.period timed.period
+        go false = omega arith
 
 -- two rates together
 pub sum_by-two : {A : Type 0} (f g : A → ℕ) (xs : List A) → sum_by (λ x. f x + g x) xs ≡ sum_by f xs + sum_by g xs

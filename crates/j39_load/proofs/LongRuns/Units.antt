@@ -25,7 +25,7 @@ use Rattle.j39_load.specs.declared.frames.broadcast.BroadcastPart.TheVariants.{A
 use Rattle.j39_load.specs.Demands.{announcements_demand, demand_by, demands_of, most_packets, packets_demand, want_of, wants_of}
 use Rattle.j39_load.specs.KeepsBroadcasts.{IsMessageToAll}
 use Rattle.j39_load.specs.KeepsPlan.{KeepsToPlan, origins_of, source_place}
-use Rattle.j39_load.specs.Loads.{bits_of_ms, has_short}
+use Rattle.j39_load.specs.Loads.{bits_at_least, bits_of_ms, has_short}
 use Rattle.j39_load.specs.LongRuns.{seconds}
 use Rattle.j39_load.specs.SentFrames.{Broadcasts, FrameSources, Held, Source, Single, First, InSession, Asking, Announcing, Carrying}
 use Rattle.j39_load.proofs.KeepingBroadcasts.{IsAnnouncement, IsCopy, IsTimed, announced_most, each_timed, message_of}
@@ -67,7 +67,7 @@ module _ (plan : Plan) (timing : Timing) (stays : UnitPlan → Bool) where
   spaced gaps = spaced_stream timing gaps 0
 
   abbrev more_spaced : ℕ → ℕ
-  more_spaced gaps = more_bits 160 0 (gaps * bits_of_ms timing timing.broadcast_gap)
+  more_spaced gaps = more_bits 160 0 (gaps * bits_at_least timing timing.broadcast_gap)
 
   -- of the packets of a unit, and of its announcements
   abbrev pub more_packets : ℕ → ℕ
@@ -84,7 +84,7 @@ module _ (plan : Plan) (timing : Timing) (stays : UnitPlan → Bool) where
 
 module _ (plan : Plan) (timing : Timing) (stays : UnitPlan → Bool) (tells : DecidesWhoStays plan stays) (clean : Clean plan) (s : Schedule)
     (queued_first : (p : ℕ) → p < s.count → s.queued p ≤ s.start p) (planned : ℕ → Bool) (sent : FrameSources) (held : Held)
-    (keeps : KeepsToPlan plan timing s planned sent held) (from wait n : ℕ) (span : wait + 1 ≡ bits_of_ms timing (seconds n)) where
+    (keeps : KeepsToPlan plan timing s planned sent held) (from wait n : ℕ) (span : wait + 1 ≡ bits_of_ms timing (seconds n)) (agree : timing.drift ≡ 0) where
   abbrev b : Broadcasts
   b = sent.broadcasts
 
@@ -98,27 +98,27 @@ module _ (plan : Plan) (timing : Timing) (stays : UnitPlan → Bool) (tells : De
   demands = demands_of (whole plan timing stays)
 
   abbrev bits : ℕ → ℕ → ℕ
-  bits = bits_at plan timing stays tells clean s queued_first planned sent held keeps from wait n span
+  bits = bits_at plan timing stays tells clean s queued_first planned sent held keeps from wait n span agree
 
   abbrev IsCounted : ℕ → ℕ → ℕ → Type 0
-  IsCounted = Counts plan timing stays tells clean s queued_first planned sent held keeps from wait n span
+  IsCounted = Counts plan timing stays tells clean s queued_first planned sent held keeps from wait n span agree
 
   -- ---- a unit's long messages to all
 
   abbrev gap : ℕ
-  gap = bits_of_ms timing timing.broadcast_gap
+  gap = bits_at_least timing timing.broadcast_gap
 
   -- of single frames so many gaps apart
   spaced_bits : (gaps : ℕ) → 1 ≤ gaps
-      → share (wait + 1) (spaced plan timing stays gaps) ≤ n * bits_each 1 (gaps * timing.broadcast_gap) + more_spaced plan timing stays gaps
+      → share (wait + 1) (spaced plan timing stays gaps) ≤ n * bits_each timing 1 (gaps * timing.broadcast_gap) + more_spaced plan timing stays gaps
   spaced_bits gaps some =
       let least = timing.broadcast_gap_least in
       let positive_gaps : 1 * 1 ≤ gaps * timing.broadcast_gap = mul-le 1 1 gaps timing.broadcast_gap some (omega (arith, least)) in
-      let one_gap = some_bits timing.bitrate timing.broadcast_gap (omega (arith, least)) in
+      let one_gap = some_bits timing timing.broadcast_gap (omega (arith, least)) in
       let positive_bits : 1 * 1 ≤ gaps * gap = mul-le 1 1 gaps gap some one_gap in
-      subst (λ (x : ℕ). share x (spaced plan timing stays gaps) ≤ n * bits_each 1 (gaps * timing.broadcast_gap) + more_spaced plan timing stays gaps) (sym span)
-      (stream_rate timing (spaced plan timing stays gaps) n (bits_each 1 (gaps * timing.broadcast_gap)) (omega (arith, positive_bits))
-      (gaps_are_rate timing gaps timing.broadcast_gap (omega (arith, positive_gaps))))
+      subst (λ (x : ℕ). share x (spaced plan timing stays gaps) ≤ n * bits_each timing 1 (gaps * timing.broadcast_gap) + more_spaced plan timing stays gaps) (sym span)
+      (stream_rate timing (spaced plan timing stays gaps) n (bits_each timing 1 (gaps * timing.broadcast_gap)) (omega (arith, positive_bits))
+      (gaps_are_rate timing agree gaps timing.broadcast_gap (omega (arith, positive_gaps))))
 
   module _ (u : ℕ) where
     abbrev bs : List Broadcast
@@ -166,7 +166,7 @@ module _ (plan : Plan) (timing : Timing) (stays : UnitPlan → Bool) (tells : De
     packet_bits = elim (cases_lt 0 (bits 3 u)) [
       | inr none ↦ omega (arith, none)
       | inl some ↦
-          let (p, in_p, x) = some_counts plan timing stays tells clean s queued_first planned sent held keeps from wait n span 3 u some in
+          let (p, in_p, x) = some_counts plan timing stays tells clean s queued_first planned sent held keeps from wait n span agree 3 u some in
           rated p in_p x.is (sent.source p) refl x.its_kind x.its_index
     ]
       where
@@ -187,29 +187,29 @@ module _ (plan : Plan) (timing : Timing) (stays : UnitPlan → Bool) (tells : De
         rated p in_p is (Announcing v m) at of_kind place = absurd (omega (arith, of_kind))
         rated p in_p is (Carrying v m k) at of_kind place =
             let source : sent.source p ≡ Carrying u m k = at ∙ ap (λ (w : ℕ). Carrying w m k) place in
-            let frame = frame_of plan timing stays tells clean s queued_first planned sent held keeps from wait n span p in_p is (Carrying u m k) source in
+            let frame = frame_of plan timing stays tells clean s queued_first planned sent held keeps from wait n span agree p in_p is (Carrying u m k) source in
             let j = source_place plan (Carrying u m k) in
             let told : streams (source_place plan (Carrying u m k)) ≡ spaced_stream timing 1 (packets_demand u) =
             subst (λ (x : Source). IsPaced plan timing stays x (streams (source_place plan x))) source
             (told_stream plan timing stays tells clean s queued_first planned sent held keeps p in_p is) in
             let most : bits 3 u ≤ lesser_share demands (wait + 1) (streams (source_place plan (Carrying u m k))) =
-            at_lesser plan timing stays tells clean s queued_first planned sent held keeps from wait n span 3 u (source_place plan (Carrying u m k))
+            at_lesser plan timing stays tells clean s queued_first planned sent held keeps from wait n span agree 3 u (source_place plan (Carrying u m k))
             (λ q in_q y. its_place m k (sent.source q) y.its_kind y.its_index) in
             let demand = of_demand (source_place plan (Carrying u m k)) (packets_demand u) (demand_by Packets (wants_of (whole plan timing stays) u))
             (ap (λ (x : Stream). x.wanted) told) (packets_wanted u (whole plan timing stays) (few_units m frame.0.known)) in
             let same : lesser (wait + 1) (streams (source_place plan (Carrying u m k))) (Some (demand_by Packets (wants_of (whole plan timing stays) u)))
             ≡ lesser (wait + 1) (spaced_stream timing 1 (packets_demand u)) (Some (demand_by Packets (wants_of (whole plan timing stays) u))) =
             ap (λ (x : Stream). lesser (wait + 1) x (Some (demand_by Packets (wants_of (whole plan timing stays) u)))) told in
-            let paced : share (wait + 1) (spaced plan timing stays 1) ≤ n * bits_each 1 timing.broadcast_gap + more_spaced plan timing stays 1 =
-            subst (λ (x : ℕ). share (wait + 1) (spaced plan timing stays 1) ≤ n * bits_each 1 x + more_spaced plan timing stays 1) (omega arith)
+            let paced : share (wait + 1) (spaced plan timing stays 1) ≤ n * bits_each timing 1 timing.broadcast_gap + more_spaced plan timing stays 1 =
+            subst (λ (x : ℕ). share (wait + 1) (spaced plan timing stays 1) ≤ n * bits_each timing 1 x + more_spaced plan timing stays 1) (omega arith)
             (spaced_bits 1 (omega arith)) in
-            let wanted = wanted_bits (want_of Packets) (λ x. bits_each x.packets x.period) (λ x. refl)
-            (λ x is_timed. subst (λ (y : ℕ). IsRate timing (x.packets * 160) y (bits_each x.packets x.period)) (sym is_timed.apart)
-            (each_is_rate timing x.packets x.period is_timed.period)) (most_packets (wants_of (whole plan timing stays) u)) 0 refl in
+            let wanted = wanted_bits (want_of Packets) (λ x. bits_each timing x.packets x.period) (λ x. refl)
+            (λ x is_timed. subst (λ (y : ℕ). IsRate timing (x.packets * 160) y (bits_each timing x.packets x.period)) (sym is_timed.apart)
+            (each_is_rate timing agree x.packets x.period is_timed.period)) (most_packets (wants_of (whole plan timing stays) u)) 0 refl in
             let packets : most_packets (wants_of (whole plan timing stays) u) ≡ most_packets bs = ap most_packets wanted_bs in
             let both = lesser_rate n (share (wait + 1) (spaced plan timing stays 1))
             (frames_wanted (wait + 1 + 0) (demand_by Packets (wants_of (whole plan timing stays) u)) * 160)
-            (sum_by (λ (x : Broadcast). bits_each x.packets x.period) bs) (bits_each 1 timing.broadcast_gap) (more_spaced plan timing stays 1)
+            (sum_by (λ (x : Broadcast). bits_each timing x.packets x.period) bs) (bits_each timing 1 timing.broadcast_gap) (more_spaced plan timing stays 1)
             (sum_by (more_of (want_of Packets)) bs + most_packets bs * 160) paced (omega (arith, wanted, packets)) in
             omega (arith, most, demand, same, both)
 
@@ -221,20 +221,20 @@ module _ (plan : Plan) (timing : Timing) (stays : UnitPlan → Bool) (tells : De
     is_planned_first p = planned p && is_first p
 
     abbrev first_bits_at : ℕ
-    first_bits_at = total s.count (λ p. cond (of_index plan timing stays tells clean s queued_first planned sent held keeps from wait n span 2 u p
+    first_bits_at = total s.count (λ p. cond (of_index plan timing stays tells clean s queued_first planned sent held keeps from wait n span agree 2 u p
         && is_first p) (s.bits p) 0)
 
     abbrev other_bits_at : ℕ
-    other_bits_at = total s.count (λ p. cond (of_index plan timing stays tells clean s queued_first planned sent held keeps from wait n span 2 u p && not
+    other_bits_at = total s.count (λ p. cond (of_index plan timing stays tells clean s queued_first planned sent held keeps from wait n span agree 2 u p && not
         (is_first p)) (s.bits p) 0)
 
     of_both : bits 2 u ≤ first_bits_at + other_bits_at
-    of_both = total-two s.count (λ p. cond (of_index plan timing stays tells clean s queued_first planned sent held keeps from wait n span 2 u p)
-        (s.bits p) 0) (λ p. cond (of_index plan timing stays tells clean s queued_first planned sent held keeps from wait n span 2 u p && is_first p)
+    of_both = total-two s.count (λ p. cond (of_index plan timing stays tells clean s queued_first planned sent held keeps from wait n span agree 2 u p)
+        (s.bits p) 0) (λ p. cond (of_index plan timing stays tells clean s queued_first planned sent held keeps from wait n span agree 2 u p && is_first p)
         (s.bits p) 0)
-        (λ p. cond (of_index plan timing stays tells clean s queued_first planned sent held keeps from wait n span 2 u p && not (is_first p)) (s.bits p) 0)
+        (λ p. cond (of_index plan timing stays tells clean s queued_first planned sent held keeps from wait n span agree 2 u p && not (is_first p)) (s.bits p) 0)
         (λ p in_p.
-        elim (of_index plan timing stays tells clean s queued_first planned sent held keeps from wait n span 2 u p) as
+        elim (of_index plan timing stays tells clean s queued_first planned sent held keeps from wait n span agree 2 u p) as
         (λ e. cond e (s.bits p) 0 ≤ cond (e && is_first p) (s.bits p) 0 + cond (e && not (is_first p)) (s.bits p) 0) [
           | false ↦ omega arith
           | true ↦ elim (is_first p) as (λ e. s.bits p ≤ cond e (s.bits p) 0 + cond (not e) (s.bits p) 0) [
@@ -258,7 +258,7 @@ module _ (plan : Plan) (timing : Timing) (stays : UnitPlan → Bool) (tells : De
     announces p in_p is (Asking r) at of_kind place = absurd (omega (arith, of_kind))
     announces p in_p is (Announcing v m) at of_kind place =
         let source : sent.source p ≡ Announcing u m = at ∙ ap (λ (w : ℕ). Announcing w m) place in
-        let frame = frame_of plan timing stays tells clean s queued_first planned sent held keeps from wait n span p in_p is (Announcing u m) source in
+        let frame = frame_of plan timing stays tells clean s queued_first planned sent held keeps from wait n span agree p in_p is (Announcing u m) source in
         record {
           message = m;
           source = source;
@@ -297,7 +297,7 @@ module _ (plan : Plan) (timing : Timing) (stays : UnitPlan → Bool) (tells : De
     behind : (m l : ℕ) (below : m < b.count u) → l < b.count u → m < l → not (has_firsts plan timing stays (b.flow u m)) ≡ true
         → b.announced u m + least_announced bs * gap ≤ b.announced u l
     behind m l below last less others =
-        let far = gaps_bits timing.bitrate (b.packets u m) timing.broadcast_gap (b.announced u m) (b.announced u l)
+        let far = gaps_bits timing (b.packets u m) timing.broadcast_gap (b.announced u m) (b.announced u l)
         (keeps.broadcasts.in_turn u m l less last) in
         let few = few_announced m below (sym (firsts_told m below) ∙ isnt (has_firsts plan timing stays (b.flow u m)) others) in
         let times : least_announced bs * gap ≤ b.packets u m * gap = mul-le-mul_right gap few in
@@ -305,14 +305,14 @@ module _ (plan : Plan) (timing : Timing) (stays : UnitPlan → Bool) (tells : De
 
     -- the other ones are as many gaps apart as their messages have packets
     other_apart : (p q : ℕ) (in_p : p < s.count) (in_q : q < s.count) → p ≢ q
-        → of_index plan timing stays tells clean s queued_first planned sent held keeps from wait n span 2 u p && not (is_first p) ≡ true
-        → of_index plan timing stays tells clean s queued_first planned sent held keeps from wait n span 2 u q && not (is_first q) ≡ true
+        → of_index plan timing stays tells clean s queued_first planned sent held keeps from wait n span agree 2 u p && not (is_first p) ≡ true
+        → of_index plan timing stays tells clean s queued_first planned sent held keeps from wait n span agree 2 u q && not (is_first q) ≡ true
         → (s.queued p + least_announced bs * gap ≤ s.queued q) ⊎ (s.queued q + least_announced bs * gap ≤ s.queued p)
     other_apart p q in_p in_q other is_p is_q =
-        let two_p = and_parts (of_index plan timing stays tells clean s queued_first planned sent held keeps from wait n span 2 u p) (not (is_first p)) is_p in
-        let two_q = and_parts (of_index plan timing stays tells clean s queued_first planned sent held keeps from wait n span 2 u q) (not (is_first q)) is_q in
-        let x = parts plan timing stays tells clean s queued_first planned sent held keeps from wait n span 2 u p two_p.0 in
-        let y = parts plan timing stays tells clean s queued_first planned sent held keeps from wait n span 2 u q two_q.0 in
+        let two_p = and_parts (of_index plan timing stays tells clean s queued_first planned sent held keeps from wait n span agree 2 u p) (not (is_first p)) is_p in
+        let two_q = and_parts (of_index plan timing stays tells clean s queued_first planned sent held keeps from wait n span agree 2 u q) (not (is_first q)) is_q in
+        let x = parts plan timing stays tells clean s queued_first planned sent held keeps from wait n span agree 2 u p two_p.0 in
+        let y = parts plan timing stays tells clean s queued_first planned sent held keeps from wait n span agree 2 u q two_q.0 in
         let a = counted p in_p x in
         let c = counted q in_q y in
         let at_p = a.queued in
@@ -332,29 +332,29 @@ module _ (plan : Plan) (timing : Timing) (stays : UnitPlan → Bool) (tells : De
           ]
         ]
 
-    other_most : other_bits_at ≤ n * bits_each 1 (least_announced bs * timing.broadcast_gap) + more_spaced plan timing stays (least_announced bs)
+    other_most : other_bits_at ≤ n * bits_each timing 1 (least_announced bs * timing.broadcast_gap) + more_spaced plan timing stays (least_announced bs)
     other_most =
         let some = some_announced bs packed in
-        let one_gap = some_bits timing.bitrate timing.broadcast_gap (let least = timing.broadcast_gap_least in omega (arith, least)) in
+        let one_gap = some_bits timing timing.broadcast_gap (let least = timing.broadcast_gap_least in omega (arith, least)) in
         let positive_bits = mul-le 1 1 (least_announced bs) gap some one_gap in
         let slots = div_ceil (wait + 1 + 0) (least_announced bs * gap) in
         let cover = (div_ceil_times (wait + 1 + 0) (least_announced bs * gap) (omega (arith, positive_bits))).0 in
-        let sum = windows_sum s.count (λ p. of_index plan timing stays tells clean s queued_first planned sent held keeps from wait n span 2 u p && not
+        let sum = windows_sum s.count (λ p. of_index plan timing stays tells clean s queued_first planned sent held keeps from wait n span agree 2 u p && not
         (is_first p)) s.queued s.bits (least_announced bs * gap) 160
-        (λ p in_p is. (counted p in_p (parts plan timing stays tells clean s queued_first planned sent held keeps from wait n span 2 u p
-        (and_parts (of_index plan timing stays tells clean s queued_first planned sent held keeps from wait n span 2 u p)
+        (λ p in_p is. (counted p in_p (parts plan timing stays tells clean s queued_first planned sent held keeps from wait n span agree 2 u p
+        (and_parts (of_index plan timing stays tells clean s queued_first planned sent held keeps from wait n span agree 2 u p)
         (not (is_first p)) is).0)).short) other_apart
         (div_ceil (wait + 1 + 0) (least_announced bs * gap)) from (wait + 1) (omega (arith, cover)) in
-        let all : other_bits_at ≤ total s.count (λ p. cond (of_index plan timing stays tells clean s queued_first planned sent held keeps from wait n span 2 u p && not (is_first p) && inside from (wait + 1) (s.queued p)) (s.bits p) 0) =
-        total-le s.count (λ p. cond (of_index plan timing stays tells clean s queued_first planned sent held keeps from wait n span 2 u p && not
+        let all : other_bits_at ≤ total s.count (λ p. cond (of_index plan timing stays tells clean s queued_first planned sent held keeps from wait n span agree 2 u p && not (is_first p) && inside from (wait + 1) (s.queued p)) (s.bits p) 0) =
+        total-le s.count (λ p. cond (of_index plan timing stays tells clean s queued_first planned sent held keeps from wait n span agree 2 u p && not
         (is_first p)) (s.bits p) 0)
-        (λ p. cond (of_index plan timing stays tells clean s queued_first planned sent held keeps from wait n span 2 u p && not (is_first p) && inside from
+        (λ p. cond (of_index plan timing stays tells clean s queued_first planned sent held keeps from wait n span agree 2 u p && not (is_first p) && inside from
         (wait + 1) (s.queued p)) (s.bits p) 0) (λ p in_p.
-        elim (cases_Bool (of_index plan timing stays tells clean s queued_first planned sent held keeps from wait n span 2 u p && not (is_first p))) [
+        elim (cases_Bool (of_index plan timing stays tells clean s queued_first planned sent held keeps from wait n span agree 2 u p && not (is_first p))) [
           | inr fails ↦ rw (fails) (omega arith)
           | inl is ↦
-              let within = (parts plan timing stays tells clean s queued_first planned sent held keeps from wait n span 2 u p
-              (and_parts (of_index plan timing stays tells clean s queued_first planned sent held keeps from wait n span 2 u p)
+              let within = (parts plan timing stays tells clean s queued_first planned sent held keeps from wait n span agree 2 u p
+              (and_parts (of_index plan timing stays tells clean s queued_first planned sent held keeps from wait n span agree 2 u p)
               (not (is_first p)) is).0).inside in
               rw (is, within) (omega arith)
         ]) in
@@ -386,15 +386,15 @@ module _ (plan : Plan) (timing : Timing) (stays : UnitPlan → Bool) (tells : De
           let has : has_short (message_at x.message x.known).group ≡ true = sym (firsts_told x.message x.known) ∙ here in
           subst (λ (e : Bool). 1 ≤ cond e 1 0) (sym has) (omega arith)
 
-      first_most : first_bits_at ≤ n * load_of_firsts bs + sum_by (more_of first_want) bs
+      first_most : first_bits_at ≤ n * load_of_firsts timing bs + sum_by (more_of first_want) bs
       first_most =
           let few = announced_most plan timing stays s planned sent held keeps.frames keeps.broadcasts s is_planned_first of copies u m first_want
           (λ x. refl) (λ x. refl) below (ap (λ (x : Stream). x.wanted) told) one_wanted from (wait + 1) in
           let each : first_bits_at ≤ 160 * releases_in s is_planned_first of j from (wait + 1) =
-          total-times s.count (λ p. of_index plan timing stays tells clean s queued_first planned sent held keeps from wait n span 2 u p && is_first p)
+          total-times s.count (λ p. of_index plan timing stays tells clean s queued_first planned sent held keeps from wait n span agree 2 u p && is_first p)
           (λ p. is_planned_first p && (eqb (of.source p) j && (leb from (of.since p) && ltb (of.since p) (from + (wait + 1))))) s.bits 160 (λ p in_p is.
-          let two = and_parts (of_index plan timing stays tells clean s queued_first planned sent held keeps from wait n span 2 u p) (is_first p) is in
-          let x = parts plan timing stays tells clean s queued_first planned sent held keeps from wait n span 2 u p two.0 in
+          let two = and_parts (of_index plan timing stays tells clean s queued_first planned sent held keeps from wait n span agree 2 u p) (is_first p) is in
+          let x = parts plan timing stays tells clean s queued_first planned sent held keeps from wait n span agree 2 u p two.0 in
           let a = counted p in_p x in
           let there : of.source p ≡ j = ap (source_place plan) a.source in
           let (low, high) = inside_parts from (wait + 1) (s.queued p) x.inside in
@@ -405,14 +405,14 @@ module _ (plan : Plan) (timing : Timing) (stays : UnitPlan → Bool) (tells : De
                 (inside_from from (wait + 1) (of.since p) (omega (arith, low, at_once)) (omega (arith, high, at_once)))),
             a.short,
           )) in
-          let wanted = wanted_bits first_want bits_of_firsts (λ x. refl) (λ x is_timed. first_rate timing x is_timed) 0 0 refl in
+          let wanted = wanted_bits first_want (bits_of_firsts timing) (λ x. refl) (λ x is_timed. first_rate timing agree x is_timed) 0 0 refl in
           let same : frames_wanted (wait + 1 + 0) (record { under_way = 0; wants = map first_want (wants_of (whole plan timing stays) u) })
           ≡ frames_wanted (wait + 1) (record { under_way = 0; wants = map first_want (wants_of (whole plan timing stays) u) }) =
           ap (λ (x : ℕ). frames_wanted x (record { under_way = 0; wants = map first_want (wants_of (whole plan timing stays) u) })) (omega arith) in
           omega (arith, few, each, wanted, same)
 
       all_wanted : lesser_share demands (wait + 1) (streams j)
-          ≤ n * (load_of_firsts bs + sum_by bits_of_announcements bs) + sum_by (more_of (want_of Announcements)) bs
+          ≤ n * (load_of_firsts timing bs + sum_by (bits_of_announcements timing) bs) + sum_by (more_of (want_of Announcements)) bs
       all_wanted =
           let demand = of_demand j (announcements_demand u) (demand_by Announcements (wants_of (whole plan timing stays) u))
           (ap (λ (x : Stream). x.wanted) told)
@@ -421,36 +421,36 @@ module _ (plan : Plan) (timing : Timing) (stays : UnitPlan → Bool) (tells : De
           ≡ lesser (wait + 1) (spaced_stream timing (least_packets (broadcasts_by u (asked plan timing stays).flows)) (announcements_demand u))
           (Some (demand_by Announcements (wants_of (whole plan timing stays) u))) =
           ap (λ (x : Stream). lesser (wait + 1) x (Some (demand_by Announcements (wants_of (whole plan timing stays) u)))) told in
-          let wanted = wanted_bits (want_of Announcements) (λ x. bits_of_firsts x + bits_of_announcements x) (λ x. refl)
-          (λ x is_timed. announcement_rate timing x is_timed) 0 0 refl in
-          let both : n * sum_by (λ x. bits_of_firsts x + bits_of_announcements x) bs ≡ n * (load_of_firsts bs + sum_by bits_of_announcements bs) =
-          ap (λ (x : ℕ). n * x) (sum_by-two bits_of_firsts bits_of_announcements bs) in
+          let wanted = wanted_bits (want_of Announcements) (λ x. bits_of_firsts timing x + bits_of_announcements timing x) (λ x. refl)
+          (λ x is_timed. announcement_rate timing agree x is_timed) 0 0 refl in
+          let both : n * sum_by (λ x. bits_of_firsts timing x + bits_of_announcements timing x) bs ≡ n * (load_of_firsts timing bs + sum_by (bits_of_announcements timing) bs) =
+          ap (λ (x : ℕ). n * x) (sum_by-two (bits_of_firsts timing) (bits_of_announcements timing) bs) in
           omega (arith, demand, same, wanted, both)
 
       all_announced : bits 2 u ≤ lesser_share demands (wait + 1) (streams j) → bits 2 u
-          ≤ n * (load_of_firsts bs + load_of_announcements timing bs) + more_announcements plan timing stays u
+          ≤ n * (load_of_firsts timing bs + load_of_announcements timing bs) + more_announcements plan timing stays u
       all_announced most =
           let wanted = all_wanted in
           let both = of_both in
           let firsts = first_most in
           let others = other_most in
-          let whole_rate = beside_rate n (bits 2 u) (load_of_firsts bs) (sum_by bits_of_announcements bs)
-          (bits_each 1 (least_announced bs * timing.broadcast_gap))
+          let whole_rate = beside_rate n (bits 2 u) (load_of_firsts timing bs) (sum_by (bits_of_announcements timing) bs)
+          (bits_each timing 1 (least_announced bs * timing.broadcast_gap))
           (sum_by (more_of (want_of Announcements)) bs) (sum_by (more_of first_want) bs + more_spaced plan timing stays (least_announced bs))
           (omega (arith, most, wanted)) (omega (arith, both, firsts, others)) in
           omega (arith, whole_rate)
 
-    announcement_bits : bits 2 u ≤ n * (load_of_firsts bs + load_of_announcements timing bs) + more_announcements plan timing stays u
+    announcement_bits : bits 2 u ≤ n * (load_of_firsts timing bs + load_of_announcements timing bs) + more_announcements plan timing stays u
     announcement_bits = elim (cases_lt 0 (bits 2 u)) [
       | inr none ↦ omega (arith, none)
       | inl some ↦
-          let (p, in_p, x) = some_counts plan timing stays tells clean s queued_first planned sent held keeps from wait n span 2 u some in
+          let (p, in_p, x) = some_counts plan timing stays tells clean s queued_first planned sent held keeps from wait n span agree 2 u some in
           let a = counted p in_p x in
           let told : streams (source_place plan (Announcing u a.message))
           ≡ spaced_stream timing (least_packets (broadcasts_by u (asked plan timing stays).flows)) (announcements_demand u) =
           subst (λ (z : Source). IsPaced plan timing stays z (streams (source_place plan z))) a.source
           (told_stream plan timing stays tells clean s queued_first planned sent held keeps p in_p x.is) in
-          all_announced a.message a.known told (at_lesser plan timing stays tells clean s queued_first planned sent held keeps from wait n span 2 u
+          all_announced a.message a.known told (at_lesser plan timing stays tells clean s queued_first planned sent held keeps from wait n span agree 2 u
           (source_place plan (Announcing u a.message)) (λ q in_q y.
           ap (source_place plan) (counted q in_q y).source))
     ]
@@ -465,12 +465,12 @@ module _ (plan : Plan) (timing : Timing) (stays : UnitPlan → Bool) (tells : De
           let its : get_or (asked plan timing stays).units u None ≡ Some (unit_asks plan timing stays b u m (message_at m below)) =
           unit_read plan timing stays b u m (message_at m below) in
           let rate : rate_of_unit plan timing stays (get_or (asked plan timing stays).units u None)
-          ≡ load_of_packets timing bs + (load_of_firsts bs + load_of_announcements timing bs) = ap (rate_of_unit plan timing stays) its in
+          ≡ load_of_packets timing bs + (load_of_firsts timing bs + load_of_announcements timing bs) = ap (rate_of_unit plan timing stays) its in
           let packets = packet_bits in
           let announcements = announcement_bits in
           let parts : n * rate_of_unit plan timing stays (get_or (asked plan timing stays).units u None)
-          ≡ n * load_of_packets timing bs + n * (load_of_firsts bs + load_of_announcements timing bs) =
-          ap (λ (x : ℕ). n * x) rate ∙ both n (load_of_packets timing bs) (load_of_firsts bs + load_of_announcements timing bs) in
+          ≡ n * load_of_packets timing bs + n * (load_of_firsts timing bs + load_of_announcements timing bs) =
+          ap (λ (x : ℕ). n * x) rate ∙ both n (load_of_packets timing bs) (load_of_firsts timing bs + load_of_announcements timing bs) in
           omega (arith, packets, announcements, parts)
     ]
       where
@@ -482,13 +482,13 @@ module _ (plan : Plan) (timing : Timing) (stays : UnitPlan → Bool) (tells : De
         carried p in_p is (Announcing v m) at of_kind place = absurd (omega (arith, of_kind))
         carried p in_p is (Carrying v m k) at of_kind place =
             let source : sent.source p ≡ Carrying u m k = at ∙ ap (λ (w : ℕ). Carrying w m k) place in
-            (m, (frame_of plan timing stays tells clean s queued_first planned sent held keeps from wait n span p in_p is (Carrying u m k) source).0.known)
+            (m, (frame_of plan timing stays tells clean s queued_first planned sent held keeps from wait n span agree p in_p is (Carrying u m k) source).0.known)
 
         a_message : 0 < bits 2 u + bits 3 u → (m : ℕ) × (m < b.count u)
         a_message some = elim (cases_lt 0 (bits 2 u)) [
-          | inl first ↦ let (p, in_p, x) = some_counts plan timing stays tells clean s queued_first planned sent held keeps from wait n span 2 u first in let a = counted p in_p x in (a.message, a.known)
+          | inl first ↦ let (p, in_p, x) = some_counts plan timing stays tells clean s queued_first planned sent held keeps from wait n span agree 2 u first in let a = counted p in_p x in (a.message, a.known)
           | inr none ↦
-              let (p, in_p, x) = some_counts plan timing stays tells clean s queued_first planned sent held keeps from wait n span 3 u
+              let (p, in_p, x) = some_counts plan timing stays tells clean s queued_first planned sent held keeps from wait n span agree 3 u
               (omega (arith, some, none)) in
               carried p in_p x.is (sent.source p) refl x.its_kind x.its_index
         ]

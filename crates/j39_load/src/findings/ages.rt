@@ -4,12 +4,12 @@ ghost use Rattle.j39_load.specs.Ages.{ages_for, ages_of, is_in_limit, is_too_old
 ghost use Rattle.j39_load.specs.Ages.{first_of, first_of_age, has_several, place_of_age, smaller_known, youngest_flow};
 
 use crate::findings::load_finding::LoadFinding;
-use crate::frames::bits_of_ms;
+use crate::frames::{us_of_bits, us_of_unit_ms};
 use crate::waits::Delay;
 use j39_network::{FlowPlan, NeedPlan, RequestPlan, Timing, is_met, meets};
 use std::alloc::AllocError;
 
-// The age of what a flow of this delay brings, in bits, where one is known: it isn't known when answers are asked for.
+// The age of what a flow of this delay brings, in microseconds, where one is known: it isn't known when answers are asked for.
 fn age_of(timing: Timing, flow: &FlowPlan, delay: Option<Delay>) -> Option<u64>
     ensures some { IfSome result (λ age. ages_of timing flow.now delay ≡ age ∷ []) }
     ensures none { IfNone result (ages_of timing flow.now delay ≡ []) }
@@ -19,7 +19,7 @@ fn age_of(timing: Timing, flow: &FlowPlan, delay: Option<Delay>) -> Option<u64>
     }
     match (delay, flow.pause) {
         (Some(Delay::Within(bits)), Some(pause)) => {
-            Some(u64::from(bits_of_ms(timing, pause)) + u64::from(bits))
+            Some(us_of_unit_ms(timing, pause) + us_of_bits(timing, u64::from(bits)) as u64)
         }
         _ => None,
     }
@@ -55,7 +55,7 @@ fn age_for(
     }
 }
 
-/// How old what a unit needs is at most, in bits, by these delays of the flows: none where of no flow that brings it an
+/// How old what a unit needs is at most, in microseconds, by these delays of the flows: none where of no flow that brings it an
 /// age is known.
 #[tactic(auto, unfolding(crate::specs::LineLists::lines_of_each))]
 pub fn least_age(
@@ -143,13 +143,13 @@ pub fn has_several(requests: &[RequestPlan], flows: &[FlowPlan], need: &NeedPlan
     1 < meeting
 }
 
-/// Whether a time is known, and within so many bits.
-pub(crate) fn is_in_limit(limit: u32, bits: Option<u64>) -> bool
-    ensures { result ≡ is_in_limit limit bits }
+/// Whether a time is known, and within this limit.
+pub(crate) fn is_in_limit(limit: u32, time: Option<u64>) -> bool
+    ensures { result ≡ is_in_limit limit time }
 {
-    match bits {
+    match time {
         None => false,
-        Some(bits) => bits <= u64::from(limit),
+        Some(time) => time <= u64::from(limit),
     }
 }
 
@@ -164,7 +164,7 @@ fn is_too_old(
     requires { length delays.now ≡ length flows.now }
     ensures { result ≡ is_too_old timing requests.now flows.now delays.now need.now within }
 {
-    let limit = bits_of_ms(timing, within);
+    let limit = 1_000 * u32::from(within);
     is_met(requests, flows, need)
         && !is_in_limit(limit, least_age(timing, requests, flows, delays, need))
 }

@@ -3,7 +3,7 @@ ghost use Rattle.std.specs.Prelude.{◌≡◌, ◌^◌, ◌<◌, ◌≤◌, ◌+
 ghost use Rattle.j39_load.specs.Damage.{damage_stream, damage_streams, load_of_damage};
 ghost use Rattle.j39_timing.specs.Waits.{IsStream};
 
-use crate::frames::streams::bits_of_ms;
+use crate::frames::streams::{bits_inside, longest_million};
 use j39_network::{ErrorRate, Timing};
 use j39_timing::{ERROR_FRAME, Stream, frame_bits};
 use std::alloc::AllocError;
@@ -16,7 +16,7 @@ fn damage_stream(timing: Timing, rate: ErrorRate, bits: u16) -> Stream
 {
     Stream {
         frames: rate.count,
-        period: bits_of_ms(timing, rate.every),
+        period: bits_inside(timing, rate.every),
         bits,
         jitter: 0,
         wanted: None,
@@ -47,5 +47,6 @@ pub(crate) fn load_of_damage(timing: Timing) -> u64
         return 0;
     };
     let bits = u32::from(rate.count) * u32::from(frame_bits(8) + ERROR_FRAME);
-    u64::from((1_000 * bits).div_ceil(u32::from(rate.every)))
+    let most = 1_000 * u64::from(bits) * u64::from(longest_million(timing));
+    most.div_ceil(1_000_000 * u64::from(rate.every))
 }

@@ -1,8 +1,10 @@
 //! The frames of a flow.
 ghost use Rattle.std.specs.Prelude.{◌≡◌, ◌<◌, ◌≤◌, ◌*◌, ◌^◌, length};
 ghost use Rattle.j39_load.specs.Broadcasts.{bits_each, spaced_stream};
+ghost use Rattle.j39_load.specs.Clocks.{bit_time, longest_million, shortest_million};
 ghost use Rattle.j39_load.specs.RequestLoads.{request_stream};
-ghost use Rattle.j39_load.specs.Loads.{bits_of_ms, bits_of_second, bits_per_ms, frames_to_all, frames_to_one, load_of};
+ghost use Rattle.j39_load.specs.Loads.{bits_a_second, bits_at_least, bits_at_most, bits_inside, bits_of_ms, bits_of_second};
+ghost use Rattle.j39_load.specs.Loads.{bits_per_ms, frames_to_all, frames_to_one, load_of, us_of_bits, us_of_unit_ms};
 ghost use Rattle.j39_load.specs.Loads.{most_bytes, packet_stream, single_stream};
 ghost use Rattle.j39_load.specs.inside.PlannedBuses.{units_in};
 ghost use Rattle.j39_timing.specs.Waits.{IsStream};
@@ -32,13 +34,106 @@ pub fn bits_of_second(bitrate: Bitrate) -> u32
     1_000 * u32::from(bits_per_ms(bitrate))
 }
 
-/// How many bits the bus carries in so many milliseconds.
+/// How many bits the bus carries in so many milliseconds of its own clock.
 pub fn bits_of_ms(timing: Timing, ms: u16) -> u32
     ensures bits { result ≡ bits_of_ms timing ms }
     ensures few { result ≤ 1000 * ms }
     ensures some { 1 ≤ ms → 1 ≤ result }
 {
     u32::from(ms) * u32::from(bits_per_ms(timing.bitrate))
+}
+
+const MILLION: u32 = 1_000_000;
+
+/// How long a million of a clock's units last at most.
+pub(crate) fn longest_million(timing: Timing) -> u32
+    ensures { result ≡ longest_million timing }
+{
+    MILLION + u32::from(timing.drift)
+}
+
+/// How long a million of a clock's units last at least.
+fn shortest_million(timing: Timing) -> u32
+    ensures { result ≡ shortest_million timing }
+{
+    MILLION - u32::from(timing.drift)
+}
+
+/// How many bits of the bus lie in so many milliseconds of a unit's clock at least.
+#[tactic(auto, using(crate::proofs::Milliseconds::few_at_least, crate::proofs::Milliseconds::some_bits))]
+pub(crate) fn bits_at_least(timing: Timing, ms: u16) -> u32
+    ensures bits { result ≡ bits_at_least timing ms }
+    ensures few { result ≤ 1000 * ms }
+    ensures some { 1 ≤ ms → 1 ≤ result }
+{
+    let bits = u64::from(bits_of_ms(timing, ms));
+    (bits * u64::from(shortest_million(timing)) / u64::from(longest_million(timing))) as u32
+}
+
+/// How many lie in them at most.
+#[tactic(auto, using(crate::proofs::Milliseconds::few_at_most))]
+pub(crate) fn bits_at_most(timing: Timing, ms: u16) -> u32
+    ensures bits { result ≡ bits_at_most timing ms }
+    ensures few { result ≤ 1050 * ms }
+{
+    let bits = u64::from(bits_of_ms(timing, ms));
+    (bits * u64::from(longest_million(timing))).div_ceil(u64::from(shortest_million(timing))) as u32
+}
+
+/// How many bits last no longer than so many milliseconds of true time.
+#[tactic(auto, using(crate::proofs::Milliseconds::few_inside, crate::proofs::Milliseconds::some_inside))]
+pub(crate) fn bits_inside(timing: Timing, ms: u16) -> u32
+    ensures bits { result ≡ bits_inside timing ms }
+    ensures few { result ≤ 1000 * ms }
+    ensures some { 1 ≤ ms → 1 ≤ result }
+{
+    let bits = u64::from(bits_of_ms(timing, ms));
+    (bits * u64::from(MILLION) / u64::from(longest_million(timing))) as u32
+}
+
+// How many microseconds a bit takes by a clock that is exact.
+fn bit_time(bitrate: Bitrate) -> u8
+    ensures time { result ≡ bit_time bitrate }
+    ensures few { result ≤ 8 }
+{
+    match bitrate {
+        Bitrate::Kbit125 => 8,
+        Bitrate::Kbit250 => 4,
+        Bitrate::Kbit500 => 2,
+        Bitrate::Mbit1 => 1,
+    }
+}
+
+/// How many microseconds of true time so many bits last at most.
+#[tactic(auto, using(crate::proofs::Milliseconds::few_us))]
+pub fn us_of_bits(timing: Timing, bits: u64) -> u128
+    ensures time { result ≡ us_of_bits timing bits }
+    ensures few { result ≤ 9 * bits }
+{
+    let micros = u128::from(bits) * u128::from(bit_time(timing.bitrate));
+    (micros * u128::from(longest_million(timing))).div_ceil(u128::from(MILLION))
+}
+
+/// How many so many milliseconds of a unit's clock last at most.
+#[tactic(auto, using(crate::proofs::Milliseconds::few_unit_ms))]
+pub(crate) fn us_of_unit_ms(timing: Timing, ms: u16) -> u64
+    ensures time { result ≡ us_of_unit_ms timing ms }
+    ensures few { result ≤ 1050 * ms }
+{
+    (1_000 * u64::from(ms) * u64::from(longest_million(timing))).div_ceil(u64::from(MILLION))
+}
+
+// How many bits the bus carries at most in a second of its own clock, where so many come once in so many milliseconds of
+// a unit's.
+#[tactic(auto, using(crate::proofs::Milliseconds::few_a_second))]
+fn bits_a_second(timing: Timing, bits: u32, ms: u16) -> u32
+    requires some { 1 ≤ ms }
+    requires few { bits ≤ 2 ^ 17 }
+    ensures bits { result ≡ bits_a_second timing bits ms }
+    ensures few { result ≤ 1050 * bits }
+{
+    let most = 1_000 * u64::from(bits) * u64::from(longest_million(timing));
+    most.div_ceil(u64::from(ms) * u64::from(shortest_million(timing))) as u32
 }
 
 // The frames of a long message to the unit at a place, with so many data packets.
@@ -77,9 +172,9 @@ pub(crate) fn single_stream(timing: Timing, group: &GroupPlan, pace: Pace) -> St
 {
     Stream {
         frames: 1,
-        period: bits_of_ms(timing, pace.period),
+        period: bits_at_least(timing, pace.period),
         bits: frame_bits(most_bytes(group)),
-        jitter: bits_of_ms(timing, pace.jitter),
+        jitter: bits_at_most(timing, pace.jitter),
         wanted: None,
     }
 }
@@ -95,9 +190,9 @@ pub(crate) fn packet_stream(bus: &PlannedBus<'_>, packets: u8, unit: usize, pace
 {
     Stream {
         frames: frames_to_one(bus, packets, unit),
-        period: bits_of_ms(bus.timing, pace.period),
+        period: bits_at_least(bus.timing, pace.period),
         bits: frame_bits(FRAME_BYTES as u8),
-        jitter: bits_of_ms(bus.timing, pace.period) + bits_of_ms(bus.timing, pace.jitter),
+        jitter: bits_at_most(bus.timing, pace.period) + bits_at_most(bus.timing, pace.jitter),
         wanted: None,
     }
 }
@@ -113,7 +208,7 @@ pub(crate) fn spaced_stream(timing: Timing, gaps: u8, place: usize) -> Stream
 {
     Stream {
         frames: 1,
-        period: u32::from(gaps) * bits_of_ms(timing, timing.broadcast_gap),
+        period: u32::from(gaps) * bits_at_least(timing, timing.broadcast_gap),
         bits: frame_bits(FRAME_BYTES as u8),
         jitter: 0,
         wanted: Some(place),
@@ -131,7 +226,7 @@ pub(crate) fn request_stream(timing: Timing, period: u16) -> Stream
 {
     Stream {
         frames: 1,
-        period: bits_of_ms(timing, period),
+        period: bits_at_least(timing, period),
         bits: frame_bits(3),
         jitter: 0,
         wanted: None,
@@ -139,23 +234,23 @@ pub(crate) fn request_stream(timing: Timing, period: u16) -> Stream
 }
 
 /// How many bits the stream takes in a second at most, of this period in milliseconds.
-pub(crate) fn load_of(stream: Stream, period: u16) -> u32
+pub(crate) fn load_of(timing: Timing, stream: Stream, period: u16) -> u32
     requires period { 1 ≤ period }
     requires stream { IsStream stream }
     requires few { stream.frames ≤ 512 }
-    ensures { result ≡ load_of stream period }
+    ensures { result ≡ load_of timing stream period }
 {
     let bits = u32::from(stream.frames) * u32::from(stream.bits);
-    (1_000 * bits).div_ceil(u32::from(period))
+    bits_a_second(timing, bits, period)
 }
 
 /// How many bits so many frames of eight bytes take in a second at most, which are sent again after so many
 /// milliseconds.
-pub(crate) fn bits_each(frames: u8, ms: u16) -> u32
+pub(crate) fn bits_each(timing: Timing, frames: u8, ms: u16) -> u32
     requires { 1 ≤ ms }
-    ensures bits { result ≡ bits_each frames ms }
-    ensures few { result ≤ 160000 * frames }
+    ensures bits { result ≡ bits_each timing frames ms }
+    ensures few { result ≤ 168000 * frames }
 {
     let bits = u32::from(frames) * u32::from(frame_bits(FRAME_BYTES as u8));
-    (1_000 * bits).div_ceil(u32::from(ms))
+    bits_a_second(timing, bits, ms)
 }

@@ -73,67 +73,67 @@ fn least_packets(broadcasts: &[Broadcast]) -> u8
 }
 
 // How many bits the packets of these broadcasts take in a second, if all are sent that are wanted.
-fn wanted_packets(broadcasts: &[Broadcast]) -> u64
+fn wanted_packets(timing: Timing, broadcasts: &[Broadcast]) -> u64
     requires sound { AreSoundBroadcasts broadcasts.now }
     requires few { length broadcasts.now ≤ 2 ^ 16 }
-    ensures { result ≡ sum_by (λ b. bits_each b.packets b.period) broadcasts.now }
+    ensures { result ≡ sum_by (λ b. bits_each timing b.packets b.period) broadcasts.now }
 {
     let mut bits = 0;
     for broadcast in broadcasts {
-        bits += u64::from(bits_each(broadcast.packets, broadcast.period));
+        bits += u64::from(bits_each(timing, broadcast.packets, broadcast.period));
     }
     bits
 }
 
 // How many bits the first frames of its messages take, where some go in one frame.
-fn bits_of_firsts(broadcast: &Broadcast) -> u32
+fn bits_of_firsts(timing: Timing, broadcast: &Broadcast) -> u32
     requires sound { IsSoundBroadcast broadcast.now }
-    ensures bits { result ≡ bits_of_firsts broadcast.now }
-    ensures few { result ≤ 160000 }
+    ensures bits { result ≡ bits_of_firsts timing broadcast.now }
+    ensures few { result ≤ 168000 }
 {
     if broadcast.has_short {
-        bits_each(1, broadcast.period)
+        bits_each(timing, 1, broadcast.period)
     } else {
         0
     }
 }
 
 // Those of all of these.
-fn load_of_firsts(broadcasts: &[Broadcast]) -> u64
+fn load_of_firsts(timing: Timing, broadcasts: &[Broadcast]) -> u64
     requires sound { AreSoundBroadcasts broadcasts.now }
     requires few { length broadcasts.now ≤ 2 ^ 16 }
-    ensures bits { result ≡ load_of_firsts broadcasts.now }
-    ensures few { result ≤ length broadcasts.now * 160000 }
+    ensures bits { result ≡ load_of_firsts timing broadcasts.now }
+    ensures few { result ≤ length broadcasts.now * 168000 }
 {
     let mut bits = 0;
     for broadcast in broadcasts {
-        bits += u64::from(bits_of_firsts(broadcast));
+        bits += u64::from(bits_of_firsts(timing, broadcast));
     }
     bits
 }
 
 // How many bits its announcements take, where none goes in one frame.
-fn bits_of_announcements(broadcast: &Broadcast) -> u32
+fn bits_of_announcements(timing: Timing, broadcast: &Broadcast) -> u32
     requires sound { IsSoundBroadcast broadcast.now }
-    ensures bits { result ≡ bits_of_announcements broadcast.now }
-    ensures few { result ≤ 160000 }
+    ensures bits { result ≡ bits_of_announcements timing broadcast.now }
+    ensures few { result ≤ 168000 }
 {
     if broadcast.has_short {
         0
     } else {
-        bits_each(1, broadcast.period)
+        bits_each(timing, 1, broadcast.period)
     }
 }
 
 // Those of all of these, if all are sent that are wanted.
-fn wanted_announcements(broadcasts: &[Broadcast]) -> u64
+fn wanted_announcements(timing: Timing, broadcasts: &[Broadcast]) -> u64
     requires sound { AreSoundBroadcasts broadcasts.now }
     requires few { length broadcasts.now ≤ 2 ^ 16 }
-    ensures { result ≡ sum_by bits_of_announcements broadcasts.now }
+    ensures { result ≡ sum_by (bits_of_announcements timing) broadcasts.now }
 {
     let mut bits = 0;
     for broadcast in broadcasts {
-        bits += u64::from(bits_of_announcements(broadcast));
+        bits += u64::from(bits_of_announcements(timing, broadcast));
     }
     bits
 }
@@ -183,14 +183,14 @@ fn bits_per_second(timing: Timing, broadcasts: &[Broadcast]) -> u64
     requires sound { AreSoundBroadcasts broadcasts.now }
     requires few { length broadcasts.now ≤ 2 ^ 16 }
     ensures bits { result
-        ≡ load_of_packets timing broadcasts.now + (load_of_firsts broadcasts.now + load_of_announcements timing broadcasts.now) }
+        ≡ load_of_packets timing broadcasts.now + (load_of_firsts timing broadcasts.now + load_of_announcements timing broadcasts.now) }
     ensures few { result < 2 ^ 34 }
 {
     let gap = timing.broadcast_gap;
-    let packets = wanted_packets(broadcasts).min(u64::from(bits_each(1, gap)));
-    let firsts = load_of_firsts(broadcasts);
-    let spaced = u64::from(bits_each(1, u16::from(least_announced(broadcasts)) * gap));
-    let announcements = wanted_announcements(broadcasts).min(spaced);
+    let packets = wanted_packets(timing, broadcasts).min(u64::from(bits_each(timing, 1, gap)));
+    let firsts = load_of_firsts(timing, broadcasts);
+    let spaced = u64::from(bits_each(timing, 1, u16::from(least_announced(broadcasts)) * gap));
+    let announcements = wanted_announcements(timing, broadcasts).min(spaced);
     packets + (firsts + announcements)
 }
 

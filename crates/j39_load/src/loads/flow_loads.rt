@@ -2,7 +2,7 @@
 ghost use Rattle.std.specs.Prelude.{◌≡◌, ◌≢◌, [], ◌^◌, ◌<◌, ◌≤◌, ℕ, max, All, length, IfOk, OnErr};
 ghost use Rattle.j39_network.specs.declared.plan.to.To.TheVariants.{One};
 ghost use Rattle.std.specs.Option.{option_map};
-ghost use Rattle.j39_load.specs.Loads.{bits_of_ms as bits_in_ms, broadcast_of, flow_load, has_short, load_of_flow};
+ghost use Rattle.j39_load.specs.Loads.{bits_inside as bits_in_time, broadcast_of, flow_load, has_short, load_of_flow};
 ghost use Rattle.j39_load.specs.Loads.{load_of_messages, loads_of, messages_of, packet_frames};
 ghost use Rattle.j39_load.specs.Loads.{single_frames, singles_of, time_limit};
 ghost use Rattle.j39_load.specs.SoundLoads.{AreSound, AreSoundIfAny, AreSoundMessages, HaveFitPeriod, IsSoundBroadcast};
@@ -12,8 +12,9 @@ ghost use Rattle.j39_load.specs.inside.PlannedBuses.{on_bus, stays_in, units_in}
 ghost use Rattle.j39_tp.specs.Chunks.{packets_of};
 
 use crate::frames::{
-    Broadcast, Extreme, FlowFrames, Messages, PlannedBus, any_unit, bits_of_ms, group_ident,
-    load_of, packet_ident, packet_stream, session_ident, single_stream, twin_ident,
+    Broadcast, Extreme, FlowFrames, Messages, PlannedBus, any_unit, bits_at_least, bits_at_most,
+    bits_inside, group_ident, load_of, packet_ident, packet_stream, session_ident, single_stream,
+    twin_ident,
 };
 use crate::loads::flow_load::FlowLoad;
 use j39_id::limits::FRAME_BYTES;
@@ -26,8 +27,11 @@ fn limit(timing: Timing, pace: Pace) -> u32
     ensures limit { result ≡ time_limit timing pace }
     ensures few { result < 2 ^ 31 }
 {
-    let deadline = pace.deadline.unwrap_or(pace.period);
-    bits_of_ms(timing, deadline.min(pace.period))
+    let period = bits_at_least(timing, pace.period);
+    match pace.deadline {
+        Some(deadline) => bits_inside(timing, deadline).min(period),
+        None => period,
+    }
 }
 
 // The frames of a flow's messages that go in one frame.
@@ -98,10 +102,10 @@ fn has_short(group: &GroupPlan) -> bool
 
 // Within how many bits each long message of a flow of this pace has to be whole, where it is written.
 fn deadline(timing: Timing, pace: Pace) -> Option<u32>
-    ensures { result ≡ option_map (bits_in_ms timing) pace.deadline }
+    ensures { result ≡ option_map (bits_in_time timing) pace.deadline }
 {
     match pace.deadline {
-        Some(deadline) => Some(bits_of_ms(timing, deadline)),
+        Some(deadline) => Some(bits_inside(timing, deadline)),
         None => None,
     }
 }
@@ -124,8 +128,8 @@ fn broadcast(
         least_packets: least_packets(group),
         has_short: has_short(group),
         period: pace.period,
-        apart: bits_of_ms(timing, pace.period),
-        jitter: bits_of_ms(timing, pace.jitter),
+        apart: bits_at_least(timing, pace.period),
+        jitter: bits_at_most(timing, pace.jitter),
         deadline: deadline(timing, pace),
     }
 }
@@ -173,15 +177,15 @@ fn singles_of(
 
 // How many bits these messages of a flow take in a second at most, of this period in milliseconds; broadcasts count
 // with those of their unit.
-fn load_of_messages(messages: &Messages, period: u16) -> u32
+fn load_of_messages(timing: Timing, messages: &Messages, period: u16) -> u32
     requires period { 1 ≤ period }
     requires sound { AreSoundMessages messages.now }
     requires few { HaveFewFrames messages.now }
-    ensures { result ≡ load_of_messages messages.now period }
+    ensures { result ≡ load_of_messages timing messages.now period }
 {
     match messages {
-        Messages::Short(frames) => load_of(frames.stream, period),
-        Messages::ToOne(frames) => load_of(frames.stream, period),
+        Messages::Short(frames) => load_of(timing, frames.stream, period),
+        Messages::ToOne(frames) => load_of(timing, frames.stream, period),
         Messages::ToAll(_broadcast) => 0,
     }
 }
@@ -197,7 +201,7 @@ fn flow_load(bus: &PlannedBus<'_>, flow: &FlowPlan, pace: Pace, group: &GroupPla
         messages,
         singles: singles_of(bus, flow, pace, group),
         limit: limit(bus.timing, pace),
-        bits_per_second: load_of_messages(&messages, pace.period),
+        bits_per_second: load_of_messages(bus.timing, &messages, pace.period),
     }
 }
 

@@ -35,7 +35,7 @@ fn load_of_request(bus: &PlannedBus<'_>, request: &RequestPlan) -> Option<Reques
             twin_ident: None,
             want: None,
         },
-        bits_per_second: load_of(stream, period),
+        bits_per_second: load_of(bus.timing, stream, period),
     })
 }
 

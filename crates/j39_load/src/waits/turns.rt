@@ -7,7 +7,7 @@ ghost use Rattle.j39_load.specs.SoundLoads.{IsSoundUnit};
 ghost use Rattle.j39_load.specs.inside.BufferingDelays.{AreFitBufferingDelays, buffering_of};
 ghost use Rattle.j39_load.specs.inside.TurnTimes.{AreShortTurns, AreTurns, IsShortTurn};
 
-use crate::frames::bits_of_ms;
+use crate::frames::{bits_at_least, bits_at_most};
 use crate::loads::{Loads, UnitLoad};
 use crate::queues::BufferingDelays;
 use crate::waits::delays::wait_in;
@@ -23,7 +23,7 @@ fn packet_time(timing: Timing, load: &UnitLoad, sent: u32) -> u64
     ensures time { result ≡ packet_time timing load.now sent }
     ensures short { result < 2 ^ 28 }
 {
-    let pause = bits_of_ms(timing, timing.broadcast_gap_most);
+    let pause = bits_at_most(timing, timing.broadcast_gap_most);
     u64::from(pause) + (u64::from(sent) + u64::from(load.packets.stream.bits))
 }
 
@@ -64,7 +64,7 @@ fn known_turn(
     let Some(sent) = sent else {
         return None;
     };
-    if packet_time(timing, load, sent) <= u64::from(bits_of_ms(timing, 750)) {
+    if packet_time(timing, load, sent) <= u64::from(bits_at_least(timing, 750)) {
         Some(flow_turn(timing, load, announced, sent))
     } else {
         None

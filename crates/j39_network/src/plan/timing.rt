@@ -41,6 +41,8 @@ pub struct Timing {
     pub broadcast_gap: u16,
     /// And so many milliseconds apart at most.
     pub broadcast_gap_most: u16,
+    /// Each clock, of a unit and of the bus, differs from true time by so many parts in a million at most.
+    pub drift: u16,
     /// How many frames are damaged at most; without it none is.
     pub errors: Option<ErrorRate>,
     pub ghost unplanned_range: { unplanned ≤ 1000 },
@@ -50,4 +52,5 @@ pub struct Timing {
     pub ghost broadcast_gap_range: { broadcast_gap ≤ 200 },
     pub ghost broadcast_gap_order: { broadcast_gap ≤ broadcast_gap_most },
     pub ghost broadcast_gap_most_range: { broadcast_gap_most ≤ 750 },
+    pub ghost drift_range: { drift ≤ 20000 },
 }

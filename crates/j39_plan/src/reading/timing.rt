@@ -17,13 +17,14 @@ use super::{Key, PlanError, Table, Version};
 use j39_network::{Bitrate, ErrorRate, Timing};
 use j39_toml::only;
 
-const KEYS: [(Key, Version); 7] = [
+const KEYS: [(Key, Version); 8] = [
     (Key::Bitrate, Version::Third),
     (Key::Unplanned, Version::Third),
     (Key::UnplannedPriority, Version::Fourth),
     (Key::TransportPriority, Version::Fourth),
     (Key::BroadcastGap, Version::Fourth),
     (Key::BroadcastGapMost, Version::Fourth),
+    (Key::Drift, Version::Fourth),
     (Key::Errors, Version::Fourth),
 ];
 
@@ -44,13 +45,14 @@ fn bitrate(members: &toml::Table, version: Version) -> Result<Bitrate, PlanError
     )
 }
 
-// What stands behind the frames that aren't planned: priorities, the gaps of broadcasts, and the table of errors.
+// What stands behind the frames that aren't planned: priorities, the gaps of broadcasts, clocks, and the table of errors.
 #[derive(Clone, Copy)]
 struct LaterKeys<'a> {
     unplanned_priority: u32,
     transport_priority: u32,
     gap: u32,
     gap_most: u32,
+    drift: u32,
     errors: Option<&'a toml::Table>,
 }
 
@@ -61,6 +63,7 @@ fn later_keys(members: &toml::Table, version: Version) -> Result<LaterKeys, Plan
         × (later.transport_priority ≡ spec.transport_priority_of version (table_view members.now))
         × (later.gap ≡ spec.gap_of version (table_view members.now))
         × (later.gap_most ≡ spec.gap_most_of version (table_view members.now))
+        × (later.drift ≡ spec.drift_of version (table_view members.now))
         × (option_map (λ t. table_view t.now) later.errors ≡ spec.errors_table version (table_view members.now))) }
     ensures unplanned_priority { IfOk result (λ later. later.unplanned_priority ≤ 6) }
     ensures transport_priority { IfOk result (λ later. later.transport_priority ≤ 7) }
@@ -68,6 +71,7 @@ fn later_keys(members: &toml::Table, version: Version) -> Result<LaterKeys, Plan
     ensures gap { IfOk result (λ later. later.gap ≤ 200) }
     ensures order { IfOk result (λ later. later.gap ≤ later.gap_most) }
     ensures gap_most { IfOk result (λ later. later.gap_most ≤ 750) }
+    ensures drift { IfOk result (λ later. later.drift ≤ 20000) }
 {
     if !version.knows(Version::Fourth) {
         return Ok(LaterKeys {
@@ -75,6 +79,7 @@ fn later_keys(members: &toml::Table, version: Version) -> Result<LaterKeys, Plan
             transport_priority: 7,
             gap: 50,
             gap_most: 200,
+            drift: 0,
             errors: None,
         });
     }
@@ -83,12 +88,14 @@ fn later_keys(members: &toml::Table, version: Version) -> Result<LaterKeys, Plan
     let transport_priority = number(members, table, Key::TransportPriority, 0, 7, Some(7))?;
     let gap = number(members, table, Key::BroadcastGap, 10, 200, Some(50))?;
     let gap_most = number(members, table, Key::BroadcastGapMost, gap, 750, Some(200))?;
+    let drift = number(members, table, Key::Drift, 0, 20_000, Some(0))?;
     let errors = optional_inner(members, table, Key::Errors)?;
     Ok(LaterKeys {
         unplanned_priority,
         transport_priority,
         gap,
         gap_most,
+        drift,
         errors,
     })
 }
@@ -135,6 +142,7 @@ fn bus(members: &toml::Table, version: Version) -> Result<Timing, PlanError>
         transport_priority: later.transport_priority as u8,
         broadcast_gap: later.gap as u16,
         broadcast_gap_most: later.gap_most as u16,
+        drift: later.drift as u16,
         errors,
     })
 }

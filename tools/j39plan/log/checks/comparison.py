@@ -68,9 +68,10 @@ class Comparison:
         self.found, self.clock, self.hands = found, Clock(), Hands(tables, found)
         self.numbers = Numbers(settings.others, found)
         heard = Heard(self.hands.first, self.hands.free)
-        self.distances = Distances(tables.flows, settings.tolerance, settings.rule, bounds.waits, heard, found)
+        tolerance = settings.tolerance.with_drift(tables.timing.drift if tables.timing else 0)
+        self.distances = Distances(tables.flows, tolerance, settings.rule, bounds.waits, heard, found)
         self.claims, self.queued, self.commanded = Claims(tables.units, self.hands, found), Queued(), Commanded(tables.units, found)
-        self.asked, self.damage = Asked(tables, settings.tolerance, bounds.requests, found, self.hands.is_on), Damage(tables.timing, found)
+        self.asked, self.damage = Asked(tables, tolerance, bounds.requests, found, self.hands.is_on), Damage(tables.timing, found)
         self.transfers, self.unplanned = Transfers(tables.timing, found), Unplanned(tables, bounds.flows, found)
         labels = {pgn: groups[0].label for pgn, groups in self.groups.items() if len(groups) == 1}
         self.others = OtherRequests(labels, found, self.hands.is_on)

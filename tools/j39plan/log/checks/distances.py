@@ -41,6 +41,10 @@ class Tolerance(NamedTuple):
             return cls(0, number // 100, text)
         return cls(number, 0, f"{found.group(1)}{'.' if found.group(2) else ''}{found.group(2) or ''} ms")
 
+    def with_drift(self, drift: int) -> "Tolerance":
+        """With so many millionths more, by which clocks differ from true time."""
+        return self._replace(share=self.share + drift)
+
     def at(self, period: int) -> int:
         """In nanoseconds, for a period in ms."""
         return self.duration + period * self.share

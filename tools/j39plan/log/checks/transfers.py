@@ -193,9 +193,9 @@ class Transfers:
             if transfer.waits_for == "packet":
                 self._late(line, at, at - before, transfer, transfer.route.sender)
             transfer.waits_for = "answer"
-        elif at - before < self._timing.broadcast_gap * MILLISECOND:
+        elif at - before < self._timing.broadcast_gap * (MILLISECOND - self._timing.drift):
             self._pace("packets-near", line, at, at - before, transfer, f"at least {self._timing.broadcast_gap}")
-        elif at - before > self._timing.broadcast_gap_most * MILLISECOND:
+        elif at - before > self._timing.broadcast_gap_most * (MILLISECOND + self._timing.drift):
             self._pace("packets-far", line, at, at - before, transfer, f"at most {self._timing.broadcast_gap_most}")
 
     def _pace(self, kind: str, line: int, at: int, distance: int, transfer: Transfer, limit: str) -> None:

@@ -60,7 +60,7 @@ class Lint:
         """All hints, in the order of the file."""
         found = (self.unsent, self.idle, self.fixed_in_pool, self.preferred, self.spns, self.short, self.urgent, self.equal_identities,
                  self.unsendable, self.passed, self.single, self.unordered, self.untaken, self.met_twice, self.met_late, self.unasked,
-                 self.not_live, self.of_line)
+                 self.not_live, self.of_line, self.agreeing)
         return sorted({hint for part in found for hint in part()})
 
     def at(self, place: Place, key: str, text: str) -> Hint:
@@ -243,3 +243,9 @@ class Lint:
         tables, kept = self.tables, self.source.kept
         if self.source.version == 4 and not tables.live and tables.flows and not any(ends.contested(tables, kept, flow) for flow in tables.flows):
             yield self.at((), "version", "live = true adds no finding: then what check promises holds while units claim, and go off in mid-message")
+
+    def agreeing(self) -> Iterator[Hint]:
+        """That clocks are taken for exact."""
+        timing = self.tables.timing
+        if self.source.version == 4 and timing is not None and timing.drift == 0:
+            yield self.at(("timing",), "drift", "drift 0: no two clocks agree for ever")

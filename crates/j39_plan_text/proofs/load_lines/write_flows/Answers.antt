@@ -7,8 +7,7 @@ use Rattle.j39_plan_text.proofs.load_lines.write_flows.Goals as goal
 
 pub loop-place-preserved : goal.loop-place-preserved
 loop-place-preserved c =
-    let loads = c.args.loads.now in
-    let line = flow_line c.args.plan.now loads.timing.bitrate loads.flows.items c.args.delays.now in
+    let line = flow_line c.args.plan.now c.args.timing c.args.delays.now in
     let k = c.loop-place.place in
     let flow = c.flow-item.result in
     let step = more line k c.deref-flow-items.result.now flow c.loop-place-test.true in

@@ -5,4 +5,4 @@ use Rattle.j39_plan_text.proofs.load_lines.write_flows.Given as goal
 
 abbrev pub invariant-loop-place : goal.invariant-loop-place
 invariant-loop-place l =
-    l.text ≡ l.initial.text ++ lines_of_each (flow_line l.plan l.loads.timing.bitrate l.loads.flows.items l.delays) 0 (take l.place l.flow-items)
+    l.text ≡ l.initial.text ++ lines_of_each (flow_line l.plan l.timing l.delays) 0 (take l.place l.flow-items)

@@ -4,6 +4,6 @@ use Rattle.j39_load.proofs.loads.broadcasts.wanted_packets.Given as goal
 
 abbrev pub invariant-loop-broadcast : goal.invariant-loop-broadcast
 invariant-loop-broadcast l = record {
-  sum : l.bits ≡ sum_by (λ b. bits_each b.packets b.period) (take l.broadcast-index l.broadcasts);
+  sum : l.bits ≡ sum_by (λ b. bits_each l.timing b.packets b.period) (take l.broadcast-index l.broadcasts);
   small : l.bits ≤ l.broadcast-index * 2 ^ 32;
 }
