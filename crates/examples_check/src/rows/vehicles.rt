@@ -1,5 +1,5 @@
 //! Rows of vehicles.
-use crate::{Command, Row};
+use crate::row::{Command, Row};
 use j39_app::Verdict;
 
 // A vehicle of one bus, on which a gateway sends a group on as another one.

@@ -1,6 +1,6 @@
 //! Rows of logs, read, followed and audited.
+use crate::row::{Command, Row};
 use crate::rows::plans::{ASKED, SENDING, TEMPERATURE};
-use crate::{Command, Row};
 use j39_app::Verdict;
 
 /// A log of a signal.

@@ -1,6 +1,6 @@
 //! Rows of schedules.
+use crate::row::{Command, Row};
 use crate::rows::plans::{SENDING, SHARED};
-use crate::{Command, Row};
 use j39_app::Verdict;
 
 /// Two units that claim one address.

@@ -3,13 +3,11 @@
 //! A line `== NAME` begins the file of this name, of which the first one is the vehicle file, and `== answer` what is
 //! written. Each is read and written some bytes at a time, too.
 
+use crate::pieces::SIZES;
 use j39_app::{Failed, Fault, Folder, Order, Pieces, Stop, Verdict, answer, status};
 use std::alloc::Global;
 use std::fs;
 use std::rt::Files;
-
-// The most bytes that a call moves.
-const SIZES: [usize; 4] = [1, 2, 3, 4_096];
 
 // A file of a row.
 #[derive(Clone, Copy)]

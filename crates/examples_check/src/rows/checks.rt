@@ -1,8 +1,8 @@
 //! Rows of what is said of a plan: frames, checks, values, addresses, loads.
+use crate::row::{Command, Row};
 use crate::rows::plans::{
     AWAITED, CONTEST, HURRIED, NOTHING, OF_TWO_MAKERS, SENDING, SHARED, TEMPERATURE,
 };
-use crate::{Command, Row};
 use j39_app::Verdict;
 
 /// A frame.

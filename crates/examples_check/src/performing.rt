@@ -1,5 +1,5 @@
 //! Commands, by what they read.
-use crate::Command;
+use crate::row::Command;
 use j39_app::{
     Fault, Sink, Source, Verdict, addresses_text, audit_planned, bus_plan, check_line_text,
     follow_text, input_text, line_text, load_text, read_text, refuse_choices, run_planned,
@@ -59,7 +59,8 @@ pub fn perform<P: Source, S: Source, W: Sink>(
         Command::Addresses => return addresses_text(alloc, plan, sink),
         Command::Load => return load_text(alloc, plan, sink),
         Command::Vehicle => return perform_vehicle(alloc, plan, input, sink),
-        Command::Run | Command::Read | Command::Follow | Command::FollowAll | Command::Audit => {}
+        Command::Run | Command::Read | Command::Follow => {}
+        Command::FollowAll | Command::Audit | Command::AuditPart => {}
     }
     let Some(line) = line_text(alloc, plan, sink)? else {
         return Ok(Verdict::Unreadable);
@@ -72,6 +73,7 @@ pub fn perform<P: Source, S: Source, W: Sink>(
         Command::Follow => follow_text(alloc, &line.plan, false, input, sink),
         Command::FollowAll => follow_text(alloc, &line.plan, true, input, sink),
         Command::Audit => audit_planned(alloc, &line.plan, false, STAMPS, input, sink),
+        Command::AuditPart => audit_planned(alloc, &line.plan, true, STAMPS, input, sink),
         _ => read_text(alloc, &line.plan, input, sink),
     }
 }

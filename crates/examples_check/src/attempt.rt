@@ -1,8 +1,9 @@
 //! A command on devices of a row.
 ghost use Rattle.std.specs.Prelude.{◌<◌};
 
+use crate::performing::perform;
+use crate::row::Command;
 use j39_app::{Fault, Pieces, Stop, Verdict};
-use j39_vectors::{Command, perform};
 use std::alloc::{AllocError, Global};
 
 /// How a command ended, and what it had written by then.

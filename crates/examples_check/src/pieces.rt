@@ -1,16 +1,14 @@
-//! Rows and cases as files: whether the program writes what stands beside each.
+//! Rows whose files come some bytes at a time: whether a command writes what stands beside each.
 
-mod cases;
-mod outcome;
-mod pieces;
 mod rows;
-mod stage;
 mod vehicles;
 
-use cases::run_case;
 use rows::run_rows;
 use std::fs;
 use std::rt::Files;
+
+/// The most bytes that a call moves.
+const SIZES: [usize; 4] = [1, 2, 3, 4_096];
 
 // The names of what lies in a folder, in order: its folders, each with a slash behind it, or its files.
 fn names<R: Files + AllocGlobal + Clone + Drop>(
@@ -30,23 +28,21 @@ fn names<R: Files + AllocGlobal + Clone + Drop>(
     Ok(names)
 }
 
-// Runs what a folder has: one case, or rows.
-fn visit<R: Files + Print + AllocGlobal + Clone + Drop>(
-    rt: &R,
-    folder: &str,
-) -> Result<(), anyhow::Error> {
-    if !run_case(rt, folder)? {
-        run_rows(rt, folder, names(rt, folder, false)?.as_slice())?;
-    }
-    Ok(())
-}
-
-/// Runs each row and each case of the folders here.
+/// Runs each row of the folders here.
 pub fn run_all<R: Files + Print + AllocGlobal + Clone + Drop>(rt: &R) -> Result<(), anyhow::Error> {
     for folder in names(rt, "./", true)? {
-        visit(rt, folder.as_str())?;
+        run_rows(
+            rt,
+            folder.as_str(),
+            names(rt, folder.as_str(), false)?.as_slice(),
+        )?;
         for inner in names(rt, folder.as_str(), true)? {
-            visit(rt, format!(in rt.alloc(); "{folder}{inner}")?.as_str())?;
+            let path = format!(in rt.alloc(); "{folder}{inner}")?;
+            run_rows(
+                rt,
+                path.as_str(),
+                names(rt, path.as_str(), false)?.as_slice(),
+            )?;
         }
     }
     Ok(())

@@ -26,6 +26,8 @@ pub enum Command {
     FollowAll,
     /// Which premises of the plan a log, the input, refutes.
     Audit,
+    /// The same of a part of a log.
+    AuditPart,
     /// The check of a vehicle, the plan, each of whose buses has the plan that the input describes.
     Vehicle,
 }
