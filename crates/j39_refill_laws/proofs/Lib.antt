@@ -1,0 +1,3 @@
+mod Beside
+mod Reached
+mod Refilled

@@ -1,0 +1,2 @@
+pub mod Refill
+pub mod RefillTraffic
