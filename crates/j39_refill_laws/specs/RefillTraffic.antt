@@ -42,4 +42,3 @@ RefillDemandFits traffic refill_of unplanned longest most i wait =
     (longest + most) * (1 + unplanned)
     + total traffic.count (λ j. lesser_share traffic.demands (wait + 1) (with_refill (refill_of j) (traffic.stream j)))
     ≤ wait + ((traffic.stream i).bits + refill_of i)
-
