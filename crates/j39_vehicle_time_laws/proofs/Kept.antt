@@ -68,7 +68,8 @@ one_traffic v delays b timing other one two =
     ∙ (one_asked two.bus.plan other one.stays two.stays (delays_on delays b) (delays_on delays b) asks two.asks).0) in
     ap (λ (x : Timing). streams_of x (frames_asked (asked_of timing one.bus.plan one.stays))) time ∙ ap (λ (x : Asked). streams_of other (frames_asked x)) asked
 
-case_view : (v : Vehicle) (scope : Scope) (b : ℕ) (P : Option (TimedBus v scope b) → Type 0) → P None → ((t : TimedBus v scope b) → P (Some t)) → (o : Option (TimedBus v scope b)) → P o
+case_view : (v : Vehicle) (scope : Scope) (b : ℕ) (P : Option (TimedBus v scope b) → Type 0) → P None → ((t : TimedBus v scope b) → P (Some t))
+    → (o : Option (TimedBus v scope b)) → P o
 case_view v scope b P none some None = none
 case_view v scope b P none some (Some t) = some t
 

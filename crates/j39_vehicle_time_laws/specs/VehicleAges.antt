@@ -56,7 +56,8 @@ pub record IsNeedKept (v : Vehicle) (delays : Delays) (d : VehicleNeed) (within 
   pub age_is : age v delays (point_on d.unit.bus flow d.signal) ≡ Some most
   pub young : most ≤ 1000 * within
   pub brought : (seen : SeenBuses) (from t : ℕ) → from + most ≤ t → (is : IsPromptVehicle v delays seen t)
-      → HasWay v is.scope (point_on d.unit.bus flow d.signal) → KeepPauses v seen (point_on d.unit.bus flow d.signal) from t → IsBroughtYoung v seen (point_on d.unit.bus flow d.signal) (1000 * within) t
+      → HasWay v is.scope (point_on d.unit.bus flow d.signal)
+      → KeepPauses v seen (point_on d.unit.bus flow d.signal) from t → IsBroughtYoung v seen (point_on d.unit.bus flow d.signal) (1000 * within) t
   -- what it brings was sent by the unit from which the need wants it
   pub sender : (seen : SeenBuses) (frame born : ℕ) (brought : IsBroughtFrom v seen (point_on d.unit.bus flow d.signal) frame born)
       → is_sent_by v d.from brought.origin ≡ true
