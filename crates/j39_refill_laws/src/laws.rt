@@ -1,12 +1,14 @@
 //! Laws of schedules in which units refill their buffers.
 ghost use Rattle.std.specs.Prelude.{◌≡◌, ℕ, Bool, true, false, ◌+◌, ◌<◌, ◌≤◌};
 ghost use Rattle.j39_timing.specs.AnyOrder.{AreBegunWithin, Controllers, IsLegalInAnyOrder, later_by};
+ghost use Rattle.j39_timing.specs.Errors.{Damaged, with_errors};
 ghost use Rattle.j39_timing.specs.FrameStreams.{AreOfStreams, Origins};
 ghost use Rattle.j39_timing.specs.Messages.{AreSentWithin};
 ghost use Rattle.j39_timing.specs.TimedFrames.{Schedule};
 ghost use Rattle.j39_timing.specs.Traffic.{IsStreamInTime, Traffic};
 ghost use Rattle.j39_timing.specs.declared.stream.Stream.{Stream as TheStream};
 ghost use Rattle.j39_refill_laws.specs.Refill.{HaveRefillWaits, IsLegalWithRefill, RefillAlone, after_refill};
+ghost use Rattle.j39_refill_laws.specs.RefillErrors.{IsLegalWithRefillAndErrors, error_units};
 ghost use Rattle.j39_refill_laws.specs.RefillTraffic.{IsTrafficWithRefill, RefillDemandFits};
 
 /// Where units take part in no arbitration for a while behind each frame that they sent, order is nothing: whatever
@@ -53,6 +55,17 @@ pub fn frames_beside_refills_are_legal()
         → IsLegalWithRefill s controllers refill → AreOfStreams s (λ p. planned p ≡ true) count stream of
         → AreOfStreams (after_refill s controllers refills (λ p. waits (of.source p))) (λ p. planned p ≡ true) count
         (λ j. later_by (waits j) (stream j)) of }
+{}
+
+/// A bus with damaged frames on which units refill a buffer, behind the error frames of their attempts too, is one of
+/// such a schedule, in which attempts and error frames are frames: so what is known of frames with refills holds of it
+/// (`legal`). Each frame is of the unit that it was of (`units`).
+pub fn refills_beside_damage_are_legal()
+    ensures legal { (s : Schedule) (controllers : Controllers) (damaged : Damaged) (own : ℕ) (refill : ℕ → ℕ)
+        → IsLegalWithRefillAndErrors s controllers damaged refill
+        → IsLegalWithRefill (with_errors s damaged) (error_units s controllers damaged own) refill }
+    ensures units { (s : Schedule) (controllers : Controllers) (damaged : Damaged) (own p : ℕ) → p < s.count
+        → (error_units s controllers damaged own).unit p ≡ controllers.unit p }
 {}
 
 /// The premises can be met, and there is a bus on which the bound is reached: of one unit that refills its buffer, two
