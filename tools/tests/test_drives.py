@@ -37,7 +37,7 @@ class Claims(Deviations):
     def test_a_log_that_begins_in_mid_drive(self) -> None:
         """SPRAYER may choose 128, so that what comes from there accuses nobody, whoever claims it later; no unit may be at 20."""
         claims, asks = "18EEFF80#0300000000000080", [(1, "18EA0B80#ECFE00"), (1.2, "18EA0B80#ECFE00")]
-        plan = PLAN.replace('address = 128\n', 'address = 200\n')
+        plan = PLAN.replace('address = 128\n', 'address = 140\n')
         self.assertEqual(self.told(*asks, (1.5, ASKS), (1.6, claims), (2, asks[0][1]), plan=plan), [])
         self.assertEqual(self.told(*asks, (1.6, claims), (2, asks[0][1]), plan=plan), [])
         found = self.told(*asks, (1.5, ASKS), (1.6, "18EEFF80#0900000000000080"), plan=plan)

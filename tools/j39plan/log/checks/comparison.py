@@ -430,6 +430,7 @@ class Comparison:
         self.claims.end(last)
         self.commanded.end()
         self.hands.end(last)
+        self.of_premises.left.update(self.hands.held())
         self.distances.end(None if self.damage.is_off else last)
         self.transfers.end(last)
         self.unplanned.end()

@@ -174,6 +174,10 @@ class Hands:
         """Whether any claim came of a unit."""
         return label in self._units_told
 
+    def held(self) -> set[int]:
+        """The addresses that boxes of units hold, of one unit with two boxes both."""
+        return {address for address, who in self._holders.items() if who.label}
+
     def addresses(self) -> dict[int | None, str]:
         """The units by the addresses at which they were heard last."""
         return {address: label for label, (_, _, address) in self.last.items() if label in self._units}

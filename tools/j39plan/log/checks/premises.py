@@ -48,7 +48,7 @@ class Beside:
 
     def __init__(self) -> None:
         self.sent: dict[int | str | None, dict[str, None]] = {}  # the planned groups that came from a NAME or an address of no unit
-        self.left: set[int | None] = set()  # addresses from which a unit goes on to send that has left them
+        self.left: set[int | None] = set()  # addresses from which a unit goes on to send that has left them, or where a box of a unit is
         self.obeyed: set[tuple[str, int]] = set()  # units that claim an address that they were commanded to
         self.given_back: Counter[str] = Counter()  # how often a unit gave back the address that it held
 
@@ -146,8 +146,9 @@ class Telling:
             pgn, to, length = message_in(frame)
             found |= {"what": self._labels.get(pgn, f"PGN {pgn}"), "priority": f"priority {frame.priority}", "receiver": f" to {'all' if to == GLOBAL_ADDRESS else addresses.get(to, to)}"}
             if group:
+                is_told = group.when is None or group.when.takes(frame.data)
                 bits = f"PGN {pgn} from {line.word('unit')}: its bits are those of no group's 'when'"
-                found["layout"] = bits if group.length <= length <= group.most else f"{text} {length} bytes, planned are {lengths_of(group)}"
+                found["layout"] = f"{text} {length} bytes, planned are {lengths_of(group)}" if is_told else bits
         return found
 
 
