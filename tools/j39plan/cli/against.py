@@ -180,6 +180,7 @@ def compared(given: argparse.Namespace) -> int:
         if given.live:
             comparison.watches()
         with bare(known, tables) as (shorter, parts), Audit(shorter, given.part) as audit:
+            comparison.is_unjudged = bool(audit.findings)
             lines = lines_of(shorter, log, counts, lambda part: audit.pieces(feed.pieces(part)), given.live)
             compare(Reader(comparison, feed, parts, counts), comparison, lines)
             audit.end()
@@ -193,7 +194,7 @@ def compared(given: argparse.Namespace) -> int:
     say_what_is_left(given, comparison.distances)
     comparison.ends(nanoseconds(feed.last_time), counts.frames > 0)
     if audit.findings:
-        program.say(f"the plan has findings, as {audit.findings}: who sent what isn't judged until they are mended")
+        program.say(f"the plan has findings, as {audit.findings}: until they are mended audit judges nobody, and what follow says is told")
     Telling(tables, log, comparison.of_premises, found).tell(audit.lines, comparison.hands.addresses())
     if given.table and not given.json:
         for row in summary_tables(comparison, log.place):

@@ -77,6 +77,7 @@ class Comparison:
         self.others = OtherRequests(labels, found, self.hands.is_on)
         self._begun: dict[Pair, Begun] = {}
         self.of_premises = Beside()
+        self.is_unjudged = False  # whether the plan has findings, so that `audit` judges nobody, and what `follow` says is told
         self._pgns = {label: group.pgn for label, group in self.planned.items()}
         self._is_watched = False  # whether what is due is told as soon as it is
         self._line, self._still = 0, ""  # the line of the last report; and what is told of nothing coming since
@@ -99,6 +100,8 @@ class Comparison:
                 if address in (begun.pair[0][2], begun.pair[1][2]) and not begun.between:
                     begun.between = f"address {address} changed hands at line {line}"
         self.unplanned.came(line, at, identifier_of(6, ADDRESS_CLAIMED, 0))
+        if self.is_unjudged and who.label is None and who.address is not None:
+            self.found.tell("stranger", f"NAME {who.name} claims address {who.address}: no unit has it", line, at)
 
     def sender(self, line: int, at: int | None, sender: Who, pgn: int, group: str = "") -> None:
         """Who sent something, as a message of a planned group."""
@@ -116,7 +119,7 @@ class Comparison:
             self.distances.touched(former.label or "", self._pgns, pgn, line, at)
         elif group:
             self.of_premises.sent.setdefault(sender.name or sender.address, {})[group] = None
-        if sender.address in (NULL_ADDRESS, GLOBAL_ADDRESS):
+        if sender.address in (NULL_ADDRESS, GLOBAL_ADDRESS) or self.is_unjudged and former is None:
             self.found.tell("stranger", f"{sender.spelled} {what}: no unit has it", line, at)
 
     def message(self, line: int, at: int | None, message: Message) -> None:
@@ -133,9 +136,14 @@ class Comparison:
             if sender.label is None:
                 self.unknown(line, at, sender, planned.pgn, group)
             self.answers(line, at, sender, to, planned.pgn)
+        if self.is_unjudged and odd_priority is not None:
+            text = f"{group} from {sender.shown} has priority {odd_priority}, planned is {planned.priority}"
+            self.found.tell("priority", text, first, began, unit=sender.label)
         if flow:
             self.sends(flow, first, began, begun.waited if begun else 0)
             return
+        if self.is_unjudged and sender.label:
+            self.found.tell("no-flow", f"{group} from {sender.label} to {to.shown}: no flow", first, began, unit=sender.label)
         if begun is None:
             priority = planned.priority if odd_priority is None else odd_priority
             self.passes(line, at, identifier_of(priority, planned.pgn, 0, 0), "", sender)

@@ -3,6 +3,7 @@
 from __future__ import annotations
 
 import contextlib
+import os
 import subprocess
 from collections import Counter
 from collections.abc import Iterable, Iterator, Mapping
@@ -71,11 +72,12 @@ class Audit:
     """The program that audits a log, beside the one that follows it."""
 
     def __init__(self, plan: str, is_part: bool) -> None:
+        answer = program.call(["audit", "--", plan, os.devnull])[1]
+        self.findings = "" if lines_of(answer) else answer.partition("\n")[0]  # what `check` finds, where `audit` answers that
         words = [program.path(), "audit", *["--part"] * is_part, "--", plan, "/dev/stdin"]
         # A group of its own: an interrupt from the keyboard is to end the log, and not what reads it.
         self._process = subprocess.Popen(words, stdin=subprocess.PIPE, stdout=subprocess.PIPE, process_group=0)
         self.lines: list[Line] = []
-        self.findings = ""  # what `check` finds, where `audit` answers that
 
     def __enter__(self) -> Self:
         return self
@@ -103,7 +105,6 @@ class Audit:
         if status not in (0, 1):
             raise program.Refused(status if status > 0 else program.FAULT)
         self.lines = [line for line in lines_of(answer) if line.word("word") in PREMISES]
-        self.findings = "" if answer.rpartition("deviations ")[1] else answer.partition("\n")[0]
 
 
 class Telling:
@@ -122,17 +123,17 @@ class Telling:
         for line in told:
             premise, number = PREMISES[line.word("word")], number_of(line)
             time, frame = frames.get(number, ("", None))
-            groups = self._beside.groups(line)
-            text = premise.text.format(**{**line.parts, "groups": groups, **self._fields(line, frame, addresses)})
-            by = line.number_if_any("by")
+            text = premise.text.format(**self._fields(line, frame, addresses))
+            groups, by = self._beside.groups(line) if line.word("name") else "", line.number_if_any("by")
             self._found.tell(premise.kind, text, number, nanoseconds(time), None if by is None else by * MICROSECOND, flow=line.number_if_any("flow"),
-                             unit=line.word("unit") or line.word("from") or None, detail=f", and sends{groups}" if groups and line.word("name") else "", times=line.number("times"),
+                             unit=line.word("unit") or line.word("from") or None, detail=f", and sends{groups}" if groups else "", times=line.number("times"),
                              ask=WORDS[line.word("word")].ask)
 
     def _fields(self, line: Line, frame: Noted | None, addresses: Mapping[int | None, str]) -> dict[str, object]:
-        """What texts may have beside the parts of a line: what the plan says, what was measured, and of the frame what stands in the log."""
+        """What texts may have: the parts of a line, what the plan says, what was measured, and of the frame what stands in the log."""
         unit, group, timing = self._units.get(line.word("unit")), self._groups.get(line.word("group")), self._tables.timing
-        found: dict[str, object] = {"measure": MEASURE, "receiver": "", "what": "a frame", "priority": "another priority"}
+        found: dict[str, object] = {**line.parts, "measure": MEASURE, "receiver": "", "what": "a frame", "priority": "another priority",
+                                    "groups": self._beside.groups(line)}
         if line.word("name"):
             found |= {"name": line.word("name")[1:], "fields": fields_of(line.word("name")[1:])}
         if unit:
@@ -144,7 +145,7 @@ class Telling:
             found |= {"planned_priority": group.priority, "layout": f"{text} another length than planned, {lengths_of(group)}, or the bits of no 'when'"}
         if frame:
             pgn, to, length = message_in(frame)
-            found |= {"what": self._labels.get(pgn, f"PGN {pgn}"), "priority": f"priority {frame.priority}", "receiver": f" to {'all' if to == GLOBAL_ADDRESS else addresses.get(to, to)}"}
+            found |= {"what": self._labels.get(pgn, f"PGN {pgn}"), "priority": f"priority {frame.priority}", "receiver": f" to {'all' if to == GLOBAL_ADDRESS else addresses.get(to, str(to))}"}
             if group:
                 is_told = group.when is None or group.when.takes(frame.data)
                 bits = f"PGN {pgn} from {line.word('unit')}: its bits are those of no group's 'when'"
