@@ -127,6 +127,13 @@ class Told(Compared):
         self.assertEqual(self.deviations(*CLAIMS, *FLOWS, back, CLAIMS[0]), [])
         self.assertEqual(self.deviations(back, CLAIMS[0]), ["L:1: ENGINE could not claim an address"])
 
+    def test_several_strangers_at_an_address(self) -> None:
+        """Each by its NAME, with its own first line, of which `audit` names the first one alone."""
+        frames = ["18EEFF05#0100000000000001", "18FEEE05#7DFFFFFFFFFFFFFF", "18EEFF05#0200000000000001", "18EEFF05#0100000000000001"]
+        text = "L:{}: NAME 010000000000000{} (identity {}, manufacturer 0, function 0) claims address 5: no unit has it"
+        found = self.deviations(*frames)
+        self.assertEqual([line for line in found if "claims" in line], [text.format(1, 1, 1) + ", and sends ET1, a planned group  (2 times)", text.format(3, 2, 2)])
+
     def test_strangers_that_the_plan_has(self) -> None:
         """They accuse nobody, and what comes from where they may be neither."""
         stranger, sends = "18EEFFC8#0900000000000080", "18FEF1C8#00"

@@ -26,7 +26,7 @@ class Hands(Compared):
         for name, identity in (("0000000001000000", 0), ("0300000001000000", 3)):
             found = self.deviations(f"18EEFF00#{name}", "18FEEE00#7DFFFFFFFFFFFFFF")
             told = "".join(reversed(re.findall("..", name)))
-            self.assertEqual(found[0], f"L:1: NAME {told} (identity {identity}, manufacturer 0, function 0) claims address 0: no unit has it, and sends ET1 and VI, planned groups")
+            self.assertEqual(found[0], f"L:1: NAME {told} (identity {identity}, manufacturer 0, function 0) claims address 0: no unit has it, and sends ET1, VI, planned groups")
             self.assertEqual([line for line in found if "no unit has it" in line or "no flow" in line], found[:1])
 
     def test_a_claim_of_the_global_address_tells_nothing(self) -> None:

@@ -48,6 +48,7 @@ class Beside:
     """What is known of a log beside `audit`, by which some of what that accuses of has another name, or is told otherwise."""
 
     def __init__(self) -> None:
+        self.claims: dict[int, dict[str, list[int]]] = {}  # where each NAME of no unit first claimed an address, and how often: `audit` names one alone
         self.sent: dict[int | str | None, dict[str, None]] = {}  # the planned groups that came from a NAME or an address of no unit
         self.left: set[int | None] = set()  # addresses from which a unit goes on to send that has left them, or where a box of a unit is
         self.obeyed: set[tuple[str, int]] = set()  # units that claim an address that they were commanded to
@@ -62,10 +63,16 @@ class Beside:
             return (unit, line.number("at")) in self.obeyed
         return word == "cannot" and self.given_back[unit] == line.number("times")
 
-    def groups(self, line: Line) -> str:
-        """Which planned groups came from the NAME or the address of no unit that is accused."""
-        sent = [*self.sent.get(line.word("name")[1:] or line.number_if_any("address"), ())]
-        return f" {' and '.join(sent)}, {'planned groups' if sent[1:] else 'a planned group'}" if sent else ""
+    def groups(self, who: int | str | None) -> str:
+        """Which planned groups came from a NAME or an address of no unit."""
+        sent = [*self.sent.get(who, ())]
+        return f" {', '.join(sent)}, {'planned groups' if sent[1:] else 'a planned group'}" if sent else ""
+
+    def each(self, line: Line) -> list[Line]:
+        """A line that accuses, of strangers at an address one for each NAME."""
+        claims = self.claims.get(line.number("address"), {}) if line.word("word") == "stranger" else {}
+        named: list[dict[str, str | int]] = [{"name": f"#{name}", "first": first, "times": times} for name, (first, times) in claims.items()]
+        return [line._replace(parts={**line.parts, **parts}) for parts in named] or [line]
 
 
 class Audit:
@@ -118,13 +125,14 @@ class Telling:
 
     def tell(self, lines: list[Line], addresses: Mapping[int | None, str]) -> None:
         """Tells all of them, where these units had these addresses last."""
-        told = [line for line in lines if not self._beside.names(line) and (self._tables.timing or line.word("word") != "short")]
+        told = [each for line in lines if not self._beside.names(line) and (self._tables.timing or line.word("word") != "short")
+                for each in self._beside.each(line)]
         frames = frames_at(self._log, {number_of(line) for line in told})
         for line in told:
             premise, number = PREMISES[line.word("word")], number_of(line)
             time, frame = frames.get(number, ("", None))
             text = premise.text.format(**self._fields(line, frame, addresses))
-            groups, by = self._beside.groups(line) if line.word("name") else "", line.number_if_any("by")
+            groups, by = self._beside.groups(line.word("name")[1:]) if line.word("name") else "", line.number_if_any("by")
             self._found.tell(premise.kind, text, number, nanoseconds(time), None if by is None else by * MICROSECOND, flow=line.number_if_any("flow"),
                              unit=line.word("unit") or line.word("from") or None, detail=f", and sends{groups}" if groups else "", times=line.number("times"),
                              ask=WORDS[line.word("word")].ask)
@@ -133,7 +141,7 @@ class Telling:
         """What texts may have: the parts of a line, what the plan says, what was measured, and of the frame what stands in the log."""
         unit, group, timing = self._units.get(line.word("unit")), self._groups.get(line.word("group")), self._tables.timing
         found: dict[str, object] = {**line.parts, "measure": MEASURE, "receiver": "", "what": "a frame", "priority": "another priority",
-                                    "groups": self._beside.groups(line)}
+                                    "groups": self._beside.groups(line.number_if_any("address"))}
         if line.word("name"):
             found |= {"name": line.word("name")[1:], "fields": fields_of(line.word("name")[1:])}
         if unit:
