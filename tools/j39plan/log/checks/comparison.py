@@ -299,12 +299,12 @@ class Comparison:
             self.passes(line, at, frame.identifier, f"PGN {announced.pgn}", sender)
         if group is None:
             self.nobody(line, at, announced.pgn, sender)
-        elif not group.length <= announced.length <= group.most:
-            pass  # `audit` tells it
-        elif announced.is_sound:
-            self._begun[pair] = Begun(line, at, route.text, pair, way, sender.label, waited)
-        else:
-            self.broken(Begun(line, at, route.text, pair, way, sender.label), Cause("its announcement breaks the rules"))
+        elif group.length <= announced.length <= group.most:  # of another length `audit` tells
+            begun = Begun(line, at, route.text, pair, way, sender.label, waited)
+            if announced.is_sound:
+                self._begun[pair] = begun
+            else:
+                self.broken(begun, Cause("its announcement breaks the rules"))
 
     def request(self, line: int, at: int | None, request: Request) -> None:
         """A request."""

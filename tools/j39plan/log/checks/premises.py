@@ -103,12 +103,7 @@ class Audit:
 
     def end(self) -> None:
         """The log has ended: what it accuses of."""
-        try:
-            answer = self._process.communicate()[0].decode()
-        except BrokenPipeError:
-            assert self._process.stdout is not None
-            answer = self._process.stdout.read().decode()
-        status = self._process.wait()
+        answer, status = self._process.communicate()[0].decode(), self._process.returncode
         if status not in (0, 1):
             raise program.Refused(status if status > 0 else program.FAULT)
         self.lines = [line for line in lines_of(answer) if line.word("word") in PREMISES]
