@@ -134,6 +134,10 @@ class Told(Compared):
         found = self.deviations(*frames)
         self.assertEqual([line for line in found if "claims" in line], [text.format(1, 1, 1) + ", and sends ET1, a planned group  (2 times)", text.format(3, 2, 2)])
 
+    def test_a_stranger_without_an_address(self) -> None:
+        found = self.deviations(*CLAIMS, "18EEFFFE#0100000000000001")
+        self.assertEqual(found, ["L:3: NAME 0100000000000001 (identity 1, manufacturer 0, function 0) could not claim an address: no unit has it"])
+
     def test_strangers_that_the_plan_has(self) -> None:
         """They accuse nobody, and what comes from where they may be neither."""
         stranger, sends = "18EEFFC8#0900000000000080", "18FEF1C8#00"

@@ -100,10 +100,11 @@ class Comparison:
                 if address in (begun.pair[0][2], begun.pair[1][2]) and not begun.between:
                     begun.between = f"address {address} changed hands at line {line}"
         self.unplanned.came(line, at, identifier_of(6, ADDRESS_CLAIMED, 0))
-        if who.name and who.label is None and who.address is not None:
-            self.of_premises.claims.setdefault(who.address, {}).setdefault(who.name, [line, 0])[1] += 1
+        if who.name and who.label is None:
+            address = NULL_ADDRESS if who.address is None else who.address
+            self.of_premises.claims.setdefault(address, {}).setdefault(who.name, [line, 0])[1] += 1
             if self.is_unjudged:
-                self.found.tell("stranger", f"NAME {who.name} claims address {who.address}: no unit has it", line, at)
+                self.found.tell("stranger", f"NAME {who.name} claims address {address}: no unit has it", line, at)
 
     def sender(self, line: int, at: int | None, sender: Who, pgn: int, group: str = "") -> None:
         """Who sent something, as a message of a planned group."""

@@ -10,7 +10,7 @@ from collections.abc import Iterable, Iterator, Mapping
 from typing import NamedTuple, Self
 
 from j39plan import program
-from j39plan.j1939 import FRAME_BYTES, GLOBAL_ADDRESS, CONNECTION_MANAGEMENT, destination_in, pgn_in
+from j39plan.j1939 import CONNECTION_MANAGEMENT, FRAME_BYTES, GLOBAL_ADDRESS, NULL_ADDRESS, destination_in, pgn_in
 from j39plan.log.audit import WORDS, lines_of
 from j39plan.log.checks.deviations import MEASURE, Found
 from j39plan.log.checks.feed import FRAME, Noted, noted_of
@@ -33,7 +33,7 @@ class Premise(NamedTuple):
 # The words whose verdict is taken from `audit`. Of a word that isn't here the rules of this package tell.
 PREMISES = {
     "short": Premise("short-identifier", "a frame with an 11-bit identifier, which may go before each planned one"),
-    "stranger": Premise("stranger", "NAME {name} ({fields}) claims address {address}: no unit has it"),
+    "stranger": Premise("stranger", "NAME {name} ({fields}) {claims}: no unit has it"),
     "nobody": Premise("stranger", "address {address} sends{groups}: no unit has it"),
     "address": Premise("address", "{unit} claims address {at}, planned is {planned}"),
     "cannot": Premise("address", "{unit} could not claim an address"),
@@ -138,7 +138,8 @@ class Telling:
         found: dict[str, object] = {**line.parts, "measure": MEASURE, "receiver": "", "what": "a frame", "priority": "another priority",
                                     "groups": self._beside.groups(line.number_if_any("address"))}
         if line.word("name"):
-            found |= {"name": line.word("name")[1:], "fields": fields_of(line.word("name")[1:])}
+            claims = "could not claim an address" if line.number("address") == NULL_ADDRESS else f"claims address {line.number('address')}"
+            found |= {"name": line.word("name")[1:], "fields": fields_of(line.word("name")[1:]), "claims": claims}
         if unit:
             found["planned"] = f"{unit.address}, where it stays" if unit.may_choose else unit.address
         if timing:
