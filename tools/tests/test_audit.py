@@ -121,6 +121,10 @@ class Told(Compared):
         self.assertEqual((told.told, told.kind, told.flow, told.unit, told.times), ("flow 1, ET1 from ENGINE to all: 2.31 ms nearer than its period", "near", 1, "ENGINE", 12))
         self.assertEqual(told.place, (2, 2_500_000_000, 2_310_000))
 
+    def test_a_unit_that_never_claims(self) -> None:
+        plan = PLAN.replace("version = 1", "version = 4").replace("name = { identity = 1 }", "name = { identity = 1 }\nclaims = false")
+        self.assertEqual(self.compared(plan, [*CLAIMS, *FLOWS])[:1], ["L:1: ENGINE claims address 0, and by the plan it never claims one"])
+
     def test_who_gives_an_address_back(self) -> None:
         """Cannot Claim of a unit that holds an address which nobody took accuses nobody; one of a unit that holds none does."""
         back = "18EEFFFE#0100000000000000"

@@ -35,7 +35,7 @@ PREMISES = {
     "short": Premise("short-identifier", "a frame with an 11-bit identifier, which may go before each planned one"),
     "stranger": Premise("stranger", "NAME {name} ({fields}) {claims}: no unit has it"),
     "nobody": Premise("stranger", "address {address} sends{groups}: no unit has it"),
-    "address": Premise("address", "{unit} claims address {at}, planned is {planned}"),
+    "address": Premise("address", "{unit} claims address {at}, {planned}"),
     "cannot": Premise("address", "{unit} could not claim an address"),
     "layout": Premise("layout", "{layout}"),
     "no_flow": Premise("no-flow", "{group} from {unit}{receiver}: no flow"),
@@ -141,7 +141,8 @@ class Telling:
             claims = "could not claim an address" if line.number("address") == NULL_ADDRESS else f"claims address {line.number('address')}"
             found |= {"name": line.word("name")[1:], "fields": fields_of(line.word("name")[1:]), "claims": claims}
         if unit:
-            found["planned"] = f"{unit.address}, where it stays" if unit.may_choose else unit.address
+            planned = f"planned is {unit.address}{', where it stays' if unit.may_choose else ''}"
+            found["planned"] = planned if unit.claims else "and by the plan it never claims one"
         if timing:
             found["unplanned_priority"] = timing.unplanned_priority
         if group:
