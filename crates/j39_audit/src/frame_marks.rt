@@ -137,8 +137,8 @@ fn note_claim(
     }
 }
 
-// Whether a frame is none of the network itself and of long messages.
-fn is_single(frame: &Frame) -> bool
+/// Whether a frame is none of the network itself and of long messages.
+pub(crate) fn is_single(frame: &Frame) -> bool
     ensures { result ≡ is_single_number (pgn_of frame.now.ident) }
 {
     let pgn = frame.ident.pgn();

@@ -4,15 +4,21 @@
 mod answer;
 mod audit_log;
 mod basis;
+mod earliest;
 mod flow_marks;
 mod frame_marks;
+mod idle;
 mod known;
 mod mark;
 mod messages;
+mod moments;
+mod nearness;
 mod reading;
 mod senders;
+mod streams;
 mod summary;
 mod tally;
 mod times;
+mod window;
 
 pub use answer::audit_text;

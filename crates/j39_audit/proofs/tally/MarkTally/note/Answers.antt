@@ -1,10 +1,12 @@
 use Rattle.std.proofs.Common.{◌≡◌, ◌&&◌, nat_eq, ℕ, ap, ◌∙◌}
 use Rattle.j39_audit.specs.Counting.{Noted, key_of, told_at, told_more}
+use Rattle.j39_audit.specs.Streams.{sighted_behind}
 use Rattle.j39_audit.specs.declared.tally.Told.{Told}
 use Rattle.j39_audit.proofs.Counted.{settled}
 use Rattle.j39_audit.proofs.tally.MarkTally.note.Goals as goal
 
 pub returns-in-Ok : goal.returns-in-Ok
+unfolding sighted_behind
 returns-in-Ok c = record {
   counts = λ noted counted key.
       let m = c.args.mark in
@@ -14,4 +16,5 @@ returns-in-Ok c = record {
       c.one_more-new.ensures ∙ ap (λ (t : Told). told_more t n.line n.detail) was in
       settled _ _ _ _ noted n key (c.in-Ok.ensures.updates.0 key)
       (ap (λ (w : ℕ). (nat_eq w key.0 && nat_eq m.subject key.1) && nat_eq m.group key.2) c.number.ensures) new (counted key);
+  sights = c.sighted-self.ensures;
 }
