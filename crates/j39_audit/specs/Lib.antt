@@ -8,5 +8,6 @@ pub mod Moments
 pub mod Near
 pub mod SentMessages
 pub mod Settings
+pub mod Stepping
 pub mod Streams
 pub mod inside

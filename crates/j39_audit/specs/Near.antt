@@ -26,3 +26,26 @@ candidate step earliest window = step_on step earliest window.lower
 abbrev pub earliest_next : ℕ → Option ℕ → Window → Option ℕ
 earliest_next step earliest window =
     if is_later (candidate step earliest window) window.upper then window.lower else candidate step earliest window
+
+-- what is kept behind the first n messages
+unfoldable pub earliest : ℕ → (ℕ → Window) → ℕ → Option ℕ
+earliest step windows zero = None
+earliest step windows (suc n) = earliest_next step (earliest step windows n) (windows n)
+
+-- the earliest moment of message j, before it is looked at whether it fits
+abbrev pub earliest_at : ℕ → (ℕ → Window) → ℕ → Option ℕ
+earliest_at step windows j = candidate step (earliest step windows j) (windows j)
+
+-- message j is told as too near
+abbrev pub is_near : ℕ → (ℕ → Window) → ℕ → Bool
+is_near step windows j = is_later (earliest_at step windows j) (windows j).upper
+
+-- ---- in terms of the bounds alone
+
+-- from the lower bound of message i on, at or before message j, there is no room for a step between each two up to message j
+pub record IsTooNear (step : ℕ) (windows : ℕ → Window) (j : ℕ) : Type 0 where
+  pub first : ℕ
+  pub before : first ≤ j
+  pub lower : ℕ
+  pub bound : (windows first).lower ≡ Some lower
+  pub no_room : (windows j).upper < lower + (j - first) * step

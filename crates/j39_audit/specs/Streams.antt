@@ -1,5 +1,5 @@
 -- Streams: messages whose moments are a step apart at least, and how long behind its moment one may be queued.
-use Rattle.std.specs.Prelude.{ℕ, ◌+◌, ◌-◌, ◌*◌, ◌/◌, nat_le, ◌==◌, Bool, true, false, if◌then◌else◌, List, [], ◌∷◌, Option, Some, None}
+use Rattle.std.specs.Prelude.{ℕ, ◌+◌, ◌-◌, ◌*◌, ◌/◌, nat_le, nat_lt, ◌==◌, Bool, true, false, if◌then◌else◌, List, [], ◌∷◌, Option, Some, None}
 use Rattle.std.specs.Int.{div_ceil}
 use Rattle.std.specs.List.{slice_get}
 use Rattle.std.specs.Option.{option_and_then}
@@ -40,11 +40,15 @@ abbrev pub latest_ms : Pace → Bool → ℕ
 latest_ms pace true = pace.jitter
 latest_ms pace false = pace.period + pace.jitter
 
--- the stream of a flow with a period: of its single frames where its group has no messages that are longer than a frame, else of what
--- announces its messages
+-- the messages of a stream are a flow's single frames where its group has none that are longer than a frame, else what announces them
+abbrev pub is_in_stream : GroupPlan → Bool → Bool
+is_in_stream group true = nat_le group.most frame_bytes
+is_in_stream group false = nat_lt frame_bytes group.most
+
+-- the stream of a flow with a period
 abbrev pub paced_stream : Timing → Frame → ℕ → GroupPlan → Pace → Option Stream
 paced_stream t f n group pace =
-    if is_single (pgn_of f.ident) == nat_le group.most frame_bytes
+    if is_in_stream group (is_single (pgn_of f.ident))
     then Some (record {
       mark = stream_mark NearFlow n;
       step = shortest_us t pace.period;

@@ -9,6 +9,7 @@ mod flow_marks;
 mod frame_marks;
 mod idle;
 mod known;
+mod laws;
 mod mark;
 mod messages;
 mod moments;
@@ -22,3 +23,4 @@ mod times;
 mod window;
 
 pub use answer::audit_text;
+pub use laws::{near_is_exact, the_near_are_noted, who_keeps_a_step_is_not_near};

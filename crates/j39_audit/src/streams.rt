@@ -3,7 +3,7 @@ ghost use Rattle.std.specs.Prelude.{◌≡◌, ◌+◌, ◌≤◌, ◌<◌, ◌*
 ghost use Rattle.std.specs.Option.{option_and_then, option_copied};
 ghost use Rattle.j39_id.specs.Ident.{pgn_of};
 ghost use Rattle.j39_audit.specs.Looking.{is_single as is_single_number};
-ghost use Rattle.j39_audit.specs.Streams.{flow_stream, latest_ms, longest_us, paced_request, paced_stream, request_stream, shortest_us};
+ghost use Rattle.j39_audit.specs.Streams.{flow_stream, is_in_stream, latest_ms, longest_us, paced_request, paced_stream, request_stream, shortest_us};
 ghost use Rattle.j39_audit.specs.Streams.{sighted_stream};
 ghost use Rattle.j39_audit.specs.inside.Recalling.{settings_of};
 
@@ -59,6 +59,17 @@ fn latest_ms(pace: Pace, single: bool) -> u32
     }
 }
 
+// Whether a single frame, or an announcement, is a message of the stream of a flow of this group.
+fn is_in_stream(group: &GroupPlan, single: bool) -> bool
+    ensures { result ≡ is_in_stream group.now single }
+{
+    if single {
+        group.most <= FRAME_BYTES
+    } else {
+        group.most > FRAME_BYTES
+    }
+}
+
 // The stream of a flow of this pace.
 fn paced_stream(
     timing: Timing,
@@ -71,7 +82,7 @@ fn paced_stream(
     ensures few { IfSome result (λ stream. stream.step < 2 ^ 27) }
 {
     let single = is_single(frame);
-    if single != (group.most <= FRAME_BYTES) {
+    if !is_in_stream(group, single) {
         return None;
     }
     Some(Stream {
