@@ -3,13 +3,14 @@ ghost use Rattle.std.specs.Prelude.{◌≡◌, ◌≤◌, ◌<◌, ◌^◌, ◌+
 ghost use Rattle.std.specs.Option.{option_copied};
 ghost use Rattle.j39_id.specs.Lines.{Line, tells};
 ghost use Rattle.j39_log.specs.LineCounting.{AreWithin, IsLineMore};
-ghost use Rattle.j39_audit.specs.AuditText.{AuditPast, is_of_times, passed_by};
+ghost use Rattle.j39_audit.specs.AuditText.{AuditPast, is_of_times, moments_passed, passed_by};
 ghost use Rattle.j39_audit.specs.Claiming.{HeardClaims, broken_off};
 ghost use Rattle.j39_audit.specs.Looking.{break_noted};
+ghost use Rattle.j39_audit.specs.Moments.{Moments as AMoments};
 ghost use Rattle.j39_audit.specs.Settings.{AreMoving, Settings};
 ghost use Rattle.j39_audit.specs.inside.Auditing.{AccordsWith, HasAudited, IsWithinLines, RecallsAudit, TakesFrame, TakesFrameLine, TakesLine};
 ghost use Rattle.j39_audit.specs.inside.Auditing.{tallied};
-ghost use Rattle.j39_audit.specs.inside.Recalling.{AreNear, KnowsClaims, Notes, settings_of};
+ghost use Rattle.j39_audit.specs.inside.Recalling.{AreNear, KnowsClaims, Notes, RecallsMoments, settings_of};
 
 use crate::basis::Basis;
 use crate::frame_marks::take_frame;
@@ -57,6 +58,17 @@ fn take_break(
         tally.note(make_mark(Word::Break, 0), line, 0)
     } else {
         Ok(())
+    }
+}
+
+// Passes over a line with this fault, where it has a word.
+fn pass_moment(moments: &mut Moments, error: LineError)
+    ensures moments { (m : AMoments) → RecallsMoments moments.old m → RecallsMoments moments.new (moments_passed error m) }
+    ensures near { AreNear moments.old → AreNear moments.new }
+{
+    match error {
+        LineError::Empty => {}
+        _other => moments.pass_over(),
     }
 }
 
@@ -157,9 +169,7 @@ impl<'a> AuditLog<'a> {
     {
         let short = error == LineError::ShortIdent && self.counts.frames > 0;
         self.counts.pass_over(error);
-        if error != LineError::Empty {
-            self.moments.pass_over();
-        }
+        pass_moment(&mut self.moments, error);
         if short {
             self.tally.note(make_mark(Word::Short, 0), self.number, 0)
         } else {
