@@ -75,11 +75,6 @@ skipped_line past = record past {
   moments = behind_gap past.moments;
 }
 
--- what times tell behind a line with this fault: one without a word isn't counted, at others a frame may be missing
-abbrev pub moments_passed : LineError → Moments → Moments
-moments_passed Empty m = m
-moments_passed _ m = behind_gap m
-
 abbrev pub passed_by : LineError → AuditPast → AuditPast
 passed_by Empty past = past
 passed_by ShortIdent past = skipped_line past
