@@ -23,6 +23,7 @@ WORDS = {
     "no_flow": Word("a message of G that no flow of U brings there", "what it sends, and to whom"),
     "priority": Word("a message of a flow with another priority", "which priority is set"),
     "urgent": Word("a frame that isn't planned, above `unplanned_priority`", "what it is for"),
+    "near": Word("messages of a flow, or requests, sooner than `period` and `jitter` allow, at line M most", "its period and jitter"),
 }
 
 # What may be accused, and the measure that may stand behind.
