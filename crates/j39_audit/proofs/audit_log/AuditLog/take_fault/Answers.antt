@@ -26,36 +26,36 @@ returns-in-NoHash c =
 
 pub returns-in-BadIdent : goal.returns-in-BadIdent
 returns-in-BadIdent c =
-    let took = c.take_bad.ensures in
+    let took = c.take_bad-in-BadIdent.ensures in
     record {
       near = took.near;
       basis = took.basis;
       fault = λ past recalls.
-          subst (λ (e : LineError). RecallsAudit c.take_bad.new.self (passed_by e past)) (sym c.in-BadIdent.is) (took.fault past recalls);
+          subst (λ (e : LineError). RecallsAudit c.take_bad-in-BadIdent.new.self (passed_by e past)) (sym c.in-BadIdent.is) (took.fault past recalls);
       number = took.number;
       counted = took.counted;
     }
 
 pub returns-in-TooLong : goal.returns-in-TooLong
 returns-in-TooLong c =
-    let took = c.take_bad.ensures in
+    let took = c.take_bad-in-TooLong.ensures in
     record {
       near = took.near;
       basis = took.basis;
       fault = λ past recalls.
-          subst (λ (e : LineError). RecallsAudit c.take_bad.new.self (passed_by e past)) (sym c.in-TooLong.is) (took.fault past recalls);
+          subst (λ (e : LineError). RecallsAudit c.take_bad-in-TooLong.new.self (passed_by e past)) (sym c.in-TooLong.is) (took.fault past recalls);
       number = took.number;
       counted = took.counted;
     }
 
 pub returns-in-BadData : goal.returns-in-BadData
 returns-in-BadData c =
-    let took = c.take_bad.ensures in
+    let took = c.take_bad-in-BadData.ensures in
     record {
       near = took.near;
       basis = took.basis;
       fault = λ past recalls.
-          subst (λ (e : LineError). RecallsAudit c.take_bad.new.self (passed_by e past)) (sym c.in-BadData.is) (took.fault past recalls);
+          subst (λ (e : LineError). RecallsAudit c.take_bad-in-BadData.new.self (passed_by e past)) (sym c.in-BadData.is) (took.fault past recalls);
       number = took.number;
       counted = took.counted;
     }
