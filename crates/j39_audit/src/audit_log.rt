@@ -201,7 +201,19 @@ impl<'a> AuditLog<'a> {
         match error {
             LineError::Empty => Ok(()),
             LineError::ShortIdent => self.take_short(),
-            LineError::NoHash | LineError::BadIdent | LineError::TooLong | LineError::BadData => {
+            LineError::NoHash => {
+                self.take_bad();
+                Ok(())
+            }
+            LineError::BadIdent => {
+                self.take_bad();
+                Ok(())
+            }
+            LineError::TooLong => {
+                self.take_bad();
+                Ok(())
+            }
+            LineError::BadData => {
                 self.take_bad();
                 Ok(())
             }
