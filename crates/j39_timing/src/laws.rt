@@ -1,5 +1,5 @@
 //! Laws of schedules.
-ghost use Rattle.std.specs.Prelude.{◌≡◌, ℕ, Bool, true, false, ◌+◌, ◌*◌, ◌<◌, ◌≤◌, List, All};
+ghost use Rattle.std.specs.Prelude.{◌≡◌, ◌≢◌, ℕ, Bool, true, false, ◌+◌, ◌*◌, ◌<◌, ◌≤◌, ◌⊎◌, List, All};
 ghost use Rattle.j39_timing.specs.TimedFrames.{Schedule, IsLegal};
 ghost use Rattle.j39_timing.specs.FrameStreams.{Origins};
 ghost use Rattle.j39_timing.specs.Errors.{Damaged, IsLegalInAnyOrderWithErrors, IsLegalWithErrors, damage_ordered};
@@ -9,7 +9,7 @@ ghost use Rattle.j39_timing.specs.Messages.{time_of_messages};
 ghost use Rattle.j39_timing.specs.FreshFrames.{ComeOneByOne, IsFresh, IsNewest, IsNewestFresh, KeepsComing};
 ghost use Rattle.j39_timing.specs.Vehicles.{IsKnown, KeepsItsStreams, Vehicle};
 ghost use Rattle.j39_timing.specs.Prefixes.{IsPlannedUntil, AreBegunUntil, HaveWaitsUntil, IsQueueGroupUntil};
-ghost use Rattle.j39_timing.specs.Gateways.{Carrier, IsIts, time_of, Comes, IsYoung, HasOwnReleases, IsOldAtMost};
+ghost use Rattle.j39_timing.specs.Gateways.{Carrier, IsClock, IsIts, KeepsReleasing, steady, time_of, Comes, IsYoung, HasOwnReleases, IsOldAtMost};
 ghost use Rattle.j39_timing.specs.Gateways.{KeepTo, HandsOn, SendsNewest, IsHandedOn, AreApart, EndWithin};
 ghost use Rattle.j39_timing.specs.Gateways.{KeepsToStream, Coming, ComesSo, Hop, AreHops, age_of, coming_at_last};
 ghost use Rattle.j39_timing.specs.Gateways.{last_of};
@@ -245,22 +245,37 @@ pub fn frames_beside_any_order_are_in_time()
         → AreSentWithin s planned of i (traffic.stream i) wait }
 {}
 
+/// Of clocks only this is asked, that no number of bits lasts longer or shorter than the longest and the shortest bits
+/// do. One all of whose bits are as long is such a clock (`steady`): then what is said in bits of how often messages of a
+/// bus come, and how far apart they are, says the same of true time (`comes`, `apart`), and ages over gateways are those
+/// of clocks that agree.
+pub fn steady_clocks_are_clocks()
+    ensures steady { (phase unit : ℕ) → 0 < unit → IsClock (steady phase unit) }
+    ensures comes { (x : Carrier) (pause from to : ℕ) → IsClock x.clock → HasOwnReleases x
+        → KeepsComing x.schedule x.planned x.of x.source pause from to
+        → KeepsReleasing x (x.clock.longest * pause) (time_of x.clock from) (time_of x.clock to) }
+    ensures apart { (x : Carrier) (period : ℕ) → IsClock x.clock → HasOwnReleases x
+        → ((p q : ℕ) → IsIts x p → IsIts x q → p ≢ q
+            → (x.of.since p + period ≤ x.of.since q) ⊎ (x.of.since q + period ≤ x.of.since p))
+        → AreApart x (x.clock.shortest * period) }
+{}
+
 /// What is handed on from bus to bus comes as often as it does at its origin, and how long behind its release, how old
 /// its value was then, and how old it is at most where it is received: on its own bus (`by_itself`), handed on directly
 /// (`directly`), or sent at a gateway's own beat, by what it is at the gateway (`at_releases`); and so how old it is
 /// (`young`), behind however many gateways (`at_last`).
 pub fn ages_add_over_gateways()
-    ensures by_itself { (x : Carrier) (stream : TheStream) (wait pause old from to early : ℕ) → 0 < x.clock.unit
+    ensures by_itself { (x : Carrier) (stream : TheStream) (wait interval old from to early : ℕ) → IsClock x.clock
         → IsStreamInTime x.schedule x.planned x.of x.source stream wait → KeepTo x stream → HasOwnReleases x
-        → KeepsComing x.schedule x.planned x.of x.source pause from to → to + (stream.jitter + wait) < x.schedule.now
-        → early + x.clock.unit * pause ≤ time_of x.clock from → IsOldAtMost x old early (time_of x.clock to)
-        → Comes x old (x.clock.unit * pause) (x.clock.unit * delay_of stream wait) (time_of x.clock from) (time_of x.clock to) }
-    ensures directly { (x y : Carrier) (stream : TheStream) (wait within old interval behind from to : ℕ)
+        → KeepsReleasing x interval from to → to + x.clock.longest * (stream.jitter + wait) < time_of x.clock x.schedule.now
+        → early + interval ≤ from → IsOldAtMost x old early to
+        → Comes x old interval (x.clock.longest * delay_of stream wait) from to }
+    ensures directly { (x y : Carrier) (stream : TheStream) (wait within old interval behind from to : ℕ) → IsClock y.clock
         → Comes x old interval behind from to → HandsOn x y within
         → IsStreamInTime y.schedule y.planned y.of y.source stream wait → KeepTo y stream
         → ((q : ℕ) → IsIts y q → time_of y.clock (y.of.since q) ≤ y.release q)
-        → to + y.clock.unit * (stream.jitter + wait) < time_of y.clock y.schedule.now
-        → Comes y old interval (behind + (within + y.clock.unit * (wait + stream.bits))) from to }
+        → to + y.clock.longest * (stream.jitter + wait) < time_of y.clock y.schedule.now
+        → Comes y old interval (behind + (within + y.clock.longest * (wait + stream.bits))) from to }
     ensures at_releases { (x y : Carrier) (within age from to : ℕ) → IsYoung x age from to → SendsNewest x y within
         → IsOldAtMost y (age + within) (from + within) (to + within) }
     ensures young { (x : Carrier) (old interval behind from to : ℕ) → Comes x old interval behind from to
@@ -274,9 +289,9 @@ pub fn ages_add_over_gateways()
 /// its messages are a period apart, where they are there, and are queued so late at most, where there is room for the
 /// input's time and the gateway's.
 pub fn forwarded_frames_keep_to_their_streams()
-    ensures keeps { (x y : Carrier) (within behind period jitter apart : ℕ) → 0 < y.clock.unit → EndWithin x behind
+    ensures keeps { (x y : Carrier) (within behind period jitter apart : ℕ) → IsClock y.clock → EndWithin x behind
         → IsHandedOn x y within
-        → AreApart x apart → behind + within ≤ y.clock.unit * jitter → y.clock.unit * period ≤ apart
+        → AreApart x apart → behind + within ≤ y.clock.shortest * jitter → y.clock.longest * period ≤ apart
         → KeepsToStream y period jitter }
 {}
 
