@@ -35,7 +35,7 @@ comes_in_time x pause from to clock own coming t low high =
     let upper : b < to + 1 = bits_in_order x.clock clock b (to + 1) (omega (arith, floor, high, above)) in
     let (p, in_p, is, source, since, near) = coming b lower (omega (arith, upper)) in
     let at : x.release p ≡ time_of x.clock (x.of.since p) = own p (in_p, is, source) in
-    let order : time_of x.clock (x.of.since p) ≤ time_of x.clock b = in_time_order x.clock clock _ _ since in
+    let order : time_of x.clock (x.of.since p) ≤ time_of x.clock b = in_time_order x.clock clock (x.of.since p) b since in
     let last : time_of x.clock (b + 1) ≤ time_of x.clock (x.of.since p) + x.clock.longest * pause =
     lasts_at_most x.clock clock (x.of.since p) (b + 1) pause (omega (arith, near)) in
     (p, (in_p, is, source), omega (arith, at, order, floor), omega (arith, at, last, next))
