@@ -1,5 +1,5 @@
 -- How long behind its release a message ends, from one direct forward to the next.
-use Rattle.std.proofs.Common.{◌≡◌, ℕ, zero, suc, ◌+◌, ◌*◌, ◌<◌, ◌≤◌, Option, Some, None, sym, ◌∙◌, subst, inl, inr, arith}
+use Rattle.std.proofs.Common.{◌≡◌, ℕ, zero, suc, ◌+◌, ◌*◌, ◌<◌, ◌≤◌, true, Option, Some, None, sym, ap, ◌∙◌, subst, inl, inr, arith}
 use Rattle.std.proofs.Math.Nat.{mul-le-mul_left, lt_of_mul-lt-mul_left}
 use Rattle.std.proofs.lemmas.Bool.{cases_lt}
 use Rattle.std.proofs.lemmas.Option.{none-some, same_Some}
@@ -102,7 +102,10 @@ in_sum : (last queue end x y before within own : ℕ) → last ≤ queue + own �
 in_sum last queue end x y before within own ends soon timely release = omega arith
 
 module _ (v : Vehicle) (delays : Delays) (told : AreDelays v delays) (seen : SeenBuses) (by : ℕ) (is : IsSeenVehicle v delays seen by) where
-  module _ (at : FlowAt) (time : ℕ) (one : IsOneFlow v delays seen at time) where
+  module _ (at : FlowAt) (among : is.scope.flows at ≡ true) (time : ℕ) (one : IsOneFlow v delays seen at time) where
+    inside : is.scope.buses at.bus ≡ true
+    inside = is.closed.its_bus at among
+
     abbrev u : ℕ
     u = unit_on v at.bus
 
@@ -133,7 +136,7 @@ module _ (v : Vehicle) (delays : Delays) (told : AreDelays v delays) (seen : See
     -- and one that is queued so long before the end of what is seen begins
     pub begins_in_view : (q : ℕ) → IsIts (frames_at v seen at) q → queue_time (frames_at v seen at) q + time ≤ by → HasBegun (frames_at v seen at) q
     begins_in_view q its early =
-        let until : by ≤ time_of (clock_on v seen at.bus) (seen at.bus).schedule.now = is.until at.bus one.timing one.timed in
+        let until : by ≤ time_of (clock_on v seen at.bus) (seen at.bus).schedule.now = is.until at.bus one.timing inside one.timed in
         let sum : time ≡ u * (one.wait + one.stream.bits) = one.own_time in
         let unit : 1 ≤ u = one.some_unit in
         let less : (seen at.bus).schedule.queued q + (one.wait + one.stream.bits) < (seen at.bus).schedule.now + 1 =
@@ -153,26 +156,26 @@ module _ (v : Vehicle) (delays : Delays) (told : AreDelays v delays) (seen : See
           own_time = time;
           one = one;
           first = λ q its.
-              let release : (seen at.bus).release q ≡ time_of (clock_on v seen at.bus) ((seen at.bus).of.since q) = is.own_releases at
+              let release : (seen at.bus).release q ≡ time_of (clock_on v seen at.bus) ((seen at.bus).of.since q) = is.own_releases at inside
               (not_sent_on v delays at none) q its in
               let order : u * (seen at.bus).of.since q ≤ u * (seen at.bus).schedule.queued q = mul-le-mul_left u (one.release_first q its) in
               omega arith;
           low = λ q its.
-              let release : (seen at.bus).release q ≡ time_of (clock_on v seen at.bus) ((seen at.bus).of.since q) = is.own_releases at
+              let release : (seen at.bus).release q ≡ time_of (clock_on v seen at.bus) ((seen at.bus).of.since q) = is.own_releases at inside
               (not_sent_on v delays at none) q its in
               omega arith;
           high = λ q its.
-              let release : (seen at.bus).release q ≡ time_of (clock_on v seen at.bus) ((seen at.bus).of.since q) = is.own_releases at
+              let release : (seen at.bus).release q ≡ time_of (clock_on v seen at.bus) ((seen at.bus).of.since q) = is.own_releases at inside
               (not_sent_on v delays at none) q its in
               omega arith;
           begun = λ q its early.
-              let release : (seen at.bus).release q ≡ time_of (clock_on v seen at.bus) ((seen at.bus).of.since q) = is.own_releases at
+              let release : (seen at.bus).release q ≡ time_of (clock_on v seen at.bus) ((seen at.bus).of.since q) = is.own_releases at inside
               (not_sent_on v delays at none) q its in
               let late : u * (seen at.bus).schedule.queued q ≤ u * ((seen at.bus).of.since q + one.stream.jitter) = mul-le-mul_left u (one.jitter q its) in
               let sum : time ≡ u * (one.wait + one.stream.bits) = one.own_time in
               begins_in_view q its (omega arith);
           ended = λ q begun.
-              let release : (seen at.bus).release q ≡ time_of (clock_on v seen at.bus) ((seen at.bus).of.since q) = is.own_releases at
+              let release : (seen at.bus).release q ≡ time_of (clock_on v seen at.bus) ((seen at.bus).of.since q) = is.own_releases at inside
               (not_sent_on v delays at none) q begun.0 in
               let timely = ends_from q begun in
               let late : u * (seen at.bus).schedule.queued q ≤ u * ((seen at.bus).of.since q + one.stream.jitter) = mul-le-mul_left u (one.jitter q begun.0) in
@@ -216,8 +219,18 @@ module _ (v : Vehicle) (delays : Delays) (told : AreDelays v delays) (seen : See
             mul-le-mul_left (unit_on v y.bus) (omega arith) in
             omega arith
 
-  flow_of : (at : FlowAt) (time : ℕ) → own v delays at ≡ Some time → IsOneFlow v delays seen at time
-  flow_of at time known = one_flow v delays told at time (own_parts v delays at time known) seen is.kept known
+  flow_of : (at : FlowAt) → is.scope.flows at ≡ true → (time : ℕ) → own v delays at ≡ Some time → IsOneFlow v delays seen at time
+  flow_of at among time known =
+      one_flow v delays told at time (own_parts v delays at time known) is.scope (is.closed.its_bus at among) among seen is.kept known
+
+  -- what is sent on directly to a flow of the scope is of the scope too
+  pub source_among : (at : FlowAt) → is.scope.flows at ≡ true → (n : Forward) (source : FlowAt) (time : ℕ) → direct_feeder v at ≡ Some n
+      → first_input_at v n ≡ Some source → own v delays at ≡ Some time → is.scope.flows source ≡ true
+  source_among at among n source time feeder source_is owns =
+      let parts = own_parts v delays at time owns in
+      is.closed.sources at source (is.closed.its_bus at among)
+      (ap (option_and_then (λ (bits : ℕ). option_and_then (first_input_at v) (direct_feeder v at))) parts.delayed
+      ∙ (ap (option_and_then (first_input_at v)) feeder ∙ source_is))
 
   own_of_release : (at : FlowAt) (time : ℕ) → behind_release v delays at ≡ Some time → (n : ℕ) × (own v delays at ≡ Some n)
   own_of_release at time known =
@@ -225,34 +238,35 @@ module _ (v : Vehicle) (delays : Delays) (told : AreDelays v delays) (seen : See
       (n, owns)
 
   -- what a direct forward sends, by its place
-  pub sends_directly : (at : FlowAt) (n : Forward) (source : FlowAt) (within before own_time : ℕ) → direct_feeder v at ≡ Some n
+  pub sends_directly : (at : FlowAt) → is.scope.flows at ≡ true → (n : Forward) (source : FlowAt) (within before own_time : ℕ) → direct_feeder v at ≡ Some n
       → first_input_at v n ≡ Some source
       → within_of n ≡ Some within → IsOneFlow v delays seen at own_time → IsBehind v delays seen by source before
       → (place : ℕ) × IsFeederAt v at n place × IsSentDirectly v seen place source at within
-  sends_directly at n source within before own_time feeder source_is promised one input =
+  sends_directly at among n source within before own_time feeder source_is promised one input =
       let (place, feeding) = feeder_is v at n feeder in (
         place,
         feeding,
         is.prompt.direct place n source at within (record
-            { its = feeding.its; output = feeding.feeding; input = source_is; promised = promised }) feeding.direct
+            { its = feeding.its; output = feeding.feeding; input = source_is; promised = promised }) feeding.direct (is.closed.its_bus at among)
             (input.one.bits, input.one.delayed) (one.bits, one.delayed),
       )
 
-  pub is_behind : (steps : ℕ) (at : FlowAt) (time : ℕ) → behind_by v delays steps at ≡ Some time → IsBehind v delays seen by at time
-  is_behind zero at time known = some_cases (direct_feeder v at) (IsBehind v delays seen by at time)
+  pub is_behind : (steps : ℕ) (at : FlowAt) → is.scope.flows at ≡ true → (time : ℕ) → behind_by v delays steps at ≡ Some time
+      → IsBehind v delays seen by at time
+  is_behind zero at among time known = some_cases (direct_feeder v at) (IsBehind v delays seen by at time)
       (λ none.
       let release = unfed_release v delays zero at time none known in
       let (n, owns) = own_of_release at time release in
-      by_itself at n (flow_of at n owns) none time release)
+      by_itself at among n (flow_of at among n owns) none time release)
       (λ n feeder. absurd (fed_never v delays at time n feeder known))
-  is_behind (suc steps) at time known = some_cases (direct_feeder v at) (IsBehind v delays seen by at time)
+  is_behind (suc steps) at among time known = some_cases (direct_feeder v at) (IsBehind v delays seen by at time)
       (λ none.
       let release = unfed_release v delays (suc steps) at time none known in
       let (n, owns) = own_of_release at time release in
-      by_itself at n (flow_of at n owns) none time release)
+      by_itself at among n (flow_of at among n owns) none time release)
       (λ n feeder.
       let fed = fed_parts v delays steps at time n feeder known in
-      let input = is_behind steps fed.source fed.before fed.before_is in
-      let one = flow_of at fed.own_time fed.own_is in
-      let (place, feeding, sent) = sends_directly at n fed.source fed.within fed.before fed.own_time feeder fed.source_is fed.promised one input in
-      subst (IsBehind v delays seen by at) (sym fed.sum) (sent_on at fed.own_time one fed.source fed.before place fed.within input sent))
+      let input = is_behind steps fed.source (source_among at among n fed.source fed.own_time feeder fed.source_is fed.own_is) fed.before fed.before_is in
+      let one = flow_of at among fed.own_time fed.own_is in
+      let (place, feeding, sent) = sends_directly at among n fed.source fed.within fed.before fed.own_time feeder fed.source_is fed.promised one input in
+      subst (IsBehind v delays seen by at) (sym fed.sum) (sent_on at among fed.own_time one fed.source fed.before place fed.within input sent))

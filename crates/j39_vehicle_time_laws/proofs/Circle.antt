@@ -23,7 +23,7 @@ use Rattle.j39_vehicle_times.specs.Times.{behind_at, behind_by, behind_release, 
 use Rattle.j39_vehicle_times.specs.Times.{queued_behind, queued_of, sum_known, timing_on, us_of_ms, within_of}
 use Rattle.j39_vehicle_time_laws.specs.ForwardedStreams.{streams_of}
 use Rattle.j39_vehicle_time_laws.specs.KeptBuses.{IsKnownBus, asked_on}
-use Rattle.j39_vehicle_time_laws.specs.Prompt.{sent_from}
+use Rattle.j39_vehicle_time_laws.specs.Prompt.{Scope, sent_from}
 use Rattle.j39_vehicle_time_laws.specs.Seen.{SeenBuses, clock_on, unit_on}
 use Rattle.j39_vehicle_time_laws.proofs.Behind.{fed_never, fed_parts, unfed_release}
 use Rattle.j39_vehicle_time_laws.proofs.OneFlow.{HasOwn, HasStream, bound, its_stream, jitter_bits, release_is, own_is, placed, known_bus, unit_here}
@@ -90,7 +90,9 @@ own_from v delays at timing flow bits timed its delayed =
 
 -- ---- the buses
 
-pub record TimedBus (v : Vehicle) (b : ℕ) : Type 0 where
+-- a bus of the scope that has timing
+pub record TimedBus (v : Vehicle) (scope : Scope) (b : ℕ) : Type 0 where
+  pub inside : scope.buses b ≡ true
   pub timing : Timing
   pub timed : timing_on v.buses.items b ≡ Some timing
 
@@ -100,32 +102,37 @@ at_of b i = record { bus = b; flow = i }
 abbrev pub no_traffic : Traffic
 no_traffic = record { count = 0; stream = λ j. no_frames.stream; demands = []; least = λ j. 0; greatest = λ j. 0; are_twins = no_twins }
 
-pub view_with : (v : Vehicle) (b : ℕ) (o : Option Timing) → timing_on v.buses.items b ≡ o → Option (TimedBus v b)
-view_with v b None none = None
-view_with v b (Some timing) timed = Some (record { timing = timing; timed = timed })
+pub view_with : (v : Vehicle) (scope : Scope) (b : ℕ) (c : Bool) → scope.buses b ≡ c → (o : Option Timing) → timing_on v.buses.items b ≡ o
+    → Option (TimedBus v scope b)
+view_with v scope b false outside o is = None
+view_with v scope b true inside None none = None
+view_with v scope b true inside (Some timing) timed = Some (record { inside = inside; timing = timing; timed = timed })
 
-pub view : (v : Vehicle) (b : ℕ) → Option (TimedBus v b)
-view v b = view_with v b (timing_on v.buses.items b) refl
+pub view : (v : Vehicle) (scope : Scope) (b : ℕ) → Option (TimedBus v scope b)
+view v scope b = view_with v scope b (scope.buses b) refl (timing_on v.buses.items b) refl
 
-pub viewed : (v : Vehicle) (b : ℕ) (timing : Timing) → timing_on v.buses.items b ≡ Some timing → (t : TimedBus v b) × (view v b ≡ Some t)
+pub viewed : (v : Vehicle) (scope : Scope) (b : ℕ) (timing : Timing) → scope.buses b ≡ true → timing_on v.buses.items b ≡ Some timing
+    → (t : TimedBus v scope b) × (view v scope b ≡ Some t)
 unfolding view_with view
-viewed v b timing timed = go (timing_on v.buses.items b) refl timed
+viewed v scope b timing inside timed = go (scope.buses b) refl (timing_on v.buses.items b) refl inside timed
   where
-    go : (o : Option Timing) (e : timing_on v.buses.items b ≡ o) → o ≡ Some timing → (t : TimedBus v b) × (view_with v b o e ≡ Some t)
-    go None e is = absurd (none-some timing is)
-    go (Some x) e is = (record { timing = x; timed = e }, refl)
+    go : (c : Bool) (d : scope.buses b ≡ c) (o : Option Timing) (e : timing_on v.buses.items b ≡ o) → c ≡ true → o ≡ Some timing
+        → (t : TimedBus v scope b) × (view_with v scope b c d o e ≡ Some t)
+    go false d o e outside is = absurd (false≢true outside)
+    go true d None e in_it is = absurd (none-some timing is)
+    go true d (Some x) e in_it is = (record { inside = d; timing = x; timed = e }, refl)
 
-module _ (v : Vehicle) (delays : Delays) (told : AreDelays v delays) (seen : SeenBuses) where
-  abbrev pub of_bus : {b : ℕ} → (t : TimedBus v b) → IsKnownBus v delays b t.timing
+module _ (v : Vehicle) (scope : Scope) (delays : Delays) (told : AreDelays v delays) (seen : SeenBuses) where
+  abbrev pub of_bus : {b : ℕ} → (t : TimedBus v scope b) → IsKnownBus v delays b t.timing
   of_bus {b} t = known_bus v delays told b t.timing t.timed
 
-  abbrev pub all_of : {b : ℕ} → TimedBus v b → List (Option FlowFrames)
+  abbrev pub all_of : {b : ℕ} → TimedBus v scope b → List (Option FlowFrames)
   all_of t = frames_asked (asked_on (of_bus t))
 
-  abbrev pub stream_of : {b : ℕ} → TimedBus v b → ℕ → Stream
+  abbrev pub stream_of : {b : ℕ} → TimedBus v scope b → ℕ → Stream
   stream_of t i = (streams_of t.timing (all_of t)).stream i
 
-  abbrev pub bus_with : (b : ℕ) → Option (TimedBus v b) → Bus
+  abbrev pub bus_with : (b : ℕ) → Option (TimedBus v scope b) → Bus
   bus_with b None = record {
     schedule = record { count = 0; queued = λ p. 0; start = λ p. 0; bits = λ p. 0; ident = λ p. 0; now = 0 };
     clock = clock_on v seen b;
@@ -149,7 +156,7 @@ module _ (v : Vehicle) (delays : Delays) (told : AreDelays v delays) (seen : See
 
   -- ---- numbers of streams, where they are those of flows of which a delay is told
 
-  abbrev pub direct_with : (b i : ℕ) → Option (TimedBus v b) → Bool
+  abbrev pub direct_with : (b i : ℕ) → Option (TimedBus v scope b) → Bool
   direct_with b i None = false
   direct_with b i (Some t) = is_some (sent_from v delays (at_of b i))
 
@@ -159,24 +166,24 @@ module _ (v : Vehicle) (delays : Delays) (told : AreDelays v delays) (seen : See
   abbrev pub queued_value : ℕ → ℕ → ℕ
   queued_value b i = option_map_or (λ n. unwrap_or (queued_of v delays n) 0) (direct_feeder v (at_of b i)) 0
 
-  abbrev pub wait_with : (b i : ℕ) → Option (TimedBus v b) → ℕ
+  abbrev pub wait_with : (b i : ℕ) → Option (TimedBus v scope b) → ℕ
   wait_with b i None = 0
   wait_with b i (Some t) = unwrap_or (delay_at delays (at_of b i)) 0 - ((stream_of t i).jitter + (stream_of t i).bits)
 
-  abbrev pub behind_with : (b i : ℕ) → Option (TimedBus v b) → ℕ
+  abbrev pub behind_with : (b i : ℕ) → Option (TimedBus v scope b) → ℕ
   behind_with b i None = 0
   behind_with b i (Some t) = cond (is_some (sent_from v delays (at_of b i)))
       (queued_value b i + unit_on v b * (wait_with b i (Some t) + (stream_of t i).bits)) (unit_on v b * delay_of (stream_of t i) (wait_with b i (Some t)))
 
   -- ---- one flow of which a delay is told
 
-  pub record IsTold (b i : ℕ) (t : TimedBus v b) : Type 0 where
+  pub record IsTold (b i : ℕ) (t : TimedBus v scope b) : Type 0 where
     pub flow : FlowPlan
     pub its : flow_at v.buses.items (at_of b i) ≡ Some flow
     pub bits : ℕ
     pub delayed : delay_at delays (at_of b i) ≡ Some bits
 
-  module _ (b i : ℕ) (t : TimedBus v b) (is : IsTold b i t) where
+  module _ (b i : ℕ) (t : TimedBus v scope b) (is : IsTold b i t) where
     abbrev pub time : ℕ
     time = own_of t.timing is.flow is.bits
 
@@ -233,7 +240,7 @@ module _ (v : Vehicle) (delays : Delays) (told : AreDelays v delays) (seen : See
         ∙ unit_of_ms t.timing.bitrate streamed.period))
 
   -- what is known to come behind its release is what is reckoned with here
-  pub behind_value : (b i : ℕ) (t : TimedBus v b) (is : IsTold b i t) (total : ℕ) → behind_at v delays (at_of b i) ≡ Some total
+  pub behind_value : (b i : ℕ) (t : TimedBus v scope b) (is : IsTold b i t) (total : ℕ) → behind_at v delays (at_of b i) ≡ Some total
       → behind_with b i (Some t) ≡ total
   behind_value b i t is total known = some_cases (direct_feeder v (at_of b i)) (behind_with b i (Some t) ≡ total)
       (λ none.

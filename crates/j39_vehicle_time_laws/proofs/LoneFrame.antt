@@ -1,5 +1,5 @@
 -- A bus on which one frame is seen, of a flow of which a delay is told, or none: that it keeps to its plan.
-use Rattle.std.proofs.Common.{◌≡◌, ◌≢◌, ℕ, zero, suc, ◌+◌, ◌<◌, ◌≤◌, true, List, [], ◌∷◌, ◌++◌, length, Option, Some, None, refl, sym, ap, ◌∙◌, subst, inl}
+use Rattle.std.proofs.Common.{◌≡◌, ◌≢◌, ℕ, zero, suc, ◌+◌, ◌<◌, ◌≤◌, Bool, true, List, [], ◌∷◌, ◌++◌, length, Option, Some, None, refl, sym, ap, ◌∙◌, subst, inl}
 use Rattle.std.proofs.Common.{arith}
 use Rattle.std.proofs.lemmas.Bool.{true≢false}
 use Rattle.std.proofs.lemmas.Option.{slice_get-map}
@@ -162,9 +162,9 @@ module _ (timing : Timing) (all : List (Option FlowFrames)) (flow queued ident b
     queue_groups = λ j level goes kept is. absurd (true≢false (sym (ordered j) ∙ kept));
   }
 
-  pub one_kept : (v : Vehicle) (delays : Delays) (b : ℕ) → (¬ IsSentOn v delays (record { bus = b; flow = flow }) → queued ≡ 0)
-      → IsOtherwiseKept v delays b timing all (bus_with 1 flow queued ident by)
-  one_kept v delays b early = record {
+  pub one_kept : (v : Vehicle) (delays : Delays) (b : ℕ) (flows : ℕ → Bool) → (¬ IsSentOn v delays (record { bus = b; flow = flow }) → queued ≡ 0)
+      → IsOtherwiseKept v delays b timing all flows (bus_with 1 flow queued ident by)
+  one_kept v delays b flows early = record {
     legal = legal_in_order (one_frame queued ident by) (one_legal queued ident by);
     own = λ p in_p is own. record {
       known = suits.inside;
@@ -175,17 +175,17 @@ module _ (timing : Timing) (all : List (Option FlowFrames)) (flow queued ident b
     };
     sent_on = λ p in_p is sent. (suits.inside, suits.some_bits, let one = suits.single in omega (arith, one));
     spaced = λ p q in_p in_q differ. absurd (differ (one_place p q in_p in_q));
-    frames = λ other bits at. one_keeps other;
+    frames = λ other bits among at. one_keeps other;
   }
 
-pub none_kept : (v : Vehicle) (delays : Delays) (b : ℕ) (timing : Timing) (all : List (Option FlowFrames)) (by : ℕ)
-    → IsOtherwiseKept v delays b timing all (bus_with 0 0 0 0 by)
-none_kept v delays b timing all by = record {
+pub none_kept : (v : Vehicle) (delays : Delays) (b : ℕ) (timing : Timing) (all : List (Option FlowFrames)) (flows : ℕ → Bool) (by : ℕ)
+    → IsOtherwiseKept v delays b timing all flows (bus_with 0 0 0 0 by)
+none_kept v delays b timing all flows by = record {
   legal = legal_in_order (bus_with 0 0 0 0 by).schedule (none_legal 0 0 0 by);
   own = λ p in_p. absurd (omega arith);
   sent_on = λ p in_p. absurd (omega arith);
   spaced = λ p q in_p. absurd (omega arith);
-  frames = λ flow bits at. record {
+  frames = λ flow bits among at. record {
     longest_at_most = λ p in_p. absurd (omega arith);
     as_wanted = never_wanted (bus_with 0 0 0 0 by).schedule (λ p. true) (record { source = λ p. 0; turn = λ p. 0; since = λ p. 0 })
         (streams_of timing all).demands

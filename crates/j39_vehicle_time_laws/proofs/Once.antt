@@ -25,7 +25,7 @@ use Rattle.j39_vehicle_times.proofs.DecidingTimes.{and_then_some, map_some}
 use Rattle.j39_vehicle_time_laws.specs.ForwardedStreams.{AreOtherwiseKept, IsOtherwiseKept, streams_of}
 use Rattle.j39_vehicle_time_laws.specs.KeptBuses.{IsKnownBus, asked_on}
 use Rattle.j39_vehicle_time_laws.specs.OnceSentOn.{AreSentOnOnce, CanBeSentOn, IsLoneForward}
-use Rattle.j39_vehicle_time_laws.specs.Prompt.{ArePrompt, IsSentDirectly, IsSentOn}
+use Rattle.j39_vehicle_time_laws.specs.Prompt.{ArePrompt, IsSentDirectly, IsSentOn, scope_on, whole_vehicle}
 use Rattle.j39_vehicle_time_laws.specs.Seen.{SeenBus, SeenBuses, frames_at, unit_on}
 use Rattle.j39_vehicle_time_laws.specs.VehicleAges.{IsPromptVehicle}
 use Rattle.j39_vehicle_laws.specs.Faithful.{KeepsContents}
@@ -143,28 +143,28 @@ module _ (v : Vehicle) (delays : Delays) (told : AreDelays v delays) (n : ℕ) (
         ∙ (ap (option_and_then (first_input_at v)) lone.fed ∙ lone.sends.input),
   )
 
-  kept : AreOtherwiseKept v delays seen
-  kept b timing of_bus = elim (cases_Bool (eqb b x.bus)) [
+  kept : AreOtherwiseKept v delays whole_vehicle seen
+  kept b timing of_bus inside = elim (cases_Bool (eqb b x.bus)) [
     | inl is ↦
         let same : b ≡ x.bus = eqb-true b x.bus is in
-        subst (λ (s : SeenBus). IsOtherwiseKept v delays b timing (frames_asked (asked_on of_bus)) s) (sym (seen_x b is))
-        (subst (λ (c : ℕ). (other : IsKnownBus v delays c timing) → IsOtherwiseKept v delays c timing (frames_asked (asked_on other)) bus_x) (sym same)
+        subst (λ (s : SeenBus). IsOtherwiseKept v delays b timing (frames_asked (asked_on of_bus)) (scope_on whole_vehicle b) s) (sym (seen_x b is))
+        (subst (λ (c : ℕ). (other : IsKnownBus v delays c timing) → IsOtherwiseKept v delays c timing (frames_asked (asked_on other)) (scope_on whole_vehicle c) bus_x) (sym same)
         (λ other. one_kept timing (frames_asked (asked_on other)) x.flow 0 ident_x by
         (subst (λ (tr : Traffic). Fits tr x.flow ident_x)
         (one_traffic v delays x.bus lone.timed_x.0 timing (known_bus v delays told x.bus lone.timed_x.0 lone.timed_x.1) other) fits_of_x)
-        (lone.in_order x.bus timing other) v delays x.bus (λ own. refl)) of_bus)
+        (lone.in_order x.bus timing other) v delays x.bus (scope_on whole_vehicle x.bus) (λ own. refl)) of_bus)
     | inr isnt ↦ elim (cases_Bool (eqb b y.bus)) [
       | inl is ↦
           let same : b ≡ y.bus = eqb-true b y.bus is in
-          subst (λ (s : SeenBus). IsOtherwiseKept v delays b timing (frames_asked (asked_on of_bus)) s) (sym (seen_y b isnt is))
-          (subst (λ (c : ℕ). (other : IsKnownBus v delays c timing) → IsOtherwiseKept v delays c timing (frames_asked (asked_on other)) bus_y) (sym same)
+          subst (λ (s : SeenBus). IsOtherwiseKept v delays b timing (frames_asked (asked_on of_bus)) (scope_on whole_vehicle b) s) (sym (seen_y b isnt is))
+          (subst (λ (c : ℕ). (other : IsKnownBus v delays c timing) → IsOtherwiseKept v delays c timing (frames_asked (asked_on other)) (scope_on whole_vehicle c) bus_y) (sym same)
           (λ other. one_kept timing (frames_asked (asked_on other)) y.flow 8 ident_y by
           (subst (λ (tr : Traffic). Fits tr y.flow ident_y)
           (one_traffic v delays y.bus lone.timed_y.0 timing (known_bus v delays told y.bus lone.timed_y.0 lone.timed_y.1) other) fits_of_y)
-          (lone.in_order y.bus timing other) v delays y.bus (λ own. absurd (own is_sent_on))) of_bus)
+          (lone.in_order y.bus timing other) v delays y.bus (scope_on whole_vehicle y.bus) (λ own. absurd (own is_sent_on))) of_bus)
       | inr neither ↦
-          subst (λ (s : SeenBus). IsOtherwiseKept v delays b timing (frames_asked (asked_on of_bus)) s) (sym (seen_none b isnt neither))
-          (none_kept v delays b timing (frames_asked (asked_on of_bus)) by)
+          subst (λ (s : SeenBus). IsOtherwiseKept v delays b timing (frames_asked (asked_on of_bus)) (scope_on whole_vehicle b) s) (sym (seen_none b isnt neither))
+          (none_kept v delays b timing (frames_asked (asked_on of_bus)) (scope_on whole_vehicle b) by)
     ]
   ]
 
@@ -249,9 +249,9 @@ module _ (v : Vehicle) (delays : Delays) (told : AreDelays v delays) (n : ℕ) (
     | inr same ↦ differ (lone.alone m other its (subst (λ (f : FlowAt). feeds v f other ≡ true) same feeding))
   ]
 
-  prompt : ArePrompt v delays seen
+  prompt : ArePrompt v delays whole_vehicle seen
   prompt = record {
-    direct = λ m other a b time sends direct told_a told_b. elim (cases_eq m n) [
+    direct = λ m other a b time sends direct inside told_a told_b. elim (cases_eq m n) [
       | inl same ↦
           let one : other ≡ forward = same_Some _ _ (sym sends.its ∙ (ap (forward_at v) same ∙ lone.sends.its)) in
           let heard : a ≡ x = same_Some _ _ (sym (subst (λ (f : Forward). first_input_at v f ≡ Some a) one sends.input) ∙ lone.sends.input) in
@@ -280,7 +280,7 @@ module _ (v : Vehicle) (delays : Delays) (told : AreDelays v delays) (n : ℕ) (
             keeps = λ one at q its. absurd (no_output q its);
           }
     ];
-    periodic = λ m other a b time pause behind sends periodic interval known. record {
+    periodic = λ m other a b time pause behind sends periodic among interval known. record {
       newest = λ s t leads p q begun its. elim (cases_eq m n) [
         | inl same ↦
             let one : other ≡ forward = same_Some _ _ (sym sends.its ∙ (ap (forward_at v) same ∙ lone.sends.its)) in
@@ -290,16 +290,18 @@ module _ (v : Vehicle) (delays : Delays) (told : AreDelays v delays) (n : ℕ) (
     };
   }
 
-  whole : IsPromptVehicle v delays seen by
+  abbrev whole : IsPromptVehicle v delays seen by
   whole = record {
+    scope = whole_vehicle;
+    closed = record { its_bus = λ at among. refl; sources = λ at from inside sent. refl };
     kept = kept;
-    until = λ b timing timed.
+    until = λ b timing inside timed.
         let some = unit_positive v b in
         each_bus (λ s. by ≤ s.phase + unit_on v b * s.schedule.now) (times_more (unit_on v b) by some) (times_more (unit_on v b) by some) (times_more
         (unit_on v b) by some) b;
     prompt = prompt;
-    own_releases = λ at own q its. each_bus (λ s. s.release q ≡ s.phase + unit_on v at.bus * s.of.since q) (omega arith) (omega arith) (omega arith) at.bus;
-    origins = λ p last q its. each_bus (λ s. (time : ℕ) × (s.born q p.signal ≡ Some time) × (s.release q ≤ time)
+    own_releases = λ at inside own q its. each_bus (λ s. s.release q ≡ s.phase + unit_on v at.bus * s.of.since q) (omega arith) (omega arith) (omega arith) at.bus;
+    origins = λ p among last q its. each_bus (λ s. (time : ℕ) × (s.born q p.signal ≡ Some time) × (s.release q ≤ time)
         × (time ≤ s.phase + unit_on v p.at.bus * s.schedule.queued q))
         (0, refl, omega arith, omega arith) (0, refl, omega arith, omega arith) (0, refl, omega arith, omega arith) p.at.bus;
   }
@@ -311,6 +313,7 @@ module _ (v : Vehicle) (delays : Delays) (told : AreDelays v delays) (n : ℕ) (
   can_be_sent_on = record {
     seen = seen;
     prompt = whole;
+    whole = refl;
     message = 0;
     begun = begun_x;
     next = 0;

@@ -40,6 +40,7 @@ use Rattle.j39_vehicle_times.specs.TimeFindings.{period_ms}
 use Rattle.j39_vehicle_times.specs.Times.{behind_release, us_of_bit, bits_within, delay_at, flow_at, jitter_ms, own, own_of, sum_known, timing_on, us_of_ms}
 use Rattle.j39_vehicle_times.proofs.DecidingTimes.{and_then_some, map_some}
 use Rattle.j39_vehicle_time_laws.specs.KeptBuses.{AreKeptBuses, IsKeptBus, IsKnownBus, asked_on}
+use Rattle.j39_vehicle_time_laws.specs.Prompt.{Scope, scope_on}
 use Rattle.j39_vehicle_time_laws.specs.Seen.{SeenBuses, frames_at, unit_on}
 use Rattle.j39_vehicle_time_laws.proofs.Starts.{starts_within}
 use Rattle.j39_vehicle_time_laws.proofs.Parts.{some_unit, unit_of_ms, within_some}
@@ -234,13 +235,14 @@ module _ (v : Vehicle) (delays : Delays) (told : AreDelays v delays) (at : FlowA
       ap (λ (o : Option ℕ). sum_known o (Rattle.j39_vehicle_times.specs.Times.timed v at (λ timing flow. Some (us_of_ms (jitter_ms flow))))) is
       ∙ (ap (λ (o : Option ℕ). sum_known (Some time) o) jitter ∙ ap (λ (n : ℕ). Some n) (omega (arith, bits, late)))
 
-  module _ (seen : SeenBuses) (kept : AreKeptBuses v delays seen) where
-    keeps_bus : IsKeptBus has.timing asked (delays_on delays at.bus) (seen at.bus)
-    keeps_bus = kept at.bus has.timing of_bus
+  module _ (scope : Scope) (inside : scope.buses at.bus ≡ true) (among : scope.flows at ≡ true) (seen : SeenBuses)
+      (kept : AreKeptBuses v delays scope seen) where
+    keeps_bus : IsKeptBus has.timing asked (delays_on delays at.bus) (scope_on scope at.bus) (seen at.bus)
+    keeps_bus = kept at.bus has.timing of_bus inside
 
     frames_here : AreFramesInAnyOrder has.timing (frames_asked asked) (seen at.bus).schedule (seen at.bus).controllers (seen at.bus).planned
         (seen at.bus).of at.flow
-    frames_here = keeps_bus.frames at.flow has.bits delay_here
+    frames_here = keeps_bus.frames at.flow has.bits among delay_here
 
     keeps : (p : ℕ) → IsIts (frames_at v seen at) p
         → ((seen at.bus).schedule.bits p ≤ bound.frames.stream.bits) × ((seen at.bus).of.since p ≤ (seen at.bus).schedule.queued p)

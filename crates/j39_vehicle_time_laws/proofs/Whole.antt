@@ -37,10 +37,13 @@ use Rattle.j39_vehicle_time_laws.proofs.Young.{brought_young}
 
 -- ---- what is seen of it
 
-pub seen_vehicle : (v : Vehicle) (delays : Delays) → IsSoundVehicle v delays → (seen : SeenBuses) (by : ℕ) → IsPromptVehicle v delays seen by
+abbrev pub seen_vehicle : (v : Vehicle) (delays : Delays) → IsSoundVehicle v delays → (seen : SeenBuses) (by : ℕ) → IsPromptVehicle v delays seen by
     → IsSeenVehicle v delays seen by
 seen_vehicle v delays sound seen by is = record {
-  kept = streams_are_kept v delays (are_timely v delays sound.paths sound.told sound.times) sound.told seen is.kept is.prompt is.own_releases;
+  scope = is.scope;
+  closed = is.closed;
+  kept = streams_are_kept v delays (are_timely v delays sound.paths sound.told sound.times) sound.told is.scope is.closed seen is.kept is.prompt
+      is.own_releases;
   until = is.until;
   prompt = is.prompt;
   own_releases = is.own_releases;
@@ -50,8 +53,8 @@ seen_vehicle v delays sound seen by is = record {
 -- ---- ages
 
 pub ages_kept : (v : Vehicle) (delays : Delays) → IsSoundVehicle v delays → AreAgesKept v delays
-ages_kept v delays sound seen p most from t known room is pauses =
-    brought_young v delays sound.paths sound.told seen p most from t known room (seen_vehicle v delays sound seen t is) pauses
+ages_kept v delays sound seen p most from t known room is has pauses =
+    brought_young v delays sound.paths sound.told seen p most from t known room (seen_vehicle v delays sound seen t is) has pauses
 
 -- the first of so many numbers of which a statement holds that can be decided, or it holds of none
 searched : (P : ℕ → Type 0) → ((k : ℕ) → P k ⊎ (¬ P k)) → (n : ℕ) → ((k : ℕ) × P k) ⊎ ((k : ℕ) → k < n → ¬ P k)
@@ -146,8 +149,8 @@ module _ (v : Vehicle) (delays : Delays) (sound : IsSoundVehicle v delays) (d : 
         most = most;
         age_is = known;
         young = few;
-        brought = λ seen from t room is pauses.
-            let brought = ages_kept v delays sound seen (point_on need.unit.bus f need.signal) most from t known room is pauses in
+        brought = λ seen from t room is has pauses.
+            let brought = ages_kept v delays sound seen (point_on need.unit.bus f need.signal) most from t known room is has pauses in
             record {
               frame = brought.frame;
               begun = brought.begun;
@@ -191,14 +194,14 @@ ends_early : (phase u bit last time by : ℕ) → 1 ≤ u → u * (bit + 1) ≤ 
 ends_early phase u bit last time by unit order room = omega arith
 
 pub pauses_kept : (v : Vehicle) (delays : Delays) → IsSoundVehicle v delays → AreForwardedPausesKept v delays
-pauses_kept v delays sound seen by at timing flow ms time first last (from, sent) timed its paused known is pauses room =
+pauses_kept v delays sound seen by at timing flow ms time first last (from, sent) timed its paused known is has pauses room =
     let (bits, delayed, rest) = and_then_some (λ (bits : ℕ). option_and_then (first_input_at v) (direct_feeder v at)) (delay_at delays at) from sent in
     let (n, feeder, input) = and_then_some (first_input_at v) (direct_feeder v at) from rest in
     let whole = seen_vehicle v delays sound seen by is in
     let (interval, interval_is, few) = keeps_rarely v delays sound.paths sound.told sound.times at bits n delayed feeder flow its from input ms paused in
-    let ends = is_behind v delays sound.told seen by whole (length v.forwards.items) at time known in
+    let ends = is_behind v delays sound.told seen by whole (length v.forwards.items) at (has (record { at = at; signal = None }) itself) time known in
     let keeps : KeepsOn v seen at interval time (time_of (clock_on v seen at.bus) first) by =
-    source_keeps_on v delays sound.told seen by whole (record { at = at; signal = None }) (time_of (clock_on v seen at.bus) first) pauses
+    source_keeps_on v delays sound.told seen by whole (record { at = at; signal = None }) has (time_of (clock_on v seen at.bus) first) pauses
     (record { at = at; signal = None }) itself from interval n feeder input interval_is (length v.forwards.items) time known in
     let unit : 1 ≤ unit_on v at.bus = ends.one.some_unit in
     let same_unit : unit_on v at.bus ≡ us_of_bit timing.bitrate = ap (λ (o : Option Timing). option_map_or (λ (t : Timing). us_of_bit t.bitrate) o 1) timed in

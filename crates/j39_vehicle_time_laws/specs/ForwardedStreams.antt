@@ -22,7 +22,7 @@ use Rattle.j39_vehicle_times.specs.TimeFindings.{period_ms}
 use Rattle.j39_vehicle_times.specs.Times.{delay_at, direct_feeder, flow_at, first_input_at, jitter_ms, queued_of}
 use Rattle.j39_vehicle_times.specs.declared.bus_delays.Delays.{Delays}
 use Rattle.j39_vehicle_time_laws.specs.KeptBuses.{AreKeptBuses, IsKnownBus, asked_on}
-use Rattle.j39_vehicle_time_laws.specs.Prompt.{ArePrompt, HaveOwnReleases, IsSentOn}
+use Rattle.j39_vehicle_time_laws.specs.Prompt.{ArePrompt, HaveOwnReleases, IsScope, IsSentOn, Scope, scope_on}
 use Rattle.j39_vehicle_time_laws.specs.Seen.{SeenBus, SeenBuses}
 
 -- the streams of a plan's frames, and of what comes of damage
@@ -51,8 +51,10 @@ pub record KeepsOtherwise (timing : Timing) (all : List (Option FlowFrames)) (s 
 
 -- ---- flows that are sent on directly
 
--- the bus keeps to its plan; but it isn't asked when messages are queued that are sent on directly, nor how far apart their releases are
-pub record IsOtherwiseKept (v : Vehicle) (delays : Delays) (b : ℕ) (timing : Timing) (all : List (Option FlowFrames)) (bus : SeenBus) : Type 0 where
+-- the bus keeps to its plan; but it isn't asked when messages are queued that are sent on directly, nor how far apart their releases are; and what
+-- holds while frames of a flow wait is asked of these flows alone
+pub record IsOtherwiseKept (v : Vehicle) (delays : Delays) (b : ℕ) (timing : Timing) (all : List (Option FlowFrames)) (flows : ℕ → Bool) (bus : SeenBus)
+    : Type 0 where
   pub legal : IsLegalInAnyOrder bus.schedule bus.controllers
   pub own : (p : ℕ) → p < bus.schedule.count → bus.planned p ≡ true → ¬ IsSentOn v delays (record { bus = b; flow = bus.of.source p })
       → KeepsStream bus.schedule (streams_of timing all).count (streams_of timing all).stream bus.of p
@@ -63,13 +65,13 @@ pub record IsOtherwiseKept (v : Vehicle) (delays : Delays) (b : ℕ) (timing : T
       → ¬ IsSentOn v delays (record { bus = b; flow = bus.of.source p }) → bus.of.source p ≡ bus.of.source q → bus.of.turn p ≡ bus.of.turn q
       → (bus.of.since p + ((streams_of timing all).stream (bus.of.source p)).period ≤ bus.of.since q)
       ⊎ (bus.of.since q + ((streams_of timing all).stream (bus.of.source p)).period ≤ bus.of.since p)
-  pub frames : (flow bits : ℕ) → slice_get (delays_on delays b) flow ≡ Some (Some (Within bits))
+  pub frames : (flow bits : ℕ) → flows flow ≡ true → slice_get (delays_on delays b) flow ≡ Some (Some (Within bits))
       → KeepsOtherwise timing all bus.schedule bus.controllers bus.planned bus.of flow
 
--- so it is of each bus that has timing
-abbrev pub AreOtherwiseKept : Vehicle → Delays → SeenBuses → Type 0
-AreOtherwiseKept v delays seen = (b : ℕ) (timing : Timing) (of_bus : IsKnownBus v delays b timing)
-    → IsOtherwiseKept v delays b timing (frames_asked (asked_on of_bus)) (seen b)
+-- so it is of each bus of the scope that has timing
+abbrev pub AreOtherwiseKept : Vehicle → Delays → Scope → SeenBuses → Type 0
+AreOtherwiseKept v delays scope seen = (b : ℕ) (timing : Timing) (of_bus : IsKnownBus v delays b timing) → scope.buses b ≡ true
+    → IsOtherwiseKept v delays b timing (frames_asked (asked_on of_bus)) (scope_on scope b) (seen b)
 
 -- ---- what follows
 
@@ -90,7 +92,7 @@ abbrev pub AreForwardsTimely : Vehicle → Delays → Type 0
 AreForwardsTimely v delays = (at : FlowAt) (bits : ℕ) (n : Forward) → delay_at delays at ≡ Some bits → direct_feeder v at ≡ Some n
     → IsForwardTimely v delays at n
 
--- where gateways are prompt, each frame of a bus keeps to its stream, those that are sent on directly too
+-- where gateways are prompt, each frame of a bus of the scope keeps to its stream, those that are sent on directly too
 abbrev pub AreStreamsKept : Vehicle → Delays → Type 0
-AreStreamsKept v delays = AreForwardsTimely v delays → AreDelays v delays → (seen : SeenBuses) → AreOtherwiseKept v delays seen → ArePrompt v delays seen
-    → HaveOwnReleases v delays seen → AreKeptBuses v delays seen
+AreStreamsKept v delays = AreForwardsTimely v delays → AreDelays v delays → (scope : Scope) → IsScope v delays scope → (seen : SeenBuses)
+    → AreOtherwiseKept v delays scope seen → ArePrompt v delays scope seen → HaveOwnReleases v delays scope seen → AreKeptBuses v delays scope seen

@@ -1,5 +1,5 @@
 -- How old what is brought over gateways is at most.
-use Rattle.std.specs.Prelude.{◌≡◌, ℕ, ◌+◌, ◌*◌, ◌<◌, ◌≤◌, [], Option, Some, None}
+use Rattle.std.specs.Prelude.{◌≡◌, ℕ, ◌+◌, ◌*◌, ◌<◌, ◌≤◌, true, [], Option, Some, None}
 use Rattle.std.specs.Option.{option_and_then, option_map}
 use Rattle.j39_signal.specs.Parts.{SignalParts}
 use Rattle.j39_network.specs.declared.plan.flow_plan.FlowPlan.{FlowPlan}
@@ -18,13 +18,17 @@ use Rattle.j39_vehicle_laws.specs.Carrying.{AreAllCopies, AreAllExact, signal_at
 use Rattle.j39_vehicle_laws.specs.Faithful.{KeepsContents}
 use Rattle.j39_vehicle_laws.specs.Unaltered.{ReadsAsOrigin}
 use Rattle.j39_vehicle_time_laws.specs.KeptBuses.{AreKeptBuses, AreSeenUntil}
-use Rattle.j39_vehicle_time_laws.specs.Prompt.{ArePrompt, HaveOwnReleases, SayWhatIsSo}
+use Rattle.j39_vehicle_time_laws.specs.Prompt.{ArePrompt, HaveOwnReleases, IsScope, SayWhatIsSo, Scope}
 use Rattle.j39_vehicle_time_laws.specs.Seen.{SeenBuses, frames_at}
 
 -- the trace of the first point goes on to the other one, or is there
 pub data IsOnTheWay (v : Vehicle) (p : Point) : Point → Type 0 where
   itself : IsOnTheWay v p p
   behind_it : (q r : Point) (n : ℕ) → IsOnTheWay v p q → next_forward v q ≡ Some n → goes_on v q n ≡ Some r → IsOnTheWay v p r
+
+-- each flow on the way to the point is in the scope
+abbrev pub HasWay : Vehicle → Scope → Point → Type 0
+HasWay v scope p = (q : Point) → IsOnTheWay v p q → scope.flows q.at ≡ true
 
 -- messages of the first flow are those of the other one, sent on directly, or their own
 pub data ComesDirectly (v : Vehicle) (at : FlowAt) : FlowAt → Type 0 where
@@ -89,15 +93,17 @@ pub record IsBroughtYoung (v : Vehicle) (seen : SeenBuses) (p : Point) (age t : 
   pub newest : (q : ℕ) → HasBegun (frames_at v seen p.at) q → end_time (frames_at v seen p.at) frame ≤ end_time (frames_at v seen p.at) q
       → end_time (frames_at v seen p.at) q ≤ t → SaysYoung v seen p age t q
 
--- what is asked of what is seen of a vehicle up to a time: its buses keep to their plans, and its gateways are prompt
+-- what is asked of what is seen of a vehicle up to a time: some of its buses keep to their plans, and gateways that send to them are prompt
 pub record IsSeenVehicle (v : Vehicle) (delays : Delays) (seen : SeenBuses) (by : ℕ) : Type 0 where
-  pub kept : AreKeptBuses v delays seen
-  pub until : AreSeenUntil v seen by
-  pub prompt : ArePrompt v delays seen
-  pub own_releases : HaveOwnReleases v delays seen
-  pub origins : SayWhatIsSo v seen
+  pub scope : Scope
+  pub closed : IsScope v delays scope
+  pub kept : AreKeptBuses v delays scope seen
+  pub until : AreSeenUntil v scope seen by
+  pub prompt : ArePrompt v delays scope seen
+  pub own_releases : HaveOwnReleases v delays scope seen
+  pub origins : SayWhatIsSo v scope seen
 
 -- each age that is known bounds how old what the flow brings is: at each time before which pauses were kept for as long
 abbrev pub AreAgesBounds : Vehicle → Delays → Type 0
 AreAgesBounds v delays = AreFindings v [] → AreDelays v delays → (seen : SeenBuses) (p : Point) (most from t : ℕ) → age v delays p ≡ Some most → from + most ≤ t
-    → IsSeenVehicle v delays seen t → KeepPauses v seen p from t → IsBroughtYoung v seen p most t
+    → (is : IsSeenVehicle v delays seen t) → HasWay v is.scope p → KeepPauses v seen p from t → IsBroughtYoung v seen p most t

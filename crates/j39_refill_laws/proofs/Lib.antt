@@ -1,0 +1,4 @@
+mod Beside
+mod Damaged
+mod Reached
+mod Refilled
