@@ -6,8 +6,8 @@ use Rattle.std.specs.Option.{option_and_then, option_map_or}
 use Rattle.j39_vehicle.specs.declared.vehicle.Vehicle.{Vehicle}
 use Rattle.j39_vehicle.specs.declared.vehicle.forward.Forward.{Forward}
 use Rattle.j39_vehicle_findings.specs.declared.point.FlowAt.{FlowAt}
-use Rattle.j39_timing.proofs.Clocks.{before_in_time, bits_in_order, in_time_order}
-use Rattle.j39_timing.specs.Gateways.{HasBegun, IsIts, end_time, queue_time, time_of}
+use Rattle.j39_gateways.proofs.Clocks.{before_in_time, bits_in_order, in_time_order}
+use Rattle.j39_gateways.specs.Gateways.{HasBegun, IsIts, end_time, queue_time, time_of}
 use Rattle.j39_timing.specs.Traffic.{delay_of}
 use Rattle.j39_vehicle_times.specs.declared.bus_delays.Delays.{Delays}
 use Rattle.j39_vehicle_times.specs.Times.{behind_by, behind_release, delay_at, direct_feeder, first_input_at, own, queued_behind, sum_known}

@@ -12,9 +12,9 @@ use Rattle.j39_load.specs.Clocks.{shortest_million}
 use Rattle.j39_load.specs.Loads.{bits_at_least, us_of_bits}
 use Rattle.j39_load.specs.PlannedFrames.{IsBounded, no_frames, others_of, planned_at}
 use Rattle.j39_timing.specs.FrameBits.{longest_frame}
-use Rattle.j39_timing.specs.Gateways.{steady}
+use Rattle.j39_gateways.specs.Gateways.{steady}
 use Rattle.j39_timing.specs.Traffic.{IsSingle, Traffic, delay_of, no_twins}
-use Rattle.j39_timing.specs.Vehicles.{Bus}
+use Rattle.j39_gateways.specs.Vehicles.{Bus}
 use Rattle.j39_timing.specs.declared.stream.Stream.{Stream}
 use Rattle.j39_vehicle.specs.declared.vehicle.Vehicle.{Vehicle}
 use Rattle.j39_vehicle.specs.declared.vehicle.forward.Forward.{Forward}

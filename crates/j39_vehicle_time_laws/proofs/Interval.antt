@@ -7,7 +7,7 @@ use Rattle.j39_vehicle.specs.declared.vehicle.Vehicle.{Vehicle}
 use Rattle.j39_vehicle.specs.declared.vehicle.forward.Forward.{Forward}
 use Rattle.j39_vehicle_findings.specs.declared.point.FlowAt.{FlowAt}
 use Rattle.j39_vehicle_findings.specs.declared.point.Point.{Point}
-use Rattle.j39_timing.specs.Gateways.{IsIts}
+use Rattle.j39_gateways.specs.Gateways.{IsIts}
 use Rattle.j39_vehicle_times.specs.declared.bus_delays.Delays.{Delays}
 use Rattle.j39_vehicle_times.specs.Times.{behind_by, direct_feeder, first_input_at, pause_on, interval, interval_by, unasked_at, within_of}
 use Rattle.j39_vehicle_times.specs.BusDelays.{AreDelays}

@@ -13,13 +13,13 @@ use Rattle.j39_load.specs.Asked.{Asked, asked_of, frames_asked}
 use Rattle.j39_load.specs.LoadFindings.{AsksOfBus}
 use Rattle.j39_load.proofs.OneLoad.{one_asked}
 use Rattle.j39_timing.specs.FrameStreams.{AreOfStreams, KeepsStream}
-use Rattle.j39_timing.proofs.Clocks.{steady_is}
-use Rattle.j39_timing.specs.Gateways.{Carrier, IsClock, IsHandedOn, IsIts}
+use Rattle.j39_gateways.proofs.Clocks.{steady_is}
+use Rattle.j39_gateways.specs.Gateways.{Carrier, IsClock, IsHandedOn, IsIts}
 use Rattle.j39_timing.specs.Prefixes.{AreBegunUntil}
 use Rattle.j39_timing.specs.Traffic.{IsSingle, Traffic, delay_of}
-use Rattle.j39_timing.specs.Vehicles.{Bus, IsKnown, IsPlannedOn, KeepsItsStreams, KeepsItsStreamsUntil}
+use Rattle.j39_gateways.specs.Vehicles.{Bus, IsKnown, IsPlannedOn, KeepsItsStreams, KeepsItsStreamsUntil}
 use Rattle.j39_timing.proofs.Prefixes.{then_is_planned}
-use Rattle.j39_timing.proofs.Vehicles.{keep_their_streams}
+use Rattle.j39_gateways.proofs.Vehicles.{keep_their_streams}
 use Rattle.j39_vehicle.specs.declared.vehicle.Vehicle.{Vehicle}
 use Rattle.j39_vehicle.specs.declared.vehicle.bus_plan.BusPlan.{BusPlan}
 use Rattle.j39_vehicle.specs.declared.vehicle.forward.Forward.{Forward}
@@ -97,7 +97,7 @@ module _ (v : Vehicle) (scope : Scope) (delays : Delays) (told : AreDelays v del
   abbrev apart_value : ℕ → ℕ → ℕ
   apart_value b i = option_map_or (apart_of b) (flow_at v.buses.items (at_of b i)) 0
 
-  abbrev vehicle : Rattle.j39_timing.specs.Vehicles.Vehicle
+  abbrev vehicle : Rattle.j39_gateways.specs.Vehicles.Vehicle
   vehicle = record {
     bus = λ b. bus_with v scope delays told seen b (view v scope b);
     direct = λ b i. direct_with v scope delays told seen b i (view v scope b);
@@ -388,7 +388,7 @@ module _ (v : Vehicle) (scope : Scope) (delays : Delays) (told : AreDelays v del
         → (with_bus b o).schedule.queued p ≤ (with_bus b o).of.since p + ((with_bus b o).traffic.stream ((with_bus b o).of.source p)).jitter)
         (λ p its. absurd (omega (arith, its.0))) (λ t p its own. (own_frame b t p its.0 its.1 own).jitter_at_most) (view v scope b);
     own_release = λ b. case_view v scope b (λ o. (p : ℕ) → IsPlannedOn (with_bus b o) p → direct_with v scope delays told seen b ((with_bus b o).of.source p) o ≡ false
-        → (with_bus b o).release p ≡ Rattle.j39_timing.specs.Gateways.time_of (with_bus b o).clock ((with_bus b o).of.since p))
+        → (with_bus b o).release p ≡ Rattle.j39_gateways.specs.Gateways.time_of (with_bus b o).clock ((with_bus b o).of.since p))
         (λ p its. absurd (omega (arith, its.0)))
         (λ t p its own. own_releases (at_of b ((seen b).of.source p)) t.inside (is_some_false (sent_from v delays (at_of b ((seen b).of.source p))) own) p
         (its.0, its.1, refl)) (view v scope b);

@@ -15,7 +15,7 @@ use Rattle.j39_load.specs.Asked.{frames_asked}
 use Rattle.j39_load.specs.BusTimes.{timing_of}
 use Rattle.j39_load.specs.Clocks.{IsTrueTime, bit_time, million}
 use Rattle.j39_timing.specs.Traffic.{Traffic}
-use Rattle.j39_timing.specs.Gateways.{Carrier, HasBegun, IsHandedOn, IsIts, end_time, queue_time}
+use Rattle.j39_gateways.specs.Gateways.{Carrier, HasBegun, IsHandedOn, IsIts, end_time, queue_time}
 use Rattle.j39_vehicle.specs.declared.vehicle.Vehicle.{Vehicle}
 use Rattle.j39_vehicle.specs.declared.vehicle.bus_plan.BusPlan.{BusPlan}
 use Rattle.j39_vehicle.specs.declared.vehicle.forward.Forward.{Forward}

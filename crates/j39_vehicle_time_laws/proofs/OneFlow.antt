@@ -28,7 +28,7 @@ use Rattle.j39_load.proofs.BoundedFlows.{bounded}
 use Rattle.j39_load.proofs.PositivePeriods.{ArePaced, of_loads}
 use Rattle.j39_load.proofs.StreamsBefore.{own_read, with_damage}
 use Rattle.j39_timing.specs.AnyOrder.{AreBegunWithin}
-use Rattle.j39_timing.specs.Gateways.{IsClock, IsIts}
+use Rattle.j39_gateways.specs.Gateways.{IsClock, IsIts}
 use Rattle.j39_timing.specs.Traffic.{IsSingle, delay_of}
 use Rattle.j39_timing.specs.declared.stream.Stream.{Stream}
 use Rattle.j39_vehicle.specs.declared.vehicle.Vehicle.{Vehicle}

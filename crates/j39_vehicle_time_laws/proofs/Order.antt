@@ -3,8 +3,8 @@ use Rattle.std.proofs.Common.{◌≡◌, ◌≢◌, ℕ, ◌+◌, ◌<◌, ◌�
 use Rattle.std.proofs.lemmas.Bool.{cases_lt}
 use Rattle.j39_vehicle.specs.declared.vehicle.Vehicle.{Vehicle}
 use Rattle.j39_vehicle_findings.specs.declared.point.FlowAt.{FlowAt}
-use Rattle.j39_timing.proofs.Clocks.{before_in_time, bits_in_order, in_time_order}
-use Rattle.j39_timing.specs.Gateways.{HasBegun, IsIts, end_time, queue_time}
+use Rattle.j39_gateways.proofs.Clocks.{before_in_time, bits_in_order, in_time_order}
+use Rattle.j39_gateways.specs.Gateways.{HasBegun, IsIts, end_time, queue_time}
 use Rattle.j39_timing.specs.Traffic.{delay_of}
 use Rattle.j39_vehicle_times.specs.declared.bus_delays.Delays.{Delays}
 use Rattle.j39_vehicle_time_laws.specs.Seen.{SeenBuses, clock_on, frames_at}

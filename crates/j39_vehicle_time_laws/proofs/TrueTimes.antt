@@ -10,7 +10,7 @@ use Rattle.j39_network.specs.declared.plan.timing.Timing.{Timing}
 use Rattle.j39_load.specs.Clocks.{IsTrueTime, bit_time, longest_million, million, shortest_million}
 use Rattle.j39_load.specs.Loads.{bits_at_least, bits_at_most, bits_per_ms, us_of_bits}
 use Rattle.j39_load.proofs.Milliseconds.{faster, slower, some_slow, told_in_time}
-use Rattle.j39_timing.specs.Gateways.{IsClock}
+use Rattle.j39_gateways.specs.Gateways.{IsClock}
 use Rattle.j39_vehicle.specs.declared.vehicle.Vehicle.{Vehicle}
 use Rattle.j39_vehicle_times.specs.Times.{timing_on}
 use Rattle.j39_vehicle_time_laws.specs.Seen.{SeenBuses, clock_on, longest_bit, of_us, shortest_bit}

@@ -12,7 +12,7 @@ use Rattle.j39_load.specs.Asked.{Asked, asked_of, frames_asked}
 use Rattle.j39_load.specs.LoadFindings.{AsksOfBus}
 use Rattle.j39_load.specs.PlannedFrames.{AreFramesInAnyOrder}
 use Rattle.j39_timing.specs.AnyOrder.{IsLegalInAnyOrder}
-use Rattle.j39_timing.specs.Gateways.{time_of}
+use Rattle.j39_gateways.specs.Gateways.{time_of}
 use Rattle.j39_vehicle.specs.declared.vehicle.Vehicle.{Vehicle}
 use Rattle.j39_vehicle.specs.declared.vehicle.bus_plan.BusPlan.{BusPlan}
 use Rattle.j39_vehicle_times.specs.declared.bus_delays.Delays.{Delays}

@@ -7,7 +7,7 @@ use Rattle.j39_vehicle_findings.specs.ForwardTests.{feeds, is_direct}
 use Rattle.j39_vehicle_findings.specs.Traces.{goes_on, next_forward}
 use Rattle.j39_vehicle_findings.specs.declared.point.FlowAt.{FlowAt}
 use Rattle.j39_vehicle_findings.specs.declared.point.Point.{Point}
-use Rattle.j39_timing.specs.Gateways.{HasBegun, HasOwnReleases, IsHandedOn, IsIts, end_time, queue_time}
+use Rattle.j39_gateways.specs.Gateways.{HasBegun, HasOwnReleases, IsHandedOn, IsIts, end_time, queue_time}
 use Rattle.j39_vehicle_laws.specs.Faithful.{KeepsContents}
 use Rattle.j39_vehicle_times.specs.declared.bus_delays.Delays.{Delays}
 use Rattle.j39_vehicle_times.specs.Times.{behind_at, delay_at, direct_feeder, forward_at, first_input_at, interval_us}

@@ -6,7 +6,7 @@ use Rattle.j39_vehicle.specs.declared.vehicle.Vehicle.{Vehicle}
 use Rattle.j39_vehicle_findings.specs.declared.point.FlowAt.{FlowAt}
 use Rattle.j39_timing.specs.AnyOrder.{Controllers}
 use Rattle.j39_timing.specs.FrameStreams.{Origins}
-use Rattle.j39_timing.specs.Gateways.{Carrier, Clock}
+use Rattle.j39_gateways.specs.Gateways.{Carrier, Clock}
 use Rattle.j39_timing.specs.TimedFrames.{Schedule}
 use Rattle.j39_load.specs.Clocks.{bit_time, longest_million, million, shortest_million}
 use Rattle.j39_vehicle_times.specs.Times.{timing_on}

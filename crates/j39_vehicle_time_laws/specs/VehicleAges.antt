@@ -6,7 +6,7 @@ use Rattle.j39_search.specs.ListPlaces.{ValueAt}
 use Rattle.j39_network.specs.declared.plan.flow_plan.FlowPlan.{FlowPlan}
 use Rattle.j39_network.specs.declared.plan.timing.Timing.{Timing}
 use Rattle.j39_load.specs.Clocks.{longest_million}
-use Rattle.j39_timing.specs.Gateways.{KeepsReleasing}
+use Rattle.j39_gateways.specs.Gateways.{KeepsReleasing}
 use Rattle.j39_vehicle.specs.declared.vehicle.Vehicle.{Vehicle}
 use Rattle.j39_vehicle.specs.declared.vehicle.vehicle_need.VehicleNeed.{VehicleNeed}
 use Rattle.j39_vehicle_findings.specs.Traces.{IsNeedFlow, flows_of_need, is_sent_by, point_on}

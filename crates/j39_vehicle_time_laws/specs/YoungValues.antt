@@ -11,7 +11,7 @@ use Rattle.j39_vehicle_findings.specs.Traces.{goes_on, next_forward}
 use Rattle.j39_vehicle_findings.specs.VehicleFindings.{AreFindings}
 use Rattle.j39_vehicle_findings.specs.declared.point.FlowAt.{FlowAt}
 use Rattle.j39_vehicle_findings.specs.declared.point.Point.{Point}
-use Rattle.j39_timing.specs.Gateways.{HasBegun, IsIts, end_time}
+use Rattle.j39_gateways.specs.Gateways.{HasBegun, IsIts, end_time}
 use Rattle.j39_vehicle_times.specs.BusDelays.{AreDelays}
 use Rattle.j39_vehicle_times.specs.declared.bus_delays.Delays.{Delays}
 use Rattle.j39_vehicle_times.specs.Times.{age, direct_feeder, first_input_at, forward_at, timing_on, unasked_at}

@@ -2,11 +2,11 @@
 -- frames are queued.
 use Rattle.std.proofs.Common.{◌≡◌, ◌≢◌, ℕ, zero, suc, ◌+◌, ◌*◌, ◌<◌, ◌≤◌, ◌⊎◌, true, false, ltb, refl, subst, sym, arith, inl, inr}
 use Rattle.std.proofs.lemmas.Bool.{and_parts, cases_lt, cases_Bool, ltb-true, both_ways}
-use Rattle.j39_timing.proofs.Clocks.{before_in_time, bits_in_order, in_time_order}
+use Rattle.j39_gateways.proofs.Clocks.{before_in_time, bits_in_order, in_time_order}
 use Rattle.j39_timing.specs.Traffic.{IsSingle, delay_of}
 use Rattle.j39_timing.specs.Prefixes.{planned_until}
-use Rattle.j39_timing.specs.Gateways.{IsHandedOn, IsIts, HasBegun, end_time, time_of}
-use Rattle.j39_timing.specs.Vehicles.{Vehicle, carrier, stream_at, input_at, queued_within, IsPlannedOn, IsKnown, KeepsItsStreams, KeepsItsStreamsUntil}
+use Rattle.j39_gateways.specs.Gateways.{IsHandedOn, IsIts, HasBegun, end_time, time_of}
+use Rattle.j39_gateways.specs.Vehicles.{Vehicle, carrier, stream_at, input_at, queued_within, IsPlannedOn, IsKnown, KeepsItsStreams, KeepsItsStreamsUntil}
 
 module _ (v : Vehicle) (is : IsKnown v) where
   -- the frame is queued at this time

@@ -4,7 +4,7 @@ use Rattle.j39_timing.specs.TimedFrames.{Schedule}
 use Rattle.j39_timing.specs.FrameStreams.{Origins, AreOfStreams}
 use Rattle.j39_timing.specs.Traffic.{Traffic, Others, IsSingle, delay_of}
 use Rattle.j39_timing.specs.Prefixes.{AreBegunUntil, planned_until}
-use Rattle.j39_timing.specs.Gateways.{Clock, Carrier, IsClock, IsHandedOn, IsIts, time_of}
+use Rattle.j39_gateways.specs.Gateways.{Clock, Carrier, IsClock, IsHandedOn, IsIts, time_of}
 use Rattle.j39_timing.specs.declared.stream.Stream.{Stream}
 
 pub record Bus : Type 0 where

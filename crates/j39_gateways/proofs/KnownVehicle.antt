@@ -5,10 +5,10 @@ use Rattle.j39_timing.specs.TimedFrames.{IsLegal}
 use Rattle.j39_timing.specs.FrameStreams.{AreOfStreams}
 use Rattle.j39_timing.specs.Traffic.{DemandFits, no_twins, others_queued}
 use Rattle.j39_timing.specs.Prefixes.{IsPlannedUntil, planned_until}
-use Rattle.j39_timing.specs.Gateways.{IsHandedOn, steady}
-use Rattle.j39_timing.proofs.Clocks.{steady_is}
+use Rattle.j39_gateways.specs.Gateways.{IsHandedOn, steady}
+use Rattle.j39_gateways.proofs.Clocks.{steady_is}
 use Rattle.j39_timing.proofs.Prefixes.{begun_until}
-use Rattle.j39_timing.specs.Vehicles.{Bus, Vehicle, IsKnown, carrier, input_at}
+use Rattle.j39_gateways.specs.Vehicles.{Bus, Vehicle, IsKnown, carrier, input_at}
 use Rattle.j39_timing.proofs.Demands.{nothing_wanted}
 
 -- when the frame of a bus is queued, and begins: on the first bus at once, on the others at its end there

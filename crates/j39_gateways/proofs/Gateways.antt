@@ -2,10 +2,10 @@
 use Rattle.std.proofs.Common.{List, [], ◌∷◌, ◌≡◌, ◌≢◌, ℕ, ◌+◌, ◌-◌, ◌*◌, ◌<◌, ◌≤◌, ◌⊎◌, inl, inr, arith}
 use Rattle.j39_timing.specs.FreshFrames.{KeepsComing}
 use Rattle.j39_timing.specs.Traffic.{IsStreamInTime, delay_of}
-use Rattle.j39_timing.proofs.Clocks.{before_in_time, bit_at, bits_in_order, in_time_order, lasts_at_most}
-use Rattle.j39_timing.specs.Gateways.{Carrier, IsClock, IsIts, KeepsReleasing, end_time, queue_time, time_of, Comes, IsYoung, HasOwnReleases, IsOldAtMost, KeepTo, HandsOn, SendsNewest}
-use Rattle.j39_timing.specs.Gateways.{IsHandedOn, AreApart, EndWithin, KeepsToStream, Coming, ComesSo, age_of, Mode, directly, at_its_beat, Hop, coming_behind}
-use Rattle.j39_timing.specs.Gateways.{IsPrompt, IsInTimeThere, AreHops, last_of, coming_at_last}
+use Rattle.j39_gateways.proofs.Clocks.{before_in_time, bit_at, bits_in_order, in_time_order, lasts_at_most}
+use Rattle.j39_gateways.specs.Gateways.{Carrier, IsClock, IsIts, KeepsReleasing, end_time, queue_time, time_of, Comes, IsYoung, HasOwnReleases, IsOldAtMost, KeepTo, HandsOn, SendsNewest}
+use Rattle.j39_gateways.specs.Gateways.{IsHandedOn, AreApart, EndWithin, KeepsToStream, Coming, ComesSo, age_of, Mode, directly, at_its_beat, Hop, coming_behind}
+use Rattle.j39_gateways.specs.Gateways.{IsPrompt, IsInTimeThere, AreHops, last_of, coming_at_last}
 use Rattle.j39_timing.specs.declared.stream.Stream.{Stream}
 
 -- a stream that is in time on its bus and keeps coming there, whose releases are the bus's own

@@ -1,7 +1,7 @@
 -- Bits of a bus and true time.
 use Rattle.std.proofs.Common.{◌≡◌, ℕ, zero, suc, ◌+◌, ◌-◌, ◌*◌, ◌<◌, ◌≤◌, inl, inr, subst, arith}
 use Rattle.std.proofs.lemmas.Bool.{cases_lt}
-use Rattle.j39_timing.specs.Gateways.{Clock, IsClock, steady, time_of}
+use Rattle.j39_gateways.specs.Gateways.{Clock, IsClock, steady, time_of}
 
 -- bits in order are times in order
 pub in_time_order : (c : Clock) → IsClock c → (m n : ℕ) → m ≤ n → time_of c m ≤ time_of c n
