@@ -13,7 +13,7 @@ use Rattle.j39_vehicle_findings.specs.Traces.{goes_on, next_forward}
 use Rattle.j39_vehicle_findings.specs.VehicleFindings.{AreFindings}
 use Rattle.j39_vehicle_findings.specs.declared.point.FlowAt.{FlowAt}
 use Rattle.j39_vehicle_findings.specs.declared.point.Point.{Point}
-use Rattle.j39_gateways.specs.Gateways.{HasBegun, IsIts, end_time, queue_time}
+use Rattle.j39_gateways.specs.Gateways.{HasBegun, end_time, queue_time}
 use Rattle.j39_vehicle_times.specs.declared.bus_delays.Delays.{Delays}
 use Rattle.j39_vehicle_times.specs.Times.{age_with, behind_at, behind_by, direct_feeder, forward_at, first_input_at, old_behind, old_by, interval, interval_us, sum_known, timing_on}
 use Rattle.j39_vehicle_times.specs.Times.{within_of}

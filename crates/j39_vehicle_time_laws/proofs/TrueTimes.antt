@@ -1,5 +1,5 @@
 -- Bits of a bus of a vehicle in true time, by its bitrate and the drift of clocks.
-use Rattle.std.proofs.Common.{◌≡◌, ℕ, ◌+◌, ◌-◌, ◌*◌, ◌/◌, ◌<◌, ◌≤◌, Option, Some, ap, subst, ◌∙◌, arith}
+use Rattle.std.proofs.Common.{◌≡◌, ℕ, ◌+◌, ◌-◌, ◌*◌, ◌<◌, ◌≤◌, Option, Some, ap, subst, ◌∙◌, arith}
 use Rattle.std.proofs.Math.Nat.{mul-div-le, mul-le-mul_left}
 use Rattle.std.proofs.lemmas.Grind.{div_ceil_times}
 use Rattle.std.specs.Int.{div_ceil}
