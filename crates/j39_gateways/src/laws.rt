@@ -20,7 +20,7 @@ pub fn steady_clocks_are_clocks()
         → KeepsReleasing x (x.clock.longest * pause) (time_of x.clock from) (time_of x.clock to) }
     ensures apart { (x : Carrier) (period : ℕ) → IsClock x.clock → HasOwnReleases x
         → ((p q : ℕ) → IsIts x p → IsIts x q → p ≢ q
-            → (x.of.since p + period ≤ x.of.since q) ⊎ (x.of.since q + period ≤ x.of.since p))
+        → (x.of.since p + period ≤ x.of.since q) ⊎ (x.of.since q + period ≤ x.of.since p))
         → AreApart x (x.clock.shortest * period) }
 {}
 

@@ -5,6 +5,6 @@
 mod laws;
 
 pub use laws::{
-    a_frame_is_handed_on, ages_add_over_gateways, forwarded_frames_keep_to_their_streams, gateways_keep_streams,
-    steady_clocks_are_clocks,
+    a_frame_is_handed_on, ages_add_over_gateways, forwarded_frames_keep_to_their_streams,
+    gateways_keep_streams, steady_clocks_are_clocks,
 };
