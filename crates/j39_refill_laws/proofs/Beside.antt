@@ -1,5 +1,5 @@
 -- Where frames of units that refill a buffer count as queued where they begin, the others are on a bus without refills.
-use Rattle.std.proofs.Common.{◌≡◌, ℕ, ◌+◌, ◌<◌, ◌≤◌, ◌⊎◌, Bool, true, false, min, cond, sym, ap, ◌∙◌, subst, arith, inl, inr}
+use Rattle.std.proofs.Common.{◌≡◌, ℕ, ◌+◌, ◌<◌, ◌≤◌, Bool, true, false, min, cond, ap, ◌∙◌, arith, inl, inr}
 use Rattle.std.proofs.lemmas.Bool.{cases_Bool}
 use Rattle.j39_timing.specs.AnyOrder.{Controllers, IsLegalInAnyOrder, MayArbitrate, later_by}
 use Rattle.j39_timing.specs.FrameStreams.{AreOfStreams, KeepsStream, Origins}

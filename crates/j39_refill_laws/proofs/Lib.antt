@@ -1,4 +1,5 @@
 mod Beside
 mod Damaged
 mod Reached
+mod ReachedDamaged
 mod Refilled

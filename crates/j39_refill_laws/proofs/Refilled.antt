@@ -1,6 +1,6 @@
 -- Frames of units that refill a buffer are in time where the wait has room for all frames, each with the refill of its unit: a bus is never idle beside a
 -- waiting frame but behind a frame of its unit, so each frame counts as if it went on until its unit takes part again.
-use Rattle.std.proofs.Common.{◌≡◌, ◌≢◌, ℕ, ◌+◌, ◌*◌, ◌<◌, ◌≤◌, ◌⊎◌, Bool, true, false, not, cond, ◌&&◌, eqb, ltb, leb, refl, sym, subst, ap, arith, inl, inr}
+use Rattle.std.proofs.Common.{◌≡◌, ◌≢◌, ℕ, ◌+◌, ◌<◌, ◌≤◌, ◌⊎◌, Bool, true, false, not, cond, ◌&&◌, eqb, ltb, leb, refl, sym, subst, ap, arith, inl, inr}
 use Rattle.std.proofs.lemmas.Bool.{and_from, and_parts, cases_Bool, cases_lt, eq-eqb, eqb-true}
 use Rattle.j39_timing.specs.AnyOrder.{AreBegunWithin, Controllers}
 use Rattle.j39_timing.specs.FrameStreams.{AreOfStreams, Origins}

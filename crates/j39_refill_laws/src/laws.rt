@@ -69,9 +69,10 @@ pub fn refills_beside_damage_are_legal()
 {}
 
 /// The premises can be met, and there is a bus on which the bound is reached: of one unit that refills its buffer, two
-/// of whose frames wait behind one that isn't planned, the later one begins exactly so late.
+/// of whose frames wait behind one that isn't planned, the later one begins exactly so late (`frames`); so it does where
+/// the other one is tried in vain before (`damaged`).
 pub fn a_bound_with_refill_is_reached()
-    ensures { (s : Schedule) × (controllers : Controllers) × (refill : ℕ → ℕ) × (traffic : Traffic) × (refill_of : ℕ
+    ensures frames { (s : Schedule) × (controllers : Controllers) × (refill : ℕ → ℕ) × (traffic : Traffic) × (refill_of : ℕ
         → ℕ) × (planned : ℕ → Bool) × (of : Origins) × IsLegalWithRefill s controllers refill
         × IsTrafficWithRefill s controllers refill traffic refill_of 0 160 1000 planned of 0
         × ((j : ℕ) → j < traffic.count → 0 < (traffic.stream j).period)
@@ -79,4 +80,14 @@ pub fn a_bound_with_refill_is_reached()
         × RefillDemandFits traffic refill_of 0 160 1000 0 2320
         × (2 < s.count) × (planned 2 ≡ true) × (of.source 2 ≡ 0) × (s.queued 2 + 2320 < s.now)
         × (s.start 2 ≡ s.queued 2 + 2320) }
+    ensures damaged { (s : Schedule) × (controllers : Controllers) × (damaged : Damaged) × (own : ℕ) × (refill : ℕ
+        → ℕ) × (traffic : Traffic) × (refill_of : ℕ → ℕ) × (planned : ℕ → Bool) × (of : Origins)
+        × IsLegalWithRefillAndErrors s controllers damaged refill
+        × IsTrafficWithRefill (with_errors s damaged) (error_units s controllers damaged own) refill traffic refill_of 0 160 1000
+        planned of 0
+        × ((j : ℕ) → j < traffic.count → 0 < (traffic.stream j).period)
+        × ((traffic.stream 0).bits ≤ 160) × (refill_of 0 ≤ 1000)
+        × RefillDemandFits traffic refill_of 0 160 1000 0 3511 × (0 < damaged.count)
+        × (2 < s.count) × (planned 2 ≡ true) × (of.source 2 ≡ 0) × (s.queued 2 + 3511 < s.now)
+        × (s.start 2 ≡ s.queued 2 + 3511) }
 {}

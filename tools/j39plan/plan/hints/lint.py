@@ -245,7 +245,7 @@ class Lint:
             yield self.at((), "version", "live = true adds no finding: then what check promises holds while units claim, and go off in mid-message")
 
     def agreeing(self) -> Iterator[Hint]:
-        """That clocks are taken for exact."""
+        """That clocks are taken for exact. A plan whose units a vehicle makes use of has no other drift."""
         timing = self.tables.timing
-        if self.source.version == 4 and timing is not None and timing.drift == 0:
+        if self.source.version == 4 and timing is not None and timing.drift == 0 and not self.used:
             yield self.at(("timing",), "drift", "drift 0: no two clocks agree for ever")
