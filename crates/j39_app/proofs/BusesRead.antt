@@ -57,7 +57,7 @@ module _ (files : Names) (vehicle : List ℕ) where
   -- the bus whose plan was read
   pub plan_read : (table : BusTable) (plan : Plan) (text : List ℕ) → IsTextOfBusFile files vehicle table text (Some plan)
       → IsPlanOfBus files vehicle table (record { label = table.label; plan = plan })
-  plan_read table plan text (name, named, (bytes, of, (described, agreed, nothing))) = record {
+  plan_read table plan text (name, named, (bytes, of, (described, nothing))) = record {
     label = refl;
     described = (name, named, (bytes, of, described));
   }

@@ -1,42 +1,38 @@
 -- The buses of a vehicle as the law of vehicles knows them: what gateways send on directly keeps to its streams.
-use Rattle.std.proofs.Common.{◌≡◌, ℕ, zero, suc, ◌+◌, ◌*◌, ◌-◌, ◌<◌, Bool, true, false, cond, List, [], ◌++◌, length, is_some, unwrap_or, Option, Some, None}
+use Rattle.std.proofs.Common.{◌≡◌, ℕ, zero, suc, ◌+◌, ◌*◌, ◌-◌, ◌≤◌, Bool, true, false, cond, List, [], ◌++◌, length, is_some, unwrap_or, Option, Some, None}
 use Rattle.std.proofs.Common.{refl, sym, ap, ◌∙◌, subst, arith}
 use Rattle.std.proofs.lemmas.Bool.{false≢true, true≢false}
 use Rattle.std.proofs.lemmas.Option.{none-some, same_Some}
-use Rattle.std.specs.Option.{option_and_then, option_map, option_map_or}
+use Rattle.std.specs.Option.{option_and_then, option_map_or}
 use Rattle.j39_network.specs.declared.plan.flow_plan.FlowPlan.{FlowPlan}
 use Rattle.j39_network.specs.declared.plan.timing.Timing.{Timing}
 use Rattle.j39_load.specs.declared.frames.flow_frames.FlowFrames.{FlowFrames}
 use Rattle.j39_load.specs.Asked.{frames_asked}
-use Rattle.j39_load.specs.Loads.{bits_of_ms}
+use Rattle.j39_load.specs.Clocks.{shortest_million}
+use Rattle.j39_load.specs.Loads.{bits_at_least, us_of_bits}
 use Rattle.j39_load.specs.PlannedFrames.{IsBounded, no_frames, others_of, planned_at}
 use Rattle.j39_timing.specs.FrameBits.{longest_frame}
+use Rattle.j39_gateways.specs.Gateways.{steady}
 use Rattle.j39_timing.specs.Traffic.{IsSingle, Traffic, delay_of, no_twins}
-use Rattle.j39_timing.specs.Vehicles.{Bus}
+use Rattle.j39_gateways.specs.Vehicles.{Bus}
 use Rattle.j39_timing.specs.declared.stream.Stream.{Stream}
 use Rattle.j39_vehicle.specs.declared.vehicle.Vehicle.{Vehicle}
 use Rattle.j39_vehicle.specs.declared.vehicle.forward.Forward.{Forward}
 use Rattle.j39_vehicle_findings.specs.declared.point.FlowAt.{FlowAt}
 use Rattle.j39_vehicle_times.specs.BusDelays.{AreDelays}
 use Rattle.j39_vehicle_times.specs.declared.bus_delays.Delays.{Delays}
-use Rattle.j39_vehicle_times.specs.Times.{behind_at, behind_by, behind_release, us_of_bit, delay_at, direct_feeder, flow_at, first_input_at, jitter_ms, own, own_of}
+use Rattle.j39_vehicle_times.specs.Times.{behind_at, behind_by, behind_release, delay_at, direct_feeder, flow_at, first_input_at, jitter_ms, own, own_of}
 use Rattle.j39_vehicle_times.specs.Times.{queued_behind, queued_of, sum_known, timing_on, us_of_ms, within_of}
 use Rattle.j39_vehicle_time_laws.specs.ForwardedStreams.{streams_of}
 use Rattle.j39_vehicle_time_laws.specs.KeptBuses.{IsKnownBus, asked_on}
 use Rattle.j39_vehicle_time_laws.specs.Prompt.{Scope, sent_from}
-use Rattle.j39_vehicle_time_laws.specs.Seen.{SeenBuses, clock_on, unit_on}
+use Rattle.j39_vehicle_time_laws.specs.Seen.{SeenBuses, clock_on, longest_bit, of_us, shortest_bit}
 use Rattle.j39_vehicle_time_laws.proofs.Behind.{fed_never, fed_parts, unfed_release}
-use Rattle.j39_vehicle_time_laws.proofs.OneFlow.{HasOwn, HasStream, bound, its_stream, jitter_bits, release_is, own_is, placed, known_bus, unit_here}
-use Rattle.j39_vehicle_time_laws.proofs.Parts.{some_cases, some_unit, unit_of_ms}
+use Rattle.j39_vehicle_time_laws.proofs.OneFlow.{HasOwn, HasStream, bound, its_stream, jitter_room, known_bus, own_from, own_is, placed, release_fits, release_is}
+use Rattle.j39_vehicle_time_laws.proofs.Parts.{some_cases}
+use Rattle.j39_vehicle_time_laws.proofs.TrueTimes.{near_here}
 
--- ---- numbers
-
-pub unit_positive : (v : Vehicle) (b : ℕ) → 0 < unit_on v b
-unit_positive v b = go (timing_on v.buses.items b)
-  where
-    go : (o : Option Timing) → 0 < option_map_or (λ (timing : Timing). us_of_bit timing.bitrate) o 1
-    go None = omega arith
-    go (Some timing) = let some = some_unit timing.bitrate in omega (arith, some)
+-- ---- values that may be there
 
 pub is_some_true : {A : Type 0} (o : Option A) → is_some o ≡ true → (x : A) × (o ≡ Some x)
 is_some_true None is = absurd (false≢true is)
@@ -79,14 +75,6 @@ known_on v delays (suc steps) at time known = some_cases (direct_feeder v at) (b
     let more = known_on v delays steps fed.source fed.before fed.before_is in
     fed_make v delays (suc steps) at n fed.source fed.before fed.within fed.own_time feeder fed.source_is more fed.promised fed.own_is
     ∙ ap (λ (m : ℕ). Some m) (let sum = fed.sum in omega (arith, sum)))
-
-pub own_from : (v : Vehicle) (delays : Delays) (at : FlowAt) (timing : Timing) (flow : FlowPlan) (bits : ℕ) → timing_on v.buses.items at.bus ≡ Some timing
-    → flow_at v.buses.items at ≡ Some flow → delay_at delays at ≡ Some bits → own v delays at ≡ Some (own_of timing flow bits)
-own_from v delays at timing flow bits timed its delayed =
-    ap (λ (o : Option Timing). option_and_then (λ (t : Timing). option_and_then (λ (f : FlowPlan). option_map (own_of t f) (delay_at delays at))
-    (flow_at v.buses.items at)) o) timed
-    ∙ (ap (λ (o : Option FlowPlan). option_and_then (λ (f : FlowPlan). option_map (own_of timing f) (delay_at delays at)) o) its
-    ∙ ap (option_map (own_of timing flow)) delayed)
 
 -- ---- the buses
 
@@ -135,7 +123,7 @@ module _ (v : Vehicle) (scope : Scope) (delays : Delays) (told : AreDelays v del
   abbrev pub bus_with : (b : ℕ) → Option (TimedBus v scope b) → Bus
   bus_with b None = record {
     schedule = record { count = 0; queued = λ p. 0; start = λ p. 0; bits = λ p. 0; ident = λ p. 0; now = 0 };
-    clock = clock_on v seen b;
+    clock = steady 0 1;
     planned = λ p. false;
     of = (seen b).of;
     traffic = no_traffic;
@@ -173,7 +161,8 @@ module _ (v : Vehicle) (scope : Scope) (delays : Delays) (told : AreDelays v del
   abbrev pub behind_with : (b i : ℕ) → Option (TimedBus v scope b) → ℕ
   behind_with b i None = 0
   behind_with b i (Some t) = cond (is_some (sent_from v delays (at_of b i)))
-      (queued_value b i + unit_on v b * (wait_with b i (Some t) + (stream_of t i).bits)) (unit_on v b * delay_of (stream_of t i) (wait_with b i (Some t)))
+      (of_us (queued_value b i) + longest_bit v b * (wait_with b i (Some t) + (stream_of t i).bits))
+      (longest_bit v b * delay_of (stream_of t i) (wait_with b i (Some t)))
 
   -- ---- one flow of which a delay is told
 
@@ -214,49 +203,59 @@ module _ (v : Vehicle) (scope : Scope) (delays : Delays) (told : AreDelays v del
         ap (λ (o : Option ℕ). unwrap_or o 0 - ((stream_of t i).jitter + (stream_of t i).bits)) is.delayed
         ∙ (ap (λ (x : Stream). is.bits - (x.jitter + x.bits)) stream_is ∙ omega (arith, total))
 
-    pub own_value : unit_on v b * (wait_with b i (Some t) + (stream_of t i).bits) ≡ own_of t.timing is.flow is.bits
+    pub own_value : longest_bit v b * (wait_with b i (Some t) + (stream_of t i).bits) ≤ of_us (own_of t.timing is.flow is.bits)
     own_value =
-        ap (λ (w : ℕ). unit_on v b * (w + (stream_of t i).bits)) wait_is
-        ∙ (ap (λ (x : Stream). unit_on v b * (bounded_here.wait + x.bits)) stream_is
-        ∙ sym (own_is v delays told (at_of b i) (own_of t.timing is.flow is.bits) has))
+        let same : longest_bit v b * (wait_with b i (Some t) + (stream_of t i).bits) ≡ longest_bit v b * (bounded_here.wait + bounded_here.frames.stream.bits) =
+        ap (λ (w : ℕ). longest_bit v b * (w + (stream_of t i).bits)) wait_is ∙ ap (λ (x : Stream). longest_bit v b * (bounded_here.wait + x.bits)) stream_is in
+        let fits = own_is v delays told (at_of b i) (own_of t.timing is.flow is.bits) has in
+        omega (arith, same, fits)
 
-    pub release_value : behind_release v delays (at_of b i) ≡ Some (unit_on v b * delay_of (stream_of t i) (wait_with b i (Some t)))
-    release_value =
-        release_is v delays told (at_of b i) (own_of t.timing is.flow is.bits) has owns
-        ∙ ap (λ (m : ℕ). Some m) (sym (ap (λ (w : ℕ). unit_on v b * delay_of (stream_of t i) w) wait_is
-        ∙ ap (λ (x : Stream). unit_on v b * delay_of x bounded_here.wait) stream_is))
+    pub release_value : behind_release v delays (at_of b i) ≡ Some (us_of_bits t.timing is.bits)
+    release_value = release_is v delays told (at_of b i) (own_of t.timing is.flow is.bits) has
 
-    -- its jitter, and its period, in microseconds
-    pub late_value : unit_on v b * (stream_of t i).jitter ≡ us_of_ms (jitter_ms is.flow)
+    pub release_room : longest_bit v b * delay_of (stream_of t i) (wait_with b i (Some t)) ≤ of_us (us_of_bits t.timing is.bits)
+    release_room =
+        let same : longest_bit v b * delay_of (stream_of t i) (wait_with b i (Some t)) ≡ longest_bit v b * delay_of bounded_here.frames.stream bounded_here.wait =
+        ap (λ (w : ℕ). longest_bit v b * delay_of (stream_of t i) w) wait_is ∙ ap (λ (x : Stream). longest_bit v b * delay_of x bounded_here.wait) stream_is in
+        let fits = release_fits v delays told (at_of b i) (own_of t.timing is.flow is.bits) has in
+        omega (arith, same, fits)
+
+    -- its jitter, and its period, in true time
+    pub late_value : of_us (us_of_ms (jitter_ms is.flow)) ≤ shortest_bit v b * (stream_of t i).jitter
     late_value =
-        ap (λ (x : Stream). unit_on v b * x.jitter) stream_is
-        ∙ jitter_bits v delays told (at_of b i) (own_of t.timing is.flow is.bits) has
+        let same : shortest_bit v b * (stream_of t i).jitter ≡ shortest_bit v b * bounded_here.frames.stream.jitter =
+        ap (λ (x : Stream). shortest_bit v b * x.jitter) stream_is in
+        let room = jitter_room v delays told (at_of b i) (own_of t.timing is.flow is.bits) has in
+        omega (arith, same, room)
 
-    pub period_value : unit_on v b * (stream_of t i).period ≡ us_of_ms streamed.period
+    pub period_value : longest_bit v b * (stream_of t i).period ≤ 1000 * streamed.period * shortest_million t.timing
     period_value =
-        ap (λ (x : Stream). unit_on v b * x.period) stream_is
-        ∙ (ap (λ (n : ℕ). unit_on v b * n) streamed.apart
-        ∙ (ap (λ (u : ℕ). u * bits_of_ms t.timing streamed.period) (unit_here v delays told (at_of b i) (own_of t.timing is.flow is.bits) has)
-        ∙ unit_of_ms t.timing.bitrate streamed.period))
+        let same : longest_bit v b * (stream_of t i).period ≡ longest_bit v b * bits_at_least t.timing streamed.period =
+        ap (λ (x : Stream). longest_bit v b * x.period) stream_is ∙ ap (λ (n : ℕ). longest_bit v b * n) streamed.apart in
+        let near = near_here v b t.timing t.timed streamed.period in
+        omega (arith, same, near)
 
-  -- what is known to come behind its release is what is reckoned with here
+  -- what is known to come behind its release has room for what is reckoned with here
   pub behind_value : (b i : ℕ) (t : TimedBus v scope b) (is : IsTold b i t) (total : ℕ) → behind_at v delays (at_of b i) ≡ Some total
-      → behind_with b i (Some t) ≡ total
-  behind_value b i t is total known = some_cases (direct_feeder v (at_of b i)) (behind_with b i (Some t) ≡ total)
+      → behind_with b i (Some t) ≤ of_us total
+  behind_value b i t is total known = some_cases (direct_feeder v (at_of b i)) (behind_with b i (Some t) ≤ of_us total)
       (λ none.
       let release = unfed_release v delays (length v.forwards.items) (at_of b i) total none known in
       let nothing : sent_from v delays (at_of b i) ≡ None =
       ap (λ (o : Option ℕ). option_and_then (λ (bits : ℕ). option_and_then (first_input_at v) (direct_feeder v
       (at_of b i))) o) is.delayed
       ∙ ap (option_and_then (first_input_at v)) none in
-      ap (λ (o : Option FlowAt). cond (is_some o) (queued_value b i + unit_on v b * (wait_with b i (Some t) + (stream_of t i).bits))
-      (unit_on v b * delay_of (stream_of t i) (wait_with b i (Some t)))) nothing
-      ∙ same_Some _ _ (sym (release_value b i t is) ∙ release))
+      let same : behind_with b i (Some t) ≡ longest_bit v b * delay_of (stream_of t i) (wait_with b i (Some t)) =
+      ap (λ (o : Option FlowAt). cond (is_some o) (of_us (queued_value b i) + longest_bit v b * (wait_with b i (Some t) + (stream_of t i).bits))
+      (longest_bit v b * delay_of (stream_of t i) (wait_with b i (Some t)))) nothing in
+      let whole : us_of_bits t.timing is.bits ≡ total = same_Some _ _ (sym (release_value b i t is) ∙ release) in
+      let fits = release_room b i t is in
+      omega (arith, same, whole, fits))
       (λ n feeder. by_feeder n feeder (length v.forwards.items) refl known)
     where
       by_feeder : (n : Forward) → direct_feeder v (at_of b i) ≡ Some n → (steps : ℕ) → steps ≡ length v.forwards.items
           → behind_by v delays steps (at_of b i) ≡ Some total
-          → behind_with b i (Some t) ≡ total
+          → behind_with b i (Some t) ≤ of_us total
       by_feeder n feeder zero all known = absurd (fed_never v delays (at_of b i) total n feeder known)
       by_feeder n feeder (suc steps) all known =
           let fed = fed_parts v delays steps (at_of b i) total n feeder known in
@@ -273,6 +272,7 @@ module _ (v : Vehicle) (scope : Scope) (delays : Delays) (told : AreDelays v del
           let own_here : own_of t.timing is.flow is.bits ≡ fed.own_time = same_Some _ _ (sym (owns b i t is) ∙ fed.own_is) in
           let own_sum = own_value b i t is in
           let sum = fed.sum in
-          ap (λ (o : Option FlowAt). cond (is_some o) (queued_value b i + unit_on v b * (wait_with b i (Some t) + (stream_of t i).bits))
-          (unit_on v b * delay_of (stream_of t i) (wait_with b i (Some t)))) from
-          ∙ omega (arith, queue, own_here, own_sum, sum)
+          let same : behind_with b i (Some t) ≡ of_us (queued_value b i) + longest_bit v b * (wait_with b i (Some t) + (stream_of t i).bits) =
+          ap (λ (o : Option FlowAt). cond (is_some o) (of_us (queued_value b i) + longest_bit v b * (wait_with b i (Some t) + (stream_of t i).bits))
+          (longest_bit v b * delay_of (stream_of t i) (wait_with b i (Some t)))) from in
+          omega (arith, same, queue, own_here, own_sum, sum)

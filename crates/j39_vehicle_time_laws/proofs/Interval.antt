@@ -1,5 +1,5 @@
 -- How often what comes directly has releases.
-use Rattle.std.proofs.Common.{◌≡◌, ℕ, zero, suc, ◌+◌, ◌<◌, ◌≤◌, true, length, Option, Some, None, sym, ◌∙◌, subst, arith}
+use Rattle.std.proofs.Common.{◌≡◌, ℕ, zero, suc, ◌+◌, ◌*◌, ◌<◌, ◌≤◌, true, length, Option, Some, None, sym, ◌∙◌, subst, arith}
 use Rattle.std.proofs.lemmas.Option.{none-some, same_Some}
 use Rattle.std.specs.Option.{option_and_then, option_map_or}
 use Rattle.j39_network.specs.declared.plan.flow_plan.FlowPlan.{FlowPlan}
@@ -7,12 +7,12 @@ use Rattle.j39_vehicle.specs.declared.vehicle.Vehicle.{Vehicle}
 use Rattle.j39_vehicle.specs.declared.vehicle.forward.Forward.{Forward}
 use Rattle.j39_vehicle_findings.specs.declared.point.FlowAt.{FlowAt}
 use Rattle.j39_vehicle_findings.specs.declared.point.Point.{Point}
-use Rattle.j39_timing.specs.Gateways.{IsIts}
+use Rattle.j39_gateways.specs.Gateways.{IsIts}
 use Rattle.j39_vehicle_times.specs.declared.bus_delays.Delays.{Delays}
-use Rattle.j39_vehicle_times.specs.Times.{behind_by, direct_feeder, first_input_at, pause_us, interval, interval_by, unasked_at, within_of}
+use Rattle.j39_vehicle_times.specs.Times.{behind_by, direct_feeder, first_input_at, pause_on, interval, interval_by, unasked_at, within_of}
 use Rattle.j39_vehicle_times.specs.BusDelays.{AreDelays}
 use Rattle.j39_vehicle_times.proofs.DecidingTimes.{and_then_some}
-use Rattle.j39_vehicle_time_laws.specs.Seen.{SeenBuses, frames_at}
+use Rattle.j39_vehicle_time_laws.specs.Seen.{SeenBuses, frames_at, of_us}
 use Rattle.j39_vehicle_time_laws.specs.YoungValues.{ComesDirectly, HasWay, IsOnTheWay, IsSeenVehicle, KeepPauses, pause_at, by_itself, sent_on}
 use Rattle.j39_vehicle_time_laws.proofs.Behind.{IsBehind, fed_never, fed_parts, is_behind, sends_directly, source_among}
 use Rattle.j39_vehicle_time_laws.proofs.Parts.{some_cases}
@@ -22,9 +22,9 @@ use Rattle.j39_vehicle_time_laws.proofs.Parts.{some_cases}
 unfed_pause : (v : Vehicle) (steps : ℕ) (at : FlowAt) (pause : ℕ) → direct_feeder v at ≡ None → interval_by v steps at ≡ Some pause → pause_at v at ≡ Some pause
 unfolding interval_by
 unfed_pause v zero at pause none is =
-    subst (λ (o : Option Forward). option_and_then (λ flow. option_map_or (λ n. None) o (pause_us flow)) (unasked_at v at) ≡ Some pause) none is
+    subst (λ (o : Option Forward). option_and_then (λ flow. option_map_or (λ n. None) o (pause_on v at flow)) (unasked_at v at) ≡ Some pause) none is
 unfed_pause v (suc steps) at pause none is =
-    subst (λ (o : Option Forward). option_and_then (λ flow. option_map_or (λ n. option_and_then (interval_by v steps) (first_input_at v n)) o (pause_us flow))
+    subst (λ (o : Option Forward). option_and_then (λ flow. option_map_or (λ n. option_and_then (interval_by v steps) (first_input_at v n)) o (pause_on v at flow))
     (unasked_at v at) ≡ Some pause)
     none is
 
@@ -32,7 +32,7 @@ fed_interval_never : (v : Vehicle) (at : FlowAt) (pause : ℕ) (n : Forward) →
 unfolding interval_by
 fed_interval_never v at pause n feeder is =
     let (flow, its, none) = and_then_some (λ (flow : FlowPlan). None) (unasked_at v at) pause
-    (subst (λ (o : Option Forward). option_and_then (λ flow. option_map_or (λ n. None) o (pause_us flow)) (unasked_at v at) ≡ Some pause) feeder is) in
+    (subst (λ (o : Option Forward). option_and_then (λ flow. option_map_or (λ n. None) o (pause_on v at flow)) (unasked_at v at) ≡ Some pause) feeder is) in
     none-some pause none
 
 fed_interval : (v : Vehicle) (steps : ℕ) (at : FlowAt) (pause : ℕ) (n : Forward) → direct_feeder v at ≡ Some n → interval_by v (suc steps) at ≡ Some pause
@@ -40,22 +40,22 @@ fed_interval : (v : Vehicle) (steps : ℕ) (at : FlowAt) (pause : ℕ) (n : Forw
 unfolding interval_by
 fed_interval v steps at pause n feeder is =
     let (flow, its, known) = and_then_some (λ (flow : FlowPlan). option_and_then (interval_by v steps) (first_input_at v n)) (unasked_at v at) pause
-    (subst (λ (o : Option Forward). option_and_then (λ flow. option_map_or (λ n. option_and_then (interval_by v steps) (first_input_at v n)) o (pause_us flow))
+    (subst (λ (o : Option Forward). option_and_then (λ flow. option_map_or (λ n. option_and_then (interval_by v steps) (first_input_at v n)) o (pause_on v at flow))
     (unasked_at v at) ≡ Some pause)
     feeder is) in
     and_then_some (interval_by v steps) (first_input_at v n) pause known
 
 -- ---- releases
 
--- from one time to another a message has had its release less than `pause` ago, where there is time for it to end
+-- from one time to another a message has had its release less than `pause` nanoseconds ago, where there is time for it to end
 abbrev pub KeepsOn : Vehicle → SeenBuses → FlowAt → ℕ → ℕ → ℕ → ℕ → Type 0
-KeepsOn v seen at pause time from to = (t : ℕ) → from ≤ t → t + time ≤ to
-    → (p : ℕ) × IsIts (frames_at v seen at) p × ((seen at.bus).release p ≤ t) × (t < (seen at.bus).release p + pause)
+KeepsOn v seen at pause time from to = (t : ℕ) → from ≤ t → t + of_us time ≤ to
+    → (p : ℕ) × IsIts (frames_at v seen at) p × ((seen at.bus).release p ≤ t) × (t < (seen at.bus).release p + 1000 * pause)
 
-earlier : (p t before within own time to : ℕ) → time ≡ before + (within + own) → t + time ≤ to → p ≤ t → p + before ≤ to
+earlier : (p t before within own time to : ℕ) → time ≡ before + (within + own) → t + of_us time ≤ to → p ≤ t → p + of_us before ≤ to
 earlier p t before within own time to sum high before_t = omega arith
 
-shorter : (t before within own time to : ℕ) → time ≡ before + (within + own) → t + time ≤ to → t + before ≤ to
+shorter : (t before within own time to : ℕ) → time ≡ before + (within + own) → t + of_us time ≤ to → t + of_us before ≤ to
 shorter t before within own time to sum high = omega arith
 
 module _ (v : Vehicle) (delays : Delays) (told : AreDelays v delays) (seen : SeenBuses) (by : ℕ) (is : IsSeenVehicle v delays seen by)

@@ -1,42 +1,46 @@
 -- Where gateways are prompt, what they send on directly keeps to the streams that are planned for it, on buses that keep to their plans otherwise.
 use Rattle.std.proofs.Common.{◌≡◌, ◌≢◌, ℕ, zero, suc, ◌+◌, ◌*◌, ◌<◌, ◌≤◌, ◌⊎◌, Bool, true, false, length, is_some, unwrap_or, Option, Some, None, refl, sym, ap}
 use Rattle.std.proofs.Common.{◌∙◌, subst, inl, inr, arith}
-use Rattle.std.proofs.lemmas.Bool.{cases_Bool, false≢true}
+use Rattle.std.proofs.lemmas.Bool.{cases_Bool, cases_lt, false≢true}
 use Rattle.std.proofs.lemmas.Option.{same_Some}
 use Rattle.std.specs.Option.{option_and_then, option_map_or}
 use Rattle.j39_network.specs.declared.plan.flow_plan.FlowPlan.{FlowPlan}
 use Rattle.j39_network.specs.declared.plan.timing.Timing.{Timing}
-use Rattle.j39_vehicle_times.specs.BusDelays.{AreDelays, agreed_timing, delays_on}
+use Rattle.j39_load.specs.BusTimes.{timing_of}
+use Rattle.j39_load.specs.Clocks.{shortest_million}
+use Rattle.j39_vehicle_times.specs.BusDelays.{AreDelays, delays_on}
 use Rattle.j39_load.specs.Asked.{Asked, asked_of, frames_asked}
 use Rattle.j39_load.specs.LoadFindings.{AsksOfBus}
 use Rattle.j39_load.proofs.OneLoad.{one_asked}
 use Rattle.j39_timing.specs.FrameStreams.{AreOfStreams, KeepsStream}
-use Rattle.j39_timing.specs.Gateways.{Carrier, IsHandedOn}
+use Rattle.j39_gateways.proofs.Clocks.{steady_is}
+use Rattle.j39_gateways.specs.Gateways.{Carrier, IsClock, IsHandedOn, IsIts}
 use Rattle.j39_timing.specs.Prefixes.{AreBegunUntil}
 use Rattle.j39_timing.specs.Traffic.{IsSingle, Traffic, delay_of}
-use Rattle.j39_timing.specs.Vehicles.{Bus, IsKnown, IsPlannedOn, KeepsItsStreams, KeepsItsStreamsUntil}
+use Rattle.j39_gateways.specs.Vehicles.{Bus, IsKnown, IsPlannedOn, KeepsItsStreams, KeepsItsStreamsUntil}
 use Rattle.j39_timing.proofs.Prefixes.{then_is_planned}
-use Rattle.j39_timing.proofs.Vehicles.{keep_their_streams}
+use Rattle.j39_gateways.proofs.Vehicles.{keep_their_streams}
 use Rattle.j39_vehicle.specs.declared.vehicle.Vehicle.{Vehicle}
 use Rattle.j39_vehicle.specs.declared.vehicle.bus_plan.BusPlan.{BusPlan}
 use Rattle.j39_vehicle.specs.declared.vehicle.forward.Forward.{Forward}
 use Rattle.j39_vehicle_findings.specs.declared.point.FlowAt.{FlowAt}
 use Rattle.j39_vehicle_times.specs.declared.bus_delays.Delays.{Delays}
 use Rattle.j39_vehicle_times.specs.TimeFindings.{period_ms}
-use Rattle.j39_vehicle_times.specs.Times.{behind_at, behind_by, delay_at, direct_feeder, flow_at, first_input_at, jitter_ms, own, queued_of, sum_known, timed, timing_on}
+use Rattle.j39_vehicle_times.specs.Times.{behind_at, behind_by, delay_at, direct_feeder, flow_at, first_input_at, jitter_ms, own, queued_of, shortest_on, sum_known, timing_on}
 use Rattle.j39_vehicle_times.specs.Times.{us_of_ms, within_of}
 use Rattle.j39_vehicle_times.proofs.DecidingTimes.{and_then_some}
 use Rattle.j39_vehicle_time_laws.specs.ForwardedStreams.{AreForwardsTimely, AreOtherwiseKept, AreStreamsKept, IsOtherwiseKept, streams_of}
 use Rattle.j39_vehicle_time_laws.specs.KeptBuses.{AreKeptBuses, IsKnownBus, asked_on}
 use Rattle.j39_vehicle_time_laws.specs.Prompt.{ArePrompt, HaveOwnReleases, IsScope, IsSentDirectly, Scope, scope_on, sent_from}
-use Rattle.j39_vehicle_time_laws.specs.Seen.{SeenBuses, frames_at, unit_on}
+use Rattle.j39_vehicle_time_laws.specs.Seen.{SeenBuses, frames_at, longest_bit, of_us}
 use Rattle.j39_vehicle_time_laws.proofs.Behind.{fed_never, fed_parts, unfed_release}
 use Rattle.j39_vehicle_time_laws.proofs.Circle.{IsTold, TimedBus, all_of, at_of, behind_value, behind_with, bounded_here, bus_with, direct_with, is_some_false}
-use Rattle.j39_vehicle_time_laws.proofs.Circle.{is_some_true, late_value, of_bus, owns, period_value, queued_value, single_here, stream_of, streamed, unit_positive}
+use Rattle.j39_vehicle_time_laws.proofs.Circle.{is_some_true, late_value, of_bus, owns, period_value, queued_value, single_here, stream_of, streamed}
 use Rattle.j39_vehicle_time_laws.proofs.Circle.{view, viewed, wait_is, wait_with, within_value}
 use Rattle.j39_vehicle_time_laws.proofs.Feeders.{feeder_is}
-use Rattle.j39_vehicle_time_laws.proofs.OneFlow.{delay_here, own_parts}
+use Rattle.j39_vehicle_time_laws.proofs.OneFlow.{delay_here, own_of_release, own_parts}
 use Rattle.j39_vehicle_time_laws.proofs.Parts.{some_cases, sum_some}
+use Rattle.j39_vehicle_time_laws.proofs.TrueTimes.{clock_is}
 use Rattle.j39_vehicle_time_laws.proofs.Starts.{starts_within}
 use Rattle.j39_vehicle_time_laws.proofs.Until.{frames_then, with_streams}
 
@@ -44,10 +48,7 @@ use Rattle.j39_vehicle_time_laws.proofs.Until.{frames_then, with_streams}
 behind_own : (v : Vehicle) (delays : Delays) (steps : ℕ) (at : FlowAt) (total : ℕ) → behind_by v delays steps at ≡ Some total → (n : ℕ)
     × (own v delays at ≡ Some n)
 behind_own v delays steps at total known = some_cases (direct_feeder v at) ((n : ℕ) × (own v delays at ≡ Some n))
-    (λ none.
-    let (n, late, owns, jitter, sum) = sum_some (own v delays at) (timed v at (λ timing flow. Some (us_of_ms (jitter_ms flow)))) total
-    (unfed_release v delays steps at total none known) in
-    (n, owns))
+    (λ none. own_of_release v delays at total (unfed_release v delays steps at total none known))
     (λ n feeder. by_steps n feeder steps known)
   where
     by_steps : (n : Forward) → direct_feeder v at ≡ Some n → (k : ℕ) → behind_by v delays k at ≡ Some total → (m : ℕ) × (own v delays at ≡ Some m)
@@ -59,7 +60,7 @@ pub one_traffic : (v : Vehicle) (delays : Delays) (b : ℕ) (timing other : Timi
     → streams_of timing (frames_asked (asked_on one)) ≡ streams_of other (frames_asked (asked_on two))
 one_traffic v delays b timing other one two =
     let bus : one.bus ≡ two.bus = same_Some _ _ (sym one.its ∙ two.its) in
-    let time : timing ≡ other = same_Some _ _ (sym one.timed ∙ (ap (λ (x : BusPlan). agreed_timing x.plan) bus ∙ two.timed)) in
+    let time : timing ≡ other = same_Some _ _ (sym one.timed ∙ (ap (λ (x : BusPlan). timing_of x.plan) bus ∙ two.timed)) in
     let asks : AsksOfBus two.bus.plan other one.stays (delays_on delays b) =
     subst (λ (x : BusPlan). AsksOfBus x.plan other one.stays (delays_on delays b)) bus (subst (λ (x : Timing). AsksOfBus one.bus.plan x one.stays
     (delays_on delays b)) time one.asks) in
@@ -89,21 +90,37 @@ module _ (v : Vehicle) (scope : Scope) (delays : Delays) (told : AreDelays v del
   abbrev with_bus : (b : ℕ) → Option (TimedBus v scope b) → Bus
   with_bus b o = bus_with v scope delays told seen b o
 
-  abbrev vehicle : Rattle.j39_timing.specs.Vehicles.Vehicle
+  -- how far the releases of a flow of a bus are apart, by the fastest clock
+  abbrev apart_of : ℕ → FlowPlan → ℕ
+  apart_of b flow = option_map_or (λ (ms : ℕ). 1000 * ms * shortest_on v.buses.items b) (period_ms flow) 0
+
+  abbrev apart_value : ℕ → ℕ → ℕ
+  apart_value b i = option_map_or (apart_of b) (flow_at v.buses.items (at_of b i)) 0
+
+  abbrev vehicle : Rattle.j39_gateways.specs.Vehicles.Vehicle
   vehicle = record {
     bus = λ b. bus_with v scope delays told seen b (view v scope b);
     direct = λ b i. direct_with v scope delays told seen b i (view v scope b);
     from_bus = λ b i. bus_value (sent_from v delays (at_of b i));
     from_stream = λ b i. flow_value (sent_from v delays (at_of b i));
-    within = λ b i. within_value v scope delays told seen b i;
+    within = λ b i. of_us (within_value v scope delays told seen b i);
     wait = λ b i. wait_with v scope delays told seen b i (view v scope b);
     behind = λ b i. behind_with v scope delays told seen b i (view v scope b);
-    apart = λ b i. unit_on v b * ((bus_with v scope delays told seen b (view v scope b)).traffic.stream i).period;
+    apart = λ b i. apart_value b i;
   }
 
   abbrev keeps : {b : ℕ} → (t : TimedBus v scope b)
       → IsOtherwiseKept v delays b t.timing (all_of v scope delays told seen t) (scope_on scope b) (seen b)
   keeps {b} t = kept b t.timing (of_bus v scope delays told seen t) t.inside
+
+  shortest_there : (b : ℕ) (t : TimedBus v scope b) → shortest_on v.buses.items b ≡ shortest_million t.timing
+  shortest_there b t = ap (λ (o : Option Timing). option_map_or shortest_million o 1000000) t.timed
+
+  apart_is : (b i : ℕ) (t : TimedBus v scope b) (is : IsTold v scope delays told seen b i t)
+      → apart_value b i ≡ 1000 * (streamed v scope delays told seen b i t is).period * shortest_on v.buses.items b
+  apart_is b i t is =
+      ap (λ (o : Option FlowPlan). option_map_or (apart_of b) o 0) is.its
+      ∙ ap (λ (o : Option ℕ). option_map_or (λ (ms : ℕ). 1000 * ms * shortest_on v.buses.items b) o 0) (streamed v scope delays told seen b i t is).period_is
 
   -- ---- one flow that is sent on directly
 
@@ -125,7 +142,8 @@ module _ (v : Vehicle) (scope : Scope) (delays : Delays) (told : AreDelays v del
     within : ℕ
     promised : within_of n ≡ Some within
     in_jitter : before + within ≤ us_of_ms (jitter_ms here.flow)
-    no_nearer : (p : ℕ) → period_ms here.flow ≡ Some p → (q : ℕ) × (period_ms there.flow ≡ Some q) × (p ≤ q)
+    no_nearer : (p : ℕ) → period_ms here.flow ≡ Some p → (q : ℕ) × (period_ms there.flow ≡ Some q)
+        × (p * shortest_on v.buses.items b ≤ q * shortest_on v.buses.items x.bus)
 
   link_of : (b i : ℕ) (t : TimedBus v scope b) → view v scope b ≡ Some t → (x : FlowAt) → sent_from v delays (at_of b i) ≡ Some x → Link b i
   link_of b i t view_is x from =
@@ -162,7 +180,12 @@ module _ (v : Vehicle) (scope : Scope) (delays : Delays) (told : AreDelays v del
         within = within;
         promised = promised;
         in_jitter = let most = tm.in_jitter in omega (arith, most, sum);
-        no_nearer = λ p is. let (q, its, le) = tm.no_nearer p is in (q, subst (λ (f : FlowPlan). period_ms f ≡ Some q) other its, le);
+        no_nearer = λ p is.
+            let (q, its, le) = tm.no_nearer p is in (
+              q,
+              subst (λ (f : FlowPlan). period_ms f ≡ Some q) other its,
+              subst (λ (f : FlowAt). p * shortest_on v.buses.items b ≤ q * shortest_on v.buses.items f.bus) same_input le,
+            );
       }
 
   link : (b i : ℕ) → direct_with v scope delays told seen b i (view v scope b) ≡ true → Link b i
@@ -204,12 +227,12 @@ module _ (v : Vehicle) (scope : Scope) (delays : Delays) (told : AreDelays v del
         )
 
     handed_on : IsHandedOn (carrier_of (with_bus (bus_value (sent_from v delays (at_of b i))) (view v scope (bus_value (sent_from v delays (at_of b i)))))
-        (flow_value (sent_from v delays (at_of b i)))) (carrier_of (with_bus b (view v scope b)) i) (within_value v scope delays told seen b i)
+        (flow_value (sent_from v delays (at_of b i)))) (carrier_of (with_bus b (view v scope b)) i) (of_us (within_value v scope delays told seen b i))
     handed_on =
-        at_source (λ a k. IsHandedOn (carrier_of (with_bus a (view v scope a)) k) (carrier_of (with_bus b (view v scope b)) i) (within_value v scope delays told seen b i))
-        (at_source_bus (λ o. IsHandedOn (carrier_of (with_bus l.x.bus o) l.x.flow) (carrier_of (with_bus b (view v scope b)) i) (within_value v scope delays told seen b i))
-        (at_bus (λ o. IsHandedOn (carrier_of (with_bus l.x.bus (Some l.tx)) l.x.flow) (carrier_of (with_bus b o) i) (within_value v scope delays told seen b i))
-        (subst (λ (w : ℕ). IsHandedOn (frames_at v seen l.x) (frames_at v seen (at_of b i)) w) (sym within_is) sent.1.handed)))
+        at_source (λ a k. IsHandedOn (carrier_of (with_bus a (view v scope a)) k) (carrier_of (with_bus b (view v scope b)) i) (of_us (within_value v scope delays told seen b i)))
+        (at_source_bus (λ o. IsHandedOn (carrier_of (with_bus l.x.bus o) l.x.flow) (carrier_of (with_bus b (view v scope b)) i) (of_us (within_value v scope delays told seen b i)))
+        (at_bus (λ o. IsHandedOn (carrier_of (with_bus l.x.bus (Some l.tx)) l.x.flow) (carrier_of (with_bus b o) i) (of_us (within_value v scope delays told seen b i)))
+        (subst (λ (w : ℕ). IsHandedOn (frames_at v seen l.x) (frames_at v seen (at_of b i)) (of_us w)) (sym within_is) sent.1.handed)))
 
     its_single : IsSingle ((with_bus b (view v scope b)).traffic.stream i)
     its_single = at_bus (λ o. IsSingle ((with_bus b o).traffic.stream i)) (single_here v scope delays told seen b i l.t l.here)
@@ -258,59 +281,70 @@ module _ (v : Vehicle) (scope : Scope) (delays : Delays) (told : AreDelays v del
 
     -- ---- numbers
 
-    before_value : behind_with v scope delays told seen l.x.bus l.x.flow (Some l.tx) ≡ l.before
+    before_value : behind_with v scope delays told seen l.x.bus l.x.flow (Some l.tx) ≤ of_us l.before
     before_value = behind_value v scope delays told seen l.x.bus l.x.flow l.tx l.there l.before l.before_is
 
     source_behind : behind_with v scope delays told seen (bus_value (sent_from v delays (at_of b i))) (flow_value (sent_from v delays (at_of b i)))
-        (view v scope (bus_value (sent_from v delays (at_of b i)))) ≡ l.before
-    source_behind = at_source (λ a k. behind_with v scope delays told seen a k (view v scope a) ≡ l.before)
-        (at_source_bus (λ o. behind_with v scope delays told seen l.x.bus l.x.flow o ≡ l.before) before_value)
+        (view v scope (bus_value (sent_from v delays (at_of b i)))) ≤ of_us l.before
+    source_behind = at_source (λ a k. behind_with v scope delays told seen a k (view v scope a) ≤ of_us l.before)
+        (at_source_bus (λ o. behind_with v scope delays told seen l.x.bus l.x.flow o ≤ of_us l.before) before_value)
 
     jitter_enough : behind_with v scope delays told seen (bus_value (sent_from v delays (at_of b i))) (flow_value (sent_from v delays (at_of b i)))
-        (view v scope (bus_value (sent_from v delays (at_of b i)))) + within_value v scope delays told seen b i
-        ≤ unit_on v b * ((with_bus b (view v scope b)).traffic.stream i).jitter
+        (view v scope (bus_value (sent_from v delays (at_of b i)))) + of_us (within_value v scope delays told seen b i)
+        ≤ (with_bus b (view v scope b)).clock.shortest * ((with_bus b (view v scope b)).traffic.stream i).jitter
     jitter_enough =
         let one = source_behind in
         let two = within_is in
         let most = l.in_jitter in
-        let late : unit_on v b * ((with_bus b (view v scope b)).traffic.stream i).jitter ≡ us_of_ms (jitter_ms l.here.flow) =
-        at_bus (λ o. unit_on v b * ((with_bus b o).traffic.stream i).jitter ≡ us_of_ms (jitter_ms l.here.flow)) (late_value v scope delays told seen b i l.t l.here) in
-        omega (arith, one, two, most, late)
+        at_bus (λ o. behind_with v scope delays told seen (bus_value (sent_from v delays (at_of b i))) (flow_value (sent_from v delays (at_of b i)))
+        (view v scope (bus_value (sent_from v delays (at_of b i)))) + of_us (within_value v scope delays told seen b i)
+        ≤ (with_bus b o).clock.shortest * ((with_bus b o).traffic.stream i).jitter)
+        (let late = late_value v scope delays told seen b i l.t l.here in omega (arith, one, two, most, late))
 
     behind_is : behind_with v scope delays told seen b i (Some l.t)
-        ≡ queued_value v scope delays told seen b i + unit_on v b * (wait_with v scope delays told seen b i (Some l.t) + (stream_of v scope delays told seen l.t i).bits)
+        ≡ of_us (queued_value v scope delays told seen b i)
+        + longest_bit v b * (wait_with v scope delays told seen b i (Some l.t) + (stream_of v scope delays told seen l.t i).bits)
     behind_is = ap (λ (o : Option FlowAt). Rattle.std.proofs.Common.cond (is_some o)
-        (queued_value v scope delays told seen b i + unit_on v b * (wait_with v scope delays told seen b i (Some l.t) + (stream_of v scope delays told seen l.t i).bits))
-        (unit_on v b * delay_of (stream_of v scope delays told seen l.t i) (wait_with v scope delays told seen b i (Some l.t)))) l.from
+        (of_us (queued_value v scope delays told seen b i)
+        + longest_bit v b * (wait_with v scope delays told seen b i (Some l.t) + (stream_of v scope delays told seen l.t i).bits))
+        (longest_bit v b * delay_of (stream_of v scope delays told seen l.t i) (wait_with v scope delays told seen b i (Some l.t)))) l.from
 
     behind_enough : behind_with v scope delays told seen (bus_value (sent_from v delays (at_of b i))) (flow_value (sent_from v delays (at_of b i)))
-        (view v scope (bus_value (sent_from v delays (at_of b i)))) + within_value v scope delays told seen b i
-        + unit_on v b * (wait_with v scope delays told seen b i (view v scope b) + ((with_bus b (view v scope b)).traffic.stream i).bits) ≤ behind_with v scope delays told seen b i
-        (view v scope b)
+        (view v scope (bus_value (sent_from v delays (at_of b i)))) + of_us (within_value v scope delays told seen b i)
+        + (with_bus b (view v scope b)).clock.longest
+        * (wait_with v scope delays told seen b i (view v scope b) + ((with_bus b (view v scope b)).traffic.stream i).bits)
+        ≤ behind_with v scope delays told seen b i (view v scope b)
     behind_enough =
         let one = source_behind in
         let two = within_is in
         let three = queued_is in
         at_bus (λ o. behind_with v scope delays told seen (bus_value (sent_from v delays (at_of b i))) (flow_value (sent_from v delays (at_of b i)))
-        (view v scope (bus_value (sent_from v delays (at_of b i)))) + within_value v scope delays told seen b i
-        + unit_on v b * (wait_with v scope delays told seen b i o + ((with_bus b o).traffic.stream i).bits) ≤ behind_with v scope delays told seen b i o)
+        (view v scope (bus_value (sent_from v delays (at_of b i)))) + of_us (within_value v scope delays told seen b i)
+        + (with_bus b o).clock.longest * (wait_with v scope delays told seen b i o + ((with_bus b o).traffic.stream i).bits)
+        ≤ behind_with v scope delays told seen b i o)
         (let four = behind_is in omega (arith, one, two, three, four))
 
-    apart_there : unit_on v b * ((with_bus b (view v scope b)).traffic.stream i).period
-        ≤ unit_on v (bus_value (sent_from v delays (at_of b i)))
-        * ((with_bus (bus_value (sent_from v delays (at_of b i))) (view v scope (bus_value (sent_from v delays (at_of b i))))).traffic.stream
-        (flow_value (sent_from v delays (at_of b i)))).period
+    often_enough : (with_bus b (view v scope b)).clock.longest * ((with_bus b (view v scope b)).traffic.stream i).period ≤ apart_value b i
+    often_enough =
+        let own = streamed v scope delays told seen b i l.t l.here in
+        let apart = apart_is b i l.t l.here in
+        at_bus (λ o. (with_bus b o).clock.longest * ((with_bus b o).traffic.stream i).period ≤ apart_value b i)
+        (let near = period_value v scope delays told seen b i l.t l.here in
+        let same : 1000 * own.period * shortest_on v.buses.items b ≡ 1000 * own.period * shortest_million l.t.timing =
+        ap (λ (n : ℕ). 1000 * own.period * n) (shortest_there b l.t) in
+        omega (arith, near, apart, same))
+
+    apart_there : apart_value b i ≤ apart_value (bus_value (sent_from v delays (at_of b i))) (flow_value (sent_from v delays (at_of b i)))
     apart_there =
         let own = streamed v scope delays told seen b i l.t l.here in
         let other = streamed v scope delays told seen l.x.bus l.x.flow l.tx l.there in
         let (q, its, far) = l.no_nearer own.period own.period_is in
         let same : q ≡ other.period = same_Some _ _ (sym its ∙ other.period_is) in
-        let one : unit_on v b * ((with_bus b (view v scope b)).traffic.stream i).period ≡ us_of_ms own.period =
-        at_bus (λ o. unit_on v b * ((with_bus b o).traffic.stream i).period ≡ us_of_ms own.period) (period_value v scope delays told seen b i l.t l.here) in
-        at_source (λ a k. unit_on v b * ((with_bus b (view v scope b)).traffic.stream i).period ≤ unit_on v a * ((with_bus a (view v scope a)).traffic.stream k).period)
-        (at_source_bus (λ o. unit_on v b * ((with_bus b (view v scope b)).traffic.stream i).period ≤ unit_on v l.x.bus *
-        ((with_bus l.x.bus o).traffic.stream l.x.flow).period)
-        (let two = period_value v scope delays told seen l.x.bus l.x.flow l.tx l.there in omega (arith, one, two, far, same)))
+        let one = apart_is b i l.t l.here in
+        let two = apart_is l.x.bus l.x.flow l.tx l.there in
+        let far_on : own.period * shortest_on v.buses.items b ≤ other.period * shortest_on v.buses.items l.x.bus =
+        subst (λ (n : ℕ). own.period * shortest_on v.buses.items b ≤ n * shortest_on v.buses.items l.x.bus) same far in
+        at_source (λ a k. apart_value b i ≤ apart_value a k) (omega (arith, one, two, far_on))
 
   -- ---- frames of a bus
 
@@ -333,7 +367,8 @@ module _ (v : Vehicle) (scope : Scope) (delays : Delays) (told : AreDelays v del
 
   known : IsKnown vehicle
   known = record {
-    clocks = λ b. case_view v scope b (λ o. 0 < (with_bus b o).clock.unit) (unit_positive v b) (λ t. unit_positive v b) (view v scope b);
+    clocks = λ b. case_view v scope b (λ o. IsClock (with_bus b o).clock) (steady_is 0 1 (omega arith))
+        (λ t. clock_is v seen b t.timing t.timed (keeps t).clock) (view v scope b);
     some_bits = λ b. case_view v scope b (λ o. (p : ℕ) → p < (with_bus b o).schedule.count → 1 ≤ (with_bus b o).schedule.bits p)
         (λ p in_p. absurd (omega (arith, in_p))) (λ t. (keeps t).legal.positive) (view v scope b);
     queued_first = λ b. case_view v scope b (λ o. (p : ℕ) → p < (with_bus b o).schedule.count → (with_bus b o).schedule.queued p ≤ (with_bus b o).schedule.start p)
@@ -353,7 +388,7 @@ module _ (v : Vehicle) (scope : Scope) (delays : Delays) (told : AreDelays v del
         → (with_bus b o).schedule.queued p ≤ (with_bus b o).of.since p + ((with_bus b o).traffic.stream ((with_bus b o).of.source p)).jitter)
         (λ p its. absurd (omega (arith, its.0))) (λ t p its own. (own_frame b t p its.0 its.1 own).jitter_at_most) (view v scope b);
     own_release = λ b. case_view v scope b (λ o. (p : ℕ) → IsPlannedOn (with_bus b o) p → direct_with v scope delays told seen b ((with_bus b o).of.source p) o ≡ false
-        → (with_bus b o).release p ≡ Rattle.j39_timing.specs.Gateways.time_of (with_bus b o).clock ((with_bus b o).of.since p))
+        → (with_bus b o).release p ≡ Rattle.j39_gateways.specs.Gateways.time_of (with_bus b o).clock ((with_bus b o).of.since p))
         (λ p its. absurd (omega (arith, its.0)))
         (λ t p its own. own_releases (at_of b ((seen b).of.source p)) t.inside (is_some_false (sent_from v delays (at_of b ((seen b).of.source p))) own) p
         (its.0, its.1, refl)) (view v scope b);
@@ -369,38 +404,63 @@ module _ (v : Vehicle) (scope : Scope) (delays : Delays) (told : AreDelays v del
     single = λ b i direct. its_single b i (link b i direct);
     input_single = λ b i direct. input_single b i (link b i direct);
     input_begun = λ b i by direct. input_begun b i (link b i direct) by;
-    jitter_enough = λ b i direct.
-        let enough = jitter_enough b i (link b i direct) in
-        case_view v scope b (λ o. Rattle.j39_timing.specs.Vehicles.queued_within vehicle b i ≤ unit_on v b * ((with_bus b o).traffic.stream i).jitter
-        → Rattle.j39_timing.specs.Vehicles.queued_within vehicle b i ≤ (with_bus b o).clock.unit * ((with_bus b o).traffic.stream i).jitter)
-        (λ le. le) (λ t le. le) (view v scope b) enough;
-    often_enough = λ b i direct. case_view v scope b (λ o. (with_bus b o).clock.unit * ((with_bus b o).traffic.stream i).period
-        ≤ unit_on v b * ((with_bus b o).traffic.stream i).period) (omega arith) (λ t. omega arith) (view v scope b);
+    own_apart = λ b i p q its other differ single. case_view v scope b (λ o. IsIts (carrier_of (with_bus b o) i) p → IsIts (carrier_of (with_bus b o) i) q
+        → IsSingle ((with_bus b o).traffic.stream i) → direct_with v scope delays told seen b i o ≡ false
+        → ((with_bus b o).release p + apart_value b i ≤ (with_bus b o).release q) ⊎ ((with_bus b o).release q + apart_value b i ≤ (with_bus b o).release p))
+        (λ none. absurd (omega (arith, none.0))) (λ t it too one own. own_releases_apart b i t p q it too differ one own) (view v scope b) its other single;
+    jitter_enough = λ b i direct. jitter_enough b i (link b i direct);
+    often_enough = λ b i direct. often_enough b i (link b i direct);
     behind_own = λ b i. case_view v scope b (λ o. direct_with v scope delays told seen b i o ≡ false
-        → (with_bus b o).clock.unit * delay_of ((with_bus b o).traffic.stream i) (wait_with v scope delays told seen b i o) ≤ behind_with v scope delays told seen b i o)
+        → (with_bus b o).clock.longest * delay_of ((with_bus b o).traffic.stream i) (wait_with v scope delays told seen b i o)
+        ≤ behind_with v scope delays told seen b i o)
         (λ own. omega arith) (λ t own. own_behind b i t own) (view v scope b);
-    behind_direct = λ b i direct.
-        let enough = behind_enough b i (link b i direct) in
-        case_view v scope b (λ o. Rattle.j39_timing.specs.Vehicles.queued_within vehicle b i
-        + unit_on v b * (wait_with v scope delays told seen b i o + ((with_bus b o).traffic.stream i).bits) ≤ behind_with v scope delays told seen b i o
-        → Rattle.j39_timing.specs.Vehicles.queued_within vehicle b i
-        + (with_bus b o).clock.unit * (wait_with v scope delays told seen b i o + ((with_bus b o).traffic.stream i).bits) ≤ behind_with v scope delays told seen b i o)
-        (λ le. le) (λ t le. le) (view v scope b) enough;
-    apart_own = λ b i. case_view v scope b (λ o. direct_with v scope delays told seen b i o ≡ false
-        → unit_on v b * ((with_bus b o).traffic.stream i).period ≤ (with_bus b o).clock.unit * ((with_bus b o).traffic.stream i).period)
-        (λ own. omega arith) (λ t own. omega arith) (view v scope b);
+    behind_direct = λ b i direct. behind_enough b i (link b i direct);
     apart_direct = λ b i direct. apart_there b i (link b i direct);
   }
     where
       own_behind : (b i : ℕ) (t : TimedBus v scope b) → is_some (sent_from v delays (at_of b i)) ≡ false
-          → unit_on v b * delay_of (stream_of v scope delays told seen t i) (wait_with v scope delays told seen b i (Some t)) ≤ behind_with v scope delays told seen b i (Some t)
+          → longest_bit v b * delay_of (stream_of v scope delays told seen t i) (wait_with v scope delays told seen b i (Some t))
+          ≤ behind_with v scope delays told seen b i (Some t)
       own_behind b i t own =
-          let same : behind_with v scope delays told seen b i (Some t) ≡ unit_on v b * delay_of (stream_of v scope delays told seen t i) (wait_with v scope delays told seen b i
-          (Some t)) =
+          let same : behind_with v scope delays told seen b i (Some t)
+          ≡ longest_bit v b * delay_of (stream_of v scope delays told seen t i) (wait_with v scope delays told seen b i (Some t)) =
           ap (λ (c : Bool). Rattle.std.proofs.Common.cond c
-          (queued_value v scope delays told seen b i + unit_on v b * (wait_with v scope delays told seen b i (Some t) + (stream_of v scope delays told seen t i).bits))
-          (unit_on v b * delay_of (stream_of v scope delays told seen t i) (wait_with v scope delays told seen b i (Some t)))) own in
+          (of_us (queued_value v scope delays told seen b i)
+          + longest_bit v b * (wait_with v scope delays told seen b i (Some t) + (stream_of v scope delays told seen t i).bits))
+          (longest_bit v b * delay_of (stream_of v scope delays told seen t i) (wait_with v scope delays told seen b i (Some t)))) own in
           omega (arith, same)
+
+      -- the releases of two frames are apart by nothing
+      any_apart : (n a c : ℕ) → n ≡ 0 → (a + n ≤ c) ⊎ (c + n ≤ a)
+      any_apart n a c none = elim (cases_lt a c) [
+        | inl below ↦ inl (omega (arith, below, none))
+        | inr above ↦ inr (omega (arith, above, none))
+      ]
+
+      own_releases_apart : (b i : ℕ) (t : TimedBus v scope b) (p q : ℕ) → IsIts (carrier_of (with_bus b (Some t)) i) p
+          → IsIts (carrier_of (with_bus b (Some t)) i) q → p ≢ q → IsSingle (stream_of v scope delays told seen t i)
+          → is_some (sent_from v delays (at_of b i)) ≡ false
+          → ((seen b).release p + apart_value b i ≤ (seen b).release q) ⊎ ((seen b).release q + apart_value b i ≤ (seen b).release p)
+      own_releases_apart b i t p q its other differ single own =
+          some_cases (flow_at v.buses.items (at_of b i)) _
+          (λ none. any_apart (apart_value b i) ((seen b).release p) ((seen b).release q) (ap (λ (o : Option FlowPlan). option_map_or (apart_of b) o 0) none))
+          (λ flow its_flow. some_cases (period_ms flow) _
+          (λ none. any_apart (apart_value b i) ((seen b).release p) ((seen b).release q)
+          (ap (λ (o : Option FlowPlan). option_map_or (apart_of b) o 0) its_flow
+          ∙ ap (λ (o : Option ℕ). option_map_or (λ (ms : ℕ). 1000 * ms * shortest_on v.buses.items b) o 0) none))
+          (λ ms its_period.
+          let same : apart_value b i ≡ 1000 * ms * shortest_million t.timing =
+          ap (λ (o : Option FlowPlan). option_map_or (apart_of b) o 0) its_flow
+          ∙ (ap (λ (o : Option ℕ). option_map_or (λ (n : ℕ). 1000 * n * shortest_on v.buses.items b) o 0) its_period
+          ∙ ap (λ (n : ℕ). 1000 * ms * n) (shortest_there b t)) in
+          let source : i ≡ (seen b).of.source p = sym its.2 in
+          subst (λ (n : ℕ). ((seen b).release p + n ≤ (seen b).release q) ⊎ ((seen b).release q + n ≤ (seen b).release p)) (sym same)
+          ((keeps t).apart p q ms flow its.0 other.0 differ its.1 other.1
+          (is_some_false (sent_from v delays (at_of b ((seen b).of.source p)))
+          (subst (λ (j : ℕ). is_some (sent_from v delays (at_of b j)) ≡ false) source own))
+          (its.2 ∙ sym other.2)
+          (subst (λ (j : ℕ). IsSingle (stream_of v scope delays told seen t j)) source single)
+          (subst (λ (j : ℕ). flow_at v.buses.items (at_of b j) ≡ Some flow) source its_flow) its_period)))
 
   -- ---- so each bus keeps to its plan
 
@@ -409,11 +469,12 @@ module _ (v : Vehicle) (scope : Scope) (delays : Delays) (told : AreDelays v del
 
   pub buses_kept : AreKeptBuses v delays scope seen
   buses_kept b timing its inside =
-      let timed_here : timing_on v.buses.items b ≡ Some timing = ap (option_and_then (λ (bus : BusPlan). agreed_timing bus.plan)) its.its ∙ its.timed in
+      let timed_here : timing_on v.buses.items b ≡ Some timing = ap (option_and_then (λ (bus : BusPlan). timing_of bus.plan)) its.its ∙ its.timed in
       let (t, view_is) = viewed v scope b timing inside timed_here in
       let streams : KeepsItsStreams (with_bus b (Some t)) = subst (λ (o : Option (TimedBus v scope b)). KeepsItsStreams (with_bus b o)) view_is (streams_kept b) in
       let same = one_traffic v delays b t.timing timing (of_bus v scope delays told seen t) its in
       record {
+        clock = (kept b timing its inside).clock;
         legal = (kept b timing its inside).legal;
         frames = λ flow bits among at. with_streams timing (frames_asked (asked_on its)) (seen b).schedule (seen b).controllers (seen b).planned (seen b).of flow
             ((kept b timing its inside).frames flow bits among at)

@@ -3,14 +3,16 @@ use Rattle.std.specs.Prelude.{◌≡◌, ℕ, ◌≤◌, Bool, true, List, Optio
 use Rattle.std.specs.List.{slice_get}
 use Rattle.j39_network.specs.declared.plan.timing.Timing.{Timing}
 use Rattle.j39_network.specs.declared.plan.unit_plan.UnitPlan.{UnitPlan}
-use Rattle.j39_vehicle_times.specs.BusDelays.{agreed_timing, delays_on}
+use Rattle.j39_load.specs.BusTimes.{timing_of}
+use Rattle.j39_load.specs.Clocks.{IsTrueTime}
+use Rattle.j39_vehicle_times.specs.BusDelays.{delays_on}
 use Rattle.j39_load.specs.declared.waits.delay.Delay.{Delay}
 use Rattle.j39_load.specs.declared.waits.delay.Delay.TheVariants.{Within}
 use Rattle.j39_load.specs.Asked.{Asked, asked_of, frames_asked}
 use Rattle.j39_load.specs.LoadFindings.{AsksOfBus}
 use Rattle.j39_load.specs.PlannedFrames.{AreFramesInAnyOrder}
 use Rattle.j39_timing.specs.AnyOrder.{IsLegalInAnyOrder}
-use Rattle.j39_timing.specs.Gateways.{time_of}
+use Rattle.j39_gateways.specs.Gateways.{time_of}
 use Rattle.j39_vehicle.specs.declared.vehicle.Vehicle.{Vehicle}
 use Rattle.j39_vehicle.specs.declared.vehicle.bus_plan.BusPlan.{BusPlan}
 use Rattle.j39_vehicle_times.specs.declared.bus_delays.Delays.{Delays}
@@ -22,7 +24,7 @@ use Rattle.j39_vehicle_time_laws.specs.Seen.{SeenBus, SeenBuses, clock_on}
 pub record IsKnownBus (v : Vehicle) (delays : Delays) (b : ℕ) (timing : Timing) : Type 0 where
   pub bus : BusPlan
   pub its : slice_get v.buses.items b ≡ Some bus
-  pub timed : agreed_timing bus.plan ≡ Some timing
+  pub timed : timing_of bus.plan ≡ Some timing
   pub stays : UnitPlan → Bool
   pub asks : AsksOfBus bus.plan timing stays (delays_on delays b)
 
@@ -30,8 +32,9 @@ abbrev pub asked_on : {v : Vehicle} {delays : Delays} {b : ℕ} {timing : Timing
 asked_on {timing = timing} of_bus = asked_of timing of_bus.bus.plan of_bus.stays
 
 -- the planned frames of the bus are those of its plan's flows, and what else is on it keeps to what is told of it, while frames of these flows wait,
--- as far as a delay is told of them
+-- as far as a delay is told of them; and its bits last as long as its clock can have them
 pub record IsKeptBus (timing : Timing) (asked : Asked) (told : List (Option Delay)) (flows : ℕ → Bool) (bus : SeenBus) : Type 0 where
+  pub clock : IsTrueTime timing bus.time
   pub legal : IsLegalInAnyOrder bus.schedule bus.controllers
   pub frames : (flow bits : ℕ) → flows flow ≡ true → slice_get told flow ≡ Some (Some (Within bits))
       → AreFramesInAnyOrder timing (frames_asked asked) bus.schedule bus.controllers bus.planned bus.of flow

@@ -4,7 +4,7 @@ use Rattle.j39_network.specs.declared.plan.timing.Timing.{Timing}
 use Rattle.j39_load.specs.AnyQueues.{keep_order}
 use Rattle.j39_load.specs.Asked.{frames_asked}
 use Rattle.j39_load.specs.PlannedFrames.{planned_at}
-use Rattle.j39_timing.specs.Gateways.{HasBegun, end_time, queue_time}
+use Rattle.j39_gateways.specs.Gateways.{HasBegun, end_time, queue_time}
 use Rattle.j39_vehicle.specs.declared.vehicle.Vehicle.{Vehicle}
 use Rattle.j39_vehicle.specs.declared.vehicle.forward.Forward.{Forward}
 use Rattle.j39_vehicle_findings.specs.ForwardTests.{feeds, is_direct}

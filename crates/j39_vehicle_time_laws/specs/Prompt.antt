@@ -7,11 +7,11 @@ use Rattle.j39_vehicle_findings.specs.ForwardTests.{feeds, is_direct}
 use Rattle.j39_vehicle_findings.specs.Traces.{goes_on, next_forward}
 use Rattle.j39_vehicle_findings.specs.declared.point.FlowAt.{FlowAt}
 use Rattle.j39_vehicle_findings.specs.declared.point.Point.{Point}
-use Rattle.j39_timing.specs.Gateways.{HasBegun, HasOwnReleases, IsHandedOn, IsIts, end_time, queue_time}
+use Rattle.j39_gateways.specs.Gateways.{HasBegun, HasOwnReleases, IsHandedOn, IsIts, end_time, queue_time}
 use Rattle.j39_vehicle_laws.specs.Faithful.{KeepsContents}
 use Rattle.j39_vehicle_times.specs.declared.bus_delays.Delays.{Delays}
-use Rattle.j39_vehicle_times.specs.Times.{behind_at, delay_at, direct_feeder, forward_at, first_input_at, interval}
-use Rattle.j39_vehicle_time_laws.specs.Seen.{SeenBuses, frames_at}
+use Rattle.j39_vehicle_times.specs.Times.{behind_at, delay_at, direct_feeder, forward_at, first_input_at, interval_us}
+use Rattle.j39_vehicle_time_laws.specs.Seen.{SeenBuses, frames_at, of_us}
 
 -- some of the buses and flows of a vehicle, of which something is asked
 pub record Scope : Type 0 where
@@ -45,7 +45,7 @@ pub record SendsOn (v : Vehicle) (n : ℕ) (forward : Forward) (x y : FlowAt) (w
 -- each message of the output is one of the input, sent on at most `within` behind its end; each of the input that ends is sent on; what is said of
 -- a signal is what was said of the one that goes into it; and the bytes keep what the forward has to keep
 pub record IsSentDirectly (v : Vehicle) (seen : SeenBuses) (n : ℕ) (x y : FlowAt) (within : ℕ) : Type 0 where
-  pub handed : IsHandedOn (frames_at v seen x) (frames_at v seen y) within
+  pub handed : IsHandedOn (frames_at v seen x) (frames_at v seen y) (of_us within)
   pub each : (p : ℕ) → HasBegun (frames_at v seen x) p → (q : ℕ) × IsIts (frames_at v seen y) q × (handed.what q ≡ p)
   pub says : (s t : Option ℕ) → LeadsTo v n x s y t → (q : ℕ) → IsIts (frames_at v seen y) q
       → (seen y.bus).born q t ≡ (seen x.bus).born (handed.what q) s
@@ -56,7 +56,8 @@ pub record IsSentDirectly (v : Vehicle) (seen : SeenBuses) (n : ℕ) (x y : Flow
 -- a later one that has ended by when it is queued; and its bytes keep what the forward has to keep of this one
 pub record IsSentAtItsBeat (v : Vehicle) (seen : SeenBuses) (n : ℕ) (x y : FlowAt) (within patience : ℕ) : Type 0 where
   pub newest : (s t : Option ℕ) → LeadsTo v n x s y t → (p q : ℕ) → HasBegun (frames_at v seen x) p → IsIts (frames_at v seen y) q
-      → end_time (frames_at v seen x) p + within ≤ (seen y.bus).release q → (seen y.bus).release q < end_time (frames_at v seen x) p + patience
+      → end_time (frames_at v seen x) p + of_us within ≤ (seen y.bus).release q
+      → (seen y.bus).release q < end_time (frames_at v seen x) p + of_us patience
       → (r : ℕ) × HasBegun (frames_at v seen x) r × (end_time (frames_at v seen x) p ≤ end_time (frames_at v seen x) r)
       × (end_time (frames_at v seen x) r ≤ queue_time (frames_at v seen y) q) × ((seen y.bus).born q t ≡ (seen x.bus).born r s)
       × ((forward : Forward) → forward_at v n ≡ Some forward → KeepsContents v forward (Some ((seen x.bus).bytes r)) ((seen y.bus).bytes q))
@@ -67,7 +68,7 @@ pub record ArePrompt (v : Vehicle) (delays : Delays) (scope : Scope) (seen : See
   pub direct : (n : ℕ) (forward : Forward) (x y : FlowAt) (within : ℕ) → SendsOn v n forward x y within → is_direct forward ≡ true
       → scope.buses y.bus ≡ true → IsDelayKnown delays x → IsDelayKnown delays y → IsSentDirectly v seen n x y within
   pub periodic : (n : ℕ) (forward : Forward) (x y : FlowAt) (within pause time : ℕ) → SendsOn v n forward x y within → is_direct forward ≡ false
-      → scope.flows y ≡ true → interval v x ≡ Some pause → behind_at v delays x ≡ Some time
+      → scope.flows y ≡ true → interval_us v x ≡ Some pause → behind_at v delays x ≡ Some time
       → IsSentAtItsBeat v seen n x y within (pause + (time + within))
 
 -- the flow that a direct forward takes for its input, for a flow of which a delay is told: each of its messages goes in one frame

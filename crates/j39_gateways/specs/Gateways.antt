@@ -1,18 +1,28 @@
--- Several buses, and devices that hand on what comes on one of them to another one. Times that they have in common are in microseconds.
+-- Several buses, and devices that hand on what comes on one of them to another one. Times that they have in common are true ones, in any unit.
 use Rattle.std.specs.Prelude.{◌≡◌, ◌≢◌, ℕ, ◌+◌, ◌*◌, ◌<◌, ◌≤◌, ◌⊎◌, Bool, true, List, [], ◌∷◌}
 use Rattle.j39_timing.specs.TimedFrames.{Schedule}
 use Rattle.j39_timing.specs.FrameStreams.{Origins}
 use Rattle.j39_timing.specs.declared.stream.Stream.{Stream}
-use Rattle.j39_timing.specs.FreshFrames.{KeepsComing}
 use Rattle.j39_timing.specs.Traffic.{IsStreamInTime, delay_of}
 
--- the first bit of a bus begins so many microseconds late, and each other one so many behind the one before
+-- when each bit of a bus begins, and how long bits are at least and at most
 pub record Clock : Type 0 where
-  pub phase : ℕ
-  pub unit : ℕ
+  pub time : ℕ → ℕ
+  pub shortest : ℕ
+  pub longest : ℕ
 
 abbrev pub time_of : Clock → ℕ → ℕ
-time_of c t = c.phase + c.unit * t
+time_of c t = c.time t
+
+-- so many bits from any one on last so long, over each time, however short
+pub record IsClock (c : Clock) : Type 0 where
+  pub some_time : 0 < c.shortest
+  pub at_least : (t bits : ℕ) → c.time t + c.shortest * bits ≤ c.time (t + bits)
+  pub at_most : (t bits : ℕ) → c.time (t + bits) ≤ c.time t + c.longest * bits
+
+-- one whose first bit begins so late, and all of whose bits are as long
+abbrev pub steady : ℕ → ℕ → Clock
+steady phase unit = record { time = λ t. phase + unit * t; shortest = unit; longest = unit }
 
 -- the planned frames of one stream on its bus, and what each of them carries
 pub record Carrier : Type 0 where
@@ -53,6 +63,10 @@ IsYoung x age from to = (t : ℕ) → from ≤ t → t ≤ to → (p : ℕ) × H
 abbrev pub HasOwnReleases : Carrier → Type 0
 HasOwnReleases x = (p : ℕ) → IsIts x p → x.release p ≡ time_of x.clock (x.of.since p)
 
+-- from one time to another, a frame has had its release less than `interval` ago
+abbrev pub KeepsReleasing : Carrier → ℕ → ℕ → ℕ → Type 0
+KeepsReleasing x interval from to = (t : ℕ) → from ≤ t → t ≤ to → (p : ℕ) × IsIts x p × (x.release p ≤ t) × (t < x.release p + interval)
+
 -- what frames from some release on carry was no older than `old` at their releases
 abbrev pub IsOldAtMost : Carrier → ℕ → ℕ → ℕ → Type 0
 IsOldAtMost x old from to = (p : ℕ) → IsIts x p → from ≤ x.release p → x.release p ≤ to → x.release p ≤ x.born p + old
@@ -88,7 +102,7 @@ pub record IsHandedOn (x y : Carrier) (within : ℕ) : Type 0 where
 abbrev pub AreApart : Carrier → ℕ → Type 0
 AreApart x period = (p q : ℕ) → IsIts x p → IsIts x q → p ≢ q → (x.release p + period ≤ x.release q) ⊎ (x.release q + period ≤ x.release p)
 
--- each ends so many microseconds after its release at most, and none before
+-- each ends so long after its release at most, and none before
 abbrev pub EndWithin : Carrier → ℕ → Type 0
 EndWithin x behind = (p : ℕ) → HasBegun x p → (x.release p ≤ end_time x p) × (end_time x p ≤ x.release p + behind)
 
@@ -115,7 +129,8 @@ ComesSo x c = Comes x c.old c.interval c.behind c.from c.to
 abbrev pub age_of : Coming → ℕ
 age_of c = c.old + (c.interval + c.behind)
 
--- how a gateway hands on: directly, or at its own beat, which keeps coming from one bit to another; with the wait of the stream that it sends
+-- how a gateway hands on: directly, or at its own beat, of which a release came less than so long ago, from one time to another; with the wait of
+-- the stream that it sends
 pub data Mode : Type 0 where
   directly : Mode
   at_its_beat : ℕ → ℕ → ℕ → Mode
@@ -132,29 +147,29 @@ abbrev pub coming_behind : Hop → Mode → Coming → Coming
 coming_behind h directly c = record {
   old = c.old;
   interval = c.interval;
-  behind = c.behind + (h.within + h.to.clock.unit * (h.wait + h.stream.bits));
+  behind = c.behind + (h.within + h.to.clock.longest * (h.wait + h.stream.bits));
   from = c.from;
   to = c.to;
 }
-coming_behind h (at_its_beat pause first last) c = record {
+coming_behind h (at_its_beat interval first last) c = record {
   old = age_of c + h.within;
-  interval = h.to.clock.unit * pause;
-  behind = h.to.clock.unit * delay_of h.stream h.wait;
-  from = time_of h.to.clock first;
-  to = time_of h.to.clock last;
+  interval = interval;
+  behind = h.to.clock.longest * delay_of h.stream h.wait;
+  from = first;
+  to = last;
 }
 
 -- what is sent keeps to its stream, is in time on its bus, and is what the gateway has heard
 abbrev pub IsPrompt : Carrier → Coming → Hop → Mode → Type 0
 IsPrompt x c h directly = HandsOn x h.to h.within
     × ((q : ℕ) → IsIts h.to q → time_of h.to.clock (h.to.of.since q) ≤ h.to.release q)
-    × (c.to + h.to.clock.unit * (h.stream.jitter + h.wait) < time_of h.to.clock h.to.schedule.now)
-IsPrompt x c h (at_its_beat pause first last) = SendsNewest x h.to h.within × HasOwnReleases h.to × (0 < h.to.clock.unit)
-    × KeepsComing h.to.schedule h.to.planned h.to.of h.to.source pause first last × (last + (h.stream.jitter + h.wait) < h.to.schedule.now)
-    × (c.from + c.behind + h.within + h.to.clock.unit * pause ≤ time_of h.to.clock first) × (time_of h.to.clock last ≤ c.to + c.behind + h.within)
+    × (c.to + h.to.clock.longest * (h.stream.jitter + h.wait) < time_of h.to.clock h.to.schedule.now)
+IsPrompt x c h (at_its_beat interval first last) = SendsNewest x h.to h.within × HasOwnReleases h.to
+    × KeepsReleasing h.to interval first last × (last + h.to.clock.longest * (h.stream.jitter + h.wait) < time_of h.to.clock h.to.schedule.now)
+    × (c.from + c.behind + h.within + interval ≤ first) × (last ≤ c.to + c.behind + h.within)
 
 abbrev pub IsInTimeThere : Hop → Type 0
-IsInTimeThere h = IsStreamInTime h.to.schedule h.to.planned h.to.of h.to.source h.stream h.wait × KeepTo h.to h.stream
+IsInTimeThere h = IsClock h.to.clock × IsStreamInTime h.to.schedule h.to.planned h.to.of h.to.source h.stream h.wait × KeepTo h.to h.stream
 
 -- from gateway to gateway
 unfoldable pub AreHops : Carrier → Coming → List Hop → Type 0

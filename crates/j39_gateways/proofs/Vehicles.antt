@@ -2,11 +2,11 @@
 -- frames are queued.
 use Rattle.std.proofs.Common.{◌≡◌, ◌≢◌, ℕ, zero, suc, ◌+◌, ◌*◌, ◌<◌, ◌≤◌, ◌⊎◌, true, false, ltb, refl, subst, sym, arith, inl, inr}
 use Rattle.std.proofs.lemmas.Bool.{and_parts, cases_lt, cases_Bool, ltb-true, both_ways}
-use Rattle.std.proofs.Math.Nat.{mul-le-mul_left, lt_of_mul-lt-mul_left}
+use Rattle.j39_gateways.proofs.Clocks.{before_in_time, bits_in_order, in_time_order}
 use Rattle.j39_timing.specs.Traffic.{IsSingle, delay_of}
 use Rattle.j39_timing.specs.Prefixes.{planned_until}
-use Rattle.j39_timing.specs.Gateways.{IsHandedOn, IsIts, HasBegun, end_time, time_of}
-use Rattle.j39_timing.specs.Vehicles.{Vehicle, carrier, stream_at, input_at, queued_within, IsPlannedOn, IsKnown, KeepsItsStreams, KeepsItsStreamsUntil}
+use Rattle.j39_gateways.specs.Gateways.{IsHandedOn, IsIts, HasBegun, end_time, time_of}
+use Rattle.j39_gateways.specs.Vehicles.{Vehicle, carrier, stream_at, input_at, queued_within, IsPlannedOn, IsKnown, KeepsItsStreams, KeepsItsStreamsUntil}
 
 module _ (v : Vehicle) (is : IsKnown v) where
   -- the frame is queued at this time
@@ -35,17 +35,14 @@ module _ (v : Vehicle) (is : IsKnown v) where
       → AreApartAt b i p q
 
   -- bits in order are times in order
-  in_time_order : (b m n : ℕ) → m ≤ n → time_of (v.bus b).clock m ≤ time_of (v.bus b).clock n
-  in_time_order b m n below = let times : (v.bus b).clock.unit * m ≤ (v.bus b).clock.unit * n = mul-le-mul_left (v.bus b).clock.unit below in omega arith
+  ordered : (b m n : ℕ) → m ≤ n → time_of (v.bus b).clock m ≤ time_of (v.bus b).clock n
+  ordered b m n below = in_time_order (v.bus b).clock (is.clocks b) m n below
 
-  before_in_time : (b m n : ℕ) → m < n → time_of (v.bus b).clock m < time_of (v.bus b).clock n
-  before_in_time b m n below =
-      let times : (v.bus b).clock.unit * (m + 1) ≤ (v.bus b).clock.unit * n = mul-le-mul_left (v.bus b).clock.unit (omega arith) in
-      let some : 0 < (v.bus b).clock.unit = is.clocks b in
-      omega arith
+  before : (b m n : ℕ) → m < n → time_of (v.bus b).clock m < time_of (v.bus b).clock n
+  before b m n below = before_in_time (v.bus b).clock (is.clocks b) m n below
 
-  bits_in_order : (b m n : ℕ) → time_of (v.bus b).clock m < time_of (v.bus b).clock n → m < n
-  bits_in_order b m n below = lt_of_mul-lt-mul_left (v.bus b).clock.unit (omega arith)
+  bits_before : (b m n : ℕ) → time_of (v.bus b).clock m < time_of (v.bus b).clock n → m < n
+  bits_before b m n below = bits_in_order (v.bus b).clock (is.clocks b) m n below
 
   -- releases of a stream that is handed on are apart on its bus too
   later_there : (b i p q : ℕ) → v.direct b i ≡ true → IsIts (carrier v b i) p → IsIts (carrier v b i) q
@@ -55,8 +52,10 @@ module _ (v : Vehicle) (is : IsKnown v) where
       let handed = is.handed b i direct in
       let low : time_of (v.bus b).clock ((v.bus b).of.since p) ≤ (v.bus b).release p = handed.first_bit p its in
       let high : (v.bus b).release q < time_of (v.bus b).clock ((v.bus b).of.since q + 1) = handed.last_bit q other in
-      let often : (v.bus b).clock.unit * (stream_at v b i).period ≤ v.apart b i = is.often_enough b i direct in
-      let less : (v.bus b).of.since p + (stream_at v b i).period < (v.bus b).of.since q + 1 = bits_in_order b _ _ (omega arith) in
+      let often : (v.bus b).clock.longest * (stream_at v b i).period ≤ v.apart b i = is.often_enough b i direct in
+      let last : time_of (v.bus b).clock ((v.bus b).of.since p + (stream_at v b i).period) ≤ time_of (v.bus b).clock ((v.bus b).of.since p)
+      + (v.bus b).clock.longest * (stream_at v b i).period = (is.clocks b).at_most ((v.bus b).of.since p) (stream_at v b i).period in
+      let less : (v.bus b).of.since p + (stream_at v b i).period < (v.bus b).of.since q + 1 = bits_before b _ _ (omega arith) in
       omega arith
 
   -- the frames of a bus that are queued before a bit keep to its streams
@@ -90,7 +89,7 @@ module _ (v : Vehicle) (is : IsKnown v) where
     parts p it = let both = and_parts ((v.bus a).planned p) (ltb ((v.bus a).schedule.queued p) by) it in (both.0, ltb-true ((v.bus a).schedule.queued p) by both.1)
 
     soon : (p : ℕ) → (v.bus a).schedule.queued p < by → ready a p < t
-    soon p early = let before = before_in_time a ((v.bus a).schedule.queued p) by early in omega arith
+    soon p early = let before = before a ((v.bus a).schedule.queued p) by early in omega arith
 
   -- ---- one frame that is handed on
 
@@ -124,7 +123,7 @@ module _ (v : Vehicle) (is : IsKnown v) where
     sent_first =
         let first : (v.bus a).schedule.queued x ≤ (v.bus a).schedule.start x = is.queued_first a x begun.0.0 in
         let long : 1 ≤ (v.bus a).schedule.bits x = is.some_bits a x begun.0.0 in
-        before_in_time a ((v.bus a).schedule.queued x) ((v.bus a).schedule.start x + (v.bus a).schedule.bits x) (omega arith)
+        before a ((v.bus a).schedule.queued x) ((v.bus a).schedule.start x + (v.bus a).schedule.bits x) (omega arith)
 
     x_kept : IsKept a x
     x_kept = kept a x (begun.0.0, begun.0.1) (let first = sent_first in let end = ended in omega arith)
@@ -137,7 +136,7 @@ module _ (v : Vehicle) (is : IsKnown v) where
           let seen : by ≤ (v.bus a).schedule.now = let now = begun.1 in omega arith in
           let long : 1 ≤ (v.bus a).schedule.bits x = is.some_bits a x begun.0.0 in
           let order : time_of (v.bus a).clock by ≤ end_time (input_at v b i) x =
-          in_time_order a by ((v.bus a).schedule.start x + (v.bus a).schedule.bits x) (omega arith) in
+          ordered a by ((v.bus a).schedule.start x + (v.bus a).schedule.bits x) (omega arith) in
           let streams = kept_until t a by kept apart (let end = ended in omega arith) in
           is.input_begun b i by direct seen streams x begun.0.0 begun.0.1 begun.0.2 (omega arith)
     ]
@@ -148,23 +147,27 @@ module _ (v : Vehicle) (is : IsKnown v) where
         let source : source_of a x ≡ k = begun.0.2 in
         let small : (v.bus a).schedule.bits x ≤ (stream_at v a k).bits =
         subst (λ j. (v.bus a).schedule.bits x ≤ (stream_at v a j).bits) source (is.bits_at_most a x (begun.0.0, begun.0.1)) in
+        let last : time_of (v.bus a).clock ((v.bus a).schedule.queued x + (v.wait a k + (stream_at v a k).bits)) ≤ ready a x
+        + (v.bus a).clock.longest * (v.wait a k + (stream_at v a k).bits) = (is.clocks a).at_most ((v.bus a).schedule.queued x) (v.wait a k + (stream_at v a k).bits) in
         let end : end_time (input_at v b i) x ≤ time_of (v.bus a).clock ((v.bus a).schedule.queued x + (v.wait a k + (stream_at v a k).bits)) =
-        in_time_order a ((v.bus a).schedule.start x + (v.bus a).schedule.bits x) ((v.bus a).schedule.queued x + (v.wait a k + (stream_at v a k).bits)) (omega arith) in
+        ordered a ((v.bus a).schedule.start x + (v.bus a).schedule.bits x) ((v.bus a).schedule.queued x + (v.wait a k + (stream_at v a k).bits)) (omega arith) in
         elim (cases_Bool (v.direct a k)) [
           | inl on ↦
               let by : ready a x ≤ (v.bus a).release x + queued_within v a k =
               subst (λ j. ready a x ≤ (v.bus a).release x + queued_within v a j) source (x_kept.handed (subst (λ j. v.direct a j ≡ true) (sym source) on)) in
-              let behind : queued_within v a k + (v.bus a).clock.unit * (v.wait a k + (stream_at v a k).bits) ≤ v.behind a k = is.behind_direct a k on in
+              let behind : queued_within v a k + (v.bus a).clock.longest * (v.wait a k + (stream_at v a k).bits) ≤ v.behind a k = is.behind_direct a k on in
               omega arith
           | inr own ↦
               let late : (v.bus a).schedule.queued x ≤ (v.bus a).of.since x + (stream_at v a k).jitter =
               subst (λ j. (v.bus a).schedule.queued x ≤ (v.bus a).of.since x + (stream_at v a j).jitter) source x_kept.jitter in
               let at : (v.bus a).release x ≡ time_of (v.bus a).clock ((v.bus a).of.since x) =
               is.own_release a x (begun.0.0, begun.0.1) (subst (λ j. v.direct a j ≡ false) (sym source) own) in
-              let behind : (v.bus a).clock.unit * delay_of (stream_at v a k) (v.wait a k) ≤ v.behind a k = is.behind_own a k own in
+              let behind : (v.bus a).clock.longest * delay_of (stream_at v a k) (v.wait a k) ≤ v.behind a k = is.behind_own a k own in
+              let total : time_of (v.bus a).clock ((v.bus a).of.since x + delay_of (stream_at v a k) (v.wait a k)) ≤ time_of (v.bus a).clock ((v.bus a).of.since x)
+              + (v.bus a).clock.longest * delay_of (stream_at v a k) (v.wait a k) = (is.clocks a).at_most ((v.bus a).of.since x) (delay_of (stream_at v a k) (v.wait a k)) in
               let far : time_of (v.bus a).clock ((v.bus a).schedule.queued x + (v.wait a k + (stream_at v a k).bits))
               ≤ time_of (v.bus a).clock ((v.bus a).of.since x + delay_of (stream_at v a k) (v.wait a k)) =
-              in_time_order a ((v.bus a).schedule.queued x + (v.wait a k + (stream_at v a k).bits)) ((v.bus a).of.since x + delay_of (stream_at v a k) (v.wait a k)) (omega arith) in
+              ordered a ((v.bus a).schedule.queued x + (v.wait a k + (stream_at v a k).bits)) ((v.bus a).of.since x + delay_of (stream_at v a k) (v.wait a k)) (omega arith) in
               omega arith
         ]
 
@@ -174,20 +177,23 @@ module _ (v : Vehicle) (is : IsKnown v) where
         let soon : ready b q ≤ end_time (input_at v b i) x + v.within b i = handed.within_time q it in
         let low : time_of (v.bus b).clock ((v.bus b).of.since q) ≤ (v.bus b).release q = handed.first_bit q it in
         let high : (v.bus b).release q < time_of (v.bus b).clock ((v.bus b).of.since q + 1) = handed.last_bit q it in
-        let room : queued_within v b i ≤ (v.bus b).clock.unit * (stream_at v b i).jitter = is.jitter_enough b i direct in
+        let room : queued_within v b i ≤ (v.bus b).clock.shortest * (stream_at v b i).jitter = is.jitter_enough b i direct in
+        let least : time_of (v.bus b).clock ((v.bus b).of.since q + 1) + (v.bus b).clock.shortest * (stream_at v b i).jitter
+        ≤ time_of (v.bus b).clock ((v.bus b).of.since q + 1 + (stream_at v b i).jitter) = (is.clocks b).at_least ((v.bus b).of.since q + 1) (stream_at v b i).jitter in
+        let next : ready b q < time_of (v.bus b).clock ((v.bus b).schedule.queued q + 1) = before b ((v.bus b).schedule.queued q) ((v.bus b).schedule.queued q + 1) (omega arith) in
         let behind : end_time (input_at v b i) x ≤ (v.bus a).release x + v.behind a k = x_behind in
         let first : (v.bus a).release x ≤ ready a x = x_kept.release in
         let sent : ready a x < end_time (input_at v b i) x = sent_first in
         let end : end_time (input_at v b i) x ≤ ready b q = ended in
-        let begins : (v.bus b).of.since q < (v.bus b).schedule.queued q + 1 = bits_in_order b _ _ (omega arith) in
-        let by : (v.bus b).schedule.queued q < (v.bus b).of.since q + (stream_at v b i).jitter + 1 = bits_in_order b _ _ (omega arith) in
+        let begins : (v.bus b).of.since q < (v.bus b).schedule.queued q + 1 = bits_before b _ _ (omega arith) in
+        let by : (v.bus b).schedule.queued q < (v.bus b).of.since q + 1 + (stream_at v b i).jitter = bits_before b _ _ (omega arith) in
         record { first = omega arith; jitter = omega arith; release = omega arith; handed = λ _. omega arith }
 
   own_kept : (b p : ℕ) → IsPlannedOn (v.bus b) p → v.direct b (source_of b p) ≡ false → IsKept b p
   own_kept b p its own =
       let first = is.own_first b p its own in
       let at = is.own_release b p its own in
-      let order = in_time_order b ((v.bus b).of.since p) ((v.bus b).schedule.queued p) first in
+      let order = ordered b ((v.bus b).of.since p) ((v.bus b).schedule.queued p) first in
       record {
         first = first;
         jitter = is.own_jitter b p its own;
@@ -197,31 +203,11 @@ module _ (v : Vehicle) (is : IsKnown v) where
 
   -- ---- two frames
 
-  own_apart : (b i p q : ℕ) → IsIts (carrier v b i) p → IsIts (carrier v b i) q → p ≢ q → IsSingle (stream_at v b i) → v.direct b i ≡ false → AreApartAt b i p q
-  own_apart b i p q its other differ single own =
-      let source : source_of b p ≡ i = its.2 in
-      let of_p : v.direct b (source_of b p) ≡ false = subst (λ j. v.direct b j ≡ false) (sym source) own in
-      let turn_p : (v.bus b).of.turn p < (stream_at v b i).frames =
-      subst (λ j. (v.bus b).of.turn p < (stream_at v b j).frames) source (is.turns b p (its.0, its.1)) in
-      let turn_q : (v.bus b).of.turn q < (stream_at v b i).frames =
-      subst (λ j. (v.bus b).of.turn q < (stream_at v b j).frames) other.2 (is.turns b q (other.0, other.1)) in
-      let one : (stream_at v b i).frames ≡ 1 = single in
-      let at_p : (v.bus b).release p ≡ time_of (v.bus b).clock ((v.bus b).of.since p) = is.own_release b p (its.0, its.1) of_p in
-      let at_q : (v.bus b).release q ≡ time_of (v.bus b).clock ((v.bus b).of.since q) =
-      is.own_release b q (other.0, other.1) (subst (λ j. v.direct b j ≡ false) (sym other.2) own) in
-      let far : v.apart b i ≤ (v.bus b).clock.unit * (stream_at v b i).period = is.apart_own b i own in
-      let spaced = subst (λ j. ((v.bus b).of.since p + (stream_at v b j).period ≤ (v.bus b).of.since q) ⊎ ((v.bus b).of.since q + (stream_at v b j).period ≤ (v.bus b).of.since p))
-      source (is.own_spaced b p q (its.0, its.1) (other.0, other.1) differ of_p (omega (arith, source, other.2)) (omega (arith, turn_p, turn_q, one))) in
-      elim spaced [
-        | inl ahead ↦ inl (let order = in_time_order b ((v.bus b).of.since p + (stream_at v b i).period) ((v.bus b).of.since q) ahead in omega arith)
-        | inr behind ↦ inr (let order = in_time_order b ((v.bus b).of.since q + (stream_at v b i).period) ((v.bus b).of.since p) behind in omega arith)
-      ]
-
   sent_before : (a k x : ℕ) → HasBegun (carrier v a k) x → ready a x < end_time (carrier v a k) x
   sent_before a k x begun =
       let first : (v.bus a).schedule.queued x ≤ (v.bus a).schedule.start x = is.queued_first a x begun.0.0 in
       let long : 1 ≤ (v.bus a).schedule.bits x = is.some_bits a x begun.0.0 in
-      before_in_time a ((v.bus a).schedule.queued x) ((v.bus a).schedule.start x + (v.bus a).schedule.bits x) (omega arith)
+      before a ((v.bus a).schedule.queued x) ((v.bus a).schedule.start x + (v.bus a).schedule.bits x) (omega arith)
 
   direct_apart : (t b i p q : ℕ) → AllApart t → IsIts (carrier v b i) p → IsIts (carrier v b i) q → p ≢ q → v.direct b i ≡ true → ready b p ≤ t → ready b q ≤ t
       → AreApartAt b i p q
@@ -256,7 +242,7 @@ module _ (v : Vehicle) (is : IsKnown v) where
         ],
         λ b i p q its other differ single early too. elim (cases_Bool (v.direct b i)) [
           | inl direct ↦ direct_apart t b i p q apart its other differ direct (omega arith) (omega arith)
-          | inr own ↦ own_apart b i p q its other differ single own
+          | inr own ↦ is.own_apart b i p q its other differ single own
         ],
       )
 

@@ -4,7 +4,7 @@ use Rattle.j39_timing.specs.TimedFrames.{Schedule}
 use Rattle.j39_timing.specs.FrameStreams.{Origins, AreOfStreams}
 use Rattle.j39_timing.specs.Traffic.{Traffic, Others, IsSingle, delay_of}
 use Rattle.j39_timing.specs.Prefixes.{AreBegunUntil, planned_until}
-use Rattle.j39_timing.specs.Gateways.{Clock, Carrier, IsHandedOn, time_of}
+use Rattle.j39_gateways.specs.Gateways.{Clock, Carrier, IsClock, IsHandedOn, IsIts, time_of}
 use Rattle.j39_timing.specs.declared.stream.Stream.{Stream}
 
 pub record Bus : Type 0 where
@@ -15,7 +15,7 @@ pub record Bus : Type 0 where
   pub traffic : Traffic
   pub others : Others
   pub longest : ℕ
-  -- the release of a frame's message, in microseconds
+  -- the release of a frame's message
   pub release : ℕ → ℕ
 
 pub record Vehicle : Type 0 where
@@ -25,7 +25,7 @@ pub record Vehicle : Type 0 where
   pub from_bus : ℕ → ℕ → ℕ
   pub from_stream : ℕ → ℕ → ℕ
   pub within : ℕ → ℕ → ℕ
-  -- how many bits a frame of the stream waits; how much after its release it ends, and how far releases are apart, in microseconds
+  -- how many bits a frame of the stream waits; how much after its release it ends, and how far releases are apart
   pub wait : ℕ → ℕ → ℕ
   pub behind : ℕ → ℕ → ℕ
   pub apart : ℕ → ℕ → ℕ
@@ -62,7 +62,7 @@ KeepsItsStreamsUntil b by = AreOfStreams b.schedule (λ p. planned_until b.sched
 
 -- what is known of the buses, but that what is handed on directly keeps to its streams
 pub record IsKnown (v : Vehicle) : Type 0 where
-  pub clocks : (b : ℕ) → 0 < (v.bus b).clock.unit
+  pub clocks : (b : ℕ) → IsClock (v.bus b).clock
   pub some_bits : (b p : ℕ) → p < (v.bus b).schedule.count → 1 ≤ (v.bus b).schedule.bits p
   pub queued_first : (b p : ℕ) → p < (v.bus b).schedule.count → (v.bus b).schedule.queued p ≤ (v.bus b).schedule.start p
   pub known : (b p : ℕ) → IsPlannedOn (v.bus b) p → (v.bus b).of.source p < (v.bus b).traffic.count
@@ -78,6 +78,9 @@ pub record IsKnown (v : Vehicle) : Type 0 where
       → (v.bus b).of.source p ≡ (v.bus b).of.source q → (v.bus b).of.turn p ≡ (v.bus b).of.turn q
       → ((v.bus b).of.since p + (stream_at v b ((v.bus b).of.source p)).period ≤ (v.bus b).of.since q)
       ⊎ ((v.bus b).of.since q + (stream_at v b ((v.bus b).of.source p)).period ≤ (v.bus b).of.since p)
+  -- the moments of a unit are as far apart in true time, whatever the clock of its bus shows
+  pub own_apart : (b i p q : ℕ) → IsIts (carrier v b i) p → IsIts (carrier v b i) q → p ≢ q → IsSingle (stream_at v b i) → v.direct b i ≡ false
+      → ((v.bus b).release p + v.apart b i ≤ (v.bus b).release q) ⊎ ((v.bus b).release q + v.apart b i ≤ (v.bus b).release p)
   -- streams that are handed on directly, and those from which they are
   pub handed : (b i : ℕ) → v.direct b i ≡ true → IsHandedOn (input_at v b i) (carrier v b i) (v.within b i)
   pub single : (b i : ℕ) → v.direct b i ≡ true → IsSingle (stream_at v b i)
@@ -89,11 +92,10 @@ pub record IsKnown (v : Vehicle) : Type 0 where
       → AreBegunUntil (v.bus (v.from_bus b i)).schedule (v.bus (v.from_bus b i)).planned (v.bus (v.from_bus b i)).of (v.from_stream b i)
       (v.wait (v.from_bus b i) (v.from_stream b i)) by
   -- numbers: the jitter has room for what comes before, and the period is no longer than releases are apart
-  pub jitter_enough : (b i : ℕ) → v.direct b i ≡ true → queued_within v b i ≤ (v.bus b).clock.unit * (stream_at v b i).jitter
-  pub often_enough : (b i : ℕ) → v.direct b i ≡ true → (v.bus b).clock.unit * (stream_at v b i).period ≤ v.apart b i
-  pub behind_own : (b i : ℕ) → v.direct b i ≡ false → (v.bus b).clock.unit * delay_of (stream_at v b i) (v.wait b i) ≤ v.behind b i
-  pub behind_direct : (b i : ℕ) → v.direct b i ≡ true → queued_within v b i + (v.bus b).clock.unit * (v.wait b i + (stream_at v b i).bits) ≤ v.behind b i
-  pub apart_own : (b i : ℕ) → v.direct b i ≡ false → v.apart b i ≤ (v.bus b).clock.unit * (stream_at v b i).period
+  pub jitter_enough : (b i : ℕ) → v.direct b i ≡ true → queued_within v b i ≤ (v.bus b).clock.shortest * (stream_at v b i).jitter
+  pub often_enough : (b i : ℕ) → v.direct b i ≡ true → (v.bus b).clock.longest * (stream_at v b i).period ≤ v.apart b i
+  pub behind_own : (b i : ℕ) → v.direct b i ≡ false → (v.bus b).clock.longest * delay_of (stream_at v b i) (v.wait b i) ≤ v.behind b i
+  pub behind_direct : (b i : ℕ) → v.direct b i ≡ true → queued_within v b i + (v.bus b).clock.longest * (v.wait b i + (stream_at v b i).bits) ≤ v.behind b i
   pub apart_direct : (b i : ℕ) → v.direct b i ≡ true → v.apart b i ≤ v.apart (v.from_bus b i) (v.from_stream b i)
 
 -- the planned frames of a bus keep to its streams, those that are handed on directly too

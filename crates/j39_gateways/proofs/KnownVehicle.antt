@@ -5,9 +5,10 @@ use Rattle.j39_timing.specs.TimedFrames.{IsLegal}
 use Rattle.j39_timing.specs.FrameStreams.{AreOfStreams}
 use Rattle.j39_timing.specs.Traffic.{DemandFits, no_twins, others_queued}
 use Rattle.j39_timing.specs.Prefixes.{IsPlannedUntil, planned_until}
-use Rattle.j39_timing.specs.Gateways.{IsHandedOn}
+use Rattle.j39_gateways.specs.Gateways.{IsHandedOn, steady}
+use Rattle.j39_gateways.proofs.Clocks.{steady_is}
 use Rattle.j39_timing.proofs.Prefixes.{begun_until}
-use Rattle.j39_timing.specs.Vehicles.{Bus, Vehicle, IsKnown, carrier, input_at}
+use Rattle.j39_gateways.specs.Vehicles.{Bus, Vehicle, IsKnown, carrier, input_at}
 use Rattle.j39_timing.proofs.Demands.{nothing_wanted}
 
 -- when the frame of a bus is queued, and begins: on the first bus at once, on the others at its end there
@@ -30,7 +31,7 @@ is_further (suc b) i = true
 abbrev one_bus : ℕ → Bus
 one_bus b = record {
   schedule = record { count = 1; queued = λ p. at b; start = λ p. at b; bits = λ p. 160; ident = λ p. 5; now = 1000 };
-  clock = record { phase = 0; unit = 1 };
+  clock = steady 0 1;
   planned = λ p. true;
   of = record { source = λ p. 0; turn = λ p. 0; since = λ p. 0 };
   traffic = record {
@@ -127,7 +128,7 @@ behind_further (suc b) i is = omega arith
 
 pub known : IsKnown vehicle
 known = record {
-  clocks = λ b. omega arith;
+  clocks = λ b. steady_is 0 1 (omega arith);
   some_bits = λ b p in_p. omega arith;
   queued_first = λ b p in_p. omega arith;
   known = λ b p its. omega arith;
@@ -137,6 +138,7 @@ known = record {
   own_jitter = λ b p its own. own_jitter_at b own;
   own_release = λ b p its own. refl;
   own_spaced = λ b p q its other differ own source turn. absurd (differ (only p q its.0 other.0));
+  own_apart = λ b i p q its other differ single own. absurd (differ (only p q its.0 other.0));
   handed = handed;
   single = λ b i is. refl;
   input_single = λ b i is. refl;
@@ -146,6 +148,5 @@ known = record {
   often_enough = λ b i is. omega arith;
   behind_own = behind_its_own;
   behind_direct = behind_further;
-  apart_own = λ b i own. omega arith;
   apart_direct = λ b i is. omega arith;
 }
