@@ -245,7 +245,7 @@ class Lint:
             yield self.at((), "version", "live = true adds no finding: then what check promises holds while units claim, and go off in mid-message")
 
     def agreeing(self) -> Iterator[Hint]:
-        """That clocks are taken for exact. A plan whose units a vehicle makes use of has no other drift."""
+        """That clocks are taken for exact."""
         timing = self.tables.timing
-        if self.source.version == 4 and timing is not None and timing.drift == 0 and not self.used:
+        if self.source.version == 4 and timing is not None and timing.drift == 0:
             yield self.at(("timing",), "drift", "drift 0: no two clocks agree for ever")
