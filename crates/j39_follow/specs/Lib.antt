@@ -10,6 +10,7 @@ pub mod GroupLines
 pub mod Holders
 pub mod LogLines
 pub mod LoggedRequests
+pub mod Received
 pub mod UnitsOfNames
 pub mod VehicleLogs
 pub mod Who

@@ -11,6 +11,7 @@ mod line_report;
 mod log_text;
 mod message;
 mod notice;
+mod pair;
 mod request;
 mod unit_report;
 

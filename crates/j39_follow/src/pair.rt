@@ -1,0 +1,5 @@
+//! What each pair of addresses heard.
+
+pub(crate) mod collected;
+pub(crate) mod collections;
+pub(crate) mod heard_pairs;
