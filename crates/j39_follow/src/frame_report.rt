@@ -83,16 +83,16 @@ fn write_received(
         × IsPacketReport groups.now seen log (front_of stamp.entry) frame.now (Some (AnEnd size pgn)) (option_to_list ended) piece
         × (text.new ≡ text.old ++ piece)) }
 {
-    let ident = turned(frame.ident);
-    let received = pairs.collections.received(ident.sa, ident.ps, size, pgn)?;
-    pairs.hear(frame.ident, &Packet::EndAck { size, pgn })?;
+    let ident = frame.ident;
+    let received = pairs.collections.received(ident.ps, ident.sa, size, pgn)?;
+    pairs.hear(ident, &Packet::EndAck { size, pgn })?;
     let Some(bytes) = received else {
         return Ok(None);
     };
     let message = Arrival {
         pgn: pgn.number(),
         bytes: bytes.as_slice(),
-        ident,
+        ident: turned(ident),
         framed: None,
     };
     let sort = write_message(text, groups, parties, stamp, message)?;

@@ -33,8 +33,9 @@ pub fn follow_and_read_see_alike()
 {}
 
 /// Of a plan without private groups, and a log in which no line ends in a direction and none is of another interface,
-/// the messages that
-/// `follow` tells of groups are told by `read` too, line after line, and all that `read` tells are where no address changes hands.
+/// the messages that `follow` tells of groups are told by `read` too, line after line, but for those whose packets came
+/// out of order and of which the receiver says that it has them whole; and all that `read` tells are, where no address
+/// changes hands.
 pub fn groups_are_told_alike()
     ensures { GroupsAreToldAlike }
 {}

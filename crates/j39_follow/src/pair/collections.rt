@@ -5,7 +5,8 @@ ghost use Rattle.j39_log.specs.inside.Listening.{is_of_pair, is_pair};
 ghost use Rattle.j39_follow.specs.Received.{IsReceivedOr, way_of};
 ghost use Rattle.j39_follow.specs.inside.Collecting.{IsCollectedOf, LeadsOn, collected_between, collected_for, pair_key as key_of_pair};
 
-use crate::pair::collected::{Collected, collect};
+use crate::pair::collected::Collected;
+use crate::pair::collecting::{collect, whole};
 use j39_id::{Ident, Pgn};
 use j39_tp::{Packet, Size};
 use std::alloc::{AllocError, Global};
@@ -85,7 +86,7 @@ impl Collections {
             → IsReceivedOr h size pgn (option_map (λ bytes. bytes.items) message)) }
     {
         match self.kept.get(&pair_key(source, destination)) {
-            Some(collected) => collected.whole(self.alloc, size, pgn),
+            Some(collected) => whole(collected, self.alloc, size, pgn),
             None => Ok(None),
         }
     }
