@@ -8,6 +8,7 @@ ghost use Rattle.j39_follow.specs.Contests.{Timed};
 ghost use Rattle.j39_follow.specs.FollowReports.{IsMessageReport};
 ghost use Rattle.j39_follow.specs.FollowText.{IsInOrderReport, IsPacketReport};
 ghost use Rattle.j39_tp.specs.declared.packet.Packet.TheVariants.{EndAck as AnEnd};
+ghost use Rattle.j39_follow.specs.inside.Collecting.{receipt_in as receipt_of};
 ghost use Rattle.j39_follow.specs.inside.FrameWriting.{IsFrameWritten, IsItselfWritten, WritesFrame};
 ghost use Rattle.j39_follow.specs.inside.Hearing.{HaveHeardOneMore, HaveHeardSince};
 ghost use Rattle.j39_follow.specs.inside.Contesting.{ShowsAsker, ShowsParties};
@@ -99,6 +100,16 @@ fn write_received(
     Ok(Some(sort))
 }
 
+// The size and the PGN of the message of which a receiver says by a packet that it has it whole.
+fn receipt_in(packet: &Packet) -> Option<(Size, Pgn)>
+    ensures { result ≡ receipt_of packet.now }
+{
+    match *packet {
+        Packet::EndAck { size, pgn } => Some((size, pgn)),
+        _ => None,
+    }
+}
+
 // What is written at a transport packet, and what the message counts as that it ends.
 fn write_packet(
     text: &mut TextBuffer,
@@ -119,12 +130,12 @@ fn write_packet(
         × IsPacketReport groups.now seen log (front_of stamp.entry) frame.now (Some packet.now) (option_to_list ended) piece
         × (text.new ≡ text.old ++ piece)) }
 {
-    match *packet {
-        Packet::EndAck { size, pgn } => {
-            write_received(text, pairs, groups, parties, stamp, frame, size, pgn)
-        }
-        _ => write_carried(text, pairs, groups, parties, stamp, frame, packet),
-    }
+    let Some(receipt) = receipt_in(packet) else {
+        return write_carried(text, pairs, groups, parties, stamp, frame, packet);
+    };
+    write_received(
+        text, pairs, groups, parties, stamp, frame, receipt.0, receipt.1,
+    )
 }
 
 // What is written of a frame itself, and what it counts as.

@@ -210,7 +210,7 @@ none_left c new h number chunk m is whole = λ size pgn since a. elim (announced
 
 -- ---- a message that was received
 
-same_chunks : (f g : ℕ → List ℕ) (n : ℕ) → ((k : ℕ) → k < n → f (suc k) ≡ g (suc k)) → chunks_to f n ≡ chunks_to g n
+pub same_chunks : (f g : ℕ → List ℕ) (n : ℕ) → ((k : ℕ) → k < n → f (suc k) ≡ g (suc k)) → chunks_to f n ≡ chunks_to g n
 same_chunks f g zero same = refl
 same_chunks f g (suc n) same =
     ap (λ (t : List ℕ). t ++ f (suc n)) (same_chunks f g n (λ k less. same k (omega (arith, less))))

@@ -1,8 +1,10 @@
 //! The packets of messages to one unit of each pair of addresses, in whatever order they come.
-ghost use Rattle.std.specs.Prelude.{◌≡◌, ◌≢◌, ◌<◌, ◌∷◌, [], ℕ, List, None, OnOk, IfOk, if◌then◌else◌, option_map, Some as ASome};
+ghost use Rattle.std.specs.Prelude.{◌≡◌, ◌≢◌, ◌<◌, ◌==◌, ◌||◌, ◌∷◌, [], ℕ, List, None, OnOk, IfOk, if◌then◌else◌, option_map, Some as ASome};
 ghost use Rattle.j39_tp.specs.declared.packet.Packet.{Packet as APacket};
 ghost use Rattle.j39_log.specs.inside.Listening.{is_of_pair, is_pair};
 ghost use Rattle.j39_follow.specs.Received.{IsReceivedOr, way_of};
+ghost use Rattle.j39_log.specs.LogPairs.{is_abort as aborts};
+ghost use Rattle.j39_follow.specs.inside.Collecting.{tells_whole};
 ghost use Rattle.j39_follow.specs.inside.Collecting.{IsCollectedOf, LeadsOn, collected_between, collected_for, pair_key as key_of_pair};
 
 use crate::pair::collected::Collected;
@@ -24,6 +26,25 @@ fn pair_key(source: u8, destination: u8) -> u32
     ensures { result ≡ key_of_pair source destination }
 {
     u32::from(source) * 256 + u32::from(destination)
+}
+
+// Whether a receiver says by a packet that it has a message whole.
+fn is_receipt(packet: &Packet) -> bool
+    ensures { result ≡ tells_whole packet.now }
+{
+    match packet {
+        Packet::EndAck { .. } => true,
+        _ => false,
+    }
+}
+
+fn is_abort(packet: &Packet) -> bool
+    ensures { result ≡ aborts packet.now }
+{
+    match packet {
+        Packet::Abort { .. } => true,
+        _ => false,
+    }
 }
 
 impl Collections {
@@ -52,6 +73,18 @@ impl Collections {
         }
     }
 
+    // A packet of two pairs, which may be one.
+    fn turn_both(&mut self, there: u32, back: u32, packet: &Packet) -> Result<(), AllocError>
+        ensures { OnOk result ((key : ℕ) → LeadsOn (collected_for self.old key) (collected_for self.new key)
+            (if there == key || back == key then packet.now ∷ [] else [])) }
+    {
+        self.turn(there, packet)?;
+        if back == there {
+            return Ok(());
+        }
+        self.turn(back, packet)
+    }
+
     /// A packet of the pairs that it is of: an Abort is of both ways round, and what says that a message was received
     /// of the other one.
     pub fn hear(&mut self, ident: Ident, packet: &Packet) -> Result<(), AllocError>
@@ -61,16 +94,13 @@ impl Collections {
     {
         let there = pair_key(ident.sa, ident.ps);
         let back = pair_key(ident.ps, ident.sa);
-        match packet {
-            Packet::EndAck { .. } => self.turn(back, packet),
-            Packet::Abort { .. } => {
-                if back != there {
-                    self.turn(back, packet)?;
-                }
-                self.turn(there, packet)
-            }
-            _ => self.turn(there, packet),
+        if is_receipt(packet) {
+            return self.turn(back, packet);
         }
+        if is_abort(packet) {
+            return self.turn_both(there, back, packet);
+        }
+        self.turn(there, packet)
     }
 
     /// The bytes of the message from one address to another that has this size and PGN, as a receiver says that has it
@@ -104,7 +134,7 @@ impl Collections {
         ensures { (s d : ℕ) → s < 256 → d < 256 → collected_between self.new s d
             ≡ (if is_of_pair address s d then None else collected_between self.old s d) }
     {
-        for other in 0..256 {
+        for other in 0..256_usize {
             self.close(address, other as u8);
             self.close(other as u8, address);
         }

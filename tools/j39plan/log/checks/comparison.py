@@ -76,6 +76,7 @@ class Comparison:
         labels = {pgn: groups[0].label for pgn, groups in self.groups.items() if len(groups) == 1}
         self.others = OtherRequests(labels, found, self.hands.is_on)
         self._begun: dict[Pair, Begun] = {}
+        self._received: tuple[int, Pair] | None = None  # the line on which a receiver said that it has a message, and counted it
         self._strange: set[str] = set()  # who was told as nobody's
         self._nameless: dict[int, set[str]] = {}  # what was told of addresses at which no NAME was known
         self._pgns = {label: group.pgn for label, group in self.planned.items()}
@@ -147,6 +148,8 @@ class Comparison:
     def message(self, line: int, at: int | None, message: Message) -> None:
         """A message of a planned group."""
         _, _, group, sender, to, flow, odd_priority, data, _ = message
+        if (line, pair_of(sender, to)) == self._received:
+            return
         planned = self.planned[group]
         begun = self._begun.pop(pair_of(sender, to), None) if len(data) > 2 * FRAME_BYTES else None
         first, began = (begun.line, begun.at) if begun else (line, at)
@@ -260,13 +263,14 @@ class Comparison:
                 self.queued.packet(sender.label, at)
         is_planned = self.transfers.came(line, at, frame)
         if frame.pgn == CONNECTION_MANAGEMENT and frame.data[0] == WHOLE:
-            self.acknowledged(pair_of(frame.to, sender))
+            self.acknowledged(line, pair_of(frame.to, sender))
         if not is_planned:
             self.passes(line, at, frame.identifier, f"PGN {frame.pgn if frame.pgn == DATA_TRANSFER else pgn_of(frame)}", sender)
 
-    def acknowledged(self, pair: Pair) -> None:
-        """The receiver may have said that it has a message which isn't reported, as where a packet was asked for once more: it was carried whole."""
+    def acknowledged(self, line: int, pair: Pair) -> None:
+        """The receiver may have said that it has a message which isn't reported yet, as where a packet was asked for once more: it was carried whole."""
         if pair in self._begun and self.transfers.is_acknowledged(pair):
+            self._received = line, pair
             begun = self._begun.pop(pair)
             self.queued.whole(begun.way)
             if number := self.flow_of(begun.way):

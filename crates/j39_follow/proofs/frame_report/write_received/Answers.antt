@@ -34,7 +34,7 @@ returns-clause-received c = λ seen log shows have.
     (subst (λ (j : Ident). IsMessageReport plan log (front_of c.args.stamp)
     (record { pgn = c.number.result; bytes = c.in-Some.bytes.items; ident = j; framed = None }) c.in_ok-sort.sort written.0) c.turned.ensures
     (subst (λ (b : List ℕ). IsMessageReport plan log (front_of c.args.stamp)
-    (record { pgn = c.number.result; bytes = b; ident = c.turned.result; framed = None }) c.in_ok-sort.sort written.0) c.as_slice.ensures written.1)) in (
+    (record { pgn = c.number.result; bytes = b; ident = c.turned.result; framed = None }) c.in_ok-sort.sort written.0) c.as_slice.ensures.value written.1)) in (
       written.0,
       (one.packets, one.is, inl (c.in-Some.bytes.items, c.in_ok-sort.sort, told, report, refl)),
       written.2,
