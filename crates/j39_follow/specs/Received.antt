@@ -18,15 +18,15 @@ abbrev pub is_of_way : ℕ → ℕ → Ident → Packet → Bool
 is_of_way source destination i (EndAck size pgn) = i.ps == source && i.sa == destination
 is_of_way source destination i p = is_heard_by source destination i p
 
-abbrev pub way_of : ℕ → ℕ → Ident → Option Packet → List Packet
-way_of source destination i (Some p) = if is_of_way source destination i p then p ∷ [] else []
-way_of source destination i None = []
+abbrev pub way_packet : ℕ → ℕ → Ident → Option Packet → List Packet
+way_packet source destination i (Some p) = if is_of_way source destination i p then p ∷ [] else []
+way_packet source destination i None = []
 
 -- all packets of the messages from one address to another, in order
 unfoldable pub way_packets : ℕ → ℕ → List Seen → List Packet
 way_packets source destination [] = []
 way_packets source destination (seen ∷ rest) =
-    way_of source destination seen.frame.ident seen.packet ++ way_packets source destination rest
+    way_packet source destination seen.frame.ident seen.packet ++ way_packets source destination rest
 
 -- ---- a message
 
@@ -61,8 +61,8 @@ pub record IsAnnounced (h : List Packet) (size pgn : ℕ) (since : List Packet) 
   pub stays : All (KeepsOpen pgn) since
 
 -- the bytes of each packet, as it came last
-abbrev pub bytes_in : List Packet → ℕ → List ℕ
-bytes_in since k = unwrap_or (last_chunk k since) []
+abbrev pub last_bytes : List Packet → ℕ → List ℕ
+last_bytes since k = unwrap_or (last_chunk k since) []
 
 -- behind these packets the receiver of a message of this size and PGN says that it has it whole. It was announced, and each of its packets
 -- came since, though not in order (of one whose packets come in order the last one tells); of each packet the bytes count that came last
@@ -71,7 +71,7 @@ pub record IsReceived (h : List Packet) (size pgn : ℕ) (message : List ℕ) : 
   pub announced : IsAnnounced h size pgn since
   pub disordered : ¬ ComesInOrder since (packets_of size)
   pub came : (k : ℕ) → k < packets_of size → is_some (last_chunk (suc k) since) ≡ true
-  pub bytes : message ≡ take size (chunks_to (bytes_in since) (packets_of size))
+  pub bytes : message ≡ take size (chunks_to (last_bytes since) (packets_of size))
 
 -- the bytes that it has, or it has none
 abbrev pub IsReceivedOr : List Packet → ℕ → ℕ → Option (List ℕ) → Type 0

@@ -16,8 +16,8 @@ use Rattle.j39_tp.specs.declared.packet.Packet.{Packet}
 use Rattle.j39_follow.specs.FollowText.{HeardSince, OneChangesHands, frames_seen}
 use Rattle.j39_follow.specs.inside.Hearing.{AreReplaced, HaveHeardOneMore, HaveHeardSince, differs_at, is_changed, is_same_number, is_same_party}
 use Rattle.j39_follow.specs.inside.Hearing.{kept_between, listener_between}
-use Rattle.j39_follow.specs.inside.Collecting.{HasNoneOpen, IsCollectedOf, LeadsOn}
-use Rattle.j39_follow.specs.Received.{way_of, way_packets}
+use Rattle.j39_follow.specs.inside.Collecting.{HasNoneOpen, IsCollectedOf, CollectsOn}
+use Rattle.j39_follow.specs.Received.{way_packet, way_packets}
 use Rattle.j39_follow.specs.declared.pair.collected.Collected.{Collected}
 use Rattle.j39_follow.specs.declared.pair.heard_pairs.HeardPairs.{HeardPairs}
 use Rattle.j39_follow.proofs.Pairs.Ways.{no_way_yet, nothing_open, way_more}
@@ -241,7 +241,7 @@ heard_anew plan seen x olds news replaced mid new before after are changed kept 
           let one = more s d ls ld in
           let on = goes_on plan seen x s d one.packets one.is (stays_at plan seen x olds news replaced s d before after are ls ld together) in
           let same : kept_between new s d ≡ kept_between mid s d = kept s d ls ld ∙ if_false b None (kept_between mid s d) together in
-          let row : way_packets s d on.0.since ≡ way_packets s d one.is.since ++ way_of s d x.frame.ident x.packet =
+          let row : way_packets s d on.0.since ≡ way_packets s d one.is.since ++ way_packet s d x.frame.ident x.packet =
           ap (way_packets s d) on.1 ∙ way_more s d one.is.since x in
           record {
             packets = one.packets ++ heard_of s d x.frame.ident x.packet;
@@ -287,7 +287,7 @@ unheard_more plan pairs seen f have s d ls ld =
 pub heard_packet : (plan : Plan) (old new : HeardPairs) (seen : List Seen) (f : Frame) (p : Packet)
     → ((s d : ℕ) → s < 256 → d < 256
     → listener_between new s d ≡ (if is_heard_by s d f.ident p then receives (listener_between old s d) p else listener_between old s d))
-    → ((s d : ℕ) → s < 256 → d < 256 → LeadsOn (kept_between old s d) (kept_between new s d) (way_of s d f.ident (Some p)))
+    → ((s d : ℕ) → s < 256 → d < 256 → CollectsOn (kept_between old s d) (kept_between new s d) (way_packet s d f.ident (Some p)))
     → HaveHeardSince plan old seen → HaveHeardOneMore plan new seen (record { frame = f; packet = Some p })
 heard_packet plan old new seen f p turn leads have s d ls ld =
     let one = have s d ls ld in

@@ -19,7 +19,7 @@ use Rattle.j39_tp.specs.declared.sending.dest.Dest.{Dest}
 use Rattle.j39_tp.specs.declared.sending.dest.Dest.TheVariants.{All as ToAll, One as ToOne}
 use Rattle.j39_tp.proofs.Hearing.{take_again}
 use Rattle.j39_follow.proofs.Pairs.Collecting.{same_chunks}
-use Rattle.j39_follow.specs.Received.{IsReceived, KeepsOpen, bytes_in, chunk_in, last_chunk}
+use Rattle.j39_follow.specs.Received.{IsReceived, KeepsOpen, last_bytes, chunk_in, last_chunk}
 
 -- ---- all chunks of a message
 
@@ -139,7 +139,7 @@ received_as_sent h pgn bytes t size other message r =
     let same : told ≡ Rts size a.limit other =
     same_Some told (Rts size a.limit other) (sym t.announced ∙ ap (slice_get h) start ∙ here) in
     let is = starts_as t.dest pgn (length bytes) size a.limit other same in
-    let chunks : (k : ℕ) → k < packets_of size → bytes_in since (suc k) ≡ chunk bytes (suc k) = λ k less. elim (some_or_none (last_chunk (suc k) since)) [
+    let chunks : (k : ℕ) → k < packets_of size → last_bytes since (suc k) ≡ chunk bytes (suc k) = λ k less. elim (some_or_none (last_chunk (suc k) since)) [
       | inl came ↦
           let one = chunk_there (suc k) since came.0 came.1 in
           let stands : slice_get h (length a.before + suc one.0) ≡ Some (Dt (suc k) came.0) = later one.0 ∙ one.1 in
@@ -149,6 +149,6 @@ received_as_sent h pgn bytes t size other message r =
       | inr none ↦ absurd (false≢true (sym (ap (λ (x : Option (List ℕ)). is_some x) none) ∙ r.came k less))
     ] in (
       sym is.1,
-      r.bytes ∙ ap (take size) (same_chunks (bytes_in since) (chunk bytes) (packets_of size) chunks)
+      r.bytes ∙ ap (take size) (same_chunks (last_bytes since) (chunk bytes) (packets_of size) chunks)
           ∙ ap (λ (n : ℕ). take n (chunks_to (chunk bytes) (packets_of n))) (sym is.0) ∙ whole_message bytes,
     )

@@ -9,9 +9,9 @@ use Rattle.j39_tp.specs.Carried.{chunks_to}
 use Rattle.j39_tp.specs.Chunks.{IsSize, packets_of}
 use Rattle.j39_tp.specs.declared.packet.Packet.{Packet}
 use Rattle.j39_tp.specs.declared.packet.Packet.TheVariants.{Rts, Cts, EndAck, Bam, Abort, Dt}
-use Rattle.j39_follow.specs.Received.{ComesInOrder, IsAnnounced, IsReceived, KeepsOpen, bytes_in, chunk_in, last_chunk}
+use Rattle.j39_follow.specs.Received.{ComesInOrder, IsAnnounced, IsReceived, KeepsOpen, last_bytes, chunk_in, last_chunk}
 use Rattle.j39_follow.specs.declared.pair.collected.Collected.{Collected}
-use Rattle.j39_follow.specs.inside.Collecting.{CameTo, HasNoneOpen, IsCollected, IsCollectedOf, IsMoreOf, IsOpened, LeadsOn, chunk_at, kept_bytes}
+use Rattle.j39_follow.specs.inside.Collecting.{CameTo, HasNoneOpen, IsCollected, IsCollectedOf, IsMoreOf, IsOpened, CollectsOn, chunk_at, kept_bytes}
 use Rattle.j39_follow.proofs.Pairs.InOrder.{announced_on, announced_so_far, in_order_before, in_order_below, in_order_longer, in_order_next}
 use Rattle.j39_follow.proofs.Pairs.InOrder.{in_order_so_far, last_chunk_more, nothing_in_order, one_announced}
 
@@ -229,7 +229,7 @@ received_whole c h bytes is came text =
       came = λ k within. ap (λ (x : Option (List ℕ)). is_some x) (sym (kept k within)) ∙ came k within;
       bytes =
           text
-          ∙ ap (take c.size) (same_chunks (kept_bytes c.chunks.items) (bytes_in is.since) (packets_of c.size)
+          ∙ ap (take c.size) (same_chunks (kept_bytes c.chunks.items) (last_bytes is.since) (packets_of c.size)
           (λ k within. ap (λ (x : Option (List ℕ)). unwrap_or x []) (kept k within)));
     }
 
@@ -255,46 +255,46 @@ none_received h size pgn none message r = r.disordered (none size pgn r.since r.
 -- ---- what packets lead to
 
 pub leads_to_start : (old : Option Collected) (c : Collected) (size limit pgn : ℕ) → IsSize size → IsOpened size pgn c
-    → LeadsOn old (Some c) (Rts size limit pgn ∷ [])
+    → CollectsOn old (Some c) (Rts size limit pgn ∷ [])
 leads_to_start old c size limit pgn fits o = λ h is. collected_anew c h size limit pgn fits o
 
-pub leads_from_all : (old : Option Collected) (size pgn : ℕ) → LeadsOn old None (Bam size pgn ∷ [])
+pub leads_from_all : (old : Option Collected) (size pgn : ℕ) → CollectsOn old None (Bam size pgn ∷ [])
 leads_from_all old size pgn = λ h is. none_of_all h size pgn
 
-pub leads_past_cts : (old : Option Collected) (count first pgn : ℕ) → LeadsOn old old (Cts count first pgn ∷ [])
+pub leads_past_cts : (old : Option Collected) (count first pgn : ℕ) → CollectsOn old old (Cts count first pgn ∷ [])
 leads_past_cts None count first pgn = λ h is. none_on h (Cts count first pgn) (cts_starts_none count first pgn) is
 leads_past_cts (Some c) count first pgn = λ h is.
     collected_on c h (Cts count first pgn) (λ k. refl) (cts_is_no_data count first pgn) tt is
 
-pub leads_past_data : (number : ℕ) (chunk : List ℕ) → LeadsOn None None (Dt number chunk ∷ [])
+pub leads_past_data : (number : ℕ) (chunk : List ℕ) → CollectsOn None None (Dt number chunk ∷ [])
 leads_past_data number chunk = λ h is. none_on h (Dt number chunk) (data_starts_none number chunk) is
 
 pub leads_by_data : (c new : Collected) (number : ℕ) (chunk : List ℕ) → IsMoreOf c number chunk new → new.held ≢ packets_of new.size
-    → LeadsOn (Some c) (Some new) (Dt number chunk ∷ [])
+    → CollectsOn (Some c) (Some new) (Dt number chunk ∷ [])
 leads_by_data c new number chunk m short = λ h is. collected_data c new h number chunk m is short
 
 pub leads_whole : (c new : Collected) (number : ℕ) (chunk : List ℕ) → IsMoreOf c number chunk new → new.held ≡ packets_of new.size
-    → LeadsOn (Some c) None (Dt number chunk ∷ [])
+    → CollectsOn (Some c) None (Dt number chunk ∷ [])
 leads_whole c new number chunk m whole = λ h is. none_left c new h number chunk m is whole
 
-pub leads_past_abort : (reason pgn : ℕ) → LeadsOn None None (Abort reason pgn ∷ [])
+pub leads_past_abort : (reason pgn : ℕ) → CollectsOn None None (Abort reason pgn ∷ [])
 leads_past_abort reason pgn = λ h is. none_on h (Abort reason pgn) (abort_starts_none reason pgn) is
 
-pub leads_past_end : (size pgn : ℕ) → LeadsOn None None (EndAck size pgn ∷ [])
+pub leads_past_end : (size pgn : ℕ) → CollectsOn None None (EndAck size pgn ∷ [])
 leads_past_end size pgn = λ h is. none_on h (EndAck size pgn) (end_starts_none size pgn) is
 
-pub leads_on_by_abort : (c : Collected) (reason pgn : ℕ) → c.pgn ≢ pgn → LeadsOn (Some c) (Some c) (Abort reason pgn ∷ [])
+pub leads_on_by_abort : (c : Collected) (reason pgn : ℕ) → c.pgn ≢ pgn → CollectsOn (Some c) (Some c) (Abort reason pgn ∷ [])
 leads_on_by_abort c reason pgn other = λ h is.
     collected_on c h (Abort reason pgn) (λ k. refl) (abort_is_no_data reason pgn) (λ same. other (sym same)) is
 
-pub leads_on_by_end : (c : Collected) (size pgn : ℕ) → c.pgn ≢ pgn → LeadsOn (Some c) (Some c) (EndAck size pgn ∷ [])
+pub leads_on_by_end : (c : Collected) (size pgn : ℕ) → c.pgn ≢ pgn → CollectsOn (Some c) (Some c) (EndAck size pgn ∷ [])
 leads_on_by_end c size pgn other = λ h is.
     collected_on c h (EndAck size pgn) (λ k. refl) (end_is_no_data size pgn) (λ same. other (sym same)) is
 
-pub leads_off_by_abort : (c : Collected) (reason pgn : ℕ) → c.pgn ≡ pgn → LeadsOn (Some c) None (Abort reason pgn ∷ [])
+pub leads_off_by_abort : (c : Collected) (reason pgn : ℕ) → c.pgn ≡ pgn → CollectsOn (Some c) None (Abort reason pgn ∷ [])
 leads_off_by_abort c reason pgn same = λ h is.
     none_behind c h (Abort reason pgn) (abort_starts_none reason pgn) (λ number keeps there. keeps (sym same ∙ sym there)) is
 
-pub leads_off_by_end : (c : Collected) (size pgn : ℕ) → c.pgn ≡ pgn → LeadsOn (Some c) None (EndAck size pgn ∷ [])
+pub leads_off_by_end : (c : Collected) (size pgn : ℕ) → c.pgn ≡ pgn → CollectsOn (Some c) None (EndAck size pgn ∷ [])
 leads_off_by_end c size pgn same = λ h is.
     none_behind c h (EndAck size pgn) (end_starts_none size pgn) (λ number keeps there. keeps (sym same ∙ sym there)) is

@@ -7,7 +7,7 @@ use Rattle.j39_tp.specs.Chunks.{packets_of}
 use Rattle.j39_tp.specs.declared.packet.Packet.{Packet}
 use Rattle.j39_tp.specs.declared.packet.Packet.TheVariants.{Rts, Dt}
 use Rattle.std.specs.Prelude.{take}
-use Rattle.j39_follow.specs.Received.{ComesInOrder, IsAnnounced, IsReceived, KeepsOpen, bytes_in, chunk_in, last_chunk}
+use Rattle.j39_follow.specs.Received.{ComesInOrder, IsAnnounced, IsReceived, KeepsOpen, last_bytes, chunk_in, last_chunk}
 use Rattle.j39_follow.proofs.Addresses.Holding.{all_front, one_more}
 
 -- ---- in order
@@ -112,7 +112,7 @@ one_announced h size pgn other number a b p q =
 pub one_received : (h : List Packet) (size pgn : ℕ) (m n : List ℕ) → IsReceived h size pgn m → IsReceived h size pgn n → m ≡ n
 one_received h size pgn m n p q =
     let same = one_announced h size pgn size pgn p.since q.since p.announced q.announced in
-    p.bytes ∙ ap (λ (s : List Packet). take size (chunks_to (bytes_in s) (packets_of size))) same.2 ∙ sym q.bytes
+    p.bytes ∙ ap (λ (s : List Packet). take size (chunks_to (last_bytes s) (packets_of size))) same.2 ∙ sym q.bytes
 
 or_assoc : {A : Type 0} (x y z : Option A) → option_or (option_or x y) z ≡ option_or x (option_or y z)
 or_assoc None y z = refl

@@ -12,18 +12,18 @@ use Rattle.j39_tp.specs.declared.packet.Packet.TheVariants.{Rts, Cts, EndAck, Ba
 use Rattle.j39_log.specs.LogPairs.{Seen, is_abort}
 use Rattle.j39_follow.specs.Contests.{Timed}
 use Rattle.j39_follow.specs.FollowText.{IsInOrderReport, IsPacketReport}
-use Rattle.j39_follow.specs.Received.{is_of_way, way_of, way_packets}
+use Rattle.j39_follow.specs.Received.{is_of_way, way_packet, way_packets}
 use Rattle.j39_follow.specs.declared.message.Sort.{Sort}
 use Rattle.j39_follow.specs.declared.pair.collected.Collected.{Collected}
 use Rattle.j39_follow.specs.declared.pair.collections.Collections.{Collections}
-use Rattle.j39_follow.specs.inside.Collecting.{HasNoneOpen, IsCollectedOf, LeadsOn, collected_between, collected_for, pair_key, receipt_in, tells_whole}
+use Rattle.j39_follow.specs.inside.Collecting.{HasNoneOpen, IsCollectedOf, CollectsOn, collected_between, collected_for, pair_key, receipt_in, tells_whole}
 
-pub way_more : (s d : ℕ) (seen : List Seen) (x : Seen) → way_packets s d (seen ++ x ∷ []) ≡ way_packets s d seen ++ way_of s d x.frame.ident x.packet
+pub way_more : (s d : ℕ) (seen : List Seen) (x : Seen) → way_packets s d (seen ++ x ∷ []) ≡ way_packets s d seen ++ way_packet s d x.frame.ident x.packet
 unfolding way_packets
-way_more s d [] x = append-nil (way_of s d x.frame.ident x.packet)
+way_more s d [] x = append-nil (way_packet s d x.frame.ident x.packet)
 way_more s d (y ∷ seen) x =
-    ap (λ (t : List Packet). way_of s d y.frame.ident y.packet ++ t) (way_more s d seen x)
-    ∙ sym (append_assoc (way_of s d y.frame.ident y.packet) (way_packets s d seen) (way_of s d x.frame.ident x.packet))
+    ap (λ (t : List Packet). way_packet s d y.frame.ident y.packet ++ t) (way_more s d seen x)
+    ∙ sym (append_assoc (way_packet s d y.frame.ident y.packet) (way_packets s d seen) (way_packet s d x.frame.ident x.packet))
 
 pub no_way_yet : (s d : ℕ) → way_packets s d [] ≡ []
 unfolding way_packets
@@ -98,91 +98,91 @@ same_key x y s d lx ly ls ld = elim (cases_Bool (pair_key x y == pair_key s d)) 
 
 -- ---- what one packet leads to
 
-nothing_led : (old new : Option Collected) → new ≡ old → LeadsOn old new []
+nothing_led : (old new : Option Collected) → new ≡ old → CollectsOn old new []
 nothing_led old new same = λ h is.
     subst (IsCollectedOf new) (sym (append-nil h)) (subst (λ (o : Option Collected). IsCollectedOf o h) (sym same) is)
 
 -- at the pair of its number alone
-led_at : (old new : Collections) (p : Packet) (key k : ℕ) → LeadsOn (collected_for old key) (collected_for new key) (p ∷ [])
+led_at : (old new : Collections) (p : Packet) (key k : ℕ) → CollectsOn (collected_for old key) (collected_for new key) (p ∷ [])
     → ((other : ℕ) → other ≢ key → collected_for new other ≡ collected_for old other)
-    → LeadsOn (collected_for old k) (collected_for new k) (if key == k then p ∷ [] else [])
+    → CollectsOn (collected_for old k) (collected_for new k) (if key == k then p ∷ [] else [])
 led_at old new p key k one others = elim (cases_Bool (key == k)) [
   | inl same ↦
       let is : key ≡ k = eqb-true key k same in
-      subst (λ (b : Bool). LeadsOn (collected_for old k) (collected_for new k) (if b then p ∷ [] else [])) (sym same)
-      (subst (λ (n : ℕ). LeadsOn (collected_for old n) (collected_for new n) (p ∷ [])) is one)
+      subst (λ (b : Bool). CollectsOn (collected_for old k) (collected_for new k) (if b then p ∷ [] else [])) (sym same)
+      (subst (λ (n : ℕ). CollectsOn (collected_for old n) (collected_for new n) (p ∷ [])) is one)
   | inr other ↦
       let apart = eqb-false key k other in
-      subst (λ (b : Bool). LeadsOn (collected_for old k) (collected_for new k) (if b then p ∷ [] else [])) (sym other)
+      subst (λ (b : Bool). CollectsOn (collected_for old k) (collected_for new k) (if b then p ∷ [] else [])) (sym other)
       (nothing_led (collected_for old k) (collected_for new k) (others k (λ same. apart (sym same))))
 ]
 
 -- at the pair of its addresses
 led_between : (old new : Collections) (p : Packet) (x y s d : ℕ) → x < 256 → y < 256 → s < 256 → d < 256
-    → LeadsOn (collected_for old (pair_key x y)) (collected_for new (pair_key x y)) (p ∷ [])
+    → CollectsOn (collected_for old (pair_key x y)) (collected_for new (pair_key x y)) (p ∷ [])
     → ((other : ℕ) → other ≢ pair_key x y → collected_for new other ≡ collected_for old other)
-    → LeadsOn (collected_between old s d) (collected_between new s d) (if x == s && y == d then p ∷ [] else [])
+    → CollectsOn (collected_between old s d) (collected_between new s d) (if x == s && y == d then p ∷ [] else [])
 led_between old new p x y s d lx ly ls ld one others =
-    subst (λ (b : Bool). LeadsOn (collected_between old s d) (collected_between new s d) (if b then p ∷ [] else [])) (same_key x y s d lx ly ls ld)
+    subst (λ (b : Bool). CollectsOn (collected_between old s d) (collected_between new s d) (if b then p ∷ [] else [])) (same_key x y s d lx ly ls ld)
     (led_at old new p (pair_key x y) (pair_key s d) one others)
 
 pub led_by_receipt : (old new : Collections) (p : Packet) (i : Ident) → tells_whole p ≡ true
-    → LeadsOn (collected_for old (pair_key i.ps i.sa)) (collected_for new (pair_key i.ps i.sa)) (p ∷ [])
+    → CollectsOn (collected_for old (pair_key i.ps i.sa)) (collected_for new (pair_key i.ps i.sa)) (p ∷ [])
     → ((other : ℕ) → other ≢ pair_key i.ps i.sa → collected_for new other ≡ collected_for old other)
-    → (s d : ℕ) → s < 256 → d < 256 → LeadsOn (collected_between old s d) (collected_between new s d) (way_of s d i (Some p))
+    → (s d : ℕ) → s < 256 → d < 256 → CollectsOn (collected_between old s d) (collected_between new s d) (way_packet s d i (Some p))
 led_by_receipt old new p i is one others = λ s d ls ld.
-    subst (λ (b : Bool). LeadsOn (collected_between old s d) (collected_between new s d) (if b then p ∷ [] else [])) (sym (way_of_receipt s d i p is))
+    subst (λ (b : Bool). CollectsOn (collected_between old s d) (collected_between new s d) (if b then p ∷ [] else [])) (sym (way_of_receipt s d i p is))
     (led_between old new p i.ps i.sa s d i.ps_range i.sa_range ls ld one others)
 
 pub led_by_other : (old new : Collections) (p : Packet) (i : Ident) → tells_whole p ≡ false → is_abort p ≡ false
-    → LeadsOn (collected_for old (pair_key i.sa i.ps)) (collected_for new (pair_key i.sa i.ps)) (p ∷ [])
+    → CollectsOn (collected_for old (pair_key i.sa i.ps)) (collected_for new (pair_key i.sa i.ps)) (p ∷ [])
     → ((other : ℕ) → other ≢ pair_key i.sa i.ps → collected_for new other ≡ collected_for old other)
-    → (s d : ℕ) → s < 256 → d < 256 → LeadsOn (collected_between old s d) (collected_between new s d) (way_of s d i (Some p))
+    → (s d : ℕ) → s < 256 → d < 256 → CollectsOn (collected_between old s d) (collected_between new s d) (way_packet s d i (Some p))
 led_by_other old new p i no none one others = λ s d ls ld.
-    subst (λ (b : Bool). LeadsOn (collected_between old s d) (collected_between new s d) (if b then p ∷ [] else [])) (sym (way_of_other s d i p no none))
+    subst (λ (b : Bool). CollectsOn (collected_between old s d) (collected_between new s d) (if b then p ∷ [] else [])) (sym (way_of_other s d i p no none))
     (led_between old new p i.sa i.ps s d i.sa_range i.ps_range ls ld one others)
 
 pub led_by_abort : (old new : Collections) (p : Packet) (i : Ident) → is_abort p ≡ true
-    → ((key : ℕ) → LeadsOn (collected_for old key) (collected_for new key)
+    → ((key : ℕ) → CollectsOn (collected_for old key) (collected_for new key)
     (if pair_key i.sa i.ps == key || pair_key i.ps i.sa == key then p ∷ [] else []))
-    → (s d : ℕ) → s < 256 → d < 256 → LeadsOn (collected_between old s d) (collected_between new s d) (way_of s d i (Some p))
+    → (s d : ℕ) → s < 256 → d < 256 → CollectsOn (collected_between old s d) (collected_between new s d) (way_packet s d i (Some p))
 led_by_abort old new p i is each = λ s d ls ld.
     let key = pair_key s d in
     let same : (pair_key i.sa i.ps == pair_key s d || pair_key i.ps i.sa == pair_key s d) ≡ is_of_way s d i p =
     ap (λ (b : Bool). b || pair_key i.ps i.sa == pair_key s d) (same_key i.sa i.ps s d i.sa_range i.ps_range ls ld)
     ∙ ap (λ (b : Bool). (i.sa == s && i.ps == d) || b) (same_key i.ps i.sa s d i.ps_range i.sa_range ls ld)
     ∙ sym (way_of_abort s d i p is) in
-    subst (λ (b : Bool). LeadsOn (collected_between old s d) (collected_between new s d) (if b then p ∷ [] else [])) same (each (pair_key s d))
+    subst (λ (b : Bool). CollectsOn (collected_between old s d) (collected_between new s d) (if b then p ∷ [] else [])) same (each (pair_key s d))
 
 -- at two pairs, one after the other
 pub led_at_both : (old mid new : Collections) (p : Packet) (there back : ℕ) → back ≢ there
-    → LeadsOn (collected_for old there) (collected_for mid there) (p ∷ [])
+    → CollectsOn (collected_for old there) (collected_for mid there) (p ∷ [])
     → ((other : ℕ) → other ≢ there → collected_for mid other ≡ collected_for old other)
-    → LeadsOn (collected_for mid back) (collected_for new back) (p ∷ [])
+    → CollectsOn (collected_for mid back) (collected_for new back) (p ∷ [])
     → ((other : ℕ) → other ≢ back → collected_for new other ≡ collected_for mid other)
-    → (key : ℕ) → LeadsOn (collected_for old key) (collected_for new key) (if there == key || back == key then p ∷ [] else [])
+    → (key : ℕ) → CollectsOn (collected_for old key) (collected_for new key) (if there == key || back == key then p ∷ [] else [])
 led_at_both old mid new p there back apart first others second rest key = elim (cases_Bool (there == key)) [
   | inl same ↦
       let is : there ≡ key = eqb-true there key same in
       let stays : collected_for new key ≡ collected_for mid key = rest key (λ e. apart (sym e ∙ sym is)) in
-      subst (λ (b : Bool). LeadsOn (collected_for old key) (collected_for new key) (if b || back == key then p ∷ [] else [])) (sym same)
-      (subst (λ (o : Option Collected). LeadsOn (collected_for old key) o (p ∷ [])) (sym stays)
-      (subst (λ (n : ℕ). LeadsOn (collected_for old n) (collected_for mid n) (p ∷ [])) is first))
+      subst (λ (b : Bool). CollectsOn (collected_for old key) (collected_for new key) (if b || back == key then p ∷ [] else [])) (sym same)
+      (subst (λ (o : Option Collected). CollectsOn (collected_for old key) o (p ∷ [])) (sym stays)
+      (subst (λ (n : ℕ). CollectsOn (collected_for old n) (collected_for mid n) (p ∷ [])) is first))
   | inr other ↦
       let no = eqb-false there key other in
       let was : collected_for mid key ≡ collected_for old key = others key (λ e. no (sym e)) in
-      subst (λ (b : Bool). LeadsOn (collected_for old key) (collected_for new key) (if b || back == key then p ∷ [] else [])) (sym other)
-      (subst (λ (o : Option Collected). LeadsOn o (collected_for new key) (if back == key then p ∷ [] else [])) was
+      subst (λ (b : Bool). CollectsOn (collected_for old key) (collected_for new key) (if b || back == key then p ∷ [] else [])) (sym other)
+      (subst (λ (o : Option Collected). CollectsOn o (collected_for new key) (if back == key then p ∷ [] else [])) was
       (led_at mid new p back key second rest))
 ]
 
 pub led_at_one : (old new : Collections) (p : Packet) (there back : ℕ) → back ≡ there
-    → LeadsOn (collected_for old there) (collected_for new there) (p ∷ [])
+    → CollectsOn (collected_for old there) (collected_for new there) (p ∷ [])
     → ((other : ℕ) → other ≢ there → collected_for new other ≡ collected_for old other)
-    → (key : ℕ) → LeadsOn (collected_for old key) (collected_for new key) (if there == key || back == key then p ∷ [] else [])
+    → (key : ℕ) → CollectsOn (collected_for old key) (collected_for new key) (if there == key || back == key then p ∷ [] else [])
 led_at_one old new p there back same one others key =
     let twice : (there == key) ≡ (there == key || back == key) = doubled (there == key) ∙ ap (λ (n : ℕ). there == key || n == key) (sym same) in
-    subst (λ (b : Bool). LeadsOn (collected_for old key) (collected_for new key) (if b then p ∷ [] else [])) twice
+    subst (λ (b : Bool). CollectsOn (collected_for old key) (collected_for new key) (if b then p ∷ [] else [])) twice
     (led_at old new p there key one others)
   where
     doubled : (b : Bool) → b ≡ (b || b)

@@ -80,8 +80,8 @@ HasBytes chunks last None = (k : ℕ) × (k < last) × (chunk_at chunks (suc k) 
 -- ---- packets
 
 -- the packets lead from what was kept to what is
-abbrev pub LeadsOn : Option Collected → Option Collected → List Packet → Type 0
-LeadsOn old new more = (h : List Packet) → IsCollectedOf old h → IsCollectedOf new (h ++ more)
+abbrev pub CollectsOn : Option Collected → Option Collected → List Packet → Type 0
+CollectsOn old new more = (h : List Packet) → IsCollectedOf old h → IsCollectedOf new (h ++ more)
 
 -- what is kept of a pair
 abbrev pub pair_key : ℕ → ℕ → ℕ

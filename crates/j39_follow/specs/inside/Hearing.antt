@@ -9,7 +9,7 @@ use Rattle.j39_log.specs.inside.Listening.{after_all, listener_of_pair}
 use Rattle.j39_tp.specs.Receiver.{Receiving}
 use Rattle.j39_tp.specs.declared.packet.Packet.{Packet}
 use Rattle.j39_follow.specs.FollowText.{HeardSince}
-use Rattle.j39_follow.specs.Received.{way_of, way_packets}
+use Rattle.j39_follow.specs.Received.{way_packet, way_packets}
 use Rattle.j39_follow.specs.declared.pair.collected.Collected.{Collected}
 use Rattle.j39_follow.specs.declared.pair.heard_pairs.HeardPairs.{HeardPairs}
 use Rattle.j39_follow.specs.inside.Collecting.{IsCollectedOf, collected_between}
@@ -40,7 +40,7 @@ pub record HasHeardOneMore (plan : Plan) (pairs : HeardPairs) (seen : List Seen)
   pub is : HeardSince plan seen source destination packets
   pub listener : listener_between pairs source destination ≡ after_all (packets ++ heard_of source destination x.frame.ident x.packet)
   pub kept : IsCollectedOf (kept_between pairs source destination)
-      (way_packets source destination is.since ++ way_of source destination x.frame.ident x.packet)
+      (way_packets source destination is.since ++ way_packet source destination x.frame.ident x.packet)
 
 abbrev pub HaveHeardOneMore : Plan → HeardPairs → List Seen → Seen → Type 0
 HaveHeardOneMore plan pairs seen x =

@@ -3,7 +3,7 @@ ghost use Rattle.std.specs.Prelude.{◌≡◌, ◌<◌, ◌==◌, ◌&&◌, ◌+
 ghost use Rattle.std.specs.Prelude.{option_map};
 ghost use Rattle.j39_tp.specs.declared.packet.Packet.{Packet as APacket};
 ghost use Rattle.j39_tp.specs.declared.packet.Packet.TheVariants.{Abort as AnAbort, Dt as Data, EndAck as AnEnd, Rts as AStart};
-ghost use Rattle.j39_follow.specs.inside.Collecting.{HasBytes, IsCollected, IsMoreOf, IsOpened, LeadsOn, chunk_at};
+ghost use Rattle.j39_follow.specs.inside.Collecting.{HasBytes, IsCollected, IsMoreOf, IsOpened, CollectsOn, chunk_at};
 ghost use Rattle.j39_follow.specs.Received.{IsReceivedOr};
 ghost use Rattle.j39_follow.specs.declared.pair.collected.Collected.{Collected as ACollected};
 ghost use Rattle.j39_tp.specs.Chunks.{packets_of};
@@ -101,7 +101,7 @@ fn added(mut collected: Collected, number: u8, chunk: Chunk) -> Collected
 
 // What is kept once a data packet came. Of a message whose packets came in order nothing is.
 fn with_data(collected: Option<Collected>, number: u8, chunk: Chunk) -> Option<Collected>
-    ensures { LeadsOn collected result (Data number chunk ∷ []) }
+    ensures { CollectsOn collected result (Data number chunk ∷ []) }
 {
     let Some(collected) = collected else {
         return None;
@@ -116,8 +116,8 @@ fn with_data(collected: Option<Collected>, number: u8, chunk: Chunk) -> Option<C
 
 // What is kept behind a packet that ends a message of a PGN.
 fn without(collected: Option<Collected>, pgn: Pgn) -> Option<Collected>
-    ensures abort { (reason : ℕ) → LeadsOn collected result (AnAbort reason pgn ∷ []) }
-    ensures end { (size : ℕ) → LeadsOn collected result (AnEnd size pgn ∷ []) }
+    ensures abort { (reason : ℕ) → CollectsOn collected result (AnAbort reason pgn ∷ []) }
+    ensures end { (size : ℕ) → CollectsOn collected result (AnEnd size pgn ∷ []) }
 {
     let Some(collected) = collected else {
         return None;
@@ -131,7 +131,7 @@ fn without(collected: Option<Collected>, pgn: Pgn) -> Option<Collected>
 
 // What is kept behind the announcement of a message to one.
 fn started(alloc: Global, size: Size, pgn: Pgn) -> Result<Option<Collected>, AllocError>
-    ensures { IfOk result (λ new. (old : Option ACollected) (limit : ℕ) → LeadsOn old new (AStart size limit pgn ∷ [])) }
+    ensures { IfOk result (λ new. (old : Option ACollected) (limit : ℕ) → CollectsOn old new (AStart size limit pgn ∷ [])) }
 {
     let _ = size.bytes();
     let collected = opened(alloc, size, pgn)?;
@@ -144,7 +144,7 @@ pub(crate) fn collect(
     collected: Option<Collected>,
     packet: &Packet,
 ) -> Result<Option<Collected>, AllocError>
-    ensures { IfOk result (λ new. LeadsOn collected new (packet.now ∷ [])) }
+    ensures { IfOk result (λ new. CollectsOn collected new (packet.now ∷ [])) }
 {
     match *packet {
         Packet::Rts { size, pgn, .. } => started(alloc, size, pgn),

@@ -2,10 +2,10 @@
 ghost use Rattle.std.specs.Prelude.{◌≡◌, ◌≢◌, ◌<◌, ◌==◌, ◌||◌, ◌∷◌, [], ℕ, List, None, OnOk, IfOk, if◌then◌else◌, option_map, Some as ASome};
 ghost use Rattle.j39_tp.specs.declared.packet.Packet.{Packet as APacket};
 ghost use Rattle.j39_log.specs.inside.Listening.{is_of_pair, is_pair};
-ghost use Rattle.j39_follow.specs.Received.{IsReceivedOr, way_of};
+ghost use Rattle.j39_follow.specs.Received.{IsReceivedOr, way_packet};
 ghost use Rattle.j39_log.specs.LogPairs.{is_abort as aborts};
 ghost use Rattle.j39_follow.specs.inside.Collecting.{tells_whole};
-ghost use Rattle.j39_follow.specs.inside.Collecting.{IsCollectedOf, LeadsOn, collected_between, collected_for, pair_key as key_of_pair};
+ghost use Rattle.j39_follow.specs.inside.Collecting.{IsCollectedOf, CollectsOn, collected_between, collected_for, pair_key as key_of_pair};
 
 use crate::pair::collected::Collected;
 use crate::pair::collecting::{collect, whole};
@@ -59,7 +59,7 @@ impl Collections {
 
     // A packet of a pair.
     fn turn(&mut self, key: u32, packet: &Packet) -> Result<(), AllocError>
-        ensures one { OnOk result (LeadsOn (collected_for self.old key) (collected_for self.new key) (packet.now ∷ [])) }
+        ensures one { OnOk result (CollectsOn (collected_for self.old key) (collected_for self.new key) (packet.now ∷ [])) }
         ensures others { OnOk result ((other : ℕ) → other ≢ key
             → collected_for self.new other ≡ collected_for self.old other) }
     {
@@ -75,7 +75,7 @@ impl Collections {
 
     // A packet of two pairs, which may be one.
     fn turn_both(&mut self, there: u32, back: u32, packet: &Packet) -> Result<(), AllocError>
-        ensures { OnOk result ((key : ℕ) → LeadsOn (collected_for self.old key) (collected_for self.new key)
+        ensures { OnOk result ((key : ℕ) → CollectsOn (collected_for self.old key) (collected_for self.new key)
             (if there == key || back == key then packet.now ∷ [] else [])) }
     {
         self.turn(there, packet)?;
@@ -89,8 +89,8 @@ impl Collections {
     /// of the other one.
     pub fn hear(&mut self, ident: Ident, packet: &Packet) -> Result<(), AllocError>
         ensures { OnOk result ((source destination : ℕ) → source < 256 → destination < 256
-            → LeadsOn (collected_between self.old source destination) (collected_between self.new source destination)
-            (way_of source destination ident (ASome packet.now))) }
+            → CollectsOn (collected_between self.old source destination) (collected_between self.new source destination)
+            (way_packet source destination ident (ASome packet.now))) }
     {
         let there = pair_key(ident.sa, ident.ps);
         let back = pair_key(ident.ps, ident.sa);

@@ -4,8 +4,8 @@ ghost use Rattle.j39_log.specs.LogPairs.{is_heard_by};
 ghost use Rattle.j39_log.specs.inside.Listening.{completed_group, is_of_pair};
 ghost use Rattle.j39_tp.specs.Receiver.{fresh, receives};
 ghost use Rattle.j39_tp.specs.declared.receiving.manner.Manner.TheVariants.{Listening};
-ghost use Rattle.j39_follow.specs.Received.{way_of};
-ghost use Rattle.j39_follow.specs.inside.Collecting.{LeadsOn, collected_between};
+ghost use Rattle.j39_follow.specs.Received.{way_packet};
+ghost use Rattle.j39_follow.specs.inside.Collecting.{CollectsOn, collected_between};
 ghost use Rattle.j39_follow.specs.inside.Hearing.{listener_between, kept_between};
 
 use crate::pair::collections::Collections;
@@ -41,8 +41,8 @@ impl HeardPairs {
             then receives (listener_between self.old source destination) packet.now
             else listener_between self.old source destination)) }
         ensures collected { OnOk result ((source destination : ℕ) → source < 256 → destination < 256
-            → LeadsOn (kept_between self.old source destination) (kept_between self.new source destination)
-            (way_of source destination ident (ASome packet.now))) }
+            → CollectsOn (kept_between self.old source destination) (kept_between self.new source destination)
+            (way_packet source destination ident (ASome packet.now))) }
         ensures group { IfOk result (λ group. group
             ≡ completed_group (listener_between self.old ident.sa ident.ps) packet.now) }
     {
