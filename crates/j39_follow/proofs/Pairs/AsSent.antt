@@ -58,8 +58,12 @@ there [] p back = refl
 there (q ∷ front) p back = there front p back
 
 behind : (front back : List Packet) (j : ℕ) → slice_get (front ++ back) (length front + j) ≡ slice_get back j
-behind [] back j = refl
-behind (q ∷ front) back j = behind front back j
+behind [] back j =
+    let same : length {A = Packet} [] + j ≡ j = omega arith in
+    ap (slice_get back) same
+behind (q ∷ front) back j =
+    let same : length (q ∷ front) + j ≡ suc (length front + j) = omega arith in
+    ap (slice_get (q ∷ (front ++ back))) same ∙ behind front back j
 
 keeps_there : (pgn : ℕ) (s : List Packet) (j : ℕ) (p : Packet) → All (KeepsOpen pgn) s → slice_get s j ≡ Some p → KeepsOpen pgn p
 keeps_there pgn [] j p all e = absurd (none-some p e)

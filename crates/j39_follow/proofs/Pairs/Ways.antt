@@ -85,12 +85,12 @@ same_key x y s d lx ly ls ld = elim (cases_Bool (pair_key x y == pair_key s d)) 
 ]
   where
     not_both : (x y s d : ℕ) → pair_key x y ≢ pair_key s d → (x == s && y == d) ≡ false
-    not_both x y s d no = elim (cases_Bool (x == s)) [
+    not_both x y s d unlike = elim (cases_Bool (x == s)) [
       | inl one ↦ elim (cases_Bool (y == d)) [
         | inl two ↦
             let e : x ≡ s = eqb-true x s one in
             let f : y ≡ d = eqb-true y d two in
-            absurd (no (omega (arith, e, f)))
+            absurd (unlike (omega (arith, e, f)))
         | inr two ↦ ap (λ (b : Bool). b && y == d) one ∙ two
       ]
       | inr one ↦ ap (λ (b : Bool). b && y == d) one
@@ -138,8 +138,8 @@ pub led_by_other : (old new : Collections) (p : Packet) (i : Ident) → tells_wh
     → CollectsOn (collected_for old (pair_key i.sa i.ps)) (collected_for new (pair_key i.sa i.ps)) (p ∷ [])
     → ((other : ℕ) → other ≢ pair_key i.sa i.ps → collected_for new other ≡ collected_for old other)
     → (s d : ℕ) → s < 256 → d < 256 → CollectsOn (collected_between old s d) (collected_between new s d) (way_packet s d i (Some p))
-led_by_other old new p i no none one others = λ s d ls ld.
-    subst (λ (b : Bool). CollectsOn (collected_between old s d) (collected_between new s d) (if b then p ∷ [] else [])) (sym (way_of_other s d i p no none))
+led_by_other old new p i unsaid none one others = λ s d ls ld.
+    subst (λ (b : Bool). CollectsOn (collected_between old s d) (collected_between new s d) (if b then p ∷ [] else [])) (sym (way_of_other s d i p unsaid none))
     (led_between old new p i.sa i.ps s d i.sa_range i.ps_range ls ld one others)
 
 pub led_by_abort : (old new : Collections) (p : Packet) (i : Ident) → is_abort p ≡ true
@@ -169,8 +169,8 @@ led_at_both old mid new p there back apart first others second rest key = elim (
       (subst (λ (o : Option Collected). CollectsOn (collected_for old key) o (p ∷ [])) (sym stays)
       (subst (λ (n : ℕ). CollectsOn (collected_for old n) (collected_for mid n) (p ∷ [])) is first))
   | inr other ↦
-      let no = eqb-false there key other in
-      let was : collected_for mid key ≡ collected_for old key = others key (λ e. no (sym e)) in
+      let unlike = eqb-false there key other in
+      let was : collected_for mid key ≡ collected_for old key = others key (λ e. unlike (sym e)) in
       subst (λ (b : Bool). CollectsOn (collected_for old key) (collected_for new key) (if b || back == key then p ∷ [] else [])) (sym other)
       (subst (λ (o : Option Collected). CollectsOn o (collected_for new key) (if back == key then p ∷ [] else [])) was
       (led_at mid new p back key second rest))
