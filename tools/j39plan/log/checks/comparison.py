@@ -78,6 +78,7 @@ class Comparison:
         self._begun: dict[Pair, Begun] = {}
         self.of_premises = Beside()
         self.is_unjudged = False  # whether the plan has findings, so that `audit` judges nobody, and what `follow` says is told
+        self._received: tuple[int, Pair] | None = None  # the line on which a receiver said that it has a message, and counted it
         self._pgns = {label: group.pgn for label, group in self.planned.items()}
         self._is_watched = False  # whether what is due is told as soon as it is
         self._line, self._still = 0, ""  # the line of the last report; and what is told of nothing coming since
@@ -128,6 +129,8 @@ class Comparison:
     def message(self, line: int, at: int | None, message: Message) -> None:
         """A message of a planned group."""
         _, _, group, sender, to, flow, odd_priority, data, _ = message
+        if (line, pair_of(sender, to)) == self._received:
+            return
         planned = self.planned[group]
         begun = self._begun.pop(pair_of(sender, to), None) if len(data) > 2 * FRAME_BYTES else None
         first, began = (begun.line, begun.at) if begun else (line, at)
@@ -236,13 +239,14 @@ class Comparison:
                 self.queued.packet(sender.label, at)
         is_planned = self.transfers.came(line, at, frame)
         if frame.pgn == CONNECTION_MANAGEMENT and frame.data[0] == WHOLE:
-            self.acknowledged(pair_of(frame.to, sender))
+            self.acknowledged(line, pair_of(frame.to, sender))
         if not is_planned:
             self.passes(line, at, frame.identifier, f"PGN {frame.pgn if frame.pgn == DATA_TRANSFER else pgn_of(frame)}", sender)
 
-    def acknowledged(self, pair: Pair) -> None:
-        """The receiver may have said that it has a message which isn't reported, as where a packet was asked for once more: it was carried whole."""
+    def acknowledged(self, line: int, pair: Pair) -> None:
+        """The receiver may have said that it has a message which isn't reported yet, as where a packet was asked for once more: it was carried whole."""
         if pair in self._begun and self.transfers.is_acknowledged(pair):
+            self._received = line, pair
             begun = self._begun.pop(pair)
             self.queued.whole(begun.way)
             if number := self.flow_of(begun.way):
