@@ -1,12 +1,11 @@
 -- Where two frames do not touch, what begins from the second one on was queued behind an idle bit before it.
 use Rattle.std.proofs.Common.{◌≡◌, ℕ, suc, ◌+◌, ◌-◌, ◌*◌, ◌<◌, ◌≤◌, Bool, ◌&&◌, cond, leb, ltb, ap, arith, inl, inr}
 use Rattle.std.proofs.Math.Nat.{mul-le-mul_left}
-use Rattle.std.proofs.lemmas.Bool.{and_from, cases_lt, le-leb, lt-ltb}
-use Rattle.j39_timing.specs.AnyOrder.{Controllers, IsLegalInAnyOrder}
+use Rattle.std.proofs.lemmas.Bool.{and_from, cases_Bool, cases_lt, le-leb, lt-ltb}
 use Rattle.j39_timing.specs.Errors.{Damaged, IsBusWithErrors, IsDamagedAt}
 use Rattle.j39_timing.specs.Messages.{frame_end}
 use Rattle.j39_timing.specs.Sums.{total}
-use Rattle.j39_timing.specs.TimedFrames.{Schedule, IsLegal, IsOnBusAt, Waits}
+use Rattle.j39_timing.specs.TimedFrames.{Schedule, IsOnBusAt, Waits}
 use Rattle.j39_timing.proofs.Overlaps.{covered}
 use Rattle.j39_timing.proofs.Sums.{total-times}
 use Rattle.j39_audit_laws.specs.Records.{AreFew, IsMarkOf, KeepsTime, ShowsIdle, attempts_in, longest_reach}
@@ -15,10 +14,14 @@ use Rattle.j39_audit_laws.specs.Records.{AreFew, IsMarkOf, KeepsTime, ShowsIdle,
 attempt_at_most : (s : Schedule) (d : Damaged) → IsBusWithErrors s d → ((p : ℕ) → p < s.count → s.bits p ≤ 160)
     → (e : ℕ) → e < d.count → d.sent e + d.error e ≤ 191
 attempt_at_most s d bus short e known =
-    let sent = bus.sent_at_most e known in
     let error = bus.error_at_most e known in
-    let longest = short (d.frame e) (bus.known e known) in
-    omega (arith, sent, error, longest)
+    elim (cases_Bool (d.lost e)) [
+      | inl lost ↦ let sent = bus.lost_at_most e known lost in omega (arith, sent, error)
+      | inr kept ↦
+          let sent = bus.sent_at_most e known kept in
+          let longest = short (d.frame e) (bus.known e known kept) in
+          omega (arith, sent, error, longest)
+    ]
 
 module _ (s : Schedule) (d : Damaged) (bus : IsBusWithErrors s d) (at_most : (e : ℕ) → e < d.count → d.sent e + d.error e ≤ 191) (few : ℕ)
     (seldom : AreFew d few) where
@@ -125,48 +128,3 @@ pub mark_with_errors : (s : Schedule) (d : Damaged) (us few within bytes : ℕ) 
     → ShowsIdle s us few within bytes clock g f before time → IsMarkOf s clock f (time - (longest_reach us bytes few + within))
 mark_with_errors s d us few within bytes clock g f before time fast keeps bus short seldom shows =
     mark_is_right s d bus (attempt_at_most s d bus short) few seldom us within bytes clock g f before time fast keeps shows
-
--- ---- a bus without damage
-
-no_damage : Damaged
-no_damage = record { count = 0; frame = λ e. 0; begin = λ e. 0; sent = λ e. 0; error = λ e. 0 }
-
-whole_bus : (s : Schedule) → ((p : ℕ) → p < s.count → 1 ≤ s.bits p) → ((p : ℕ) → p < s.count → s.queued p ≤ s.start p)
-    → ((p q t : ℕ) → p < s.count → q < s.count → t < s.now → IsOnBusAt s p t → IsOnBusAt s q t → p ≡ q)
-    → ((p t : ℕ) → p < s.count → t < s.now → Waits s p t → (q : ℕ) × (q < s.count) × IsOnBusAt s q t) → IsBusWithErrors s no_damage
-unfolding no_damage
-whole_bus s positive queued_first alone never_idle = record {
-  positive = positive;
-  queued_first = queued_first;
-  known = λ e known. absurd (omega (arith, known));
-  ready = λ e known. absurd (omega (arith, known));
-  some_sent = λ e known. absurd (omega (arith, known));
-  sent_at_most = λ e known. absurd (omega (arith, known));
-  some_error = λ e known. absurd (omega (arith, known));
-  error_at_most = λ e known. absurd (omega (arith, known));
-  again = λ e known. absurd (omega (arith, known));
-  alone = alone;
-  alone_damaged = λ e f t known. absurd (omega (arith, known));
-  none_of_both = λ p e t in_p known. absurd (omega (arith, known));
-  never_idle = λ p t known seen waits. inl (never_idle p t known seen waits);
-}
-
-none_at_most : (e : ℕ) → e < no_damage.count → no_damage.sent e + no_damage.error e ≤ 191
-unfolding no_damage
-none_at_most e known = absurd (omega (arith, known))
-
-none_are_few : AreFew no_damage 0
-unfolding no_damage total
-none_are_few from = omega arith
-
-pub mark_in_order : (s : Schedule) (us within bytes : ℕ) (clock : ℕ → ℕ) (g f before time : ℕ) → us ≤ 8 → KeepsTime us clock
-    → IsLegal s → ShowsIdle s us 0 within bytes clock g f before time → IsMarkOf s clock f (time - (longest_reach us bytes 0 + within))
-mark_in_order s us within bytes clock g f before time fast keeps legal shows =
-    mark_is_right s no_damage (whole_bus s legal.positive legal.queued_first legal.alone legal.never_idle) none_at_most 0 none_are_few
-    us within bytes clock g f before time fast keeps shows
-
-pub mark_in_any_order : (s : Schedule) (controllers : Controllers) (us within bytes : ℕ) (clock : ℕ → ℕ) (g f before time : ℕ) → us ≤ 8 → KeepsTime us clock
-    → IsLegalInAnyOrder s controllers → ShowsIdle s us 0 within bytes clock g f before time → IsMarkOf s clock f (time - (longest_reach us bytes 0 + within))
-mark_in_any_order s controllers us within bytes clock g f before time fast keeps legal shows =
-    mark_is_right s no_damage (whole_bus s legal.positive legal.queued_first legal.alone legal.never_idle) none_at_most 0 none_are_few
-    us within bytes clock g f before time fast keeps shows
