@@ -14,13 +14,11 @@ use Rattle.j39_audit.proofs.Below.{each_more, each_none}
 
 -- what is sighted by two lists
 sighted_both : (w : Sighting) (xs ys : List Noted) → sighted_behind w (xs ++ ys) ≡ sighted_behind (sighted_behind w xs) ys
-unfolding sighted_behind
 sighted_both w [] ys = refl
 sighted_both w (n ∷ xs) ys = sighted_both (sighted_as n.mark.word n.mark.subject w) xs ys
 
 -- nothing
 sighted_none : (w : Sighting) → w ≡ sighted_behind w []
-unfolding sighted_behind
 sighted_none w = refl
 
 pub notes_none : (tally : MarkTally) → Notes tally tally []

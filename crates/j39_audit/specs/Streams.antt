@@ -93,7 +93,7 @@ sighted_as Seen n w = record w { flow = Some n }
 sighted_as Asked n w = record w { request = Some n }
 sighted_as _ n w = w
 
-unfoldable pub sighted_behind : Sighting → List Noted → Sighting
+abbrev pub sighted_behind : Sighting → List Noted → Sighting
 sighted_behind w [] = w
 sighted_behind w (n ∷ rest) = sighted_behind (sighted_as n.mark.word n.mark.subject w) rest
 

@@ -1,9 +1,9 @@
 //! What an audit keeps of a log.
-ghost use Rattle.std.specs.Prelude.{◌≡◌, ◌≤◌, ◌<◌, ◌^◌, ◌++◌, ℕ, List, [], Option, IfOk, IfSome, OnOk};
+ghost use Rattle.std.specs.Prelude.{◌≡◌, ◌≤◌, ◌<◌, ◌^◌, ◌++◌, nat_lt, ℕ, List, [], Option, IfOk, IfSome, OnOk};
 ghost use Rattle.std.specs.Option.{option_copied};
 ghost use Rattle.j39_id.specs.Lines.{Line, tells};
 ghost use Rattle.j39_log.specs.LineCounting.{AreWithin, IsLineMore};
-ghost use Rattle.j39_audit.specs.AuditText.{AuditPast, is_of_times, passed_by};
+ghost use Rattle.j39_audit.specs.AuditText.{AuditPast, bad_line, is_of_times, passed_by, skipped_line};
 ghost use Rattle.j39_audit.specs.Claiming.{HeardClaims, broken_off};
 ghost use Rattle.j39_audit.specs.Looking.{break_noted};
 ghost use Rattle.j39_audit.specs.Settings.{AreMoving, Settings};
@@ -12,7 +12,7 @@ ghost use Rattle.j39_audit.specs.inside.Auditing.{tallied};
 ghost use Rattle.j39_audit.specs.inside.Recalling.{AreNear, KnowsClaims, Notes, settings_of};
 
 use crate::basis::Basis;
-use crate::frame_marks::take_frame;
+use crate::frame_marks::{note_if, take_frame};
 use crate::known::Known;
 use crate::mark::{Mark, Word, make_mark};
 use crate::moments::Moments;
@@ -58,6 +58,13 @@ fn take_break(
     } else {
         Ok(())
     }
+}
+
+// Whether a frame was read.
+fn has_frames(counts: &LineCounts) -> bool
+    ensures { result ≡ nat_lt 0 counts.now.frames }
+{
+    counts.frames > 0
 }
 
 // Whether a word speaks of times.
@@ -145,6 +152,42 @@ impl<'a> AuditLog<'a> {
         Ok(())
     }
 
+    // Takes a line of an 11-bit identifier.
+    fn take_short(&mut self) -> Result<(), AllocError>
+        requires within { AreWithin self.old.counts (2 ^ 62) }
+        requires near { AreNear self.old.moments }
+        ensures near { AreNear self.new.moments }
+        ensures basis { self.new.basis ≡ self.old.basis }
+        ensures number { self.new.number ≡ self.old.number }
+        ensures counted { IsLineMore self.old.counts self.new.counts }
+        ensures fault { OnOk result ((past : AuditPast) → RecallsAudit self.old past → RecallsAudit self.new (skipped_line past)) }
+    {
+        self.moments.pass_over();
+        self.counts.skipped += 1;
+        note_if(
+            &mut self.tally,
+            has_frames(&self.counts),
+            make_mark(Word::Short, 0),
+            self.number,
+            0,
+        )?;
+        Ok(())
+    }
+
+    // Takes a line that has a word and spells no frame.
+    fn take_bad(&mut self)
+        requires within { AreWithin self.old.counts (2 ^ 62) }
+        requires near { AreNear self.old.moments }
+        ensures near { AreNear self.new.moments }
+        ensures basis { self.new.basis ≡ self.old.basis }
+        ensures number { self.new.number ≡ self.old.number }
+        ensures counted { IsLineMore self.old.counts self.new.counts }
+        ensures fault { (past : AuditPast) → RecallsAudit self.old past → RecallsAudit self.new (bad_line past) }
+    {
+        self.moments.pass_over();
+        self.counts.bad += 1;
+    }
+
     // Takes a line that spells no frame.
     fn take_fault(&mut self, error: LineError) -> Result<(), AllocError>
         requires within { AreWithin self.old.counts (2 ^ 62) }
@@ -155,15 +198,25 @@ impl<'a> AuditLog<'a> {
         ensures number { self.new.number ≡ self.old.number }
         ensures counted { IsLineMore self.old.counts self.new.counts }
     {
-        let short = error == LineError::ShortIdent && self.counts.frames > 0;
-        self.counts.pass_over(error);
-        if error != LineError::Empty {
-            self.moments.pass_over();
-        }
-        if short {
-            self.tally.note(make_mark(Word::Short, 0), self.number, 0)
-        } else {
-            Ok(())
+        match error {
+            LineError::Empty => Ok(()),
+            LineError::ShortIdent => self.take_short(),
+            LineError::NoHash => {
+                self.take_bad();
+                Ok(())
+            }
+            LineError::BadIdent => {
+                self.take_bad();
+                Ok(())
+            }
+            LineError::TooLong => {
+                self.take_bad();
+                Ok(())
+            }
+            LineError::BadData => {
+                self.take_bad();
+                Ok(())
+            }
         }
     }
 

@@ -54,8 +54,8 @@ fn is_of_transport(basis: &Basis<'_>, frame: &Frame) -> bool
     (pgn == CONNECTION_MANAGEMENT || pgn == DATA_TRANSFER) && has_transport_priority(basis, frame)
 }
 
-// Notes a mark where a frame is one.
-fn note_if(
+/// Notes a mark where a frame is one.
+pub(crate) fn note_if(
     tally: &mut MarkTally,
     is: bool,
     mark: Mark,

@@ -1,12 +1,10 @@
 use Rattle.std.proofs.Common.{◌≡◌, ◌&&◌, nat_eq, ℕ, ap, ◌∙◌}
 use Rattle.j39_audit.specs.Counting.{Noted, key_of, told_at, told_more}
-use Rattle.j39_audit.specs.Streams.{sighted_behind}
 use Rattle.j39_audit.specs.declared.tally.Told.{Told}
 use Rattle.j39_audit.proofs.Counted.{settled}
 use Rattle.j39_audit.proofs.tally.MarkTally.note.Goals as goal
 
 pub returns-in-Ok : goal.returns-in-Ok
-unfolding sighted_behind
 returns-in-Ok c = record {
   counts = λ noted counted key.
       let m = c.args.mark in
