@@ -8,7 +8,7 @@ use Rattle.j39_timing.specs.Sums.{total}
 use Rattle.j39_timing.specs.TimedFrames.{Schedule, IsOnBusAt, Waits}
 use Rattle.j39_timing.proofs.Overlaps.{covered}
 use Rattle.j39_timing.proofs.Sums.{total-times}
-use Rattle.j39_audit_laws.specs.Records.{AreFew, IsMarkOf, KeepsTime, ShowsIdle, attempts_in, longest_reach}
+use Rattle.j39_audit_laws.specs.MarkRecords.{AreFew, IsMarkOf, KeepsTime, ShowsIdle, attempts_in, longest_reach}
 
 -- an attempt and its error frame
 attempt_at_most : (s : Schedule) (d : Damaged) → IsBusWithErrors s d → ((p : ℕ) → p < s.count → s.bits p ≤ 160)

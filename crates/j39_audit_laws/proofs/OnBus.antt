@@ -5,9 +5,9 @@ use Rattle.std.proofs.lemmas.Bool.{and_from, and_parts, cases_eq, cases_lt, lt-l
 use Rattle.j39_timing.specs.Messages.{frame_end}
 use Rattle.j39_timing.specs.TimedFrames.{Schedule}
 use Rattle.j39_audit.specs.declared.window.Window.{Window}
-use Rattle.j39_audit.specs.Near.{is_near}
-use Rattle.j39_audit.specs.Stepping.{AreApart, AreWithin}
-use Rattle.j39_audit_laws.specs.Records.{IsMarkOf, KeepsTime}
+use Rattle.j39_audit.specs.Near.{is_too_near}
+use Rattle.j39_audit.specs.Stepping.{AreStepsApart, AreMomentsWithin}
+use Rattle.j39_audit_laws.specs.MarkRecords.{IsMarkOf, KeepsTime}
 use Rattle.j39_audit_laws.specs.StreamRecords.{AreBounds, AreLines, AreMsApart, AreReleasedFirst, HaveJitter}
 use Rattle.j39_audit_laws.specs.StreamRecords.{IsBoundFrom, IsOneAtATime}
 use Rattle.j39_audit.proofs.Near.{kept_steps_are_not_near}
@@ -89,10 +89,10 @@ in_order s n is_message frame lines k j up inside = elim (cases_eq k j) [
 pub kept_periods : (s : Schedule) (us period n : ℕ) (clock : ℕ → ℕ) (is_message : ℕ → Bool) (release frame : ℕ → ℕ) (windows : ℕ → Window)
     → IsOneAtATime s → KeepsTime us clock → AreReleasedFirst s is_message release → AreMsApart s us period is_message release
     → AreLines s is_message n frame → AreBounds s clock is_message release n frame windows
-    → (j : ℕ) → j < n → is_near (999 * period) windows j ≡ false
+    → (j : ℕ) → j < n → is_too_near (999 * period) windows j ≡ false
 kept_periods s us period n clock is_message release frame windows one keeps first apart lines bounds =
     let order = in_order s n is_message frame lines in
-    let within : AreWithin n windows (λ k. clock (release (frame k))) = record {
+    let within : AreMomentsWithin n windows (λ k. clock (release (frame k))) = record {
       from_lower = λ i k x up inside is.
           bounds.lower i x (omega (arith, up, inside)) is (frame k) (lines.known k inside) (lines.message k inside) (order i k up inside);
       to_upper = λ k j up inside.
@@ -113,7 +113,7 @@ kept_periods s us period n clock is_message release frame windows one keeps firs
           let rise = rises us clock keeps b a back in
           inr (omega (arith, rise, nothing))
     ] in
-    let apart_by_clock : AreApart n (999 * period) (λ k. clock (release (frame k))) = λ i j less inside.
+    let apart_by_clock : AreStepsApart n (999 * period) (λ k. clock (release (frame k))) = λ i j less inside.
     let in_i : i < n = omega (arith, less, inside) in
     let differ : frame i ≢ frame j = λ same. let at = ap (frame_end s) same in let turn = lines.in_turn i j less inside in omega (arith, at, turn) in
     elim (apart (frame i) (frame j) (lines.known i in_i) (lines.known j inside) differ (lines.message i in_i) (lines.message j inside)) [

@@ -5,8 +5,8 @@ use Rattle.j39_timing.specs.Messages.{frame_end}
 use Rattle.j39_timing.specs.TimedFrames.{Schedule}
 use Rattle.j39_audit.specs.declared.window.Window.{Window}
 use Rattle.j39_audit_laws.specs.LogBounds.{AreOfLog, IsMarkedBound, Lines}
-use Rattle.j39_audit.specs.Near.{is_near}
-use Rattle.j39_audit_laws.specs.Records.{AreFew, KeepsTime, longest_reach}
+use Rattle.j39_audit.specs.Near.{is_too_near}
+use Rattle.j39_audit_laws.specs.MarkRecords.{AreFew, KeepsTime, longest_reach}
 use Rattle.j39_audit_laws.specs.StreamRecords.{AreBounds, AreLines, AreMsApart, AreReleasedFirst, HaveJitter, IsBoundFrom, IsOneAtATime}
 use Rattle.j39_audit_laws.proofs.Idle.{mark_with_errors}
 use Rattle.j39_audit_laws.proofs.OnBus.{bound_by_mark, kept_periods}
@@ -43,7 +43,7 @@ pub not_near : (s : Schedule) (d : Damaged) (log : Lines) (period jitter n : ℕ
     → AreReleasedFirst s is_message release → HaveJitter s log.us jitter is_message release
     → AreMsApart s log.us period is_message release
     → AreLines s is_message n frame → AreOfLog s log jitter n frame windows
-    → (j : ℕ) → j < n → is_near (999 * period) windows j ≡ false
+    → (j : ℕ) → j < n → is_too_near (999 * period) windows j ≡ false
 not_near s d log period jitter n is_message release frame windows fast keeps bus short seldom first late apart lines told =
     kept_periods s log.us period n log.clock is_message release frame windows (one_at_a_time s d log fast keeps bus short seldom) keeps first apart lines
     (bounds s d log fast keeps bus short seldom jitter n is_message release frame windows first late told)

@@ -2,8 +2,8 @@
 use Rattle.std.specs.Prelude.{◌≡◌, ℕ, ◌*◌, ◌≤◌}
 use Rattle.j39_network.specs.declared.plan.timing.Timing.{Timing}
 use Rattle.j39_audit.specs.Moments.{bit_us, damaged_at_once, reach_back}
-use Rattle.j39_audit.specs.Streams.{longest_us, shortest_us}
-use Rattle.j39_audit_laws.specs.Records.{longest_reach}
+use Rattle.j39_audit.specs.MessageStreams.{longest_us, shortest_us}
+use Rattle.j39_audit_laws.specs.MarkRecords.{longest_reach}
 
 -- where clocks don't drift, times of units differ by a thousandth, and the idle mark reaches back as far as frames and damage do
 pub record AreExact (t : Timing) : Type 0 where

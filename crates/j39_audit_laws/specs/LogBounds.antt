@@ -1,7 +1,7 @@
 -- The bounds of a stream's moments by the lines of a log: each line's own time, and idle marks at it or before it.
 use Rattle.std.specs.Prelude.{◌≡◌, ℕ, ◌+◌, ◌-◌, ◌*◌, ◌<◌, ◌≤◌, Some}
 use Rattle.j39_audit.specs.declared.window.Window.{Window}
-use Rattle.j39_audit_laws.specs.Records.{IsTimeOf, ShowsIdle, longest_reach}
+use Rattle.j39_audit_laws.specs.MarkRecords.{IsTimeOf, ShowsIdle, longest_reach}
 use Rattle.j39_timing.specs.Messages.{frame_end}
 use Rattle.j39_timing.specs.TimedFrames.{Schedule}
 

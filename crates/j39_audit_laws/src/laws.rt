@@ -1,6 +1,6 @@
 //! Laws of the lines by which the audit command accuses.
 ghost use Rattle.std.specs.Prelude.{◌≡◌, ◌+◌, ◌-◌, ◌*◌, ◌<◌, ◌≤◌, ℕ, Bool, false, List};
-ghost use Rattle.j39_audit.specs.Near.{is_near};
+ghost use Rattle.j39_audit.specs.Near.{is_too_near};
 ghost use Rattle.j39_audit.specs.Settings.{AreMoving, Settings};
 ghost use Rattle.j39_audit.specs.declared.window.Window.{Window as AWindow};
 ghost use Rattle.j39_audit.specs.declared.mark.Word.TheVariants.{Address, Cannot, Layout, NoFlow, Priority, Urgent};
@@ -12,7 +12,7 @@ ghost use Rattle.j39_audit_laws.specs.LogBounds.{AreOfLog, Lines};
 ghost use Rattle.j39_audit_laws.specs.OneAudit.{AuditHasOneText};
 ghost use Rattle.j39_audit_laws.specs.OwnPart.{AlwaysCan, AreItsOwn, ClaimsItsOwn, IsNotNamed, LooksAsPlanned, SentBy};
 ghost use Rattle.j39_audit_laws.specs.OwnPart.{WaitsForPlanned};
-ghost use Rattle.j39_audit_laws.specs.Records.{AreFew, IsMarkOf, KeepsTime, ShowsIdle, longest_reach};
+ghost use Rattle.j39_audit_laws.specs.MarkRecords.{AreFew, IsMarkOf, KeepsTime, ShowsIdle, longest_reach};
 ghost use Rattle.j39_audit_laws.specs.StreamRecords.{AreLines, AreMsApart, AreReleasedFirst, HaveJitter};
 ghost use Rattle.j39_findings.specs.Findings.{Clean};
 ghost use Rattle.j39_id.specs.Lines.{Line as ALine};
@@ -112,5 +112,5 @@ pub fn no_stream_is_told_wrongly()
         → AreReleasedFirst s is_message release → HaveJitter s log.us jitter is_message release
         → AreMsApart s log.us period is_message release
         → AreLines s is_message n frame → AreOfLog s log jitter n frame windows
-        → (j : ℕ) → j < n → is_near (999 * period) windows j ≡ false }
+        → (j : ℕ) → j < n → is_too_near (999 * period) windows j ≡ false }
 {}
