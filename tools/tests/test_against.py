@@ -57,8 +57,9 @@ def told_otherwise(lines: Sequence[str], reports: str, length: int) -> tuple[Cou
                 ended.update({pair} & begun)
         elif line[2:4] == "EC" and data[0] == 19 and (to, source) in begun and transfers.get((to, source)) == data[5:]:
             begun.discard((to, source))
-            found[to, source] += 1
-            early.add((to, source))
+            if number not in reported:  # where its packets came in another order `follow` reports it here
+                found[to, source] += 1
+                early.add((to, source))
         elif line[2:4] == "EB" and number in reported:
             found[source, to] -= (source, to) in early  # it is reported after all
             begun.discard((source, to))
