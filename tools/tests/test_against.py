@@ -34,7 +34,6 @@ def told_otherwise(lines: Sequence[str], reports: str, length: int) -> tuple[Cou
     reported = {int(line) for line in re.findall(r"^(\d+) - group VI ", reports, re.MULTILINE)}
     transfers: dict[tuple[str, str], bytes] = {}
     begun: set[tuple[str, str]] = set()
-    early: set[tuple[str, str]] = set()
     found: Counter[tuple[str, str]] = Counter()
     ended: set[tuple[str, str]] = set()
     given_up: Counter[tuple[str, str]] = Counter()
@@ -47,24 +46,21 @@ def told_otherwise(lines: Sequence[str], reports: str, length: int) -> tuple[Cou
             given_up[source, to] += (source, to) in ended
             ended.discard((source, to))
             begun.discard((source, to))
-            early.discard((source, to))
             if data[5:] == b"\xEC\xFE\0" and data[1] == length:
                 begun.add((source, to))
+        elif number in reported:  # by its last packet, or by the acknowledgement where packets came in another order
+            pair = (source, to) if line[2:4] == "EB" else (to, source)
+            found[pair] -= pair not in begun  # it is reported after all, or once more: a receiver said that it has the message, and packets came behind that
+            begun.discard(pair)
+            ended.discard(pair)
         elif line[2:4] == "EC" and data[0] == 255:
-            pair = next((pair for pair in ((source, to), (to, source)) if pair in transfers), None)
-            if pair:
-                del transfers[pair]
-                ended.update({pair} & begun)
+            open_pair = next((pair for pair in ((source, to), (to, source)) if pair in transfers), None)
+            if open_pair:
+                del transfers[open_pair]
+                ended.update({open_pair} & begun)
         elif line[2:4] == "EC" and data[0] == 19 and (to, source) in begun and transfers.get((to, source)) == data[5:]:
             begun.discard((to, source))
-            if number not in reported:  # where its packets came in another order `follow` reports it here
-                found[to, source] += 1
-                early.add((to, source))
-        elif line[2:4] == "EB" and number in reported:
-            found[source, to] -= (source, to) in early  # it is reported after all
-            begun.discard((source, to))
-            early.discard((source, to))
-            ended.discard((source, to))
+            found[to, source] += 1
     given_up.update(ended)
     return found, given_up
 
