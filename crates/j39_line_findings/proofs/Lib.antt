@@ -1,3 +1,5 @@
 pub mod Enumerating
 pub mod EveryVariant
+pub mod Ranking
 pub mod VariantVerdicts
+pub mod Witnesses

@@ -152,8 +152,9 @@ fn write_text_outside(
     text.field(" ", text_end(plan, group, place))
 }
 
+/// Writes a finding, without the end of its line.
 #[tactic(auto, unfolding(crate::specs::FindingLines::finding_text))]
-fn write_finding(text: &mut TextBuffer, plan: &Plan, finding: Finding) -> Result<(), AllocError>
+pub fn write_finding(text: &mut TextBuffer, plan: &Plan, finding: Finding) -> Result<(), AllocError>
     ensures { OnOk result (text.new ≡ text.old ++ finding_text plan.now finding) }
 {
     match finding {
@@ -226,7 +227,7 @@ fn write_line(text: &mut TextBuffer, plan: &Plan, finding: Finding) -> Result<()
 
 /// Writes the steps of the run that shows the finding's conflict, where it tells of one.
 #[tactic(auto, unfolding(crate::specs::FindingLines::run_lines))]
-fn write_run(
+pub fn write_run(
     alloc: Global,
     text: &mut TextBuffer,
     plan: &Plan,

@@ -23,6 +23,7 @@ mod variant;
 pub use addresses::addresses_text;
 pub use certificate::clean_plans_are_certified;
 pub use check::check_text;
+pub use finding_lines::{write_finding, write_run};
 pub use laws::{
     addresses_have_one_text, check_has_one_text, load_has_one_text,
     plans_without_choices_are_shown_alone, serial_numbers_change_no_text, show_has_one_text,
@@ -30,7 +31,7 @@ pub use laws::{
 };
 pub use live_identifiers::live_flows_have_different_identifiers;
 pub use load::load_text;
-pub use load_lines::write_load;
+pub use load_lines::{write_load, write_load_finding};
 pub use plan_file::{line_text, refuse_choices, write_choices_refused, write_refusal};
 pub use plan_findings::PlanFindings;
 pub use plan_report::write_check;

@@ -21,8 +21,9 @@ use j39_network::{FlowPlan, NeedPlan, Pace, Plan, Timing, To, is_met};
 use j39_text::{TextBuffer, group_label, unit_label, write_need};
 use std::alloc::AllocError;
 
+/// Writes a finding on the load, without the end of its line.
 #[tactic(auto, unfolding(crate::specs::LoadLines::load_finding_text))]
-fn write_load_finding(text: &mut TextBuffer, finding: LoadFinding) -> Result<(), AllocError>
+pub fn write_load_finding(text: &mut TextBuffer, finding: LoadFinding) -> Result<(), AllocError>
     ensures { OnOk result (text.new ≡ text.old ++ load_finding_text finding) }
 {
     match finding {
