@@ -1,5 +1,6 @@
 pub mod Enumerating
 pub mod EveryVariant
+pub mod FoundLists
 pub mod Ranking
 pub mod VariantVerdicts
 pub mod Witnesses

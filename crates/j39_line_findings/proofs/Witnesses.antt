@@ -1,6 +1,9 @@
 -- Findings are added one after the other, each with its best witness.
-use Rattle.std.proofs.Common.{◌≡◌, ℕ, zero, suc, ◌<◌, ◌⊎◌, List, [], ◌∷◌, ◌++◌, Bool, true, false, inl, inr, drop, length, set, take, refl, sym, ap, subst, ◌∙◌, arith}
-use Rattle.std.proofs.lemmas.Bool.{cases_Bool, false≢true}
+use Rattle.std.proofs.Common.{◌≡◌, ℕ, zero, suc, ◌+◌, ◌<◌, ◌≤◌, ◌⊎◌, List, [], ◌∷◌, ◌++◌, Bool, true, false, inl, inr, drop, get_or, length, set, take, refl, sym, ap, subst, ◌∙◌, arith}
+use Rattle.std.proofs.lemmas.Bool.{cases_Bool, cases_lt, false≢true}
+use Rattle.std.proofs.lemmas.List.{drop_all, take-append-drop, take_more}
+use Rattle.std.proofs.Math.Seq.{drop-cons}
+use Rattle.std.specs.List.{insert}
 use Rattle.j39_line_findings.specs.Best.{AreBest, AreInOrder, IsAmong, IsToldBefore, is_better, rank_in}
 use Rattle.j39_line_findings.specs.InFile.{is_below}
 use Rattle.j39_line_findings.specs.declared.rank.Rank.{Rank}
@@ -204,3 +207,45 @@ pub behind_all : (xs ys : List Witnessed) (d n : Witnessed) → AreInOrder (xs +
 behind_all xs ys d n is before w (inl here) = subst (IsToldBefore n) here before
 behind_all xs ys d n is before w (inr right) =
     below_through (rank_in n) (rank_in d) (rank_in w) before ((ordered_right xs (d ∷ ys) is).0 w right)
+
+-- ---- the one that is added
+
+module _ (all told : List Witnessed) (p : ℕ) (n : Witnessed) (is : AreBest all told) where
+  split : p < length told → told ≡ take p told ++ get_or told p n ∷ drop (suc p) told
+  split less = sym (take-append-drop p told) ∙ ap (λ ys. take p told ++ ys) (drop-cons p told n less)
+
+  best_split : (less : p < length told) → AreBest all (take p told ++ get_or told p n ∷ drop (suc p) told)
+  best_split less = subst (AreBest all) (split less) is
+
+  pub insert_at : ((w : Witnessed) → IsAmong (take p told) w → IsToldBefore w n) → (p < length told → IsToldBefore n (get_or told p n))
+      → AreBest (all ++ n ∷ []) (insert told p n)
+  insert_at before next =
+      let whole : AreBest all (take p told ++ drop p told) = subst (AreBest all) (sym (take-append-drop p told)) is in
+      insert_best all (take p told) (drop p told) n whole before (λ w at. elim (cases_lt p (length told)) [
+        | inl less ↦
+            behind_all (take p told) (drop (suc p) told) (get_or told p n) n (best_split less).in_order (next less) w
+            (subst (λ ys. IsAmong ys w) (drop-cons p told n less) at)
+        | inr none ↦ absurd (subst (λ ys. IsAmong ys w) (drop_all p told none) at)
+      ])
+
+  pub replace_at : p < length told → rank_in (get_or told p n) ≡ rank_in n → is_better n (get_or told p n) ≡ true
+      → AreBest (all ++ n ∷ []) (set told p n)
+  replace_at less same better =
+      subst (AreBest (all ++ n ∷ [])) (sym (set_split told p n less))
+      (replace_best all (take p told) (drop (suc p) told) (get_or told p n) n (best_split less) same better)
+
+  pub keep_at : p < length told → rank_in (get_or told p n) ≡ rank_in n → is_better n (get_or told p n) ≡ false → AreBest (all ++ n ∷ []) told
+  keep_at less same worse =
+      subst (AreBest (all ++ n ∷ [])) (sym (split less))
+      (keep_best all (take p told) (drop (suc p) told) (get_or told p n) n (best_split less) same worse)
+
+-- one more of those that come before a rank
+pub one_more_before : (told : List Witnessed) (i : ℕ) (d : Witnessed) (r : Rank) → i < length told
+    → ((w : Witnessed) → IsAmong (take i told) w → is_below (rank_in w) r ≡ true) → is_below (rank_in (get_or told i d)) r ≡ true
+    → (w : Witnessed) → IsAmong (take (i + 1) told) w → is_below (rank_in w) r ≡ true
+one_more_before told i d r less before here w at =
+    elim (among_cases (take i told) (get_or told i d ∷ []) w (subst (λ xs. IsAmong xs w) (take_more told i d less) at)) [
+      | inl old ↦ before w old
+      | inr (inl same) ↦ subst (λ x. is_below (rank_in x) r ≡ true) same here
+      | inr (inr none) ↦ absurd none
+    ]

@@ -49,10 +49,14 @@ all_witnessed line full k (variant ∷ variants) [] = []
 all_witnessed line full k (variant ∷ variants) (findings ∷ each) =
     map (witnessed line full k variant) findings ++ all_witnessed line full (k + 1) variants each
 
--- of a line, of which these are all findings of each variant
+-- of some variants, of which these are all findings of each
+pub record AreFoundIn (line : ProductLine) (full : FullAlternatives) (variants : List (List ℕ)) (told : List Witnessed) : Type 0 where
+  pub each : List (List LineFinding)
+  pub are_each : AllZip (AreFindingsOf line) variants each
+  pub best : AreBest (all_witnessed line full 0 variants each) told
+
+-- of all variants of a line
 pub record AreLineFindings (line : ProductLine) (told : List Witnessed) : Type 0 where
   pub full : FullAlternatives
   pub are_full : AreFullAlternatives line full
-  pub each : List (List LineFinding)
-  pub are_each : AllZip (AreFindingsOf line) (all_variants line.choices.items) each
-  pub best : AreBest (all_witnessed line full 0 (all_variants line.choices.items) each) told
+  pub found : AreFoundIn line full (all_variants line.choices.items) told

@@ -3,13 +3,12 @@ ghost use Rattle.std.specs.Prelude.{◌≡◌, ◌++◌, List, IfOk, OnOk, map, 
 ghost use Rattle.j39_line_findings.specs.AllVariants.{all_variants};
 ghost use Rattle.j39_line_findings.specs.FullVariants.{AreFullAlternatives};
 ghost use Rattle.j39_line_findings.specs.Best.{AreBest};
-ghost use Rattle.j39_line_findings.specs.LineFound.{AreFindingsOf, AreLineFindings, AreVariantFindings, all_witnessed, witnessed};
+ghost use Rattle.j39_line_findings.specs.LineFound.{AreFindingsOf, AreFoundIn, AreLineFindings, AreVariantFindings, witnessed};
 ghost use Rattle.j39_line_findings.specs.InFile.{finding_in_file, load_finding_in_file};
 ghost use Rattle.j39_line_findings.specs.declared.line_finding.LineFinding.{LineFinding as LineFindings};
 ghost use Rattle.j39_line_findings.specs.declared.line_finding.LineFinding.TheVariants.{OfPlan, OfLoad};
 ghost use Rattle.j39_line_findings.specs.declared.witnessed.Witnessed.{Witnessed as Witnesses};
 ghost use Rattle.j39_findings.specs.declared.checking.finding.Finding.TheVariants.{NeedUnmet};
-ghost use Rattle.std.specs.List.{AllZip};
 
 use crate::enumeration::all_variants;
 use crate::full::{FullAlternatives, alternatives_of};
@@ -76,6 +75,22 @@ fn variant_findings(
     Ok(findings)
 }
 
+fn witnessed_by(
+    line: &ProductLine,
+    full: &FullAlternatives,
+    place: usize,
+    variant: &[usize],
+    finding: LineFinding,
+) -> Witnessed
+    ensures { result ≡ witnessed line.now full.now place variant.now finding }
+{
+    Witnessed {
+        finding,
+        variant: place,
+        counted: is_counted(line, full, variant, finding),
+    }
+}
+
 // Adds what a variant has.
 fn add_all(
     told: &mut Vec<Witnessed>,
@@ -89,13 +104,29 @@ fn add_all(
         → AreBest (all ++ map (witnessed line.now full.now place variant.now) findings.now) told.new.items) }
 {
     for finding in findings {
-        let new = Witnessed {
-            finding: *finding,
-            variant: place,
-            counted: is_counted(line, full, variant, *finding),
-        };
+        let new = witnessed_by(line, full, place, variant, *finding);
         add(told, new)?;
     }
+    Ok(())
+}
+
+// Adds what a variant has, where it is possible.
+fn add_variant(
+    alloc: Global,
+    told: &mut Vec<Witnessed>,
+    line: &ProductLine,
+    full: &FullAlternatives,
+    place: usize,
+    variant: &[usize],
+) -> Result<(), AllocError>
+    ensures { OnOk result ((all : List Witnesses) → AreBest all told.old.items → (findings : List LineFindings) × AreFindingsOf line.now variant.now findings
+        × AreBest (all ++ map (witnessed line.now full.now place variant.now) findings) told.new.items) }
+{
+    if !is_possible(&line.nevers, variant) {
+        return Ok(());
+    }
+    let findings = variant_findings(alloc, line, variant)?;
+    add_all(told, line, full, place, variant, &findings)?;
     Ok(())
 }
 
@@ -106,15 +137,11 @@ fn find_in_variants(
     full: &FullAlternatives,
     variants: &[Vec<usize>],
 ) -> Result<Vec<Witnessed>, AllocError>
-    ensures { IfOk result (λ told. (each : List (List LineFindings)) × AllZip (AreFindingsOf line.now) (map (λ v. v.items) variants.now) each
-        × AreBest (all_witnessed line.now full.now 0 (map (λ v. v.items) variants.now) each) told.items) }
+    ensures { IfOk result (λ told. AreFoundIn line.now full.now (map (λ v. v.items) variants.now) told.items) }
 {
     let mut told = Vec::new(alloc);
     for (place, variant) in variants.iter().enumerate() {
-        if is_possible(&line.nevers, variant) {
-            let findings = variant_findings(alloc, line, variant)?;
-            add_all(&mut told, line, full, place, variant, &findings)?;
-        }
+        add_variant(alloc, &mut told, line, full, place, variant)?;
     }
     Ok(told)
 }
@@ -127,5 +154,6 @@ pub fn line_findings(alloc: Global, line: &ProductLine) -> Result<Vec<Witnessed>
     let alternatives = alternatives_of(alloc, line)?;
     let full = FullAlternatives::new(alloc, line, &alternatives)?;
     let variants = all_variants(alloc, &line.choices)?;
-    find_in_variants(alloc, line, &full, &variants)
+    let told = find_in_variants(alloc, line, &full, &variants)?;
+    Ok(told)
 }

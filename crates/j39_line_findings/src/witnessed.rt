@@ -1,6 +1,7 @@
 //! What is found of a line of vehicles, with the variant that is its witness.
 ghost use Rattle.std.specs.Prelude.{◌≡◌, ◌∷◌, ◌++◌, [], List, OnOk};
 ghost use Rattle.std.specs.Prelude.{◌≤◌, ◌<◌, ℕ, length, slice_index_or, take, true, false};
+ghost use Rattle.std.specs.List.{insert, slice_set};
 ghost use Rattle.j39_line_findings.specs.declared.witnessed.Witnessed.{Witnessed as Witnesses};
 ghost use Rattle.j39_line_findings.specs.InFile.{is_below};
 ghost use Rattle.j39_line_findings.specs.Best.{AreBest, IsAmong, is_better, is_earlier_witness, rank_in};
@@ -32,6 +33,12 @@ fn is_better(one: &Witnessed, other: &Witnessed) -> bool
         || one.finding.amount() == other.finding.amount() && is_earlier_witness(one, other)
 }
 
+fn comes_before(one: &Witnessed, rank: Rank) -> bool
+    ensures { result ≡ is_below (rank_in one.now) rank }
+{
+    is_below(one.finding.rank(), rank)
+}
+
 // How many of those that are told come before one of a rank.
 fn place_of(told: &[Witnessed], rank: Rank) -> usize
     ensures inside { result ≤ length told.now }
@@ -39,7 +46,7 @@ fn place_of(told: &[Witnessed], rank: Rank) -> usize
     ensures behind { (d : Witnesses) → result < length told.now → is_below (rank_in (slice_index_or told.now result d)) rank ≡ false }
 {
     for (place, other) in told.iter().enumerate() {
-        if !is_below(other.finding.rank(), rank) {
+        if !comes_before(other, rank) {
             return place;
         }
     }
@@ -58,15 +65,32 @@ fn is_next(told: &[Witnessed], place: usize, rank: Rank) -> bool
     }
 }
 
+fn put(told: &mut Vec<Witnessed>, place: usize, new: Witnessed) -> Result<(), AllocError>
+    requires { place ≤ length told.old.items }
+    ensures { OnOk result (told.new.items ≡ insert told.old.items place new) }
+{
+    told.insert(place, new)?;
+    Ok(())
+}
+
+fn replace(told: &mut Vec<Witnessed>, place: usize, new: Witnessed)
+    requires { place < length told.old.items }
+    ensures { told.new.items ≡ slice_set told.old.items place new }
+{
+    told[place] = new;
+}
+
 /// Adds a finding of a variant to those that are told: each once, with its best witness.
 pub(crate) fn add(told: &mut Vec<Witnessed>, new: Witnessed) -> Result<(), AllocError>
     ensures { OnOk result ((all : List Witnesses) → AreBest all told.old.items → AreBest (all ++ new ∷ []) told.new.items) }
 {
     let place = place_of(told, new.finding.rank());
     if is_next(told, place, new.finding.rank()) {
-        told.insert(place, new)?;
-    } else if is_better(&new, &told[place]) {
-        told[place] = new;
+        put(told, place, new)?;
+        return Ok(());
+    }
+    if is_better(&new, &told[place]) {
+        replace(told, place, new);
     }
     Ok(())
 }

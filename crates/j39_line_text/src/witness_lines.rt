@@ -93,7 +93,7 @@ fn write_alternatives(
 ) -> Result<(), AllocError>
     ensures { OnOk result (text.new ≡ text.old ++ told_alternatives line.now alternatives.now variant.now finding) }
 {
-    for (choice, _) in line.choices.iter().enumerate() {
+    for (choice, _found) in line.choices.iter().enumerate() {
         write_alternative(text, line, alternatives, variant, finding, choice)?;
     }
     Ok(())

@@ -1,0 +1,14 @@
+use Rattle.std.proofs.Common.{◌≡◌, ◌++◌, map, take, get_or, ap, subst, ◌∙◌}
+use Rattle.j39_line_findings.specs.Best.{AreBest}
+use Rattle.j39_line_findings.specs.LineFound.{witnessed}
+use Rattle.j39_line_findings.proofs.FoundLists.{one_more_found}
+use Rattle.j39_line_findings.proofs.found.add_all.Goals as goal
+
+pub loop-finding-preserved : goal.loop-finding-preserved
+loop-finding-preserved c all best =
+    let by = witnessed c.args.line.now c.args.full.now c.args.place c.args.variant.now in
+    let at = c.loop-finding.finding-index in
+    subst (λ ws. AreBest ws c.add.new.told.items)
+    (one_more_found by all c.args.findings.now at c.finding-item.result c.witnessed_by-new.result c.loop-finding-test.true
+    (c.witnessed_by-new.ensures ∙ ap by c.finding-item.is))
+    (c.in_ok-add.ensures (all ++ map by (take at c.args.findings.now)) (c.loop-finding.invariant all best))
