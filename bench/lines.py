@@ -230,7 +230,8 @@ def random_line(rng: random.Random) -> Line:
         some = rng.sample(choices, min(len(choices), rng.choice((1, 1, 1, 2))))
         return [label for choice in some for label in rng.sample(choice, rng.randint(1, len(choice) - 1))]
 
-    nevers = [rng.sample([label for choice in choices for label in choice], rng.choice((1, 2, 2, 3))) for _ in range(rng.choice((0, 0, 1, 2)))]
+    known = [label for choice in choices for label in choice]
+    nevers = [rng.sample(known, min(len(known), rng.choice((1, 2, 2, 3)))) for _ in range(rng.choice((0, 0, 1, 2)))]
     pool = rng.random() < 0.4
     units: list[Table] = []
     for number in range(rng.randint(2, 6)):
@@ -258,7 +259,7 @@ def random_line(rng: random.Random) -> Line:
         if rng.random() < 0.2:
             one["on_request"] = True
         if rng.random() < 0.8:
-            one["period"] = rng.choice((10, 20, 100))
+            one["period"] = rng.choice((5, 10, 20, 100))
             if rng.random() < 0.5 and not one.get("on_request"):
                 one["pause"] = int(str(one["period"])) * 2
             if rng.random() < 0.3:

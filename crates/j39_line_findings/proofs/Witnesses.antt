@@ -212,7 +212,7 @@ behind_all xs ys d n is before w (inr right) =
 
 module _ (all told : List Witnessed) (p : ℕ) (n : Witnessed) (is : AreBest all told) where
   split : p < length told → told ≡ take p told ++ get_or told p n ∷ drop (suc p) told
-  split less = sym (take-append-drop p told) ∙ ap (λ ys. take p told ++ ys) (drop-cons p told n less)
+  split less = sym (take-append-drop p told) ∙ ap (λ ys. take p told ++ ys) (drop-cons told p n less)
 
   best_split : (less : p < length told) → AreBest all (take p told ++ get_or told p n ∷ drop (suc p) told)
   best_split less = subst (AreBest all) (split less) is
@@ -224,7 +224,7 @@ module _ (all told : List Witnessed) (p : ℕ) (n : Witnessed) (is : AreBest all
       insert_best all (take p told) (drop p told) n whole before (λ w at. elim (cases_lt p (length told)) [
         | inl less ↦
             behind_all (take p told) (drop (suc p) told) (get_or told p n) n (best_split less).in_order (next less) w
-            (subst (λ ys. IsAmong ys w) (drop-cons p told n less) at)
+            (subst (λ ys. IsAmong ys w) (drop-cons told p n less) at)
         | inr none ↦ absurd (subst (λ ys. IsAmong ys w) (drop_all p told none) at)
       ])
 

@@ -51,18 +51,22 @@ abbrev pub agree_on_sending : ProductLine → List Alternative → ℕ → Alter
 agree_on_sending line alternatives d a b f =
     not (do_meet line alternatives (Need d) (Flow f) (Flow f)) || are_alike (flow_lets_in line a f) (flow_lets_in line b f)
 
+unfoldable pub agree_on_answers : ProductLine → List Alternative → ℕ → Alternative → Alternative → ℕ → FlowPlan → Bool
+agree_on_answers line alternatives d a b f flow = list_all (agree_on_answer line alternatives d a b f flow) (range_with_len 0 (length line.plan.requests.items))
+
 -- alike of a flow that brings what is needed, and of each of its answers where it is only asked for
 abbrev pub agree_on_flow : ProductLine → List Alternative → ℕ → Alternative → Alternative → NeedPlan → ℕ → Bool
 agree_on_flow line alternatives d a b need f = option_map_or
     (λ flow. not (does_bring need flow) || (if flow.on_request
-    then list_all (agree_on_answer line alternatives d a b f flow) (range_with_len 0 (length line.plan.requests.items))
+    then agree_on_answers line alternatives d a b f flow
     else agree_on_sending line alternatives d a b f))
     (slice_get line.plan.flows.items f) true
 
-abbrev pub agree_on_need : ProductLine → List Alternative → ℕ → Alternative → Alternative → Bool
-agree_on_need line alternatives d a b = option_map_or
-    (λ need. list_all (agree_on_flow line alternatives d a b need) (range_with_len 0 (length line.plan.flows.items)))
-    (slice_get line.plan.needs.items d) true
+unfoldable pub agree_on_flows : ProductLine → List Alternative → ℕ → Alternative → Alternative → NeedPlan → Bool
+agree_on_flows line alternatives d a b need = list_all (agree_on_flow line alternatives d a b need) (range_with_len 0 (length line.plan.flows.items))
+
+unfoldable pub agree_on_need : ProductLine → List Alternative → ℕ → Alternative → Alternative → Bool
+agree_on_need line alternatives d a b = option_map_or (agree_on_flows line alternatives d a b) (slice_get line.plan.needs.items d) true
 
 -- ---- full alternatives
 

@@ -38,9 +38,11 @@ abbrev pub is_end_in_pool : ProductLine → FlowPlan → ℕ → Bool
 is_end_in_pool line flow u = is_end flow u && has_pool_address line u
 
 -- an end of the flow is planned at an address to which others may move
-abbrev pub has_end_in_pool : ProductLine → ℕ → Bool
-has_end_in_pool line f = option_map_or
-    (λ flow. list_any (is_end_in_pool line flow) (range_with_len 0 (length line.plan.units.items))) (slice_get line.plan.flows.items f) false
+unfoldable pub are_ends_in_pool : ProductLine → FlowPlan → Bool
+are_ends_in_pool line flow = list_any (is_end_in_pool line flow) (range_with_len 0 (length line.plan.units.items))
+
+unfoldable pub has_end_in_pool : ProductLine → ℕ → Bool
+has_end_in_pool line f = option_map_or (are_ends_in_pool line) (slice_get line.plan.flows.items f) false
 
 abbrev pub is_full_for : FullAlternatives → List ℕ → ℕ → Bool
 is_full_for full variant d = option_map_or (λ list. is_in variant list.items) (slice_get full.of_needs.items d) true
@@ -73,7 +75,7 @@ module _ (line : ProductLine) (alternatives : List Alternative) (c : ℕ) where
   is_lacking_flow_of g h f = option_map_or
       (λ flow. ((flow.group == g) || (flow.group == h)) && lacks_beside (part.Group g) (part.Group h) (part.Flow f)) (slice_get line.plan.flows.items f) false
 
-  abbrev pub lacks_flow_of : ℕ → ℕ → Bool
+  unfoldable pub lacks_flow_of : ℕ → ℕ → Bool
   lacks_flow_of g h = list_any (is_lacking_flow_of g h) (range_with_len 0 (length line.plan.flows.items))
 
   abbrev pub is_private : ℕ → Bool
@@ -89,7 +91,7 @@ module _ (line : ProductLine) (alternatives : List Alternative) (c : ℕ) where
       && (do_meet line alternatives (part.Need d) (part.Flow f) (part.Request r) && lacks_either (part.Flow f) (part.Request r)))
       (slice_get line.plan.requests.items r) false
 
-  abbrev pub lacks_answer : ℕ → ℕ → FlowPlan → Bool
+  unfoldable pub lacks_answer : ℕ → ℕ → FlowPlan → Bool
   lacks_answer d f flow = list_any (is_lacking_answer d f flow) (range_with_len 0 (length line.plan.requests.items))
 
   -- of a need, of each flow that brings what is needed, and of each of its answers where it is only asked for
@@ -100,33 +102,39 @@ module _ (line : ProductLine) (alternatives : List Alternative) (c : ℕ) where
       else lacks_beside (part.Need d) (part.Need d) (part.Flow f)))
       (slice_get line.plan.flows.items f) false
 
-  abbrev pub lacks_source : ℕ → Bool
-  lacks_source d = option_map_or
-      (λ need. list_any (is_lacking_source d need) (range_with_len 0 (length line.plan.flows.items))) (slice_get line.plan.needs.items d) false
+  unfoldable pub has_lacking_source : ℕ → NeedPlan → Bool
+  has_lacking_source d need = list_any (is_lacking_source d need) (range_with_len 0 (length line.plan.flows.items))
+
+  unfoldable pub lacks_source : ℕ → Bool
+  lacks_source d = option_map_or (has_lacking_source d) (slice_get line.plan.needs.items d) false
 
   -- of a request, of each flow that answers it
   abbrev pub is_lacking_server : ℕ → RequestPlan → ℕ → Bool
   is_lacking_server r request f = option_map_or
       (λ flow. serves request flow && lacks_beside (part.Request r) (part.Request r) (part.Flow f)) (slice_get line.plan.flows.items f) false
 
-  abbrev pub lacks_server : ℕ → Bool
-  lacks_server r = option_map_or
-      (λ request. list_any (is_lacking_server r request) (range_with_len 0 (length line.plan.flows.items))) (slice_get line.plan.requests.items r) false
+  unfoldable pub has_lacking_server : ℕ → RequestPlan → Bool
+  has_lacking_server r request = list_any (is_lacking_server r request) (range_with_len 0 (length line.plan.flows.items))
+
+  unfoldable pub lacks_server : ℕ → Bool
+  lacks_server r = option_map_or (has_lacking_server r) (slice_get line.plan.requests.items r) false
 
   -- of a flow with a contested end, of each unit that is planned at the address of an end
   abbrev pub are_at_one_address : ℕ → ℕ → Bool
   are_at_one_address u v = option_map_or
       (λ unit. option_map_or (λ other. unit.address == other.address) (slice_get line.plan.units.items v) false) (slice_get line.plan.units.items u) false
 
-  abbrev pub is_at_end : FlowPlan → ℕ → Bool
+  unfoldable pub is_at_end : FlowPlan → ℕ → Bool
   is_at_end flow u = list_any (λ v. is_end flow v && are_at_one_address u v) (range_with_len 0 (length line.plan.units.items))
 
   abbrev pub is_lacking_unit : ℕ → FlowPlan → ℕ → Bool
   is_lacking_unit f flow u = is_at_end flow u && lacks_beside (part.Flow f) (part.Flow f) (part.Unit u)
 
-  abbrev pub lacks_unit_at_end : ℕ → Bool
-  lacks_unit_at_end f = option_map_or
-      (λ flow. list_any (is_lacking_unit f flow) (range_with_len 0 (length line.plan.units.items))) (slice_get line.plan.flows.items f) false
+  unfoldable pub has_lacking_unit : ℕ → FlowPlan → Bool
+  has_lacking_unit f flow = list_any (is_lacking_unit f flow) (range_with_len 0 (length line.plan.units.items))
+
+  unfoldable pub lacks_unit_at_end : ℕ → Bool
+  lacks_unit_at_end f = option_map_or (has_lacking_unit f) (slice_get line.plan.flows.items f) false
 
   abbrev pub is_told_of_plan : Finding → Bool
   is_told_of_plan (SameName i j) = lacks_either (part.Unit i) (part.Unit j)

@@ -2,7 +2,8 @@
 ghost use Rattle.std.specs.Prelude.{◌≡◌, ◌∷◌, [], IfOk, length, map};
 ghost use Rattle.std.specs.List.{list_all, range_with_len};
 ghost use Rattle.j39_load.specs.LineLists.{lines_of_each};
-ghost use Rattle.j39_line_findings.specs.FullVariants.{AreFullAlternatives, agree_on_answer, agree_on_flow, agree_on_need};
+ghost use Rattle.j39_line_findings.specs.FullVariants.{AreFullAlternatives, agree_on_answer, agree_on_answers, agree_on_flow};
+ghost use Rattle.j39_line_findings.specs.FullVariants.{agree_on_flows, agree_on_need};
 ghost use Rattle.j39_line_findings.specs.FullVariants.{agree_on_sending, alternatives_of, alternatives_of_choice};
 ghost use Rattle.j39_line_findings.specs.Boxes.{are_alike};
 ghost use Rattle.j39_line_findings.specs.FullVariants.{compared, do_keep, does_bring, does_leave, does_need_let_in};
@@ -106,9 +107,9 @@ impl Comparing<'_> {
         }
     }
 
+    #[tactic(auto, unfolding(crate::specs::FullVariants::agree_on_answers))]
     fn agree_on_answers(&self, place: usize, flow: &FlowPlan) -> bool
-        ensures { result ≡ list_all (agree_on_answer self.now.line.now self.now.alternatives.now self.now.need self.now.one.now self.now.other.now place flow.now)
-            (range_with_len 0 (length self.now.line.now.plan.requests.items)) }
+        ensures { result ≡ agree_on_answers self.now.line.now self.now.alternatives.now self.now.need self.now.one.now self.now.other.now place flow.now }
     {
         (0..self.line.plan.requests.len()).all(|asked| self.agree_on_answer(place, flow, asked))
     }
@@ -145,13 +146,19 @@ impl Comparing<'_> {
         }
     }
 
+    #[tactic(auto, unfolding(crate::specs::FullVariants::agree_on_flows))]
+    fn agree_on_flows(&self, need: &NeedPlan) -> bool
+        ensures { result ≡ agree_on_flows self.now.line.now self.now.alternatives.now self.now.need self.now.one.now self.now.other.now need.now }
+    {
+        (0..self.line.plan.flows.len()).all(|place| self.agree_on_flow(need, place))
+    }
+
+    #[tactic(auto, unfolding(crate::specs::FullVariants::agree_on_need))]
     fn agree(&self) -> bool
         ensures { result ≡ agree_on_need self.now.line.now self.now.alternatives.now self.now.need self.now.one.now self.now.other.now }
     {
         match self.line.plan.needs.get(self.need) {
-            Some(need) => (0..self.line.plan.flows.len()).all(|place| self.agree_on_flow(
-                need, place,
-            )),
+            Some(need) => self.agree_on_flows(need),
             None => true,
         }
     }

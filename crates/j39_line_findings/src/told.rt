@@ -1,6 +1,6 @@
 //! Which witness of a finding is told, and which of its alternatives.
 ghost use Rattle.std.specs.Prelude.{◌≡◌, ◌||◌, ◌&&◌};
-ghost use Rattle.j39_line_findings.specs.Told.{has_end_in_pool, has_pool_address, is_counted, is_end, is_end_in_pool, is_full_for};
+ghost use Rattle.j39_line_findings.specs.Told.{are_ends_in_pool, has_end_in_pool, has_pool_address, is_counted, is_end, is_end_in_pool, is_full_for};
 ghost use Rattle.j39_line_findings.specs.Told as told;
 
 use crate::full::{FullAlternatives, does_bring};
@@ -33,11 +33,19 @@ fn is_end_in_pool(line: &ProductLine, flow: &FlowPlan, unit: usize) -> bool
     is_end(flow, unit) && has_pool_address(line, unit)
 }
 
+#[tactic(auto, unfolding(crate::specs::Told::are_ends_in_pool))]
+fn are_ends_in_pool(line: &ProductLine, flow: &FlowPlan) -> bool
+    ensures { result ≡ are_ends_in_pool line.now flow.now }
+{
+    (0..line.plan.units.len()).any(|unit| is_end_in_pool(line, flow, unit))
+}
+
+#[tactic(auto, unfolding(crate::specs::Told::has_end_in_pool))]
 fn has_end_in_pool(line: &ProductLine, place: usize) -> bool
     ensures { result ≡ has_end_in_pool line.now place }
 {
     match line.plan.flows.get(place) {
-        Some(flow) => (0..line.plan.units.len()).any(|unit| is_end_in_pool(line, flow, unit)),
+        Some(flow) => are_ends_in_pool(line, flow),
         None => false,
     }
 }
@@ -114,6 +122,7 @@ impl Telling<'_> {
         }
     }
 
+    #[tactic(auto, unfolding(crate::specs::Told::lacks_flow_of))]
     fn lacks_flow_of(&self, group: usize, other: usize) -> bool
         ensures { result ≡ told.lacks_flow_of self.now.line.now self.now.alternatives.now self.now.choice group other }
     {
@@ -155,6 +164,7 @@ impl Telling<'_> {
         }
     }
 
+    #[tactic(auto, unfolding(crate::specs::Told::lacks_answer))]
     fn lacks_answer(&self, need: usize, place: usize, flow: &FlowPlan) -> bool
         ensures { result ≡ told.lacks_answer self.now.line.now self.now.alternatives.now self.now.choice need place flow.now }
     {
@@ -180,13 +190,19 @@ impl Telling<'_> {
         }
     }
 
+    #[tactic(auto, unfolding(crate::specs::Told::has_lacking_source))]
+    fn has_lacking_source(&self, at: usize, need: &NeedPlan) -> bool
+        ensures { result ≡ told.has_lacking_source self.now.line.now self.now.alternatives.now self.now.choice at need.now }
+    {
+        (0..self.line.plan.flows.len()).any(|place| self.is_lacking_source(at, need, place))
+    }
+
+    #[tactic(auto, unfolding(crate::specs::Told::lacks_source))]
     fn lacks_source(&self, at: usize) -> bool
         ensures { result ≡ told.lacks_source self.now.line.now self.now.alternatives.now self.now.choice at }
     {
         match self.line.plan.needs.get(at) {
-            Some(need) => {
-                (0..self.line.plan.flows.len()).any(|place| self.is_lacking_source(at, need, place))
-            }
+            Some(need) => self.has_lacking_source(at, need),
             None => false,
         }
     }
@@ -203,15 +219,19 @@ impl Telling<'_> {
         }
     }
 
+    #[tactic(auto, unfolding(crate::specs::Told::has_lacking_server))]
+    fn has_lacking_server(&self, at: usize, request: &RequestPlan) -> bool
+        ensures { result ≡ told.has_lacking_server self.now.line.now self.now.alternatives.now self.now.choice at request.now }
+    {
+        (0..self.line.plan.flows.len()).any(|place| self.is_lacking_server(at, request, place))
+    }
+
+    #[tactic(auto, unfolding(crate::specs::Told::lacks_server))]
     fn lacks_server(&self, at: usize) -> bool
         ensures { result ≡ told.lacks_server self.now.line.now self.now.alternatives.now self.now.choice at }
     {
         match self.line.plan.requests.get(at) {
-            Some(request) => {
-                (0..self.line.plan.flows.len()).any(|place| self.is_lacking_server(
-                    at, request, place,
-                ))
-            }
+            Some(request) => self.has_lacking_server(at, request),
             None => false,
         }
     }
@@ -228,6 +248,7 @@ impl Telling<'_> {
         }
     }
 
+    #[tactic(auto, unfolding(crate::specs::Told::is_at_end))]
     fn is_at_end(&self, flow: &FlowPlan, unit: usize) -> bool
         ensures { result ≡ told.is_at_end self.now.line.now self.now.alternatives.now self.now.choice flow.now unit }
     {
@@ -242,13 +263,19 @@ impl Telling<'_> {
             && self.lacks_beside(Part::Flow(place), Part::Flow(place), Part::Unit(unit))
     }
 
+    #[tactic(auto, unfolding(crate::specs::Told::has_lacking_unit))]
+    fn has_lacking_unit(&self, place: usize, flow: &FlowPlan) -> bool
+        ensures { result ≡ told.has_lacking_unit self.now.line.now self.now.alternatives.now self.now.choice place flow.now }
+    {
+        (0..self.line.plan.units.len()).any(|unit| self.is_lacking_unit(place, flow, unit))
+    }
+
+    #[tactic(auto, unfolding(crate::specs::Told::lacks_unit_at_end))]
     fn lacks_unit_at_end(&self, place: usize) -> bool
         ensures { result ≡ told.lacks_unit_at_end self.now.line.now self.now.alternatives.now self.now.choice place }
     {
         match self.line.plan.flows.get(place) {
-            Some(flow) => {
-                (0..self.line.plan.units.len()).any(|unit| self.is_lacking_unit(place, flow, unit))
-            }
+            Some(flow) => self.has_lacking_unit(place, flow),
             None => false,
         }
     }
