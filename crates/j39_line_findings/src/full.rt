@@ -27,15 +27,22 @@ fn alternatives_of_choice(
         .collect(alloc)
 }
 
+fn alternatives_in(alloc: Global, choices: &[Choice]) -> Result<Vec<Alternative>, AllocError>
+    ensures { IfOk result (λ v. v.items ≡ lines_of_each alternatives_of_choice 0 choices.now) }
+{
+    let mut alternatives = Vec::new(alloc);
+    for (choice, told) in choices.iter().enumerate() {
+        let of_choice = alternatives_of_choice(alloc, choice, told)?;
+        alternatives.extend_from_slice(&of_choice)?;
+    }
+    Ok(alternatives)
+}
+
 /// The alternatives of a line, in order.
 pub fn alternatives_of(alloc: Global, line: &ProductLine) -> Result<Vec<Alternative>, AllocError>
     ensures { IfOk result (λ v. v.items ≡ alternatives_of line.now) }
 {
-    let mut alternatives = Vec::new(alloc);
-    for (choice, told) in line.choices.iter().enumerate() {
-        let of_choice = alternatives_of_choice(alloc, choice, told)?;
-        alternatives.extend_from_slice(&of_choice)?;
-    }
+    let alternatives = alternatives_in(alloc, &line.choices)?;
     Ok(alternatives)
 }
 
@@ -289,12 +296,13 @@ fn full_of_needs(
     alloc: Global,
     line: &ProductLine,
     alternatives: &[Alternative],
+    needs: &[NeedPlan],
 ) -> Result<Vec<Vec<Alternative>>, AllocError>
     ensures { IfOk result (λ v. map (λ list. list.items) v.items
-        ≡ lines_of_each (λ d need. full_of_need line.now alternatives.now d need ∷ []) 0 line.now.plan.needs.items) }
+        ≡ lines_of_each (λ d need. full_of_need line.now alternatives.now d need ∷ []) 0 needs.now) }
 {
     let mut full = Vec::new(alloc);
-    for (place, need) in line.plan.needs.iter().enumerate() {
+    for (place, need) in needs.iter().enumerate() {
         full.push(full_of_need(alloc, line, alternatives, place, need)?)?;
     }
     Ok(full)
@@ -319,7 +327,7 @@ impl FullAlternatives {
     {
         Ok(FullAlternatives {
             all: full_alternatives(alloc, line, alternatives, None)?,
-            of_needs: full_of_needs(alloc, line, alternatives)?,
+            of_needs: full_of_needs(alloc, line, alternatives, &line.plan.needs)?,
         })
     }
 }

@@ -1,6 +1,7 @@
-use Rattle.std.proofs.Common.{◌++◌, ◌≡◌, ℕ, List, get_or, map, take, append_assoc, sym, ap, ◌∙◌}
+use Rattle.std.proofs.Common.{◌++◌, ◌≡◌, ℕ, List, map, take, append_assoc, sym, ap, ◌∙◌, false}
+use Rattle.j39_findings.specs.declared.checking.finding.Finding.TheVariants.{SameName}
 use Rattle.j39_load.proofs.Before.{more}
-use Rattle.j39_load.specs.LineLists.{lines_of_each}
+use Rattle.j39_line_findings.specs.declared.line_finding.LineFinding.TheVariants.{OfPlan}
 use Rattle.j39_line_findings.specs.declared.witnessed.Witnessed.{Witnessed}
 use Rattle.j39_line_text.specs.WitnessLines.{variant_at, witness_report, witness_reports}
 use Rattle.j39_line_text.proofs.witness_lines.write_reports.Goals as goal
@@ -11,12 +12,6 @@ loop-witnessed-preserved c =
     let one : ℕ → Witnessed → List ℕ =
     λ _ w. witness_report c.args.line.now c.args.alternatives.now (variant_at variants w.variant) w.finding in
     let k = c.loop-witnessed.witnessed-index in
-    let step = more one k c.args.told.now c.witnessed-item.result c.loop-witnessed-test.true in
-    let before : List ℕ = witness_reports c.args.line.now c.args.alternatives.now variants (take k c.args.told.now) in
-    c.in_ok-write_report.ensures
-    ∙ ap (λ (v : List ℕ). c.loop-witnessed.text ++ witness_report c.args.line.now c.args.alternatives.now v c.witnessed-item.result.finding)
-      c.variant_at-variant.ensures
-    ∙ ap (λ (t : List ℕ). t ++ one k c.witnessed-item.result) c.loop-witnessed.invariant
-    ∙ append_assoc c.args.text.now before (one k c.witnessed-item.result)
-    ∙ ap (λ (w : Witnessed). c.args.text.now ++ (before ++ one k w)) c.witnessed-item.is
-    ∙ ap (λ (t : List ℕ). c.args.text.now ++ t) (sym step)
+    let step = more one k c.args.told.now (record { finding = OfPlan (SameName 0 0); variant = 0; counted = false }) c.loop-witnessed-test.true in
+    rw (c.in_ok-write_report.ensures, c.variant_at-variant.ensures, c.loop-witnessed.invariant, append_assoc)
+    (ap (λ (t : List ℕ). c.args.text.now ++ t) (sym step))
