@@ -56,7 +56,8 @@ fn faulty_text(alloc: Global, line: &ProductLine) -> Result<TextBuffer, AllocErr
     ensures { IfOk result (IsFindingsText line.now) }
 {
     let told = line_findings(alloc, line)?;
-    findings_text(alloc, line, &told)
+    let text = findings_text(alloc, line, &told)?;
+    Ok(text)
 }
 
 /// What is written for a line of vehicles, with the verdict.
