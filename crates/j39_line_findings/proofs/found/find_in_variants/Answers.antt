@@ -10,6 +10,6 @@ loop-place-init c =
 
 pub loop-place-preserved : goal.loop-place-preserved
 loop-place-preserved c =
-    next_variant c.args.line.now c.args.full.now (λ v. v.items) c.args.variants.now c.loop-place.place c.index-variants-place.result.now
-    c.deref.result.now c.loop-place.told.items c.add_variant.new.told.items c.loop-place-test.true c.index-variants-place.ensures
+    next_variant c.args.line.now c.args.full.now (λ v. v.items) c.args.variants.now c.loop-place.place c.index-variants-place.result
+    c.deref.result.now c.loop-place.told.items c.add_variant.new.told.items c.loop-place-test.true c.index-variants-place.is
     c.deref.ensures.value c.loop-place.invariant c.in_ok-add_variant.ensures

@@ -7,6 +7,10 @@ use Rattle.j39_variants.specs.declared.line.Alternative.{Alternative}
 use Rattle.j39_line_findings.specs.FullVariants.{full_of_need}
 use Rattle.j39_line_findings.proofs.full.full_of_needs.Goals as goal
 
+pub loop-place-init : goal.loop-place-init
+unfolding lines_of_each
+loop-place-init c = ap (map (λ list. list.items)) c.new-full.ensures.items
+
 pub loop-place-preserved : goal.loop-place-preserved
 loop-place-preserved c =
     let one : ℕ → NeedPlan → List (List Alternative) = λ d need. full_of_need c.args.line.now c.args.alternatives.now d need ∷ [] in
@@ -16,5 +20,5 @@ loop-place-preserved c =
     (map-append (λ list. list.items) c.loop-place.full.items (c.in_ok-full_of_need.field-0 ∷ [])
     ∙ ap (λ (xs : List (List Alternative)). xs ++ c.in_ok-full_of_need.field-0.items ∷ []) c.loop-place.invariant
     ∙ ap (λ (x : List Alternative). before ++ x ∷ [])
-    (c.in_ok-full_of_need.ensures ∙ ap (full_of_need c.args.line.now c.args.alternatives.now k) c.need-item.is)
-    ∙ sym (more one k c.args.needs.now c.need-item.result c.loop-place-test.true))
+    (c.in_ok-full_of_need.ensures ∙ ap (full_of_need c.args.line.now c.args.alternatives.now k) c.index-needs-place.is)
+    ∙ sym (more one k c.args.needs.now c.index-needs-place.result c.loop-place-test.true))
