@@ -6,19 +6,26 @@ Each of so many plans (300) has some units whose controllers keep no order, and 
 their data alone, of which any may go first. It is played on a bus of its own, by none of the program's
 definitions: arbitration bit for bit comes down to the smallest identifier, and such a unit offers what came first, what came last, what is
 least urgent, or any frame. Four plans of ten have multi-packet broadcasts, seldom wanted and with gaps of 10 ms: each unit has one under way
-as the others come, and one of each flow waits. What is queued keeps the premises of the times (docs/guide/TIMING.md), mostly all at once. ANSWERS is
-a file with what `load` writes of each plan behind a line `== NAME`; else ./j39plan is asked. The status is 1 where a frame is later than told.
+as the others come, and one of each flow waits. In half of the plans clocks differ (`drift`): the bus and each unit have one of their own, mostly as
+fast or as slow as it may be. A third of them are live: all units claim, and one request for claims comes. What is queued keeps the premises of
+the times (docs/guide/TIMING.md), mostly all at once. ANSWERS is a file with what `load` writes of each plan behind a line `== NAME`; else
+the program of the environment's J39PLAN, or ./j39plan, is asked. The status is 1 where a frame is later than told.
 """
 from __future__ import annotations
 
+import os
 import random
 import re
 import subprocess
 import sys
+from fractions import Fraction
+from math import ceil
 from pathlib import Path
 from typing import Iterator, NamedTuple
 
-BITS_PER_MS, LONGEST, RUNS, SPAN, LONG_SPAN, GAP = 250, 160, 60, 60 * 250, 200 * 250, 10 * 250
+BITS_PER_MS, US_PER_BIT, LONGEST, RUNS, SPAN, LONG_SPAN, GAP_MS = 250, 4, 160, 60, 60 * 250, 200 * 250, 10
+# A request for claims has three bytes, and no unit of the plan sends it.
+REQUEST_BITS, TESTER = 110, 254
 
 
 class Flow(NamedTuple):
@@ -48,6 +55,31 @@ class Network(NamedTuple):
     keeps_order: list[bool]
     flows: list[Flow]
     unplanned: int
+    drift: int = 0
+    is_live: bool = False
+
+
+class Clocks(NamedTuple):
+    """How long a bit of the bus and a millisecond of each unit last, in bits and milliseconds of true time."""
+    bus: Fraction
+    units: list[Fraction]
+
+    def bits(self, unit: int, ms: int | Fraction) -> Fraction:
+        """How many bits of the bus so many milliseconds of a unit have."""
+        return ms * BITS_PER_MS * self.units[unit] / self.bus
+
+    def us(self, bits: int) -> Fraction:
+        """How many microseconds so many bits last."""
+        return bits * US_PER_BIT * self.bus
+
+
+def clocks(net: Network, chance: random.Random) -> Clocks:
+    """Clocks that differ from true time by the drift of the plan at most: mostly all units as fast as may be on a slow bus."""
+    def clock(likely: int) -> Fraction:
+        return 1 + Fraction(net.drift * chance.choice([likely, likely, likely, -likely, 0]), 10**6)
+
+    slowest = chance.choice([1, 1, 1, -1])
+    return Clocks(clock(slowest), [clock(-slowest) for _ in net.addresses])
 
 
 class Frame(NamedTuple):
@@ -65,28 +97,34 @@ class Sender:
     its longest message may be under way, and of each flow one that is wanted may wait; another one that is wanted meanwhile isn't sent. At its
     worst both are so, and the next message of each flow is wanted as soon as the one that waits has begun."""
 
-    def __init__(self, net: Network, unit: int, start: int, at_worst: bool, chance: random.Random) -> None:
+    def __init__(self, net: Network, unit: int, at: Clocks, start: int, at_worst: bool, chance: random.Random) -> None:
         self.unit, self.address, self.chance = unit, net.addresses[unit], chance
         flows = [flow for flow in net.flows if flow.is_broadcast() and flow.sender == unit]
+        self.gap, self.periods = at.bits(unit, GAP_MS), {flow: at.bits(unit, flow.period) for flow in flows}
         self.left, all_packets = max(flow.packets() for flow in flows), sum(flow.packets() for flow in flows)
-        begun = {flow: start + (self.left + all_packets - flow.packets()) * GAP for flow in flows}
-        self.moments = {flow: begun[flow] + 1 - flow.period * BITS_PER_MS for flow in flows}
+        begun = {flow: start + (self.left + all_packets - flow.packets()) * self.gap for flow in flows}
+        self.moments: dict[Flow, Fraction] = {flow: begun[flow] + 1 - self.periods[flow] for flow in flows}
         self.waiting: set[Flow] = set()
-        self.ready, self.queued, self.by_timer = start, 0, True
+        # its next frame is ready, and the last one was queued, at these moments; a moment counts at the next bit
+        self.ready, self.queued, self.by_timer = Fraction(start), Fraction(0), True
         if not at_worst:
-            self.moments = {flow: start - chance.choice([0, 0, 1, chance.randrange(flow.period * BITS_PER_MS)]) for flow in flows}
+            self.moments = {flow: Fraction(start - chance.choice([0, 0, 1, chance.randrange(int(self.periods[flow]))])) for flow in flows}
             self.left *= chance.choice([0, 1, 1])
-            self.ready += chance.choice([0, 0, 1, chance.randrange(GAP)])
+            self.ready += chance.choice([0, 0, 1, chance.randrange(int(self.gap))])
             self.by_timer = chance.random() < 0.6
 
-    def time(self) -> int:
+    def moment(self) -> Fraction:
         """From when on its next frame is queued."""
-        wanted = self.ready if self.waiting else min(self.moments.values(), default=LONG_SPAN)
+        wanted = self.ready if self.waiting else min(self.moments.values(), default=Fraction(LONG_SPAN))
         return self.ready if self.left else max(self.ready, wanted)
+
+    def time(self) -> int:
+        """The bit at which this counts."""
+        return ceil(self.moment())
 
     def frame(self) -> Frame:
         """Its next frame, queued now: a packet, or the announcement of a message that waits."""
-        self.queued = self.time()
+        self.queued = self.moment()
         pgn = 60160 if self.left else 60416
         if self.left:
             self.left -= 1
@@ -95,26 +133,27 @@ class Sender:
             flow = self.chance.choice(sorted(self.waiting))
             self.waiting.remove(flow)
             self.left = flow.packets()
-        self.ready = 10 * LONG_SPAN if not self.by_timer else self.queued + (GAP if self.left else 0)
-        return Frame(self.queued, 0, LONGEST, identifier(7, pgn, 255, self.address), self.unit, None)
+        self.ready = Fraction(10 * LONG_SPAN) if not self.by_timer else self.queued + (self.gap if self.left else 0)
+        return Frame(ceil(self.queued), 0, LONGEST, identifier(7, pgn, 255, self.address), self.unit, None)
 
-    def want(self, time: int) -> None:
+    def want(self, time: int | Fraction) -> None:
         """What is wanted up to a moment waits."""
         for flow in self.moments:
             while self.moments[flow] <= time:
                 self.waiting.add(flow)
-                self.moments[flow] += flow.period * BITS_PER_MS
+                self.moments[flow] += self.periods[flow]
 
     def sent(self, end: int) -> None:
         """Its frame has been sent."""
         if not self.by_timer:
-            self.ready = max(end, self.queued + GAP) if self.left else end
+            self.ready = max(Fraction(end), self.queued + self.gap) if self.left else Fraction(end)
         self.want(end)
 
 
 def network(chance: random.Random) -> Network:
     """Units of which one at least keeps no order, or most broadcast, and what they send."""
-    return broadcasting(chance) if chance.random() < 0.4 else without_order(chance)
+    net = broadcasting(chance) if chance.random() < 0.4 else without_order(chance)
+    return net._replace(drift=chance.choice([0, 0, 0, 50, 500, 5000, 20000]), is_live=chance.random() < 0.3)
 
 
 def broadcasting(chance: random.Random) -> Network:
@@ -159,7 +198,8 @@ def without_order(chance: random.Random) -> Network:
 
 def plan_text(net: Network) -> Iterator[str]:
     """The plan of a network."""
-    yield f"version = 4\ntiming = {{ bitrate = 250000, unplanned = {net.unplanned}, broadcast_gap = 10 }}\n"
+    yield f"version = 4\nlive = {str(net.is_live).lower()}\n"
+    yield f"timing = {{ bitrate = 250000, unplanned = {net.unplanned}, broadcast_gap = 10, drift = {net.drift} }}\n"
     for unit, (address, keeps_order) in enumerate(zip(net.addresses, net.keeps_order)):
         queue = "priority" if keeps_order else "any"
         yield f'[[unit]]\nlabel = "U{unit}"\naddress = {address}\nqueue = "{queue}"\nname = {{ identity = {unit + 1} }}\n'
@@ -189,29 +229,42 @@ def message(net: Network, flow: Flow, moment: int, queued: int, chance: random.R
         yield Frame(queued + chance.randrange(2), moment, LONGEST, identifier(7, pgn, *ends), unit, flow)
 
 
-def queued_frames(net: Network, start: int, chance: random.Random) -> list[Frame]:
+def not_planned(net: Network, start: int, at_once: bool, chance: random.Random) -> Iterator[Frame]:
+    """The frames that aren't planned: on a live bus a claim of each unit and a request for claims are among them, or more than these."""
+    def queued() -> int:
+        return start + chance.randrange(5) if at_once else chance.randrange(SPAN)
+
+    claims = len(net.addresses) + 1 if net.is_live else 0
+    if net.is_live:
+        for unit, address in enumerate(net.addresses):
+            yield Frame(queued(), 0, LONGEST, identifier(6, 60928, 255, address), unit, None)
+        yield Frame(queued(), 0, REQUEST_BITS, identifier(6, 59904, 255, TESTER), len(net.addresses), None)
+    for _ in range(net.unplanned - claims):
+        unit, number = chance.randrange(len(net.addresses) + 1), chance.choice([6 << 26, 7 << 26, (7 << 26) + (1 << 25)]) + chance.randrange(1 << 24)
+        yield Frame(queued(), 0, LONGEST, number, unit, None)
+
+
+def queued_frames(net: Network, at: Clocks, start: int, chance: random.Random) -> list[Frame]:
     """What the units queue in a run but for broadcasts: mostly all at once, and some of them a little before."""
     at_once, spread = chance.random() < 0.6, chance.choice([2, 2, 3, 200, 500, 1500, 2500])
     flows = [flow for flow in net.flows if not flow.is_broadcast()]
     first, span = chance.choice(flows) if chance.random() < 0.7 else None, SPAN if flows == net.flows else LONG_SPAN
     frames: list[Frame] = []
     for flow in flows:
-        period, jitter = flow.period * BITS_PER_MS, flow.jitter * BITS_PER_MS
-        ready = start - (spread + 1 if flow is first else chance.randrange(spread)) if at_once else chance.randrange(period)
-        late = jitter if chance.random() < 0.5 else 0
+        period, jitter = at.bits(flow.sender, flow.period), at.bits(flow.sender, flow.jitter)
+        ready = start - (spread + 1 if flow is first else chance.randrange(spread)) if at_once else chance.randrange(int(period))
+        late = jitter if chance.random() < 0.5 else Fraction(0)
         moment = ready - late
         while moment < span:
             held = period if flow.length > 8 and chance.random() < 0.5 else 0
-            frames += message(net, flow, moment - held, moment + late, chance)
-            moment += period + (chance.randrange(period // 4 + 1) if chance.random() < 0.2 else 0)
-            late = chance.randrange(jitter + 1) if chance.random() < 0.3 else 0
-    for _ in range(net.unplanned):
-        unit, number = chance.randrange(len(net.addresses) + 1), chance.choice([6 << 26, 7 << 26, (7 << 26) + (1 << 25)]) + chance.randrange(1 << 24)
-        frames.append(Frame(start + chance.randrange(5) if at_once else chance.randrange(SPAN), 0, LONGEST, number, unit, None))
+            frames += message(net, flow, ceil(moment - held), ceil(moment + late), chance)
+            moment += period + (chance.randrange(int(period) // 4 + 1) if chance.random() < 0.2 else 0)
+            late = Fraction(chance.randrange(int(jitter) + 1) if chance.random() < 0.3 else 0)
+    frames += not_planned(net, start, at_once, chance)
     return sorted(frames, key=lambda frame: frame.queued)
 
 
-def ends(frames: list[Frame], net: Network, start: int, chance: random.Random) -> Iterator[tuple[Frame, int]]:
+def ends(frames: list[Frame], net: Network, at: Clocks, start: int, chance: random.Random) -> Iterator[tuple[Frame, int]]:
     """Each frame with the bit at which it has been sent. A unit behind the planned ones keeps order; of frames of one identifier
     such a unit offers any."""
     offers = [chance.choice(["first", "last", "least urgent", "least urgent", "any"]) for _ in [*net.addresses, None]]
@@ -219,7 +272,7 @@ def ends(frames: list[Frame], net: Network, start: int, chance: random.Random) -
                 "least urgent": lambda some: max(some, key=lambda frame: frame.identifier), "any": chance.choice}
     waiting: dict[int, list[Frame]] = {}
     at_worst = chance.random() < 0.3
-    senders = [Sender(net, unit, start, at_worst, chance) for unit in {flow.sender for flow in net.flows if flow.is_broadcast()}]
+    senders = [Sender(net, unit, at, start, at_worst, chance) for unit in {flow.sender for flow in net.flows if flow.is_broadcast()}]
     sending: dict[int, tuple[Sender, Frame]] = {}
     time = place = 0
     while waiting or place < len(frames):
@@ -247,8 +300,8 @@ def ends(frames: list[Frame], net: Network, start: int, chance: random.Random) -
 
 
 def told_by(answer: str) -> dict[int, int]:
-    """The delays that `load` tells, in bits, by the numbers of the flows."""
-    return {int(number): int(us) // 4 for number, us in re.findall(r"^flow (\d+) \S+ \S+ \S+ within (\d+) of", answer, re.M)}
+    """The delays that `load` tells, in microseconds, by the numbers of the flows."""
+    return {int(number): int(us) for number, us in re.findall(r"^flow (\d+) \S+ \S+ \S+ within (\d+) of", answer, re.M)}
 
 
 def answers(name: str) -> dict[str, str]:
@@ -266,20 +319,20 @@ def main(words: list[str]) -> int:
         chance = random.Random(f"{seed} {number}")
         net, name = network(chance), f"p{number:03}.toml"
         text = "".join(plan_text(net))
-        program = [str(Path(__file__).parent.parent / "j39plan"), "load", "/dev/stdin"]
+        program = [os.environ.get("J39PLAN") or str(Path(__file__).parent.parent / "j39plan"), "load", "/dev/stdin"]
         answer = known[name] if known else subprocess.run(program, input=text, capture_output=True, text=True, check=False).stdout
-        told, worst = told_by(answer), dict.fromkeys(range(len(net.flows) + 1), 0)
+        told, worst = told_by(answer), dict.fromkeys(range(len(net.flows) + 1), Fraction(0))
         for _ in range(RUNS):
-            start = chance.randrange(400) + 3000
-            for frame, end in ends(queued_frames(net, start, chance), net, start, chance):
+            start, at = chance.randrange(400) + 3000, clocks(net, chance)
+            for frame, end in ends(queued_frames(net, at, start, chance), net, at, start, chance):
                 frames += 1
                 if frame.flow:
-                    worst[frame.flow.number] = max(worst[frame.flow.number], end - frame.moment)
+                    worst[frame.flow.number] = max(worst[frame.flow.number], at.us(end - frame.moment))
         bounds += len(told)
-        for flow, bits in told.items():
-            if worst[flow] > bits:
+        for flow, us in told.items():
+            if worst[flow] > us:
                 later += 1
-                print(f"{name}: flow {flow} took {worst[flow]} bits, and {bits} are told")
+                print(f"{name}: flow {flow} took {float(worst[flow]):.1f} us, and {us} are told")
     print(f"plans {count}, delays {bounds}, frames {frames}, later than told {later}")
     return 1 if later else 0
 

@@ -20,16 +20,16 @@ def in_load(name: str, function: str, law: str, turns: tuple[Turn, ...]) -> Pair
 
 PAIRS = (
     in_load("jitter of single frames is left out", "frames::streams::single_stream", KEPT, (
-        Turn("specs/Loads.antt", "bits = longest_frame (most_bytes group);\n  jitter = bits_of_ms timing pace.jitter;",
+        Turn("specs/Loads.antt", "bits = longest_frame (most_bytes group);\n  jitter = bits_at_most timing pace.jitter;",
              "bits = longest_frame (most_bytes group);\n  jitter = 0;"),
-        Turn("src/frames/streams.rt", "bits: frame_bits(most_bytes(group)),\n        jitter: bits_of_ms(timing, pace.jitter),",
+        Turn("src/frames/streams.rt", "bits: frame_bits(most_bytes(group)),\n        jitter: bits_at_most(timing, pace.jitter),",
              "bits: frame_bits(most_bytes(group)),\n        jitter: 0,"),
     )),
     in_load("a period is a bit longer", "frames::streams::single_stream", KEPT, (
-        Turn("specs/Loads.antt", "period = bits_of_ms timing pace.period;\n  bits = longest_frame (most_bytes group);",
-             "period = bits_of_ms timing pace.period + 1;\n  bits = longest_frame (most_bytes group);"),
-        Turn("src/frames/streams.rt", "period: bits_of_ms(timing, pace.period),\n        bits: frame_bits(most_bytes(group)),",
-             "period: bits_of_ms(timing, pace.period) + 1,\n        bits: frame_bits(most_bytes(group)),"),
+        Turn("specs/Loads.antt", "period = bits_at_least timing pace.period;\n  bits = longest_frame (most_bytes group);",
+             "period = bits_at_least timing pace.period + 1;\n  bits = longest_frame (most_bytes group);"),
+        Turn("src/frames/streams.rt", "period: bits_at_least(timing, pace.period),\n        bits: frame_bits(most_bytes(group)),",
+             "period: bits_at_least(timing, pace.period) + 1,\n        bits: frame_bits(most_bytes(group)),"),
     )),
     in_load("a single frame's last identifier is its least", "loads::flow_loads::single_frames", KEPT, (
         Turn("specs/Loads.antt", "last_ident = group_ident (of_unit units (greatest_address stays)) group flow;",
@@ -67,9 +67,9 @@ PAIRS = (
              "let answered = Ident::number_of(bus.timing.transport_priority, pgn, to, from);"),
     )),
     in_load("a long message to one unit is late by its jitter alone", "frames::streams::packet_stream", KEPT, (
-        Turn("specs/Loads.antt", "jitter = bits_of_ms timing pace.period + bits_of_ms timing pace.jitter;", "jitter = bits_of_ms timing pace.jitter;"),
-        Turn("src/frames/streams.rt", "jitter: bits_of_ms(bus.timing, pace.period) + bits_of_ms(bus.timing, pace.jitter),",
-             "jitter: bits_of_ms(bus.timing, pace.jitter),"),
+        Turn("specs/Loads.antt", "jitter = bits_at_most timing pace.period + bits_at_most timing pace.jitter;", "jitter = bits_at_most timing pace.jitter;"),
+        Turn("src/frames/streams.rt", "jitter: bits_at_most(bus.timing, pace.period) + bits_at_most(bus.timing, pace.jitter),",
+             "jitter: bits_at_most(bus.timing, pace.jitter),"),
     )),
     in_load("a long message to one unit has a frame less", "frames::streams::frames_to_one", KEPT, (
         Turn("specs/Loads.antt", "frames_to_one units packets v = 2 + packets", "frames_to_one units packets v = 1 + packets"),
@@ -99,14 +99,14 @@ PAIRS = (
         Turn("src/loads/flow_loads.rt", "match Size::new(group.length) {", "match Size::new(group.most) {"),
     )),
     in_load("a long message to all may be late by no jitter", "loads::flow_loads::broadcast", KEPT, (
-        Turn("specs/Loads.antt", "apart = bits_of_ms timing pace.period;\n  jitter = bits_of_ms timing pace.jitter;",
-             "apart = bits_of_ms timing pace.period;\n  jitter = 0;"),
-        Turn("src/loads/flow_loads.rt", "apart: bits_of_ms(timing, pace.period),\n        jitter: bits_of_ms(timing, pace.jitter),",
-             "apart: bits_of_ms(timing, pace.period),\n        jitter: 0,"),
+        Turn("specs/Loads.antt", "apart = bits_at_least timing pace.period;\n  jitter = bits_at_most timing pace.jitter;",
+             "apart = bits_at_least timing pace.period;\n  jitter = 0;"),
+        Turn("src/loads/flow_loads.rt", "apart: bits_at_least(timing, pace.period),\n        jitter: bits_at_most(timing, pace.jitter),",
+             "apart: bits_at_least(timing, pace.period),\n        jitter: 0,"),
     )),
     in_load("a receiver gives up after 7.5 seconds", "waits::turns::known_turn_time", RECEIVED, (
-        Turn("specs/Delays.antt", "longest_pause timing = bits_of_ms timing 750", "longest_pause timing = bits_of_ms timing 7500"),
-        Turn("src/waits/turns.rt", "u64::from(bits_of_ms(timing, 750))", "u64::from(bits_of_ms(timing, 7500))"),
+        Turn("specs/Delays.antt", "longest_pause timing = bits_at_least timing 750", "longest_pause timing = bits_at_least timing 7500"),
+        Turn("src/waits/turns.rt", "u64::from(bits_at_least(timing, 750))", "u64::from(bits_at_least(timing, 7500))"),
     )),
     in_load("the demand leaves out the message that is under way", "waits::demands::under_way_of", KEPT, (
         Turn("specs/Demands.antt", "under_way_of Packets broadcasts = most_packets broadcasts", "under_way_of Packets broadcasts = 0"),

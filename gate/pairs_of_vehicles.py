@@ -108,17 +108,27 @@ numbers_decide (Some a) (Some b) = (λ e. (refl, refl), λ h. refl)
         Turn("proofs/Deciding.antt", "(value_decides (λ (w : UnitPlan). w.queue ≡ Any)", "(value_decides (λ (w : UnitPlan). w.queue ≡ Priority)"),
     )),
     in_times("answers may come of what nobody asks for", ("ends::is_more_often", EXACT_TIMES), ROOM, (
-        Turn("specs/TimeFindings.antt", "    IsNearer ends.input ends.output ⊎ ((ends.output.on_request ≡ true) × (ends.input.on_request ≡ false)))",
-             "    IsNearer ends.input ends.output)"),
-        Turn("specs/FoundTimes.antt", "is_more_often i f = is_nearer i f || (f.on_request && not i.on_request)", "is_more_often i f = is_nearer i f"),
-        Turn("src/ends.rt", "    is_nearer(input, output) || output.on_request && !input.on_request", "    is_nearer(input, output)"),
-        Turn("proofs/DecidingTimes.antt",
-             """    between_decides v n (λ ends. IsNearer ends.input ends.output ⊎ ((ends.output.on_request ≡ true) × (ends.input.on_request ≡ false)))
-    (λ ends. Decides-or _ _ (nearer_decides ends.input ends.output)
+        Turn("specs/TimeFindings.antt", " ends.output ⊎ ((ends.output.on_request ≡ true) × (ends.input.on_request ≡ false)))", " ends.output)"),
+        Turn("specs/FoundTimes.antt", "is_more_often here i there f = is_nearer here i there f || (f.on_request && not i.on_request)",
+             "is_more_often here i there f = is_nearer here i there f"),
+        Turn("src/ends.rt", "    is_nearer(here, input, there, output) || output.on_request && !input.on_request", "    is_nearer(here, input, there, output)"),
+        Turn("proofs/DecidingTimes.antt", """ ends.output
+    ⊎ ((ends.output.on_request ≡ true) × (ends.input.on_request ≡ false)))
+    (λ ends. Decides-or _ _ (nearer_decides (shortest_on v.buses.items ends.at.bus) ends.input (shortest_on v.buses.items n.output.bus) ends.output)
     (Decides-and _ _ (it_is ends.output.on_request) (not_is ends.input.on_request)))
-""", """    between_decides v n (λ ends. IsNearer ends.input ends.output)
-    (λ ends. nearer_decides ends.input ends.output)
+""", """ ends.output)
+    (λ ends. nearer_decides (shortest_on v.buses.items ends.at.bus) ends.input (shortest_on v.buses.items n.output.bus) ends.output)
 """),
+    )),
+    in_times("periods are compared by one bus's clocks", ("ends::is_too_often", EXACT_TIMES), "sound_vehicles_keep_ages", (
+        Turn("specs/TimeFindings.antt", "    IsNearer (shortest_on v.buses.items ends.at.bus) ends.input", "    IsNearer (shortest_on v.buses.items n.output.bus) ends.input"),
+        Turn("specs/FoundTimes.antt", "    is_more_often (shortest_on v.buses.items ends.at.bus) ends.input",
+             "    is_more_often (shortest_on v.buses.items n.output.bus) ends.input"),
+        Turn("src/ends.rt", "    let here = shortest_on(&vehicle.buses, ends.at.bus);", "    let here = shortest_on(&vehicle.buses, forward.output.bus);"),
+        Turn("proofs/DecidingTimes.antt", "(λ ends. IsNearer (shortest_on v.buses.items ends.at.bus) ends.input",
+             "(λ ends. IsNearer (shortest_on v.buses.items n.output.bus) ends.input"),
+        Turn("proofs/DecidingTimes.antt", "(nearer_decides (shortest_on v.buses.items ends.at.bus) ends.input",
+             "(nearer_decides (shortest_on v.buses.items n.output.bus) ends.input"),
     )),
     in_times("no long message to all is late", ("ends::is_unlimited", EXACT_TIMES), ROOM, (
         Turn("specs/TimeFindings.antt", "  pub limit : written_deadline f ≡ None\n", ""),
@@ -132,10 +142,10 @@ numbers_decide (Some a) (Some b) = (λ e. (refl, refl), λ h. refl)
     (Decides-and _ _ (to_all_decides f.to) (long_decides (groups_on v.buses.items n.output.bus) f.group))
 """),
     )),
-    in_times("a pause counts half", ("flows::pause_of",), AGES, (
-        Turn("specs/Times.antt", "pause_us flow = option_map us_of_ms flow.pause", "pause_us flow = option_map (λ (ms : ℕ). us_of_ms (ms / 2)) flow.pause"),
+    in_times("a pause counts half", ("flows::pause_ns",), AGES, (
+        Turn("specs/Times.antt", "(λ (ms : ℕ). ms * longest_million timing) flow.pause", "(λ (ms : ℕ). ms / 2 * longest_million timing) flow.pause"),
         Turn("specs/Times.antt", "◌-◌, ◌*◌, List", "◌-◌, ◌*◌, ◌/◌, List"),
-        Turn("src/flows.rt", "    match flow.pause {\n        Some(ms) => Some(us_of_ms(ms)),", "    match flow.pause {\n        Some(ms) => Some(us_of_ms(ms / 2)),"),
+        Turn("src/flows.rt", "Some(u64::from(ms) * u64::from(longest_million(timing)))", "Some(u64::from(ms / 2) * u64::from(longest_million(timing)))"),
     )),
     in_times("the time of a gateway counts half", ("flows::within_of",), AGES, (
         Turn("specs/Times.antt", "within_of n = option_map us_of_ms n.within", "within_of n = option_map (λ (ms : ℕ). us_of_ms (ms / 2)) n.within"),
@@ -153,8 +163,11 @@ numbers_decide (Some a) (Some b) = (λ e. (refl, refl), λ h. refl)
              "option_and_then (λ (flow : FlowPlan). Some flow)\n    (flow_at v.buses.items at)"),
         Turn("src/chains.rt", "        Some(flow) if !flow.on_request => Some(*flow),\n        _ => None,", "        Some(flow) => Some(*flow),\n        None => None,"),
     )),
-    in_times("a bit takes twice its time", ("flows::bit_time",), ROOM, (
-        Turn("specs/Times.antt", "us_of_bit Kbit250 = 4", "us_of_bit Kbit250 = 8"),
-        Turn("src/flows.rt", "Bitrate::Kbit250 => 4,", "Bitrate::Kbit250 => 8,"),
+    in_times("what was queued takes half its time", ("flows::own_of",), AGES, (
+        Turn("specs/Times.antt", "own_of timing flow delay = us_of_bits timing (delay - bits_at_most timing (jitter_ms flow))",
+             "own_of timing flow delay = us_of_bits timing (delay - bits_at_most timing (jitter_ms flow)) / 2"),
+        Turn("specs/Times.antt", "◌-◌, ◌*◌, List", "◌-◌, ◌*◌, ◌/◌, List"),
+        Turn("src/flows.rt", "    us_of_bits(timing, u64::from(delay).saturating_sub(jitter)) as u64\n",
+             "    us_of_bits(timing, u64::from(delay).saturating_sub(jitter)) as u64 / 2\n"),
     )),
 )

@@ -1,53 +1,177 @@
 #!/usr/bin/env python3
-"""Runs the rows and cases of examples_check before any proof: in some minutes it shows whether a change writes what it should. It
-prints those that aren't as shown, and the lines that the crate's file `stdout` has otherwise (`-` there alone, `+` the run's alone).
+"""Runs the program on the rows and cases in crates/examples_check/data, and says which aren't as shown.
 
-usage: rows.py [SECONDS]    SECONDS: how long the rows may run once they are compiled, 300
+usage: rows.py [--list]    --list: prints the status of each, as crates/examples_check/statuses has them
 
-Exit status: 0 all are as shown and listed, 1 some aren't, 2 the sources can't be compiled or the run ended early.
+Rows: a file that a command is run on, and beside it what the command writes; standard error stays empty. `PLAN.toml` is checked, and where
+`PLAN.addresses`, `PLAN.load` or `PLAN.show` stands beside it also answered as to its addresses, its load or its values; where `NAME.answer`
+stands beside it, `NAME.toml` is a vehicle file, and answered as one. `PLAN.NAME.schedule` is run and `PLAN.NAME.log` is read by the plan beside
+it and, where `PLAN.NAME.follow` stands there, also followed, or `PLAN.NAME.all`, all frames of it, or `PLAN.NAME.audit`, audited, or
+`PLAN.NAME.part`, as a part of a log; `NAME.line` is a frame line. Rows whose files come some bytes at a time, those of `NAME.vehicle` among
+them, are run by the crate itself.
+
+Cases: a folder with `args`, a word a line, and where they are wanted `stdin`; `repeat`, how many times standard input has it; `room`, how many
+bytes standard output takes; `stdout`, `stderr`, and `status`, 0 where it is absent.
+
+The program is that of the environment's J39PLAN, else the built one. The last line is 'N passed, M failed'.
 """
 
 from __future__ import annotations
 
-import difflib
 import os
+import resource
+import signal
 import subprocess
 import sys
+import tempfile
+from collections.abc import Iterator
+from concurrent.futures import ThreadPoolExecutor
+from dataclasses import dataclass
 
 sys.dont_write_bytecode = True
 import crates
+import tally
 
-FOLDER = crates.folder("examples_check")
+DATA = f"{crates.folder('examples_check')}/data"
+STATUSES = f"{crates.folder('examples_check')}/statuses"
+# The commands of rows by the ending of what they write, and the ending of the file that they are run on beside the plan.
+OF_PLANS = {".check": "check", ".addresses": "addresses", ".load": "load", ".show": "show", ".answer": "vehicle"}
+OF_INPUTS = {".run": (["run"], ".schedule"), ".read": (["read"], ".log"), ".follow": (["follow"], ".log"), ".all": (["follow", "--all"], ".log"),
+             ".audit": (["audit"], ".log"), ".part": (["audit", "--part"], ".log")}
+# How long a row may run: the longest inputs take the program that isn't proved minutes.
+SECONDS = 600
+# The endings of what rows are run on.
+GIVEN = {".toml", ".schedule", ".log", ".line", ".vehicle"}
 
 
-def files() -> list[str]:
-    """The files of the rows, from the crate's folder `data` on."""
-    found = [os.path.join(folder, name) for folder, _, names in os.walk(f"{FOLDER}/data") for name in names]
-    return sorted(os.path.relpath(it, f"{FOLDER}/data") for it in found)
+@dataclass
+class Row:
+    """A run of the program: its name, its folder and words, what it is given, and what it must write."""
+
+    name: str
+    folder: str
+    words: list[bytes]
+    output: bytes
+    complaints: bytes = b""
+    status: int | None = None
+    input: bytes = b""
+    room: int | None = None
 
 
-def listed() -> list[str]:
-    """The lines that the program of the rows must print of rows and cases."""
-    with open(f"{FOLDER}/stdout", encoding="utf-8") as lines:
-        return [line for line in lines.read().splitlines() if "as shown" in line]
+def bytes_of(file: str, default: bytes = b"") -> bytes:
+    """Returns what stands in a file, or this where there is no such file."""
+    try:
+        with open(file, "rb") as opened:
+            return opened.read()
+    except FileNotFoundError:
+        return default
+
+
+def case(folder: str, name: str) -> Row:
+    """Returns the case in a folder."""
+    words = bytes_of(f"{folder}/args").removesuffix(b"\n").split(b"\n") if bytes_of(f"{folder}/args") else []
+    given = bytes_of(f"{folder}/stdin") * int(bytes_of(f"{folder}/repeat", b"1"))
+    room = bytes_of(f"{folder}/room")
+    return Row(name, folder, words, bytes_of(f"{folder}/stdout"), bytes_of(f"{folder}/stderr"), int(bytes_of(f"{folder}/status", b"0")), given,
+               int(room) if room else None)
+
+
+def words_of(folder: str, name: str, ending: str) -> list[bytes] | None:
+    """Returns the words of the row of a file, None where it is no row's."""
+    if ending in OF_PLANS:
+        return [OF_PLANS[ending].encode(), f"{name}.toml".encode()]
+    if ending in OF_INPUTS:
+        words, given = OF_INPUTS[ending]
+        return [it.encode() for it in (*words, f"{name.split('.')[0]}.toml", f"{name}{given}")]
+    return [b"frame", bytes_of(f"{folder}/{name}.line")] if ending == ".frame" else None
+
+
+def rows_of(folder: str, at: str) -> Iterator[Row]:
+    """Returns the rows of a folder."""
+    for file in sorted(os.listdir(folder)):
+        name, ending = os.path.splitext(file)
+        words = words_of(folder, name, ending)
+        if words:
+            yield Row(f"{at}/{file}", folder, words, bytes_of(f"{folder}/{file}"))
+
+
+def all_rows() -> Iterator[Row]:
+    """Returns each row and each case."""
+    for folder, _, names in sorted(os.walk(DATA)):
+        at = os.path.relpath(folder, DATA)
+        if "args" in names:
+            yield case(folder, at)
+        else:
+            yield from rows_of(folder, at)
+
+
+def unused() -> list[str]:
+    """Returns the files of rows that no row is run on: a plan, a schedule, a log or a frame line with nothing beside it."""
+    taken = {f"{row.folder}/{word.decode()}" for row in all_rows() if row.status is None for word in row.words[1:] if b"\n" not in word}
+    found = []
+    for folder, _, names in os.walk(DATA):
+        if "args" in names or "/commands" in folder:
+            continue
+        for file in names:
+            name, ending = os.path.splitext(file)
+            shown = os.path.exists(f"{folder}/{name}.frame") if ending == ".line" else f"{folder}/{file}" in taken or ending == ".vehicle"
+            if ending in GIVEN and not shown:
+                found.append(os.path.relpath(f"{folder}/{file}", DATA))
+    return sorted(found)
+
+
+def limit(room: int | None) -> None:
+    """Lets a file take so many bytes alone, before the program begins."""
+    if room is not None:
+        signal.signal(signal.SIGXFSZ, signal.SIG_IGN)
+        resource.setrlimit(resource.RLIMIT_FSIZE, (room, room))
+
+
+def run(row: Row) -> tuple[int, bytes, bytes]:
+    """Runs the program, and returns its status and what it wrote."""
+    with tempfile.TemporaryFile() as output:
+        ran = subprocess.run([tally.PROGRAM, *row.words], cwd=row.folder, input=row.input, stdout=output, stderr=subprocess.PIPE,
+                             timeout=SECONDS, check=False, preexec_fn=lambda: limit(row.room))
+        output.seek(0)
+        return ran.returncode, output.read(), ran.stderr
+
+
+def listed() -> dict[str, int]:
+    """Returns the status that each row must end with, by its name."""
+    with open(STATUSES, encoding="utf-8") as lines:
+        return {name: int(status) for name, status in (line.split(" ") for line in lines.read().splitlines())}
+
+
+def fault(row: Row, wanted: dict[str, int]) -> str:
+    """Returns how a run differs from its row, '' where it doesn't."""
+    try:
+        status, output, complaints = run(row)
+    except subprocess.TimeoutExpired:
+        return f"not done after {SECONDS} s"
+    if (output, complaints) != (row.output, row.complaints):
+        return "other text"
+    must = wanted.get(row.name) if row.status is None else row.status
+    return "" if status == must else f"status {status}, not {must}"
 
 
 def main(words: list[str]) -> int:
-    data = [word for name in files() for word in ("--data", f"{name}=data/{name}")]
-    call = ["rt", "try", "--seconds", words[0] if words else "300", *data, "--", "files"]
-    ran = subprocess.run(call, cwd=FOLDER, stdin=subprocess.DEVNULL, capture_output=True, text=True, check=False)
-    lines = ran.stdout.splitlines()
-    others = [line for line in lines if "as shown" not in line]
-    # without the two lines that name what is compared
-    differences = list(difflib.unified_diff(listed(), lines, n=0, lineterm=""))[2:]
-    unlisted = [line for line in differences if not line.startswith("@@")]
-    for line in [*others, *unlisted]:
-        print(line)
-    print(f"{len(lines) - len(others)} as shown, {len(others)} otherwise, {len(unlisted)} lines not as listed")
-    if ran.returncode or not lines:
-        print(ran.stderr[-2000:], file=sys.stderr)
+    if not tally.is_built(tally.PROGRAM):
+        print(f"{tally.PROGRAM} isn't built", file=sys.stderr)
         return 2
-    return 1 if others or unlisted else 0
+    rows = list(all_rows())
+    with ThreadPoolExecutor(os.cpu_count()) as pool:
+        if words == ["--list"]:
+            for row, (status, _, _) in zip(rows, pool.map(run, rows)):
+                print(*([] if row.status is not None else [row.name, status]), end="" if row.status is not None else "\n")
+            return 0
+        wanted = listed()
+        faults = [(row.name, it) for row, it in zip(rows, pool.map(lambda row: fault(row, wanted), rows)) if it]
+    gone = wanted.keys() - {row.name for row in rows}
+    faults += [(name, "listed, and no row") for name in sorted(gone)] + [(name, "nothing is run on it") for name in unused()]
+    for name, it in faults:
+        print(f"{name}: {it}")
+    print(f"{len(rows) - len(faults)} passed, {len(faults)} failed")
+    return 1 if faults else 0
 
 
 if __name__ == "__main__":

@@ -1,6 +1,6 @@
 #!/usr/bin/env python3
-"""Runs the whole gate: rt ci, and then what needs the built program: the launcher, the tests of the tools and of the
-pages, devices that fail, and refused allocations. The last line is 'N passed, M failed'; the status is 0 where nothing failed.
+"""Runs the whole gate: rt ci, and then what needs the built program: the stored rows, the launcher, the tests of the tools
+and of the pages, devices that fail, and refused allocations. The last line is 'N passed, M failed'; the status is 0 where nothing failed.
 
 usage: run.py [--timed] [--install]
   --timed     gate/times.py runs rt ci, and writes what its parts took into gate/times.md; all edits are tried anew
@@ -22,6 +22,7 @@ import crates
 
 # The parts behind rt ci: a name, its words from the top, and the minutes that it may take.
 PARTS = (
+    ("rows", [sys.executable, "gate/rows.py"], 10),
     ("edits", [sys.executable, "gate/edits.py"], 90),
     ("plants", [sys.executable, "gate/edits_plants.py"], 20),
     ("equations", [sys.executable, "gate/equations.py"], 5),

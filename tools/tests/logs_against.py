@@ -82,13 +82,14 @@ def run(*words: str, **more: Any) -> tuple[int, str, str]:
 class Compared(InFolder):
     """Logs compared with a plan."""
 
-    def compared(self, text: str, frames: Sequence[str]) -> list[str]:
-        """The deviations of a log of these frames from this plan."""
+    def compared(self, text: str, frames: Sequence[str], findings: str = "") -> list[str]:
+        """The deviations of a log of these frames from this plan, which has a finding of this number, or none."""
         plan = self.write("plan.toml", text)
         log = self.write("drive.log", "".join(f"({number}.0) can0 {frame}\n" for number, frame in enumerate(frames)))
         status, answer, said = run("against.py", plan, log)
         *found, count = answer.replace(log, "L").replace(plan, "P").splitlines()
-        self.assertEqual((status, count, said), (1 if found else 0, f"deviations {len(found)}", ""))
+        self.assertEqual((status, count), (1 if found else 0, f"deviations {len(found)}"))
+        self.assertRegex(said, rf"\Aagainst: the plan has findings, as {findings} [^\n]*: until they are mended .*\n\Z" if findings else r"\A\Z")
         return found
 
     def deviations(self, *frames: str) -> list[str]:

@@ -17,7 +17,7 @@ class Commands(unittest.TestCase):
         self.assertEqual(self.commands - tried, set())
 
     def test_the_rows_have_each(self) -> None:
-        rows = re.findall(r"^    (\w+),$", text_of(f"{TOP}/crates/j39_vectors/src/row.rt").partition("enum Command")[2].partition("}")[0], re.MULTILINE)
+        rows = re.findall(r"^    (\w+),$", text_of(f"{TOP}/crates/examples_check/src/row.rt").partition("enum Command")[2].partition("}")[0], re.MULTILINE)
         self.assertEqual(self.commands - {row.lower() for row in rows}, set())
 
 

@@ -62,6 +62,9 @@ from = "BRAKES"
 to = "HITCH"
 """
 
+# SPRAYER may have to move there, and HITCH, of the smaller NAME, stays.
+BOTH_AT_128 = PLAN.replace("address = 140", "address = 128")
+
 HITCH, SPRAYER, BRAKES = "18EEFF80#0200000000000080", "18EEFF8C#0300000000000080", "18EEFF0B#0400000000000000"
 SPRAYER_AT_128, FOREIGN_AT_128 = "18EEFF80#0300000000000080", "18EEFF80#0100000000000080"
 HSTAT, EBC1 = "18FF1480#0000000000000000", "18F0010B#FFFFFFFFFFFFFFFF"
@@ -100,20 +103,21 @@ class Units(Deviations):
     def test_a_unit_that_defends_its_address(self) -> None:
         """A larger NAME claims 128, HITCH claims it again and sends at once, though it was heard last 5 s ago: it did nothing wrong."""
         begin = [(1, HITCH), (5, HSTAT), (9.9, SPRAYER_AT_128)]
-        self.assertEqual(self.told(*begin, (9.905, HITCH), (10, HSTAT)), [])
+        self.assertEqual(self.told(*begin, (9.905, HITCH), (10, HSTAT), plan=BOTH_AT_128), [])
 
     def test_a_slow_unit_that_does_not_defend_its_address(self) -> None:
         begin = [(1, HITCH), (5, HSTAT), (9.9, SPRAYER_AT_128), (10.2, HITCH.replace("EEFF80", "EEFF81"))]
-        self.assertEqual(self.told(*begin), ["L:3: SPRAYER claims address 128, and HITCH doesn't defend it, whose NAME is smaller"])
+        self.assertEqual(self.told(*begin, plan=BOTH_AT_128), ["L:3: SPRAYER claims address 128, and HITCH doesn't defend it, whose NAME is smaller",
+                                                               "L:4: HITCH claims address 129, planned is 128, where it stays"])
 
     def test_a_unit_that_moves_waits_again(self) -> None:
         """SPRAYER claims 141 since HITCH defends 128, or moves while it sends: for 250 ms from then on it is to send nothing."""
         asks, moves = "18EAFF8D#ECFE00", SPRAYER.replace("EEFF8C", "EEFF8D")
         lost = [(1, HITCH), (9.8, HSTAT), (9.9, SPRAYER_AT_128), (9.905, HITCH)]
         early = "SPRAYER sends before 250 ms have passed after its claim of address 141"
-        self.assertEqual(self.told(*lost, (9.91, moves), (10.159, asks)), [f"L:6: {early}"])
-        self.assertEqual(self.told(*lost, (9.91, moves), (10.16, asks)), [])
-        self.assertEqual(self.told((1, SPRAYER), (9.8, asks.replace("8D#", "8C#")), (9.9, moves), (10.1, asks)), [f"L:4: {early}"])
+        self.assertEqual(self.told(*lost, (9.91, moves), (10.159, asks), plan=BOTH_AT_128), [f"L:6: {early}"])
+        self.assertEqual(self.told(*lost, (9.91, moves), (10.16, asks), plan=BOTH_AT_128), [])
+        self.assertEqual(self.told((1, SPRAYER), (9.8, asks.replace("8D#", "8C#")), (9.9, moves), (10.1, asks), plan=BOTH_AT_128), [f"L:4: {early}"])
 
     def test_a_restart(self) -> None:
         """A claim of an address that its unit holds, more than 1,250 ms after a request; a repeated one 100 ms later is of the same start."""

@@ -108,6 +108,7 @@ class Drifts(InFolder):
         self.assertEqual((status, said), (1, ""))
         self.assertEqual([row for row in rows if row[0] in ("box", "address", "flow", "period", "range", "states", "code")], [
             ("box", "ENGINE", [5], [7]), ("address", "HITCH", [128], [130]),
+            ("address", "HITCH claims address 130, planned is 128, where it stays", None, "once"),
             ("period", "1 ET1 from ENGINE to all", 1000.0, 500.0),
             ("flow", "2 EBC1 from BRAKES to all", "100 times", None), ("flow", "3 DM1 from ENGINE to all", None, "2 times"),
             ("range", "ET1.TEMPERATURE", [80.0, 90.0], [80.0, 118.0]), ("states", "ET1.TEMPERATURE", ["value"], ["fault", "value"]),

@@ -35,12 +35,15 @@ class Claims(Deviations):
         self.assertEqual(self.told(*claims, *brakes(1, 3.3), (2.05, ASKS)), [])  # the log ends sooner
 
     def test_a_log_that_begins_in_mid_drive(self) -> None:
-        """SPRAYER is at 128, and says so when it is asked: what came from there before was its own. A claim that nobody asked for doesn't show that."""
+        """SPRAYER may choose 128, so that what comes from there accuses nobody, whoever claims it later; no unit may be at 20."""
         claims, asks = "18EEFF80#0300000000000080", [(1, "18EA0B80#ECFE00"), (1.2, "18EA0B80#ECFE00")]
-        plan = PLAN.replace('address = 128\n', 'address = 200\n')
+        plan = PLAN.replace('address = 128\n', 'address = 140\n')
         self.assertEqual(self.told(*asks, (1.5, ASKS), (1.6, claims), (2, asks[0][1]), plan=plan), [])
-        self.assertEqual(self.told(*asks, (1.6, claims), (2, asks[0][1]), plan=plan), ["L:1: address 128 sends: no unit has it  (2 times)"])
-        self.assertEqual(self.told(*asks, (1.5, ASKS), (1.6, "18EEFF80#0900000000000080"), plan=plan)[0], "L:1: address 128 sends: no unit has it  (2 times)")
+        self.assertEqual(self.told(*asks, (1.6, claims), (2, asks[0][1]), plan=plan), [])
+        found = self.told(*asks, (1.5, ASKS), (1.6, "18EEFF80#0900000000000080"), plan=plan)
+        self.assertEqual(found[0], "L:4: NAME 8000000000000009 (identity 9, manufacturer 0, function 0) claims address 128: no unit has it")
+        self.assertNotIn("128 sends", "".join(found))
+        self.assertEqual(self.told(*[(at, frame.replace("80#", "14#")) for at, frame in asks], plan=plan), ["L:1: address 20 sends: no unit has it  (2 times)"])
 
 
 class Moves(Deviations):

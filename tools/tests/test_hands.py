@@ -13,23 +13,21 @@ class Hands(Compared):
 
     def test_without_claims_the_smallest_name_has_an_address(self) -> None:
         self.assertEqual(self.compared(RIVALS % "PUMP", [ET1]), ["P: unit VALVE: neither claimed an address nor sent anything"])
-        self.assertEqual(self.compared(RIVALS % "VALVE", [ET1])[0], "L:1: ET1 from PUMP to all: no flow")
+        self.assertEqual(self.compared(RIVALS % "VALVE", [ET1])[0], "P: flow 1, ET1 from VALVE to all: never sent")
 
     def test_a_claim_elsewhere_leaves_an_address_to_the_next(self) -> None:
-        """PUMP claims 129, so that VALVE is the one of those that prefer 128 of which no claim came."""
-        self.assertEqual(self.compared(RIVALS % "VALVE", ["18EEFF81#0100000000000080", ET1]), [])
+        """PUMP claims 129, so that VALVE is the one of those that prefer 128 of which no claim came. PUMP has the smaller NAME, and so never has to move."""
+        moves = "L:1: PUMP claims address 129, planned is 128, where it stays"
+        self.assertEqual(self.compared(RIVALS % "VALVE", ["18EEFF81#0100000000000080", ET1]), [moves])
         both = ["18EEFF81#0100000000000080", "18EEFF82#0200000000000080", ET1]
-        self.assertEqual(self.compared(RIVALS % "VALVE", both)[0], "L:3: address 128 sends ET1, a planned group: no unit has it")
+        self.assertEqual(self.compared(RIVALS % "VALVE", both)[:2], [moves, "L:3: address 128 sends ET1, a planned group: no unit has it"])
 
     def test_a_name_that_is_not_planned_takes_an_address(self) -> None:
         for name, identity in (("0000000001000000", 0), ("0300000001000000", 3)):
             found = self.deviations(f"18EEFF00#{name}", "18FEEE00#7DFFFFFFFFFFFFFF")
             told = "".join(reversed(re.findall("..", name)))
-            self.assertEqual(found[:4], [
-                f"L:1: NAME {told} (identity {identity}, manufacturer 0, function 0) claims address 0: no unit has it",
-                f"L:2: NAME {told} at address 0 sends ET1, a planned group: no unit has it  (2 times)",
-                f"L:4: TSC1 from DISPLAY to #{told}: no flow",
-                f"L:5: NAME {told} at address 0 sends VI, a planned group: no unit has it"])
+            self.assertEqual(found[0], f"L:1: NAME {told} (identity {identity}, manufacturer 0, function 0) claims address 0: no unit has it, and sends ET1, VI, planned groups")
+            self.assertEqual([line for line in found if "no unit has it" in line or "no flow" in line], found[:1])
 
     def test_a_claim_of_the_global_address_tells_nothing(self) -> None:
         self.assertEqual(self.deviations("18EEFFFF#0100000000000000", *CLAIMS), [])
@@ -39,8 +37,8 @@ class Hands(Compared):
         self.assertEqual(found, ["L:1: ENGINE claims address 7, planned is 0"])
 
     def test_a_unit_that_moved_keeps_its_flows(self) -> None:
-        self.assertEqual(self.deviations("18EEFF81#0200000000000080", "0C000081#FFFFFFFFFFFFFFFF")[:1],
-                         ["L:4: address 128 sends TSC1, a planned group: no unit has it"])
+        self.assertEqual(self.deviations("18EEFF81#0200000000000080", "0C000081#FFFFFFFFFFFFFFFF")[:2],
+                         ["L:1: DISPLAY claims address 129, planned is 128, where it stays", "L:4: address 128 sends TSC1, a planned group: no unit has it"])
 
     def test_a_unit_without_an_address(self) -> None:
         self.assertEqual(self.deviations("18EEFFFE#0200000000000080", "18EEFF80#0200000000000080"),

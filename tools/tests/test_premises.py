@@ -91,7 +91,7 @@ class Premises(InFolder):
                             ("0EFF10F9#00", "PGN 196368 from TOOL"), ("0CECFFF9#20090002FF10FF00", "PGN 65296 from TOOL")):
             self.assertIn(f"L:1: {what} has {said.format(3)}", self.told(("1.0", frame), ("9.0", ET1)), frame)
             self.assertEqual([line for line in self.told(("1.0", "18" + frame[2:]), ("9.0", ET1)) if "load" in line], [], frame)
-        self.assertIn(f"L:1: ET1 from TOOL has {said.format(3)}", self.told(("1.0", ET1.replace("18FEEE00", "0CFEEEF9"))))
+        self.assertEqual(self.told(("1.0", ET1.replace("18FEEE00", "0CFEEEF9"))), ["L:1: ET1 from TOOL to all: no flow"])
         self.assertEqual(self.told(("1.0", "0CFF10F9#00"), ("9.0", ET1), plan=PLAN.replace("timing = { bitrate = 250000, unplanned = 1 }", "")), [])
 
     def test_frames_with_11_bits(self) -> None:

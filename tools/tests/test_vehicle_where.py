@@ -349,7 +349,8 @@ class Forms(OfVehicles):
         """Those of each plan, but for units that the vehicle names."""
         _, lines = self.where(self.vehicle(b=B + UNIT.format("X", 5, 5)), "--lint")
         hints = [line for line in lines if ": hint " in line]
-        self.assertEqual([line for line in hints if "live" not in line], ["b.toml:31: hint unit X: no flow is from it or to it alone"])
+        drifts = [f"{file}:2: hint drift 0: no two clocks agree for ever" for file in ("p.toml", "b.toml")]
+        self.assertEqual([line for line in hints if "live" not in line], [*drifts, "b.toml:31: hint unit X: no flow is from it or to it alone"])
         self.assertEqual([line.split(":")[0] for line in hints if "live" in line], ["p.toml", "b.toml"])
 
 

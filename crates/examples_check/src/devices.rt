@@ -1,15 +1,14 @@
 //! Runs the commands on devices that fail and on inputs that are damaged, and says whether the answers are as they must
 //! be.
 
-mod attempt;
 mod failing;
 mod limits;
 mod named;
 mod packets;
 mod sweep;
 
+use crate::rows::ROWS;
 use crate::saying::say;
-use j39_vectors::ROWS;
 use std::alloc::Global;
 
 /// Says of each device and input whether the answers are right.

@@ -1,11 +1,16 @@
-//! Runs the program on the rows and cases of its tests (`files`), on devices that fail and on damaged inputs
-//! (`devices`), and does again what wanted memory, so that each allocation can be refused in turn (`memory`). Each line
-//! of its output says whether an answer is as it must be. Words name the parts to do; without a word it does them all.
+//! Does the commands on rows whose files come some bytes at a time (`pieces`), on devices that fail and on damaged
+//! inputs (`devices`), and does again what wanted memory, so that each allocation can be refused in turn (`memory`).
+//! Each line of its output says whether an answer is as it must be. Words name the parts to do; without a word it does
+//! them all.
 #![tactic(auto)]
 
+mod attempt;
 mod devices;
-mod files;
 mod memory;
+mod performing;
+mod pieces;
+mod row;
+mod rows;
 mod saying;
 
 use std::env;
@@ -17,7 +22,7 @@ fn parts_of(rt: &HostRuntime) -> Result<Vec<String>, anyhow::Error> {
         parts.push(word)?;
     }
     if parts.is_empty() {
-        for part in ["files", "devices", "memory"] {
+        for part in ["pieces", "devices", "memory"] {
             parts.push(String::from_str(rt.alloc(), part)?)?;
         }
     }
@@ -32,7 +37,7 @@ fn main(rt: HostRuntime) -> Result<(), anyhow::Error> {
     };
     for part in parts {
         match part.as_str() {
-            "files" => files::run_all(&rt)?,
+            "pieces" => pieces::run_all(&rt)?,
             "devices" => devices::say_all(&rt, rt.alloc())?,
             "memory" => memory::say_all(&rt, rt.alloc())?,
             _ => println!(rt; "{part} is no part")?,

@@ -6,10 +6,10 @@ mod commands;
 mod plans;
 mod words;
 
-use crate::saying::say;
-use j39_vectors::{
+use crate::rows::{
     CHECK_OF_A_FINDING, CHECK_OF_A_PLAN, ROWS, RUN_OF_A_BROADCAST, RUN_OF_A_MESSAGE,
 };
+use crate::saying::say;
 use std::alloc::Global;
 
 // Each call is made again where a growth of its own was refused.

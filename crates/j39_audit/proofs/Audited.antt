@@ -1,19 +1,23 @@
 -- What is written of a log that was read is its text.
-use Rattle.std.proofs.Common.{◌≡◌, ℕ, List, Bool, refl, sym, ap, subst, ◌∙◌}
+use Rattle.std.proofs.Common.{◌≡◌, ℕ, List, Bool, true, false, cond, refl, sym, ap, subst, ◌∙◌}
 use Rattle.j39_id.specs.Lines.{lines}
 use Rattle.j39_log.specs.declared.line_counts.LineCounts.{LineCounts}
 use Rattle.j39_network.specs.declared.plan.Plan.{Plan}
 use Rattle.j39_stream.specs.declared.verdict.Verdict.{Verdict}
-use Rattle.j39_audit.specs.AuditText.{IsAudit, IsAuditedLog, Look, AuditPast, accusation_count, counts_of, text_by, verdict_by}
-use Rattle.j39_audit.specs.Counting.{key_of, told_in}
+use Rattle.j39_audit.specs.AuditText.{IsAudit, IsAuditedLog, Look, AuditPast, accusation_count, counts_of, is_of_times, look_at, text_by, verdict_by}
+use Rattle.j39_audit.specs.Counting.{key_of}
 use Rattle.j39_audit.specs.Settings.{AreMoving, Settings}
 use Rattle.j39_audit.specs.declared.audit_log.AuditLog.{AuditLog}
 use Rattle.j39_audit.specs.declared.mark.Mark.{Mark}
-use Rattle.j39_audit.specs.inside.Auditing.{HasAudited, IsAuditReport, RecallsAudit}
-use Rattle.j39_audit.specs.inside.Recalling.{tallied, settings_of}
+use Rattle.j39_audit.specs.inside.Auditing.{HasAudited, IsAuditReport, RecallsAudit, tallied}
+use Rattle.j39_audit.specs.inside.Recalling.{settings_of}
 
-looks : (log : AuditLog) (past : AuditPast) → RecallsAudit log past → tallied log.tally ≡ told_in past.noted
-looks log past recalls = λ i m. recalls.follows.counted (key_of m) i
+both : {X : Type 0} {a b c d : X} (test : Bool) → a ≡ b → c ≡ d → cond test a c ≡ cond test b d
+both true same other = same
+both false same other = other
+
+looks : (log : AuditLog) (past : AuditPast) → RecallsAudit log past → tallied log ≡ look_at past
+looks log past recalls = λ i m. both (is_of_times m.word) (recalls.follows.moments.counted (key_of m)) (recalls.follows.counted (key_of m)) i
 
 counts : (log : AuditLog) (past : AuditPast) → RecallsAudit log past → log.counts ≡ counts_of past
 counts log past recalls =
@@ -31,10 +35,10 @@ audited s log input text verdict has is =
     record {
       past = past;
       read = has.read;
-      text_is = is.text_is ∙ ap (λ (t : Settings). text_by t log.counts (tallied log.tally)) has.settings_are
-          ∙ ap (λ (k : LineCounts). text_by s k (tallied log.tally)) (counts log past has.recalls)
+      text_is = is.text_is ∙ ap (λ (t : Settings). text_by t log.counts (tallied log)) has.settings_are
+          ∙ ap (λ (k : LineCounts). text_by s k (tallied log)) (counts log past has.recalls)
           ∙ ap (λ (l : Look). text_by s (counts_of past) l) look;
-      verdict_is = is.verdict_is ∙ ap (λ (t : Settings). verdict_by (accusation_count t (tallied log.tally))) has.settings_are
+      verdict_is = is.verdict_is ∙ ap (λ (t : Settings). verdict_by (accusation_count t (tallied log))) has.settings_are
           ∙ ap (λ (l : Look). verdict_by (accusation_count s l)) look;
     }
 

@@ -5,17 +5,32 @@ use Rattle.std.proofs.lemmas.List.Elements.{filter-append}
 use Rattle.std.proofs.lemmas.List.{append-nil, length_push}
 use Rattle.std.specs.List.{filter}
 use Rattle.std.proofs.lemmas.Bool.{ne_eqb}
-use Rattle.j39_audit.specs.Counting.{Key, Noted, is_same_key, key_of, most_times, never, told_at, told_more, told_of}
+use Rattle.std.specs.HashMap.{get}
+use Rattle.j39_audit.specs.Counting.{Greatest, Key, Noted, greater, greatest_behind, is_same_key, key_of, most_times, never, told_at, told_by, told_more, told_of}
+use Rattle.j39_audit.specs.declared.tally.MarkTally.{MarkTally}
+use Rattle.j39_audit.specs.inside.Recalling.{AreCounted}
 use Rattle.j39_audit.specs.declared.tally.Told.{Told}
 
+greatest_push : (w : Greatest) (l : List Noted) (n : Noted) → greatest_behind w (l ++ n ∷ []) ≡ greater (greatest_behind w l) n.line n.detail
+unfolding greatest_behind
+greatest_push w [] n = refl
+greatest_push w (m ∷ l) n = greatest_push (greater w m.line m.detail) l n
+
 told_push : (l : List Noted) (n : Noted) → told_of (l ++ n ∷ []) ≡ told_more (told_of l) n.line n.detail
+unfolding greatest_behind
 told_push [] n = refl
 told_push (m ∷ l) n =
     let push = length_push l n in
+    let begun : Greatest = (m.detail, m.line) in
     let more : min (length (l ++ n ∷ []) + 1) most_times ≡ min (min (length l + 1) most_times + 1) most_times = omega (arith, push) in
     let apart : min (length l + 1) most_times ≢ 0 = omega arith in
     let some : (min (length l + 1) most_times == 0) ≡ false = ne_eqb _ _ apart in
-    rw some (ap (λ (k : ℕ). record { times = k; first = m.line; detail = m.detail }) more)
+    rw some (ap (λ (k : ℕ). told_by k m.line m.detail (greatest_behind begun (l ++ n ∷ []))) more
+    ∙ ap (λ (g : Greatest). told_by (min (min (length l + 1) most_times + 1) most_times) m.line m.detail g) (greatest_push begun l n))
+
+-- where a table stays, what is counted does
+pub counted_on : (a b : MarkTally) (noted : List Noted) → b.found ≡ a.found → AreCounted a noted → AreCounted b noted
+counted_on a b noted same counted = λ key. ap (λ h. unwrap_or (get is_same_key h key) never) same ∙ counted key
 
 abbrev is_at : Key → Noted → Bool
 is_at key n = is_same_key (key_of n.mark) key

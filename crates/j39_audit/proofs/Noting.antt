@@ -5,19 +5,33 @@ use Rattle.j39_audit.specs.Counting.{Noted}
 use Rattle.std.specs.List.{slice_get}
 use Rattle.j39_audit.specs.Below.{each_below}
 use Rattle.j39_audit.specs.SentMessages.{marked, noted_at}
+use Rattle.j39_audit.specs.Streams.{sighted_as, sighted_behind}
 use Rattle.j39_audit.specs.declared.mark.Word.{Word}
 use Rattle.j39_audit.specs.declared.tally.MarkTally.{MarkTally}
+use Rattle.j39_audit.specs.declared.tally.Sighting.{Sighting}
 use Rattle.j39_audit.specs.inside.Recalling.{AreCounted, Notes}
 use Rattle.j39_audit.proofs.Below.{each_more, each_none}
 
+-- what is sighted by two lists
+sighted_both : (w : Sighting) (xs ys : List Noted) → sighted_behind w (xs ++ ys) ≡ sighted_behind (sighted_behind w xs) ys
+sighted_both w [] ys = refl
+sighted_both w (n ∷ xs) ys = sighted_both (sighted_as n.mark.word n.mark.subject w) xs ys
+
 -- nothing
+sighted_none : (w : Sighting) → w ≡ sighted_behind w []
+sighted_none w = refl
+
 pub notes_none : (tally : MarkTally) → Notes tally tally []
-notes_none tally = record { counts = λ noted counted. subst (AreCounted tally) (sym (append-nil noted)) counted }
+notes_none tally = record {
+  counts = λ noted counted. subst (AreCounted tally) (sym (append-nil noted)) counted;
+  sights = sighted_none tally.sighting;
+}
 
 -- two lists
 pub notes_both : {a b c : MarkTally} {xs ys : List Noted} → Notes a b xs → Notes b c ys → Notes a c (xs ++ ys)
 notes_both {a = a} {b = b} {c = c} {xs = xs} {ys = ys} first second = record {
   counts = λ noted counted. subst (AreCounted c) (append_assoc noted xs ys) (second.counts (noted ++ xs) (first.counts noted counted));
+  sights = second.sights ∙ ap (λ (w : Sighting). sighted_behind w ys) first.sights ∙ sym (sighted_both a.sighting xs ys);
 }
 
 -- those of the places below a number: of none, with one more, and with one more of which nothing is noted

@@ -26,39 +26,53 @@ use Rattle.j39_audit.specs.Breaks.{breaks, line_time, newest_behind}
 use Rattle.j39_audit.specs.Claiming.{HeardClaims, broken_off, no_claims}
 use Rattle.j39_audit.specs.Counting.{Noted, told_in}
 use Rattle.j39_audit.specs.Looking.{IsPacketOf, break_noted, claims_behind, frame_noted, noted_if}
+use Rattle.j39_audit.specs.Moments.{Moments, begins_anew, behind_gap, moments_behind, no_moments}
 use Rattle.j39_audit.specs.SentMessages.{noted_at}
 use Rattle.j39_audit.specs.Settings.{AreMoving, Settings, units_planned}
 use Rattle.j39_audit.specs.declared.mark.Mark.{Mark}
 use Rattle.j39_audit.specs.declared.mark.Word.{Word}
-use Rattle.j39_audit.specs.declared.mark.Word.TheVariants.{Short, Stranger, Nobody, Address, Cannot, Layout, NoFlow, Priority, Urgent, Seen, Unclear, Asked, Counted, Unsure, Break}
+use Rattle.j39_audit.specs.declared.mark.Word.TheVariants.{Short, Stranger, Nobody, Address, Cannot, Layout, NoFlow, Priority, Urgent, Seen, Unclear, Asked, Counted, Unsure, Break, NearFlow, NearRequest}
 use Rattle.j39_audit.specs.declared.tally.Told.{Told}
 
 -- ---- a log
 
--- what came so far: how many lines, the interface of the log, the newest time, the claims, what was noted, and how many lines there were of each
--- sort
+-- what came so far: how many lines, the interface of the log, the newest time, the claims, what was noted, what the times tell, and how many
+-- lines there were of each sort
 pub record AuditPast : Type 0 where
   pub number : ℕ
   pub interface : Option (List ℕ)
   pub newest : Option ℕ
   pub claims : HeardClaims
   pub noted : List Noted
+  pub moments : Moments
   pub frames : ℕ
   pub skipped : ℕ
   pub bad : ℕ
   pub elsewhere : ℕ
 
 abbrev pub nothing_read : AuditPast
-nothing_read = record { number = 0; interface = None; newest = None; claims = no_claims; noted = []; frames = 0; skipped = 0; bad = 0; elsewhere = 0 }
+nothing_read = record {
+  number = 0;
+  interface = None;
+  newest = None;
+  claims = no_claims;
+  noted = [];
+  moments = no_moments;
+  frames = 0;
+  skipped = 0;
+  bad = 0;
+  elsewhere = 0;
+}
 
 abbrev pub bad_line : AuditPast → AuditPast
-bad_line past = record past { bad = past.bad + 1 }
+bad_line past = record past { bad = past.bad + 1; moments = behind_gap past.moments }
 
 -- a line of an 11-bit identifier is skipped, which is told of behind the first frame; one without a word isn't counted
 abbrev pub skipped_line : AuditPast → AuditPast
 skipped_line past = record past {
   skipped = past.skipped + 1;
   noted = past.noted ++ noted_if (nat_lt 0 past.frames) (noted_at past.number Short 0 0);
+  moments = behind_gap past.moments;
 }
 
 abbrev pub passed_by : LineError → AuditPast → AuditPast
@@ -78,6 +92,8 @@ past_with_frame s past time named f packet = record past {
   claims = claims_behind s f (claims_before s past time);
   noted = past.noted ++ (break_noted past.number (breaks s.stamps past.newest time)
       ++ frame_noted s (claims_before s past time) f packet past.number);
+  moments = moments_behind s (breaks s.stamps past.newest time) (begins_anew s.stamps past.newest time) time f past.number
+      (break_noted past.number (breaks s.stamps past.newest time) ++ frame_noted s (claims_before s past time) f packet past.number) past.moments;
   frames = past.frames + 1;
 }
 
@@ -113,16 +129,18 @@ AuditsLines s past (line ∷ rest) end = (next : AuditPast) × AuditsLine s past
 
 -- the words that accuse, in the order in which they are written
 abbrev pub accusing : List Word
-accusing = Short ∷ Stranger ∷ Nobody ∷ Address ∷ Cannot ∷ Layout ∷ NoFlow ∷ Priority ∷ Urgent ∷ []
+accusing = Short ∷ Stranger ∷ Nobody ∷ Address ∷ Cannot ∷ Layout ∷ NoFlow ∷ Priority ∷ Urgent ∷ NearFlow ∷ NearRequest ∷ []
 
 abbrev pub accusing_at : ℕ → Word
 accusing_at n = slice_index_or accusing n Urgent
 
--- of how many each word speaks: of addresses, or of units
+-- of how many each word speaks: of addresses, of units, of flows or of requests
 abbrev pub subjects : Settings → Word → ℕ
 subjects s Short = 1
 subjects s Stranger = 256
 subjects s Nobody = 256
+subjects s NearFlow = length s.plan.flows.items
+subjects s NearRequest = length s.plan.requests.items
 subjects s _ = units_planned s
 
 -- and of how many groups of each
@@ -141,6 +159,8 @@ word_text Cannot = codes "cannot"
 word_text Layout = codes "layout"
 word_text NoFlow = codes "no_flow"
 word_text Priority = codes "priority"
+word_text NearFlow = codes "near"
+word_text NearRequest = codes "near"
 word_text _ = codes "urgent"
 
 unfoldable pub unit_text : Plan → ℕ → List ℕ
@@ -155,6 +175,16 @@ stranger_text address name = field (codes " address ") address ++ (codes " " ++ 
 unfoldable pub unit_at_text : Plan → ℕ → ℕ → List ℕ
 unit_at_text plan u address = unit_text plan u ++ field (codes " at ") address
 
+unfoldable pub sending_text : Plan → ℕ → ℕ → To → List ℕ
+sending_text plan group sender to =
+    codes " " ++ (group_label plan group ++ (codes " " ++ (unit_label plan sender ++ (codes " " ++ to_text plan to))))
+
+unfoldable pub flow_text : Plan → ℕ → FlowPlan → List ℕ
+flow_text plan n flow = place_field (codes " flow ") n ++ sending_text plan flow.group flow.sender flow.to
+
+unfoldable pub request_text : Plan → ℕ → RequestPlan → List ℕ
+request_text plan n r = place_field (codes " request ") n ++ sending_text plan r.group r.sender r.to
+
 -- whom or what a word speaks of, and what belongs to the first line
 abbrev pub subject_of : Plan → Word → ℕ → ℕ → ℕ → List ℕ
 subject_of plan Short subject group detail = []
@@ -164,14 +194,26 @@ subject_of plan Address subject group detail = unit_at_text plan subject detail
 subject_of plan Layout subject group detail = unit_and_group_text plan subject group
 subject_of plan NoFlow subject group detail = unit_and_group_text plan subject group
 subject_of plan Priority subject group detail = unit_and_group_text plan subject group
+subject_of plan NearFlow subject group detail = option_map_or (λ (flow : FlowPlan). flow_text plan subject flow) (slice_get plan.flows.items subject) []
+subject_of plan NearRequest subject group detail =
+    option_map_or (λ (r : RequestPlan). request_text plan subject r) (slice_get plan.requests.items subject) []
 subject_of plan _ subject group detail = unit_text plan subject
 
+-- by how much at most, and the first line at which it was so much
+unfoldable pub worst_text : Told → List ℕ
+worst_text t = field (codes " worst ") t.worst_at ++ (field (codes " by ") t.worst ++ codes " us")
+
+abbrev pub measure_text : Word → Told → List ℕ
+measure_text NearFlow t = worst_text t
+measure_text NearRequest t = worst_text t
+measure_text _ t = []
+
 -- how often, and the first line
-unfoldable pub times_text : Told → List ℕ
-times_text t = field (codes " times ") t.times ++ (field (codes " first ") t.first ++ 10 ∷ [])
+unfoldable pub times_text : Word → Told → List ℕ
+times_text word t = field (codes " times ") t.times ++ (field (codes " first ") t.first ++ (measure_text word t ++ 10 ∷ []))
 
 unfoldable pub accusing_line : Plan → Mark → Told → List ℕ
-accusing_line plan m t = word_text m.word ++ (subject_of plan m.word m.subject m.group t.detail ++ times_text t)
+accusing_line plan m t = word_text m.word ++ (subject_of plan m.word m.subject m.group t.detail ++ times_text m.word t)
 
 abbrev pub mark_at : Word → ℕ → ℕ → Mark
 mark_at word subject group = record { word = word; subject = subject; group = group }
@@ -201,19 +243,15 @@ unfoldable pub word_count : Settings → Look → Word → ℕ
 word_count s look word = sum_below (subject_count s look word) (subjects s word)
 
 unfoldable pub accusations : Settings → Look → List ℕ
-accusations s look = each_below (λ n. word_lines s look (accusing_at n)) 9
+accusations s look = each_below (λ n. word_lines s look (accusing_at n)) 11
 
 unfoldable pub accusation_count : Settings → Look → ℕ
-accusation_count s look = sum_below (λ n. word_count s look (accusing_at n)) 9
+accusation_count s look = sum_below (λ n. word_count s look (accusing_at n)) 11
 
 -- ---- what was seen
 
 abbrev pub times_of : Look → Word → ℕ → ℕ
 times_of look word subject = (look (mark_at word subject 0)).times
-
-unfoldable pub sending_text : Plan → ℕ → ℕ → To → List ℕ
-sending_text plan group sender to =
-    codes " " ++ (group_label plan group ++ (codes " " ++ (unit_label plan sender ++ (codes " " ++ to_text plan to))))
 
 unfoldable pub flow_seen_line : Plan → ℕ → FlowPlan → ℕ → ℕ → List ℕ
 flow_seen_line plan n flow seen unclear =
@@ -267,14 +305,23 @@ text_by s counts look =
 abbrev pub counts_of : AuditPast → LineCounts
 counts_of past = record { frames = past.frames; skipped = past.skipped; bad = past.bad; elsewhere = past.elsewhere }
 
+-- what is told of each mark: of those that speak of times by the times, of the others by the frames
+abbrev pub is_of_times : Word → Bool
+is_of_times NearFlow = true
+is_of_times NearRequest = true
+is_of_times _ = false
+
+abbrev pub look_at : AuditPast → Look
+look_at past m = if is_of_times m.word then told_in past.moments.untimely m else told_in past.noted m
+
 abbrev pub audit_text : Settings → AuditPast → List ℕ
-audit_text s past = text_by s (counts_of past) (told_in past.noted)
+audit_text s past = text_by s (counts_of past) (look_at past)
 
 abbrev pub verdict_by : ℕ → Verdict
 verdict_by n = if n == 0 then Done else Findings
 
 abbrev pub audit_verdict : Settings → AuditPast → Verdict
-audit_verdict s past = verdict_by (accusation_count s (told_in past.noted))
+audit_verdict s past = verdict_by (accusation_count s (look_at past))
 
 -- what is written of a log, with the verdict
 pub record IsAuditedLog (s : Settings) (log text : List ℕ) (verdict : Verdict) : Type 0 where

@@ -1,5 +1,5 @@
 -- Times of lines, in microseconds, and where the log breaks off: the clock was set, or the bus slept.
-use Rattle.std.specs.Prelude.{ℕ, ◌+◌, ◌*◌, nat_lt, max, ◌||◌, Bool, false, if◌then◌else◌, Option, Some, None, is_none}
+use Rattle.std.specs.Prelude.{ℕ, ◌+◌, ◌*◌, ◌^◌, nat_lt, max, ◌||◌, Bool, false, if◌then◌else◌, Option, Some, None, is_none}
 use Rattle.j39_network.specs.declared.plan.Plan.{Plan}
 use Rattle.j39_follow.specs.LogLines.{moment_of}
 use Rattle.std.specs.Prelude.{List}
@@ -8,9 +8,14 @@ use Rattle.std.specs.Prelude.{List}
 abbrev pub longest_silence : ℕ
 longest_silence = 1000000
 
+-- a time of a clock: with at most 12 digits of seconds none is greater
+abbrev pub clock_time : Option ℕ → Option ℕ
+clock_time None = None
+clock_time (Some time) = if nat_lt time (2 ^ 60) then Some time else None
+
 -- the time of a line, by what is printed of it; where the plan tells nothing of its bus no line has one
 abbrev pub line_time : Plan → List ℕ → Option ℕ
-line_time plan text = if is_none plan.timing then None else moment_of text
+line_time plan text = if is_none plan.timing then None else clock_time (moment_of text)
 
 -- the clock was set back: the time lies before the newest one by more than both may differ from the ends of their frames
 abbrev pub is_set_back : ℕ → ℕ → ℕ → Bool

@@ -1,8 +1,8 @@
 -- What is counted of a log, and at which lines.
-use Rattle.std.specs.Prelude.{◌≡◌, ℕ, ◌+◌, ◌-◌, ◌^◌, min, ◌==◌, ◌&&◌, Bool, if◌then◌else◌, List, [], ◌∷◌, filter, length, nat_eq}
+use Rattle.std.specs.Prelude.{◌≡◌, ℕ, ◌+◌, ◌-◌, ◌^◌, min, ◌==◌, ◌&&◌, Bool, if◌then◌else◌, List, [], ◌∷◌, filter, length, nat_eq, nat_lt}
 use Rattle.j39_audit.specs.declared.mark.Mark.{Mark}
 use Rattle.j39_audit.specs.declared.mark.Word.{Word}
-use Rattle.j39_audit.specs.declared.mark.Word.TheVariants.{Short, Stranger, Nobody, Address, Cannot, Layout, NoFlow, Priority, Urgent, Seen, Unclear, Asked, Counted, Unsure, Break}
+use Rattle.j39_audit.specs.declared.mark.Word.TheVariants.{Short, Stranger, Nobody, Address, Cannot, Layout, NoFlow, Priority, Urgent, Seen, Unclear, Asked, Counted, Unsure, Break, NearFlow, NearRequest}
 use Rattle.j39_audit.specs.declared.tally.Told.{Told}
 
 -- what was found at a line, with a number that belongs to it
@@ -27,6 +27,8 @@ word_number Asked = 11
 word_number Counted = 12
 word_number Unsure = 13
 word_number Break = 14
+word_number NearFlow = 15
+word_number NearRequest = 16
 
 -- two marks are one where this is
 abbrev pub Key : Type 0
@@ -39,22 +41,36 @@ abbrev pub is_same_key : Key → Key → Bool
 is_same_key a b = (nat_eq a.0 b.0 && nat_eq a.1 b.1) && nat_eq a.2 b.2
 
 abbrev pub never : Told
-never = record { times = 0; first = 0; detail = 0 }
+never = record { times = 0; first = 0; detail = 0; worst = 0; worst_at = 0 }
 
 -- where counts stop; a log has fewer lines
 abbrev pub most_times : ℕ
 most_times = 2 ^ 64 - 1
 
--- how often something was found, the first line, and what belongs to it there
+-- the greatest number that belongs to a line, and the first line to which it does: of these so far, with one more, and with all of a list
+abbrev pub Greatest : Type 0
+Greatest = ℕ × ℕ
+
+abbrev pub greater : Greatest → ℕ → ℕ → Greatest
+greater so_far line detail = if nat_lt so_far.0 detail then (detail, line) else so_far
+
+unfoldable pub greatest_behind : Greatest → List Noted → Greatest
+greatest_behind so_far [] = so_far
+greatest_behind so_far (n ∷ rest) = greatest_behind (greater so_far n.line n.detail) rest
+
+-- how often something was found, the first line and what belongs to it there, and where the greatest such number is
+abbrev pub told_by : ℕ → ℕ → ℕ → Greatest → Told
+told_by times first detail worst = record { times = times; first = first; detail = detail; worst = worst.0; worst_at = worst.1 }
+
 abbrev pub told_of : List Noted → Told
 told_of [] = never
-told_of (n ∷ rest) = record { times = min (length rest + 1) most_times; first = n.line; detail = n.detail }
+told_of (n ∷ rest) = told_by (min (length rest + 1) most_times) n.line n.detail (greatest_behind (n.detail, n.line) rest)
 
 -- with one line more
 abbrev pub told_more : Told → ℕ → ℕ → Told
 told_more t line detail =
-    if t.times == 0 then record { times = 1; first = line; detail = detail }
-    else record { times = min (t.times + 1) most_times; first = t.first; detail = t.detail }
+    if t.times == 0 then told_by 1 line detail (detail, line)
+    else told_by (min (t.times + 1) most_times) t.first t.detail (greater (t.worst, t.worst_at) line detail)
 
 -- that of one mark
 unfoldable pub told_at : List Noted → Key → Told

@@ -1,5 +1,5 @@
 -- What an audit goes by.
-use Rattle.std.specs.Prelude.{◌≡◌, ℕ, ◌&&◌, Bool, false, not, List, length, slice_index_or, Some}
+use Rattle.std.specs.Prelude.{◌≡◌, ℕ, min, ◌&&◌, Bool, false, not, List, length, slice_index_or, Some}
 use Rattle.std.specs.List.{slice_get}
 use Rattle.j39_id.specs.Name.{is_arbitrary}
 use Rattle.j39_findings.specs.Standing.{DecidesWhoStays}
@@ -27,3 +27,7 @@ pub record AreMoving (plan : Plan) (moving : List Bool) : Type 0 where
   pub decides : DecidesWhoStays plan stays
   pub each : (u : ℕ) (unit : UnitPlan) → slice_get plan.units.items u ≡ Some unit
       → slice_index_or moving u false ≡ (is_arbitrary unit.name && not (stays unit))
+
+-- the logger's error in microseconds; the command takes no more than a second
+abbrev pub logger_error : Settings → ℕ
+logger_error s = min s.stamps 1000000

@@ -1,21 +1,23 @@
 //! What an audit keeps of a log.
-ghost use Rattle.std.specs.Prelude.{◌≡◌, ◌≤◌, ◌<◌, ◌^◌, ◌++◌, ℕ, List, [], Option, IfOk, OnOk};
+ghost use Rattle.std.specs.Prelude.{◌≡◌, ◌≤◌, ◌<◌, ◌^◌, ◌++◌, nat_lt, ℕ, List, [], Option, IfOk, IfSome, OnOk};
 ghost use Rattle.std.specs.Option.{option_copied};
 ghost use Rattle.j39_id.specs.Lines.{Line, tells};
 ghost use Rattle.j39_log.specs.LineCounting.{AreWithin, IsLineMore};
-ghost use Rattle.j39_audit.specs.AuditText.{AuditPast, passed_by};
+ghost use Rattle.j39_audit.specs.AuditText.{AuditPast, bad_line, is_of_times, passed_by, skipped_line};
 ghost use Rattle.j39_audit.specs.Claiming.{HeardClaims, broken_off};
 ghost use Rattle.j39_audit.specs.Looking.{break_noted};
 ghost use Rattle.j39_audit.specs.Settings.{AreMoving, Settings};
 ghost use Rattle.j39_audit.specs.inside.Auditing.{AccordsWith, HasAudited, IsWithinLines, RecallsAudit, TakesFrame, TakesFrameLine, TakesLine};
-ghost use Rattle.j39_audit.specs.inside.Recalling.{KnowsClaims, Notes, settings_of};
+ghost use Rattle.j39_audit.specs.inside.Auditing.{tallied};
+ghost use Rattle.j39_audit.specs.inside.Recalling.{AreNear, KnowsClaims, Notes, settings_of};
 
 use crate::basis::Basis;
-use crate::frame_marks::take_frame;
+use crate::frame_marks::{note_if, take_frame};
 use crate::known::Known;
-use crate::mark::{Word, make_mark};
-use crate::tally::MarkTally;
-use crate::times::{breaks, line_time, newest_behind};
+use crate::mark::{Mark, Word, make_mark};
+use crate::moments::Moments;
+use crate::tally::{MarkTally, Told};
+use crate::times::{begins_anew, breaks, line_time, newest_behind};
 use j39_follow::{interface, is_elsewhere, keep_interface, kept_interface, read_part, time_text};
 use j39_id::{Cut, Frame, LineError, read_frame};
 use j39_log::{LineCounts, transport_packet};
@@ -34,6 +36,7 @@ pub(crate) struct AuditLog<'a> {
     pub newest: Option<u64>,
     pub known: Known,
     pub tally: MarkTally,
+    pub moments: Moments,
     pub counts: LineCounts,
 }
 
@@ -57,6 +60,20 @@ fn take_break(
     }
 }
 
+// Whether a frame was read.
+fn has_frames(counts: &LineCounts) -> bool
+    ensures { result ≡ nat_lt 0 counts.now.frames }
+{
+    counts.frames > 0
+}
+
+// Whether a word speaks of times.
+fn is_of_times(word: Word) -> bool
+    ensures { result ≡ is_of_times word }
+{
+    matches!(word, Word::NearFlow | Word::NearRequest)
+}
+
 impl<'a> AuditLog<'a> {
     pub fn new(alloc: Global, plan: &'a Plan, part: bool, stamps: u64) -> Result<Self, AllocError>
         ensures plan { IfOk result (λ log. log.basis.plan.now ≡ plan.entry.now) }
@@ -76,12 +93,27 @@ impl<'a> AuditLog<'a> {
             newest: None,
             known,
             tally: MarkTally::new(alloc),
+            moments: Moments::new(alloc),
             counts: LineCounts::new(),
         })
     }
 
+    /// What was found of a mark.
+    pub fn told(&self, mark: Mark) -> Told
+        ensures { result ≡ tallied self.now mark }
+    {
+        if is_of_times(mark.word) {
+            self.moments.untimely.told(mark)
+        } else {
+            self.tally.told(mark)
+        }
+    }
+
     // Takes the frame of a line of this time.
     fn take_timed(&mut self, time: Option<u64>, frame: &Frame) -> Result<(), AllocError>
+        requires time { IfSome time (λ t. t < 2 ^ 61) }
+        requires near { AreNear self.old.moments }
+        ensures near { OnOk result (AreNear self.new.moments) }
         ensures basis { self.new.basis ≡ self.old.basis }
         ensures number { self.new.number ≡ self.old.number }
         ensures interface { self.new.interface ≡ self.old.interface }
@@ -90,7 +122,9 @@ impl<'a> AuditLog<'a> {
             → TakesFrame self.new past time named frame.now) }
     {
         let broken = breaks(self.basis.stamps, self.newest, time);
+        let anew = begins_anew(self.basis.stamps, self.newest, time);
         self.newest = newest_behind(self.basis.stamps, self.newest, time);
+        self.tally.look_at_next();
         take_break(
             &mut self.tally,
             &self.basis,
@@ -106,23 +140,83 @@ impl<'a> AuditLog<'a> {
             transport_packet(frame),
             self.number,
         )?;
+        self.moments.look(
+            &self.basis,
+            broken,
+            anew,
+            time,
+            frame,
+            self.tally.sighting,
+            self.number,
+        )?;
         Ok(())
+    }
+
+    // Takes a line of an 11-bit identifier.
+    fn take_short(&mut self) -> Result<(), AllocError>
+        requires within { AreWithin self.old.counts (2 ^ 62) }
+        requires near { AreNear self.old.moments }
+        ensures near { AreNear self.new.moments }
+        ensures basis { self.new.basis ≡ self.old.basis }
+        ensures number { self.new.number ≡ self.old.number }
+        ensures counted { IsLineMore self.old.counts self.new.counts }
+        ensures fault { OnOk result ((past : AuditPast) → RecallsAudit self.old past → RecallsAudit self.new (skipped_line past)) }
+    {
+        self.moments.pass_over();
+        self.counts.skipped += 1;
+        note_if(
+            &mut self.tally,
+            has_frames(&self.counts),
+            make_mark(Word::Short, 0),
+            self.number,
+            0,
+        )?;
+        Ok(())
+    }
+
+    // Takes a line that has a word and spells no frame.
+    fn take_bad(&mut self)
+        requires within { AreWithin self.old.counts (2 ^ 62) }
+        requires near { AreNear self.old.moments }
+        ensures near { AreNear self.new.moments }
+        ensures basis { self.new.basis ≡ self.old.basis }
+        ensures number { self.new.number ≡ self.old.number }
+        ensures counted { IsLineMore self.old.counts self.new.counts }
+        ensures fault { (past : AuditPast) → RecallsAudit self.old past → RecallsAudit self.new (bad_line past) }
+    {
+        self.moments.pass_over();
+        self.counts.bad += 1;
     }
 
     // Takes a line that spells no frame.
     fn take_fault(&mut self, error: LineError) -> Result<(), AllocError>
-        requires { AreWithin self.old.counts (2 ^ 62) }
+        requires within { AreWithin self.old.counts (2 ^ 62) }
+        requires near { AreNear self.old.moments }
+        ensures near { OnOk result (AreNear self.new.moments) }
         ensures basis { self.new.basis ≡ self.old.basis }
         ensures fault { OnOk result ((past : AuditPast) → RecallsAudit self.old past → RecallsAudit self.new (passed_by error past)) }
         ensures number { self.new.number ≡ self.old.number }
         ensures counted { IsLineMore self.old.counts self.new.counts }
     {
-        let short = error == LineError::ShortIdent && self.counts.frames > 0;
-        self.counts.pass_over(error);
-        if short {
-            self.tally.note(make_mark(Word::Short, 0), self.number, 0)
-        } else {
-            Ok(())
+        match error {
+            LineError::Empty => Ok(()),
+            LineError::ShortIdent => self.take_short(),
+            LineError::NoHash => {
+                self.take_bad();
+                Ok(())
+            }
+            LineError::BadIdent => {
+                self.take_bad();
+                Ok(())
+            }
+            LineError::TooLong => {
+                self.take_bad();
+                Ok(())
+            }
+            LineError::BadData => {
+                self.take_bad();
+                Ok(())
+            }
         }
     }
 
@@ -133,7 +227,10 @@ impl<'a> AuditLog<'a> {
         named: Option<&[u8]>,
         frame: &Frame,
     ) -> Result<(), AllocError>
-        requires { AreWithin self.old.counts (2 ^ 62) }
+        requires within { AreWithin self.old.counts (2 ^ 62) }
+        requires time { IfSome time (λ t. t < 2 ^ 61) }
+        requires near { AreNear self.old.moments }
+        ensures near { OnOk result (AreNear self.new.moments) }
         ensures basis { self.new.basis ≡ self.old.basis }
         ensures frame { OnOk result ((past : AuditPast) → RecallsAudit self.old past
             → TakesFrameLine self.new past time (option_copied named.entry) frame.now) }
@@ -148,7 +245,9 @@ impl<'a> AuditLog<'a> {
 
     // Takes a line.
     fn take_line(&mut self, line: &[u8]) -> Result<(), AllocError>
-        requires { AreWithin self.old.counts (2 ^ 62) }
+        requires within { AreWithin self.old.counts (2 ^ 62) }
+        requires near { AreNear self.old.moments }
+        ensures near { OnOk result (AreNear self.new.moments) }
         ensures basis { self.new.basis ≡ self.old.basis }
         ensures line { OnOk result ((past : AuditPast) → RecallsAudit self.old past → TakesLine self.new past line.now) }
         ensures number { self.new.number ≡ self.old.number }
@@ -186,6 +285,7 @@ impl<'a> AuditLog<'a> {
             Cut::Long => {
                 self.number += 1;
                 self.counts.bad += 1;
+                self.moments.pass_over();
                 Ok(())
             }
         }

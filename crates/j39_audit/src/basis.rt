@@ -1,8 +1,8 @@
 //! What an audit goes by.
-ghost use Rattle.std.specs.Prelude.{◌≡◌, ◌<◌, ◌&&◌, not, IfOk};
+ghost use Rattle.std.specs.Prelude.{◌≡◌, ◌<◌, ◌≤◌, ◌&&◌, not, IfOk};
 ghost use Rattle.j39_findings.specs.Standing.{stays_of};
 ghost use Rattle.j39_id.specs.Name.{is_arbitrary};
-ghost use Rattle.j39_audit.specs.Settings.{AreMoving, moves};
+ghost use Rattle.j39_audit.specs.Settings.{AreMoving, logger_error, moves};
 ghost use Rattle.j39_audit.specs.Claiming.{has_strangers, is_address_of, is_free_for};
 ghost use Rattle.j39_audit.specs.inside.Recalling.{settings_of};
 
@@ -11,6 +11,9 @@ use j39_id::Address;
 use j39_id::addresses::is_in_pool;
 use j39_network::{Plan, UnitPlan};
 use std::alloc::{AllocError, Global};
+
+// The command takes no greater error of a logger.
+const MOST_STAMPS: u64 = 1_000_000;
 
 /// The plan, which of its units may move to other addresses, whether frames of the bus may be missing in the log, and
 /// by how many microseconds the time of a line may differ from the end of its frame.
@@ -55,6 +58,14 @@ impl<'a> Basis<'a> {
             part,
             stamps,
         })
+    }
+
+    /// The logger's error in microseconds.
+    pub fn logger_error(&self) -> u64
+        ensures value { result ≡ logger_error (settings_of self.now) }
+        ensures few { result ≤ 1000000 }
+    {
+        self.stamps.min(MOST_STAMPS)
     }
 
     /// Whether a unit may move to other addresses.

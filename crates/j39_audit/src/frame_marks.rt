@@ -54,8 +54,8 @@ fn is_of_transport(basis: &Basis<'_>, frame: &Frame) -> bool
     (pgn == CONNECTION_MANAGEMENT || pgn == DATA_TRANSFER) && has_transport_priority(basis, frame)
 }
 
-// Notes a mark where a frame is one.
-fn note_if(
+/// Notes a mark where a frame is one.
+pub(crate) fn note_if(
     tally: &mut MarkTally,
     is: bool,
     mark: Mark,
@@ -137,8 +137,8 @@ fn note_claim(
     }
 }
 
-// Whether a frame is none of the network itself and of long messages.
-fn is_single(frame: &Frame) -> bool
+/// Whether a frame is none of the network itself and of long messages.
+pub(crate) fn is_single(frame: &Frame) -> bool
     ensures { result ≡ is_single_number (pgn_of frame.now.ident) }
 {
     let pgn = frame.ident.pgn();

@@ -1,7 +1,7 @@
 //! What is counted of a log.
 ghost use Rattle.std.specs.Prelude.{◌≡◌};
 
-/// What is said of a line or a frame. The first nine accuse.
+/// What is said of a line or a frame. The first nine accuse, and the last two.
 #[derive(Clone, Copy, PartialEq, Eq)]
 pub enum Word {
     /// A line of an 11-bit identifier.
@@ -34,6 +34,10 @@ pub enum Word {
     Unsure,
     /// A frame before which the log breaks off.
     Break,
+    /// A message of a flow too soon behind others.
+    NearFlow,
+    /// A request too soon behind others.
+    NearRequest,
 }
 
 impl Word {
@@ -60,6 +64,8 @@ impl Word {
             Word::Counted => 12,
             Word::Unsure => 13,
             Word::Break => 14,
+            Word::NearFlow => 15,
+            Word::NearRequest => 16,
         }
     }
 }

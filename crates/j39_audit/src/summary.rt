@@ -1,23 +1,29 @@
 //! What is written of a log that was read.
-ghost use Rattle.std.specs.Prelude.{◌≡◌, ◌≤◌, ◌<◌, ◌++◌, length, IfOk, OnOk};
+ghost use Rattle.std.specs.Prelude.{◌≡◌, ◌≤◌, ◌<◌, ◌++◌, [], length, IfOk, OnOk};
+ghost use Rattle.std.specs.List.{slice_get};
+ghost use Rattle.std.specs.Option.{option_map_or};
+ghost use Rattle.j39_network.specs.declared.plan.flow_plan.FlowPlan.{FlowPlan as AFlow};
+ghost use Rattle.j39_network.specs.declared.plan.request_plan.RequestPlan.{RequestPlan as ARequest};
 ghost use Rattle.j39_audit.specs.AuditText.{accusation_count, accusations, accusing_at, accusing_line, sorts_text, deviations_line, flow_seen_line};
 ghost use Rattle.j39_audit.specs.AuditText.{flow_seen, flows_seen, groups_named, line_of_mark, lines_told, request_seen_line, request_seen};
 ghost use Rattle.j39_audit.specs.AuditText.{requests_seen, sending_text, stranger_text, subject_count, subject_lines, subject_of};
 ghost use Rattle.j39_audit.specs.AuditText.{subjects, text_by, times_of, times_text, unit_and_group_text, unit_at_text, unit_frames_line};
 ghost use Rattle.j39_audit.specs.AuditText.{unit_seen, unit_text, units_seen, word_count, word_lines, word_text};
-ghost use Rattle.j39_audit.specs.inside.Recalling.{tallied, settings_of};
+ghost use Rattle.j39_audit.specs.inside.Recalling.{settings_of};
+ghost use Rattle.j39_audit.specs.AuditText.{flow_text, measure_text, request_text, worst_text};
+ghost use Rattle.j39_audit.specs.inside.Auditing.{tallied};
 
 use crate::audit_log::AuditLog;
 use crate::basis::Basis;
 use crate::mark::{Mark, Word, make_mark};
-use crate::tally::{MarkTally, Told};
+use crate::tally::Told;
 use j39_follow::{write_name, write_to};
 use j39_network::{FlowPlan, Plan, RequestPlan, To};
 use j39_text::{TextBuffer, group_label, unit_label};
 use std::alloc::AllocError;
 
 // The words that accuse, in the order in which they are written.
-const ACCUSING: [Word; 9] = [
+const ACCUSING: [Word; 11] = [
     Word::Short,
     Word::Stranger,
     Word::Nobody,
@@ -27,6 +33,8 @@ const ACCUSING: [Word; 9] = [
     Word::NoFlow,
     Word::Priority,
     Word::Urgent,
+    Word::NearFlow,
+    Word::NearRequest,
 ];
 
 const ADDRESSES: usize = 256;
@@ -42,14 +50,16 @@ fn accusing_at(place: usize) -> Word
     }
 }
 
-// Of how many addresses or units a word speaks.
+// Of how many addresses, units, flows or requests a word speaks.
 fn subjects(basis: &Basis<'_>, word: Word) -> usize
     ensures value { result ≡ subjects (settings_of basis.now) word }
-    ensures few { result ≤ 256 }
+    ensures few { result ≤ 512 }
 {
     match word {
         Word::Short => 1,
         Word::Stranger | Word::Nobody => ADDRESSES,
+        Word::NearFlow => basis.plan.flows.len(),
+        Word::NearRequest => basis.plan.requests.len(),
         _ => basis.plan.units.len(),
     }
 }
@@ -77,6 +87,7 @@ fn word_text(word: Word) -> &'static str
         Word::Layout => "layout",
         Word::NoFlow => "no_flow",
         Word::Priority => "priority",
+        Word::NearFlow | Word::NearRequest => "near",
         _ => "urgent",
     }
 }
@@ -125,6 +136,68 @@ fn write_unit_at(
     text.field(" at ", address)
 }
 
+#[tactic(auto, unfolding(crate::specs::AuditText::sending_text))]
+fn write_sending(
+    text: &mut TextBuffer,
+    plan: &Plan,
+    group: usize,
+    sender: usize,
+    to: To,
+) -> Result<(), AllocError>
+    ensures { OnOk result (text.new ≡ text.old ++ sending_text plan.now group sender to) }
+{
+    text.word(" ")?;
+    text.word(group_label(plan, group))?;
+    text.word(" ")?;
+    text.word(unit_label(plan, sender))?;
+    text.word(" ")?;
+    write_to(text, plan, to)
+}
+
+#[tactic(auto, unfolding(crate::specs::AuditText::flow_text))]
+fn write_flow_named(
+    text: &mut TextBuffer,
+    plan: &Plan,
+    place: usize,
+    flow: &FlowPlan,
+) -> Result<(), AllocError>
+    ensures { OnOk result (text.new ≡ text.old ++ flow_text plan.now place flow.now) }
+{
+    text.place(" flow ", place)?;
+    write_sending(text, plan, flow.group, flow.sender, flow.to)
+}
+
+fn write_flow_at(text: &mut TextBuffer, plan: &Plan, place: usize) -> Result<(), AllocError>
+    ensures { OnOk result (text.new ≡ text.old ++ option_map_or (λ (flow : AFlow). flow_text plan.now place flow) (slice_get plan.now.flows.items place) []) }
+{
+    match plan.flows.get(place) {
+        Some(flow) => write_flow_named(text, plan, place, flow),
+        None => Ok(()),
+    }
+}
+
+#[tactic(auto, unfolding(crate::specs::AuditText::request_text))]
+fn write_request_named(
+    text: &mut TextBuffer,
+    plan: &Plan,
+    place: usize,
+    request: &RequestPlan,
+) -> Result<(), AllocError>
+    ensures { OnOk result (text.new ≡ text.old ++ request_text plan.now place request.now) }
+{
+    text.place(" request ", place)?;
+    write_sending(text, plan, request.group, request.sender, request.to)
+}
+
+fn write_request_at(text: &mut TextBuffer, plan: &Plan, place: usize) -> Result<(), AllocError>
+    ensures { OnOk result (text.new ≡ text.old ++ option_map_or (λ (r : ARequest). request_text plan.now place r) (slice_get plan.now.requests.items place) []) }
+{
+    match plan.requests.get(place) {
+        Some(request) => write_request_named(text, plan, place, request),
+        None => Ok(()),
+    }
+}
+
 // Writes whom or what a word speaks of, and what belongs to the first line.
 fn write_subject(
     text: &mut TextBuffer,
@@ -142,16 +215,38 @@ fn write_subject(
         Word::Layout | Word::NoFlow | Word::Priority => {
             write_unit_and_group(text, plan, mark.subject, mark.group)
         }
+        Word::NearFlow => write_flow_at(text, plan, mark.subject),
+        Word::NearRequest => write_request_at(text, plan, mark.subject),
         _ => write_unit(text, plan, mark.subject),
     }
 }
 
+#[tactic(auto, unfolding(crate::specs::AuditText::worst_text))]
+fn write_worst(text: &mut TextBuffer, told: Told) -> Result<(), AllocError>
+    ensures { OnOk result (text.new ≡ text.old ++ worst_text told) }
+{
+    text.field(" worst ", told.worst_at)?;
+    text.field(" by ", told.worst)?;
+    text.word(" us")
+}
+
+// Writes by how much at most, where a word has a measure.
+fn write_measure(text: &mut TextBuffer, word: Word, told: Told) -> Result<(), AllocError>
+    ensures { OnOk result (text.new ≡ text.old ++ measure_text word told) }
+{
+    match word {
+        Word::NearFlow | Word::NearRequest => write_worst(text, told),
+        _ => Ok(()),
+    }
+}
+
 #[tactic(auto, unfolding(crate::specs::AuditText::times_text))]
-fn write_times(text: &mut TextBuffer, told: Told) -> Result<(), AllocError>
-    ensures { OnOk result (text.new ≡ text.old ++ times_text told) }
+fn write_times(text: &mut TextBuffer, word: Word, told: Told) -> Result<(), AllocError>
+    ensures { OnOk result (text.new ≡ text.old ++ times_text word told) }
 {
     text.field(" times ", told.times)?;
     text.field(" first ", told.first)?;
+    write_measure(text, word, told)?;
     text.end_line()
 }
 
@@ -166,7 +261,7 @@ fn write_accusing(
 {
     text.word(word_text(mark.word))?;
     write_subject(text, plan, mark, told.detail)?;
-    write_times(text, told)
+    write_times(text, mark.word, told)
 }
 
 // Writes the line of a mark where it was found, and answers how many lines that is.
@@ -174,14 +269,14 @@ fn write_accusing(
 fn write_line(
     text: &mut TextBuffer,
     plan: &Plan,
-    tally: &MarkTally,
+    log: &AuditLog<'_>,
     mark: Mark,
 ) -> Result<u64, AllocError>
-    ensures text { OnOk result (text.new ≡ text.old ++ line_of_mark plan.now mark (tallied tally.now mark)) }
-    ensures count { IfOk result (λ n. n ≡ lines_told (tallied tally.now mark)) }
+    ensures text { OnOk result (text.new ≡ text.old ++ line_of_mark plan.now mark (tallied log.now mark)) }
+    ensures count { IfOk result (λ n. n ≡ lines_told (tallied log.now mark)) }
     ensures few { IfOk result (λ n. n ≤ 1) }
 {
-    let told = tally.told(mark);
+    let told = log.told(mark);
     if told.times == 0 {
         return Ok(0);
     }
@@ -193,12 +288,12 @@ fn write_line(
 fn write_subject_lines(
     text: &mut TextBuffer,
     basis: &Basis<'_>,
-    tally: &MarkTally,
+    log: &AuditLog<'_>,
     word: Word,
     subject: usize,
 ) -> Result<u64, AllocError>
-    ensures text { OnOk result (text.new ≡ text.old ++ subject_lines (settings_of basis.now) (tallied tally.now) word subject) }
-    ensures count { IfOk result (λ n. n ≡ subject_count (settings_of basis.now) (tallied tally.now) word subject) }
+    ensures text { OnOk result (text.new ≡ text.old ++ subject_lines (settings_of basis.now) (tallied log.now) word subject) }
+    ensures count { IfOk result (λ n. n ≡ subject_count (settings_of basis.now) (tallied log.now) word subject) }
     ensures few { IfOk result (λ n. n ≤ 256) }
 {
     let mut count = 0;
@@ -208,7 +303,7 @@ fn write_subject_lines(
             subject,
             group,
         };
-        count += write_line(text, basis.plan, tally, mark)?;
+        count += write_line(text, basis.plan, log, mark)?;
     }
     Ok(count)
 }
@@ -217,16 +312,16 @@ fn write_subject_lines(
 fn write_word_lines(
     text: &mut TextBuffer,
     basis: &Basis<'_>,
-    tally: &MarkTally,
+    log: &AuditLog<'_>,
     word: Word,
 ) -> Result<u64, AllocError>
-    ensures text { OnOk result (text.new ≡ text.old ++ word_lines (settings_of basis.now) (tallied tally.now) word) }
-    ensures count { IfOk result (λ n. n ≡ word_count (settings_of basis.now) (tallied tally.now) word) }
-    ensures few { IfOk result (λ n. n ≤ 65536) }
+    ensures text { OnOk result (text.new ≡ text.old ++ word_lines (settings_of basis.now) (tallied log.now) word) }
+    ensures count { IfOk result (λ n. n ≡ word_count (settings_of basis.now) (tallied log.now) word) }
+    ensures few { IfOk result (λ n. n ≤ 131072) }
 {
     let mut count = 0;
     for subject in 0..subjects(basis, word) {
-        count += write_subject_lines(text, basis, tally, word, subject)?;
+        count += write_subject_lines(text, basis, log, word, subject)?;
     }
     Ok(count)
 }
@@ -235,34 +330,16 @@ fn write_word_lines(
 fn write_accusations(
     text: &mut TextBuffer,
     basis: &Basis<'_>,
-    tally: &MarkTally,
+    log: &AuditLog<'_>,
 ) -> Result<u64, AllocError>
-    ensures text { OnOk result (text.new ≡ text.old ++ accusations (settings_of basis.now) (tallied tally.now)) }
-    ensures count { IfOk result (λ n. n ≡ accusation_count (settings_of basis.now) (tallied tally.now)) }
+    ensures text { OnOk result (text.new ≡ text.old ++ accusations (settings_of basis.now) (tallied log.now)) }
+    ensures count { IfOk result (λ n. n ≡ accusation_count (settings_of basis.now) (tallied log.now)) }
 {
     let mut count = 0;
     for place in 0..ACCUSING.len() {
-        count += write_word_lines(text, basis, tally, accusing_at(place))?;
+        count += write_word_lines(text, basis, log, accusing_at(place))?;
     }
     Ok(count)
-}
-
-#[tactic(auto, unfolding(crate::specs::AuditText::sending_text))]
-fn write_sending(
-    text: &mut TextBuffer,
-    plan: &Plan,
-    group: usize,
-    sender: usize,
-    to: To,
-) -> Result<(), AllocError>
-    ensures { OnOk result (text.new ≡ text.old ++ sending_text plan.now group sender to) }
-{
-    text.word(" ")?;
-    text.word(group_label(plan, group))?;
-    text.word(" ")?;
-    text.word(unit_label(plan, sender))?;
-    text.word(" ")?;
-    write_to(text, plan, to)
 }
 
 #[tactic(auto, unfolding(crate::specs::AuditText::flow_seen_line))]
@@ -314,33 +391,33 @@ fn write_frames(
     text.end_line()
 }
 
-fn times_of(tally: &MarkTally, word: Word, subject: usize) -> u64
-    ensures { result ≡ times_of (tallied tally.now) word subject }
+fn times_of(log: &AuditLog<'_>, word: Word, subject: usize) -> u64
+    ensures { result ≡ times_of (tallied log.now) word subject }
 {
-    tally.told(make_mark(word, subject)).times
+    log.told(make_mark(word, subject)).times
 }
 
 fn write_flow_seen(
     text: &mut TextBuffer,
     plan: &Plan,
-    tally: &MarkTally,
+    log: &AuditLog<'_>,
     place: usize,
 ) -> Result<(), AllocError>
-    ensures { OnOk result (text.new ≡ text.old ++ flow_seen plan.now (tallied tally.now) place) }
+    ensures { OnOk result (text.new ≡ text.old ++ flow_seen plan.now (tallied log.now) place) }
 {
-    let seen = times_of(tally, Word::Seen, place);
-    let unclear = times_of(tally, Word::Unclear, place);
+    let seen = times_of(log, Word::Seen, place);
+    let unclear = times_of(log, Word::Unclear, place);
     match plan.flows.get(place) {
         Some(flow) => write_flow(text, plan, place, flow, seen, unclear),
         None => Ok(()),
     }
 }
 
-fn write_flows(text: &mut TextBuffer, plan: &Plan, tally: &MarkTally) -> Result<(), AllocError>
-    ensures { OnOk result (text.new ≡ text.old ++ flows_seen plan.now (tallied tally.now)) }
+fn write_flows(text: &mut TextBuffer, plan: &Plan, log: &AuditLog<'_>) -> Result<(), AllocError>
+    ensures { OnOk result (text.new ≡ text.old ++ flows_seen plan.now (tallied log.now)) }
 {
     for place in 0..plan.flows.len() {
-        write_flow_seen(text, plan, tally, place)?;
+        write_flow_seen(text, plan, log, place)?;
     }
     Ok(())
 }
@@ -348,23 +425,23 @@ fn write_flows(text: &mut TextBuffer, plan: &Plan, tally: &MarkTally) -> Result<
 fn write_request_seen(
     text: &mut TextBuffer,
     plan: &Plan,
-    tally: &MarkTally,
+    log: &AuditLog<'_>,
     place: usize,
 ) -> Result<(), AllocError>
-    ensures { OnOk result (text.new ≡ text.old ++ request_seen plan.now (tallied tally.now) place) }
+    ensures { OnOk result (text.new ≡ text.old ++ request_seen plan.now (tallied log.now) place) }
 {
-    let seen = times_of(tally, Word::Asked, place);
+    let seen = times_of(log, Word::Asked, place);
     match plan.requests.get(place) {
         Some(request) => write_request(text, plan, place, request, seen),
         None => Ok(()),
     }
 }
 
-fn write_requests(text: &mut TextBuffer, plan: &Plan, tally: &MarkTally) -> Result<(), AllocError>
-    ensures { OnOk result (text.new ≡ text.old ++ requests_seen plan.now (tallied tally.now)) }
+fn write_requests(text: &mut TextBuffer, plan: &Plan, log: &AuditLog<'_>) -> Result<(), AllocError>
+    ensures { OnOk result (text.new ≡ text.old ++ requests_seen plan.now (tallied log.now)) }
 {
     for place in 0..plan.requests.len() {
-        write_request_seen(text, plan, tally, place)?;
+        write_request_seen(text, plan, log, place)?;
     }
     Ok(())
 }
@@ -372,20 +449,20 @@ fn write_requests(text: &mut TextBuffer, plan: &Plan, tally: &MarkTally) -> Resu
 fn write_unit_seen(
     text: &mut TextBuffer,
     plan: &Plan,
-    tally: &MarkTally,
+    log: &AuditLog<'_>,
     unit: usize,
 ) -> Result<(), AllocError>
-    ensures { OnOk result (text.new ≡ text.old ++ unit_seen plan.now (tallied tally.now) unit) }
+    ensures { OnOk result (text.new ≡ text.old ++ unit_seen plan.now (tallied log.now) unit) }
 {
-    let frames = times_of(tally, Word::Counted, unit);
+    let frames = times_of(log, Word::Counted, unit);
     write_frames(text, plan, unit, frames)
 }
 
-fn write_units(text: &mut TextBuffer, plan: &Plan, tally: &MarkTally) -> Result<(), AllocError>
-    ensures { OnOk result (text.new ≡ text.old ++ units_seen plan.now (tallied tally.now)) }
+fn write_units(text: &mut TextBuffer, plan: &Plan, log: &AuditLog<'_>) -> Result<(), AllocError>
+    ensures { OnOk result (text.new ≡ text.old ++ units_seen plan.now (tallied log.now)) }
 {
     for place in 0..plan.units.len() {
-        write_unit_seen(text, plan, tally, place)?;
+        write_unit_seen(text, plan, log, place)?;
     }
     Ok(())
 }
@@ -393,12 +470,12 @@ fn write_units(text: &mut TextBuffer, plan: &Plan, tally: &MarkTally) -> Result<
 // Writes how many lines there were of each sort.
 #[tactic(auto, unfolding(crate::specs::AuditText::sorts_text))]
 fn write_counts(text: &mut TextBuffer, log: &AuditLog<'_>) -> Result<(), AllocError>
-    ensures { OnOk result (text.new ≡ text.old ++ sorts_text log.now.basis.stamps log.now.counts (tallied log.now.tally)) }
+    ensures { OnOk result (text.new ≡ text.old ++ sorts_text log.now.basis.stamps log.now.counts (tallied log.now)) }
 {
     log.counts.write(text)?;
     text.field(" elsewhere ", log.counts.elsewhere)?;
-    text.field(" unsure ", times_of(&log.tally, Word::Unsure, 0))?;
-    text.field(" breaks ", times_of(&log.tally, Word::Break, 0))?;
+    text.field(" unsure ", times_of(log, Word::Unsure, 0))?;
+    text.field(" breaks ", times_of(log, Word::Break, 0))?;
     text.field(" stamps ", log.basis.stamps)?;
     text.end_line()
 }
@@ -414,14 +491,14 @@ fn write_deviations(text: &mut TextBuffer, count: u64) -> Result<(), AllocError>
 /// Writes what was found in a log, and answers how many lines accuse.
 #[tactic(auto, unfolding(crate::specs::AuditText::text_by))]
 pub(crate) fn write_audit(text: &mut TextBuffer, log: &AuditLog<'_>) -> Result<u64, AllocError>
-    ensures text { OnOk result (text.new ≡ text.old ++ text_by (settings_of log.now.basis) log.now.counts (tallied log.now.tally)) }
-    ensures count { IfOk result (λ n. n ≡ accusation_count (settings_of log.now.basis) (tallied log.now.tally)) }
+    ensures text { OnOk result (text.new ≡ text.old ++ text_by (settings_of log.now.basis) log.now.counts (tallied log.now)) }
+    ensures count { IfOk result (λ n. n ≡ accusation_count (settings_of log.now.basis) (tallied log.now)) }
 {
     let plan = log.basis.plan;
-    let count = write_accusations(text, &log.basis, &log.tally)?;
-    write_flows(text, plan, &log.tally)?;
-    write_requests(text, plan, &log.tally)?;
-    write_units(text, plan, &log.tally)?;
+    let count = write_accusations(text, &log.basis, log)?;
+    write_flows(text, plan, log)?;
+    write_requests(text, plan, log)?;
+    write_units(text, plan, log)?;
     write_counts(text, log)?;
     write_deviations(text, count)?;
     Ok(count)

@@ -1,25 +1,77 @@
 //! How often what was found, and at which line first.
-ghost use Rattle.std.specs.Prelude.{◌≡◌, ◌<◌, ◌^◌, ◌∷◌, [], OnOk};
-ghost use Rattle.j39_audit.specs.Counting.{key_of, told_more};
+ghost use Rattle.std.specs.Prelude.{◌≡◌, ◌<◌, ◌^◌, ◌+◌, ◌∷◌, [], min, OnOk};
+ghost use Rattle.j39_audit.specs.Counting.{greater, key_of, most_times, told_by, told_more};
+ghost use Rattle.j39_audit.specs.Streams.{nothing_sighted, sighted_as};
 ghost use Rattle.j39_audit.specs.inside.Recalling.{AreCounted, Notes, tallied_at};
 
-use crate::mark::Mark;
+use crate::mark::{Mark, Word};
 use std::alloc::{AllocError, Global};
 use std::collections::HashMap;
 
-/// How often something was found, the number of the first line, and a number that belongs to it there.
+/// How often something was found, the number of the first line, a number that belongs to it there, the greatest such
+/// number, and the first line to which this belongs.
 #[derive(Clone, Copy, PartialEq, Eq)]
 pub struct Told {
     pub times: u64,
     pub first: u64,
     pub detail: u64,
+    pub worst: u64,
+    pub worst_at: u64,
 }
 
 const NEVER: Told = Told {
     times: 0,
     first: 0,
     detail: 0,
+    worst: 0,
+    worst_at: 0,
 };
+
+/// Of which flow and of which request a frame is seen, by their places from 0.
+#[derive(Clone, Copy, PartialEq, Eq)]
+pub struct Sighting {
+    pub flow: Option<usize>,
+    pub request: Option<usize>,
+}
+
+const NOTHING: Sighting = Sighting {
+    flow: None,
+    request: None,
+};
+
+// With a mark more.
+fn sighted(old: Sighting, mark: Mark) -> Sighting
+    ensures { result ≡ sighted_as mark.word mark.subject old }
+{
+    match mark.word {
+        Word::Seen => Sighting {
+            flow: Some(mark.subject),
+            request: old.request,
+        },
+        Word::Asked => Sighting {
+            flow: old.flow,
+            request: Some(mark.subject),
+        },
+        _ => old,
+    }
+}
+
+// With one line more, of something that was found.
+fn again(old: Told, line: u64, detail: u64) -> Told
+    ensures { result ≡ told_by (min (old.times + 1) most_times) old.first old.detail (greater (old.worst, old.worst_at) line detail) }
+{
+    let times = old.times.saturating_add(1);
+    if old.worst < detail {
+        Told {
+            times,
+            worst: detail,
+            worst_at: line,
+            ..old
+        }
+    } else {
+        Told { times, ..old }
+    }
+}
 
 // With one line more.
 fn one_more(old: Told, line: u64, detail: u64) -> Told
@@ -30,13 +82,11 @@ fn one_more(old: Told, line: u64, detail: u64) -> Told
             times: 1,
             first: line,
             detail,
+            worst: detail,
+            worst_at: line,
         }
     } else {
-        Told {
-            times: old.times.saturating_add(1),
-            first: old.first,
-            detail: old.detail,
-        }
+        again(old, line, detail)
     }
 }
 
@@ -44,6 +94,8 @@ fn one_more(old: Told, line: u64, detail: u64) -> Told
 #[derive(Drop)]
 pub(crate) struct MarkTally {
     pub found: HashMap<(u8, usize, usize), Told>,
+    /// Of which flow and request the frame at hand is seen.
+    pub sighting: Sighting,
 }
 
 impl MarkTally {
@@ -52,7 +104,16 @@ impl MarkTally {
     {
         MarkTally {
             found: HashMap::new(alloc),
+            sighting: NOTHING,
         }
+    }
+
+    /// Begins with another frame.
+    pub fn look_at_next(&mut self)
+        ensures found { self.new.found ≡ self.old.found }
+        ensures nothing { self.new.sighting ≡ nothing_sighted }
+    {
+        self.sighting = NOTHING;
     }
 
     /// What was found of a mark.
@@ -74,6 +135,7 @@ impl MarkTally {
     {
         let new = one_more(self.told(mark), line, detail);
         let key = (mark.word.number(), mark.subject, mark.group);
+        self.sighting = sighted(self.sighting, mark);
         match self.found.insert(key, new) {
             Ok(_) => Ok(()),
             Err(_) => Err(AllocError),

@@ -14,10 +14,9 @@ use Rattle.j39_id.specs.declared.frame.Frame.{Frame}
 use Rattle.j39_network.specs.declared.plan.Plan.{Plan}
 use Rattle.j39_network.specs.declared.plan.timing.Timing.{Timing}
 use Rattle.j39_tp.specs.declared.packet.Packet.{Packet}
-use Rattle.j39_audit.specs.AuditText.{Look, groups_named, line_of_mark, mark_at, subject_lines}
+use Rattle.j39_audit.specs.AuditText.{Look, groups_named, line_of_mark, look_at, mark_at, subject_lines}
 use Rattle.j39_audit.specs.Below.{each_below}
 use Rattle.j39_audit.specs.Claiming.{HeardClaims, Knowledge, knowledge}
-use Rattle.j39_audit.specs.Counting.{told_in}
 use Rattle.j39_audit.specs.Looking.{is_above_unplanned, is_claim, is_of_own_group, is_of_transport, is_single, is_urgent, may_be_transport, single}
 use Rattle.j39_audit.specs.SentMessages.{first_group}
 use Rattle.j39_audit.specs.Settings.{AreMoving, Settings}
@@ -57,7 +56,7 @@ pub none_of_subject : (s : Settings) (log : List Line) (word : Word) (u : ℕ) �
     → IsNotNamed s log word u
 unfolding subject_lines
 none_of_subject s log word u accuses none end read =
-    let look : Look = told_in end.noted in
+    let look : Look = look_at end in
     none_below (λ (g : ℕ). line_of_mark s.plan (mark_at word u g) (look (mark_at word u g)))
     (λ g. no_line s.plan (mark_at word u g) (look (mark_at word u g))
     (told_never s log (mark_at word u g) (look (mark_at word u g)) (lines_are_of_log s log end read (mark_at word u g) accuses) (none g)))

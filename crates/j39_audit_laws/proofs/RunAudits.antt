@@ -8,10 +8,9 @@ use Rattle.j39_id.specs.Addresses.{is_address}
 use Rattle.j39_id.specs.Lines.{Line}
 use Rattle.j39_id.specs.declared.frame.Frame.{Frame}
 use Rattle.j39_tp.specs.declared.packet.Packet.{Packet}
-use Rattle.j39_audit.specs.AuditText.{mark_at, subject_lines, subjects, word_lines}
+use Rattle.j39_audit.specs.AuditText.{look_at, mark_at, subject_lines, subjects, word_lines}
 use Rattle.j39_audit.specs.Below.{any_below}
 use Rattle.j39_audit.specs.Claiming.{Heard, HeardClaims, Knowledge, first_there, has_strangers, is_another_there, is_strange, knowledge, last_claim_of, may_be, may_stand, newest_of, sender_at, sure_sender}
-use Rattle.j39_audit.specs.Counting.{told_in}
 use Rattle.j39_audit.specs.Looking.{is_claim, message_sent}
 use Rattle.j39_audit.specs.Settings.{AreMoving, Settings, moves, units_planned}
 use Rattle.j39_audit.specs.declared.mark.Word.{Word}
@@ -124,7 +123,7 @@ last_of_part s claims u part = ap (λ (p : Bool). if p then None else newest_of 
 pub no_word : (s : Settings) (log : List Line) (word : Word) → ((u : ℕ) → IsNotNamed s log word u) → IsNotWritten s log word
 unfolding word_lines
 no_word s log word none end read =
-    none_below (subject_lines s (told_in end.noted) word) (λ u. none u end read) (subjects s word)
+    none_below (subject_lines s (look_at end) word) (λ u. none u end read) (subjects s word)
 
 pub no_short_line : (s : Settings) (log : List Line) (frames : List Frame) → AreReadAs None log frames → IsNotWritten s log Short
 no_short_line s log frames reads =

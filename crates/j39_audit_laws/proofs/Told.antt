@@ -1,5 +1,5 @@
 -- What is told of a mark at the end of a log are the lines at which it is found.
-use Rattle.std.proofs.Common.{◌≡◌, ◌⊎◌, ℕ, ◌+◌, ◌<◌, ◌≤◌, ◌++◌, ◌∷◌, [], List, length, map, min, get_or}
+use Rattle.std.proofs.Common.{◌≡◌, ◌⊎◌, ℕ, ◌+◌, ◌<◌, ◌≤◌, ◌++◌, ◌∷◌, [], List, Bool, false, cond, length, map, min, get_or}
 use Rattle.std.proofs.Common.{inl, inr, refl, sym, ap, ◌∙◌, subst, arith, append_assoc}
 use Rattle.std.specs.Prelude.{Contains}
 use Rattle.std.specs.List.{AllPairs}
@@ -7,10 +7,12 @@ use Rattle.std.proofs.lemmas.List.{append_cancel_left, append-nil, length-append
 use Rattle.std.proofs.lemmas.List.Elements.{Contains-append_left, Contains-get_or, Contains-push, Contains-push_cases}
 use Rattle.std.proofs.lemmas.List.Quantifiers.{all_pairs_push}
 use Rattle.j39_id.specs.Lines.{Line}
-use Rattle.j39_audit.specs.AuditText.{AuditPast, AuditsLine, AuditsLines, nothing_read}
+use Rattle.j39_audit.specs.AuditText.{AuditPast, AuditsLine, AuditsLines, is_of_times, look_at, nothing_read}
 use Rattle.j39_audit.specs.Counting.{Noted, most_times, told_at, told_in, told_of}
 use Rattle.j39_audit.specs.Settings.{Settings}
 use Rattle.j39_audit.specs.declared.mark.Mark.{Mark}
+use Rattle.j39_audit.specs.declared.mark.Word.{Word}
+use Rattle.j39_audit.specs.declared.mark.Word.TheVariants.{Short, Stranger, Nobody as NobodyThere, Address, Cannot, Layout, NoFlow, Priority, Urgent, Seen, Unclear, Asked, Counted, Unsure, Break, NearFlow, NearRequest}
 use Rattle.j39_audit.proofs.Hearing.{line_more}
 use Rattle.j39_audit_laws.specs.FoundLines.{IsAccusing, IsFoundAt, IsLineOf, LinesAreOfLog, IsToldAt}
 use Rattle.j39_audit_laws.proofs.Hits.{hits}
@@ -152,5 +154,29 @@ module _ (s : Settings) (log : List Line) (m : Mark) (accuses : IsAccusing m.wor
             }
       ] refl
 
+-- what accuses so is told by the frames
+by_frames : (w : Word) → IsAccusing w → is_of_times w ≡ false
+by_frames Short is = refl
+by_frames Stranger is = refl
+by_frames NobodyThere is = refl
+by_frames Address is = refl
+by_frames Cannot is = refl
+by_frames Layout is = refl
+by_frames NoFlow is = refl
+by_frames Priority is = refl
+by_frames Urgent is = refl
+by_frames Seen is = absurd is
+by_frames Unclear is = absurd is
+by_frames Asked is = absurd is
+by_frames Counted is = absurd is
+by_frames Unsure is = absurd is
+by_frames Break is = absurd is
+by_frames NearFlow is = absurd is
+by_frames NearRequest is = absurd is
+
+looked : (end : AuditPast) (m : Mark) → IsAccusing m.word → told_in end.noted m ≡ look_at end m
+looked end m is = sym (ap (λ (b : Bool). cond b (told_in end.moments.untimely m) (told_in end.noted m)) (by_frames m.word is))
+
 pub lines_are_of_log : LinesAreOfLog
-lines_are_of_log s log end read m accuses = tells s log m accuses end (all_told s log m accuses [] log nothing_read end refl refl (none_read s log m accuses) read)
+lines_are_of_log s log end read m accuses =
+    subst (IsToldAt s log m) (looked end m accuses) (tells s log m accuses end (all_told s log m accuses [] log nothing_read end refl refl (none_read s log m accuses) read))

@@ -9,8 +9,7 @@ use Rattle.j39_network.specs.declared.plan.Plan.{Plan}
 use Rattle.j39_world.specs.World.{World}
 use Rattle.j39_follow.specs.LogLines.{IsElsewhere, IsReadPart, NamesInterface, interface_behind}
 use Rattle.j39_log_laws.specs.Telling.{IsLogOf}
-use Rattle.j39_audit.specs.AuditText.{AuditPast, AuditsLines, nothing_read, word_lines}
-use Rattle.j39_audit.specs.Counting.{told_in}
+use Rattle.j39_audit.specs.AuditText.{AuditPast, AuditsLines, look_at, nothing_read, word_lines}
 use Rattle.j39_audit.specs.Settings.{AreMoving, Settings}
 use Rattle.j39_audit.specs.declared.mark.Word.{Word}
 use Rattle.j39_audit_laws.specs.OwnPart.{EachKeepsItsPart}
@@ -39,7 +38,7 @@ AreFramesOf s w frames =
 
 -- no line of this word is written
 abbrev pub IsNotWritten : Settings → List Line → Word → Type 0
-IsNotWritten s log word = (end : AuditPast) → AuditsLines s nothing_read log end → word_lines s (told_in end.noted) word ≡ []
+IsNotWritten s log word = (end : AuditPast) → AuditsLines s nothing_read log end → word_lines s (look_at end) word ≡ []
 
 -- no such line is written of the frames of the world
 abbrev pub IsNotWrittenOf : Word → Plan → World → Type 0

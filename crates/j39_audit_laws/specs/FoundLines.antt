@@ -10,10 +10,10 @@ use Rattle.j39_id.specs.declared.line_error.LineError.TheVariants.{ShortIdent}
 use Rattle.j39_follow.specs.LogLines.{IsElsewhere, IsReadPart, IsTimeText, NamesInterface}
 use Rattle.j39_follow.specs.Who.{unit_of_name}
 use Rattle.j39_tp.specs.declared.packet.Packet.{Packet}
-use Rattle.j39_audit.specs.AuditText.{AuditPast, AuditsLines, claims_before, groups_named, nothing_read, subjects, with_next_number}
+use Rattle.j39_audit.specs.AuditText.{AuditPast, AuditsLines, claims_before, groups_named, look_at, nothing_read, subjects, with_next_number}
 use Rattle.j39_audit.specs.Breaks.{line_time}
 use Rattle.j39_audit.specs.Claiming.{HeardClaims, is_address_of, knowledge, sender_at}
-use Rattle.j39_audit.specs.Counting.{most_times, told_in}
+use Rattle.j39_audit.specs.Counting.{most_times}
 use Rattle.j39_audit.specs.Looking.{IsPacketOf, is_above_unplanned, is_claim, is_claiming, is_urgent, message_sent}
 use Rattle.j39_audit.specs.SentMessages.{SentMessage, deviation}
 use Rattle.j39_audit.specs.Settings.{Settings}
@@ -139,7 +139,7 @@ IsAccusing _ = ⊥
 
 abbrev pub LinesAreOfLog : Type 0
 LinesAreOfLog = (s : Settings) (log : List Line) (end : AuditPast) → AuditsLines s nothing_read log end → (m : Mark) → IsAccusing m.word
-    → IsToldAt s log m (told_in end.noted m)
+    → IsToldAt s log m (look_at end m)
 
 -- the line of a mark is one of those that are written where they were found
 abbrev pub IsListed : Settings → Mark → Type 0

@@ -21,9 +21,8 @@ use Rattle.j39_network.specs.declared.plan.to.To.TheVariants.{All as ToAll, One 
 use Rattle.j39_network.specs.declared.plan.unit_plan.UnitPlan.{UnitPlan}
 use Rattle.j39_follow.specs.Who.{unit_of_name}
 use Rattle.j39_tp.specs.declared.packet.Packet.{Packet}
-use Rattle.j39_audit.specs.AuditText.{AuditPast, AuditsLines, nothing_read, subject_lines}
+use Rattle.j39_audit.specs.AuditText.{AuditPast, AuditsLines, look_at, nothing_read, subject_lines}
 use Rattle.j39_audit.specs.Claiming.{HeardClaims, Knowledge, knowledge, sender_at}
-use Rattle.j39_audit.specs.Counting.{told_in}
 use Rattle.j39_audit.specs.Looking.{is_claim, is_single, message_sent}
 use Rattle.j39_audit.specs.SentMessages.{SentMessage}
 use Rattle.j39_audit.specs.Settings.{Settings}
@@ -128,7 +127,7 @@ WaitsForPlanned s log sent u = OfItsFrames s log sent u (λ claims f packet. (t 
 
 -- no line of this word is written of the unit
 abbrev pub IsNotNamed : Settings → List Line → Word → ℕ → Type 0
-IsNotNamed s log word u = (end : AuditPast) → AuditsLines s nothing_read log end → subject_lines s (told_in end.noted) word u ≡ []
+IsNotNamed s log word u = (end : AuditPast) → AuditsLines s nothing_read log end → subject_lines s (look_at end) word u ≡ []
 
 -- ---- that all can be kept
 

@@ -5,11 +5,11 @@ use Rattle.std.proofs.lemmas.Bool.{cases_Bool, eqb-false, ne_eqb, false≢true}
 use Rattle.std.proofs.lemmas.List.{length-append}
 use Rattle.j39_id.specs.declared.frame.Frame.{Frame}
 use Rattle.j39_network.specs.declared.plan.Plan.{Plan}
-use Rattle.j39_log.specs.declared.listeners.Listeners.{Listeners}
 use Rattle.j39_follow.specs.Contests.{Timed}
 use Rattle.j39_follow.specs.Fits.{IsSentGroup}
 use Rattle.j39_follow.specs.FollowReports.{IsGroupOfMessage, IsGrouped, IsSendingOf, Message, bare_text}
 use Rattle.j39_follow.specs.declared.message.Sort.{Sort}
+use Rattle.j39_follow.specs.declared.pair.heard_pairs.HeardPairs.{HeardPairs}
 use Rattle.j39_follow.specs.declared.request.exchanges.Exchanges.{Exchanges}
 use Rattle.j39_follow.specs.declared.flow.sending.Sending.{Sending}
 use Rattle.j39_follow.specs.inside.FrameWriting.{WritesFrame}
@@ -83,9 +83,9 @@ has_none all_frames written line unasked = sym (ap (λ (b : Bool). if b && lengt
 
 -- by logs that are so in other words
 pub written_so : {IsSo IsOther : List Timed → Type 0} {plan : Plan} {all_frames : Bool} {front : List ℕ} {f : Frame} {sorts : Sort × Option Sort}
-    {listened listeners : Listeners} {kept exchanges : Exchanges} {old new : List ℕ} → ((log : List Timed) → IsOther log → IsSo log)
-    → WritesFrame IsSo plan all_frames front f sorts listened listeners kept exchanges old new
-    → WritesFrame IsOther plan all_frames front f sorts listened listeners kept exchanges old new
+    {heard pairs : HeardPairs} {kept exchanges : Exchanges} {old new : List ℕ} → ((log : List Timed) → IsOther log → IsSo log)
+    → WritesFrame IsSo plan all_frames front f sorts heard pairs kept exchanges old new
+    → WritesFrame IsOther plan all_frames front f sorts heard pairs kept exchanges old new
 written_so so writes = record {
   written = λ seen log is. writes.written seen log (so log is);
   noted = λ log events is. writes.noted log events (so log is);

@@ -25,15 +25,19 @@ use Rattle.j39_log.specs.ReadText.{IsFrameReport, IsGroupReport, Past, ReadsFram
 use Rattle.j39_signal.specs.Selectors.{is_selected}
 use Rattle.j39_tp.proofs.Tracking.{one_message, one_pgn}
 use Rattle.j39_tp.specs.Carried.{Carried}
+use Rattle.j39_tp.specs.Chunks.{packets_of}
 use Rattle.j39_tp.specs.declared.packet.Packet.{Packet}
+use Rattle.j39_tp.specs.declared.packet.Packet.TheVariants.{Rts, Cts, EndAck, Bam, Abort, Dt}
+use Rattle.j39_log.proofs.PairLists.{slice_get_end}
+use Rattle.j39_follow.specs.Received.{IsReceived, turned, way_packets}
 use Rattle.j39_follow.specs.Alike.{IsUndirected}
 use Rattle.j39_follow.specs.Contests.{Timed}
 use Rattle.j39_follow.specs.Fits.{IsPlannedAs, IsSentGroup, MayBeGroup, fitting_flow}
 use Rattle.j39_follow.specs.FollowReports.{IsBareText, IsGroupOfMessage, IsGrouped, IsMessageReport, IsNotice, Message, frame_line, in_frame, stamp}
-use Rattle.j39_follow.specs.FollowText.{FollowedPast, FollowsFrame, FollowsLine, FollowsLines, FollowsPart, HeardSince, IsFollowedAs, IsPacketReport}
+use Rattle.j39_follow.specs.FollowText.{FollowedPast, FollowsFrame, FollowsLine, FollowsLines, FollowsPart, HeardSince, IsFollowedAs, IsInOrderReport, IsPacketReport}
 use Rattle.j39_follow.specs.FollowText.{frames_seen, line_passed_over, lines_with, nothing_followed, one_line_more}
 use Rattle.j39_follow.specs.GroupLines.{AreToldAlike, GroupsAreToldAlike, IsNoticed, IsThinned, IsWhole, LineTexts, StayInHands, TellOneMessage, all_followed}
-use Rattle.j39_follow.specs.GroupLines.{all_read}
+use Rattle.j39_follow.specs.GroupLines.{TellsReceived, all_read}
 use Rattle.j39_follow.specs.declared.message.Sort.{Sort}
 use Rattle.j39_follow.specs.declared.flow.sending.Sending.{Sending}
 use Rattle.j39_follow.proofs.Alike.{line_grows, lines_grow, whole_part}
@@ -242,19 +246,19 @@ message_alike plan shared log front m sort t u a b =
     let same = same_group plan shared m.pgn m.bytes a.0 a.1 a.3 in
     grouped_alike plan log front m a.0 a.1 sort t u a.4 (subst (λ (g : Option ℕ). IsGroupReport plan g m.ident m.bytes u) same b)
 
--- what `follow` writes of a group at a frame is nothing, or of the message that `read` tells; and where no address changed hands before,
+-- what `follow` writes of a group at a frame is nothing, or of the message that `read` tells, or of one received out of order; and where no address changed hands before,
 -- both tell it
 pub record BodyAlike (plan : Plan) (before : List Seen) (t u : List ℕ) : Type 0 where
-  pub thinned : (t ≡ []) ⊎ TellOneMessage plan t u
-  pub whole : StayInHands plan (frames_seen before) → OneOrNone plan t u
+  pub thinned : (t ≡ []) ⊎ TellOneMessage plan t u ⊎ TellsReceived plan t u
+  pub whole : StayInHands plan (frames_seen before) → ((t ≡ []) × (u ≡ [])) ⊎ TellOneMessage plan t u ⊎ TellsReceived plan t u
 
 one_or_none : (plan : Plan) (before : List Seen) (t u : List ℕ) → OneOrNone plan t u → BodyAlike plan before t u
 one_or_none plan before t u (inl none) = record { thinned = inl none.0; whole = λ _. inl none }
-one_or_none plan before t u (inr one) = record { thinned = inr one; whole = λ _. inr one }
+one_or_none plan before t u (inr one) = record { thinned = inr (inl one); whole = λ _. inr (inl one) }
 
-carried_alike : (plan : Plan) → HasNoPrivate plan → (before : List Seen) (log : List Timed) (front : List ℕ) (f : Frame) (p : Packet) (sorts : List Sort)
-    (t u : List ℕ) → IsPacketReport plan before log front f (Some p) sorts t → IsFrameReport plan before f (Some p) u → BodyAlike plan before t u
-carried_alike plan shared before log front f p sorts t u (h, since, inl (pgn, bytes, sort, carried, report, is)) b =
+in_order_alike : (plan : Plan) → HasNoPrivate plan → (before : List Seen) (log : List Timed) (front : List ℕ) (f : Frame) (p : Packet) (sorts : List Sort)
+    (t u : List ℕ) → IsInOrderReport plan before log front f p sorts t → IsFrameReport plan before f (Some p) u → BodyAlike plan before t u
+in_order_alike plan shared before log front f p sorts t u (h, since, inl (pgn, bytes, sort, carried, report, is)) b =
     let s = f.ident.sa in
     let d = f.ident.ps in
     let all = heard s d before in
@@ -271,7 +275,7 @@ carried_alike plan shared before log front f p sorts t u (h, since, inl (pgn, by
           (message_alike plan shared log front (record { pgn = pgn; bytes = bytes; ident = f.ident; framed = None }) sort t u report at_bytes)
       | inr (none, empty) ↦ absurd (none pgn bytes there)
     ]
-carried_alike plan shared before log front f p sorts t u (h, since, inr (none, is, empty)) b = record {
+in_order_alike plan shared before log front f p sorts t u (h, since, inr (none, is, empty)) b = record {
   thinned = inl empty;
   whole = λ stay.
       let same : h ≡ heard f.ident.sa f.ident.ps before = all_since plan before f.ident.sa f.ident.ps h since stay in
@@ -281,6 +285,78 @@ carried_alike plan shared before log front f p sorts t u (h, since, inr (none, i
         | inr (nothing, blank) ↦ inl (empty, blank)
       ];
 }
+
+-- a packet that ends a message is data
+ends_in_data : (h : List Packet) (p : Packet) (pgn : ℕ) (message : List ℕ) → Carried (h ++ p ∷ []) (length h) pgn message
+    → (k : ℕ) × (chunk : List ℕ) × (p ≡ Dt k chunk)
+ends_in_data h p pgn message c =
+    let n : ℕ = packets_of c.size in
+    let above = c.fits.above in
+    let some : 0 < packets_of c.size = omega (arith, above) in
+    let same : suc (n - 1) ≡ n = omega (arith, some) in
+    let next = c.carries (n - 1) (omega (arith, some)) in
+    let there : c.at (suc (n - 1)) ≡ length h = ap c.at same ∙ c.last in (
+      suc (n - 1),
+      c.chunk (suc (n - 1)),
+      same_Some p (Dt (suc (n - 1)) (c.chunk (suc (n - 1))))
+          (sym (slice_get_end h p) ∙ sym (ap (slice_get (h ++ p ∷ [])) there) ∙ next.stands),
+    )
+
+receipt_is_no_data : (size pgn k : ℕ) (chunk : List ℕ) → EndAck size pgn ≡ Dt k chunk → ⊥
+receipt_is_no_data size pgn k chunk e = cc
+
+-- `read` writes nothing where a receiver says that it has a message whole
+nothing_read : (plan : Plan) (before : List Seen) (f : Frame) (size pgn : ℕ) (u : List ℕ) → IsFrameReport plan before f (Some (EndAck size pgn)) u → u ≡ []
+nothing_read plan before f size pgn u (inl (number, message, carried, report)) =
+    let last = ends_in_data (heard f.ident.sa f.ident.ps before) (EndAck size pgn) number message carried in
+    absurd (receipt_is_no_data size pgn last.0 last.1 last.2)
+nothing_read plan before f size pgn u (inr (none, blank)) = blank
+
+received_alone : (plan : Plan) (log : List Timed) (front : List ℕ) (m : Message) (sent : Sending) (group : Option ℕ) (sort : Sort) (t u : List ℕ)
+    (h : List Packet) (size : ℕ) → IsReceived h size m.pgn m.bytes → u ≡ [] → IsGrouped plan log front m sent group sort t
+    → ((t ≡ []) × (u ≡ [])) ⊎ TellsReceived plan t u
+received_alone plan log front m sent None sort t u h size received blank a = inl (a.1, blank)
+received_alone plan log front m sent (Some g) sort t u h size received blank a = inr (record {
+  place = g;
+  group = a.3.value;
+  front = front;
+  way = a.1;
+  flow = fitting_flow plan g sent;
+  message = m;
+  packets = h;
+  size = size;
+  received = received;
+  group_is = a.3.value_is;
+  followed_is = a.3.meets;
+  read_is = blank;
+})
+
+one_alone : (plan : Plan) (before : List Seen) (t u : List ℕ) → ((t ≡ []) × (u ≡ [])) ⊎ TellsReceived plan t u → BodyAlike plan before t u
+one_alone plan before t u (inl none) = record { thinned = inl none.0; whole = λ _. inl none }
+one_alone plan before t u (inr one) = record { thinned = inr (inr one); whole = λ _. inr (inr one) }
+
+receipt_alike : (plan : Plan) (before : List Seen) (log : List Timed) (front : List ℕ) (f : Frame) (size pgn : ℕ) (sorts : List Sort) (t u : List ℕ)
+    → IsPacketReport plan before log front f (Some (EndAck size pgn)) sorts t → IsFrameReport plan before f (Some (EndAck size pgn)) u
+    → BodyAlike plan before t u
+receipt_alike plan before log front f size pgn sorts t u (h, since, inl (bytes, sort, received, report, is)) b =
+    one_alone plan before t u
+    (received_alone plan log front (record { pgn = pgn; bytes = bytes; ident = turned f.ident; framed = None }) report.0 report.1 sort t u
+    (way_packets f.ident.ps f.ident.sa since.since) size received (nothing_read plan before f size pgn u b) report.4)
+receipt_alike plan before log front f size pgn sorts t u (h, since, inr (none, is, empty)) b =
+    one_alone plan before t u (inl (empty, nothing_read plan before f size pgn u b))
+
+carried_alike : (plan : Plan) → HasNoPrivate plan → (before : List Seen) (log : List Timed) (front : List ℕ) (f : Frame) (p : Packet) (sorts : List Sort)
+    (t u : List ℕ) → IsPacketReport plan before log front f (Some p) sorts t → IsFrameReport plan before f (Some p) u → BodyAlike plan before t u
+carried_alike plan shared before log front f (EndAck size pgn) sorts t u a b = receipt_alike plan before log front f size pgn sorts t u a b
+carried_alike plan shared before log front f (Rts size limit pgn) sorts t u a b =
+    in_order_alike plan shared before log front f (Rts size limit pgn) sorts t u a b
+carried_alike plan shared before log front f (Cts count first pgn) sorts t u a b =
+    in_order_alike plan shared before log front f (Cts count first pgn) sorts t u a b
+carried_alike plan shared before log front f (Bam size pgn) sorts t u a b = in_order_alike plan shared before log front f (Bam size pgn) sorts t u a b
+carried_alike plan shared before log front f (Abort reason pgn) sorts t u a b =
+    in_order_alike plan shared before log front f (Abort reason pgn) sorts t u a b
+carried_alike plan shared before log front f (Dt number chunk) sorts t u a b =
+    in_order_alike plan shared before log front f (Dt number chunk) sorts t u a b
 
 no_report : (plan : Plan) → HasNoPrivate plan → (log : List Timed) (front : List ℕ) (f : Frame) (sort : Sort) (t : List ℕ)
     → IsGroupOfMessage plan log (in_frame f) None → IsMessageReport plan log front (in_frame f) sort t → t ≡ []

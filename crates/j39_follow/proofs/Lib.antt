@@ -8,5 +8,6 @@ pub mod Lines
 pub mod LinesRead
 pub mod OneFrame
 pub mod OneText
+pub mod Pairs
 pub mod Requests
 pub mod Vehicles

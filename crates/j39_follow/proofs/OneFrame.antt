@@ -14,12 +14,15 @@ use Rattle.j39_log.specs.NamedReports.{named_reading_lines}
 use Rattle.j39_id.specs.FrameMeaning.{requested_group}
 use Rattle.j39_tp.proofs.Tracking.{one_message, one_pgn}
 use Rattle.j39_tp.specs.declared.packet.Packet.{Packet}
+use Rattle.j39_tp.specs.declared.packet.Packet.TheVariants.{Rts, Cts, EndAck, Bam, Abort, Dt}
 use Rattle.j39_follow.specs.Contests.{Timed}
 use Rattle.j39_follow.specs.Fits.{IsSentGroup, fitting_flow}
 use Rattle.j39_follow.specs.FollowReports.{AreEventsOf, IsAnswerWay, IsAsked, IsBareText, IsGroupOfMessage, IsGrouped, IsMessageReport, IsNotice, IsSendingOf}
 use Rattle.j39_follow.specs.FollowReports.{IsWay, Message, aim_at, answer_way_text, bare_text, frame_line, in_frame, is_to_all, message_line, notice_text}
-use Rattle.j39_follow.specs.FollowReports.{frame_events}
-use Rattle.j39_follow.specs.FollowText.{HeardSince, IsCarriedReport, IsFollowedAs, IsPacketReport, OneChangesHands}
+use Rattle.j39_follow.specs.FollowReports.{ended_message, frame_events}
+use Rattle.j39_follow.specs.FollowText.{HeardSince, IsCarriedReport, IsFollowedAs, IsInOrderReport, IsPacketReport, IsReceivedReport, OneChangesHands}
+use Rattle.j39_follow.specs.Received.{turned, way_packets}
+use Rattle.j39_follow.proofs.Pairs.InOrder.{one_received}
 use Rattle.j39_follow.specs.LoggedRequests.{asked_request, asker_or_source}
 use Rattle.j39_follow.specs.Who.{unit_of, who_text}
 use Rattle.j39_follow.specs.declared.request.event.Event.{Event}
@@ -102,9 +105,11 @@ pub one_told : (plan : Plan) (log : List Timed) (f : Frame) (sorts : List Sort) 
 one_told plan log f sorts a b x y =
     let sent = one_sending plan log (in_frame f) x.sent y.sent x.sent_is y.sent_is in
     let asker = one_taken plan log (asker_or_source plan f) x.asker y.asker x.asker_is y.asker_is in
+    let ended = one_sending plan log (ended_message f) x.ended y.ended x.ended_is y.ended_is in
     x.events_are
-    ∙ ap (λ (s : Sending). frame_events plan f s x.asker sorts) sent
-    ∙ ap (λ (w : Who). frame_events plan f y.sent w sorts) asker
+    ∙ ap (λ (s : Sending). frame_events plan f s x.ended x.asker sorts) sent
+    ∙ ap (λ (s : Sending). frame_events plan f y.sent s x.asker sorts) ended
+    ∙ ap (λ (w : Who). frame_events plan f y.sent y.ended w sorts) asker
     ∙ sym y.events_are
 
 -- ---- groups
@@ -198,15 +203,19 @@ not_later plan seen s d h k a b m later rest = elim (ending m) [
       ]
 ]
 
-pub one_since : (plan : Plan) (seen : List Seen) (s d : ℕ) (h k : List Packet) → HeardSince plan seen s d h → HeardSince plan seen s d k → h ≡ k
-one_since plan seen s d h k a b = elim (cut_later a.before a.since b.before b.since (sym a.row ∙ b.row)) [
+same_since : (plan : Plan) (seen : List Seen) (s d : ℕ) (h k : List Packet) (a : HeardSince plan seen s d h) (b : HeardSince plan seen s d k)
+    → a.since ≡ b.since
+same_since plan seen s d h k a b = elim (cut_later a.before a.since b.before b.since (sym a.row ∙ b.row)) [
   | inl later ↦
       let none = not_later plan seen s d h k a b later.0 later.1 later.2 in
-      a.packets_are ∙ ap (heard s d) (later.2 ∙ ap (λ (t : List Seen). t ++ b.since) none) ∙ sym b.packets_are
+      later.2 ∙ ap (λ (t : List Seen). t ++ b.since) none
   | inr later ↦
       let none = not_later plan seen s d k h b a later.0 later.1 later.2 in
-      a.packets_are ∙ ap (heard s d) (sym (later.2 ∙ ap (λ (t : List Seen). t ++ a.since) none)) ∙ sym b.packets_are
+      sym (later.2 ∙ ap (λ (t : List Seen). t ++ a.since) none)
 ]
+
+pub one_since : (plan : Plan) (seen : List Seen) (s d : ℕ) (h k : List Packet) → HeardSince plan seen s d h → HeardSince plan seen s d k → h ≡ k
+one_since plan seen s d h k a b = a.packets_are ∙ ap (heard s d) (same_since plan seen s d h k a b) ∙ sym b.packets_are
 
 one_carried : (plan : Plan) (log : List Timed) (front : List ℕ) (h : List Packet) (place : ℕ) (f : Frame) (s z : List Sort) (t u : List ℕ)
     → IsCarriedReport plan log front h place f s t → IsCarriedReport plan log front h place f z u → (s ≡ z) × (t ≡ u)
@@ -222,10 +231,35 @@ one_carried plan log front h place f s z t u (inl a) (inr b) = absurd (b.0 a.0 a
 one_carried plan log front h place f s z t u (inr a) (inl b) = absurd (a.0 b.0 b.1 b.3)
 one_carried plan log front h place f s z t u (inr a) (inr b) = (a.1 ∙ sym b.1, a.2 ∙ sym b.2)
 
-pub one_packet_report : (plan : Plan) (before : List Seen) (log : List Timed) (front : List ℕ) (f : Frame) (p : Option Packet) (s z : List Sort) (t u : List ℕ)
-    → IsPacketReport plan before log front f p s t → IsPacketReport plan before log front f p z u → (s ≡ z) × (t ≡ u)
-one_packet_report plan before log front f None s z t u a b = (a.0 ∙ sym b.0, a.1 ∙ sym b.1)
-one_packet_report plan before log front f (Some p) s z t u a b =
+one_in_order : (plan : Plan) (before : List Seen) (log : List Timed) (front : List ℕ) (f : Frame) (p : Packet) (s z : List Sort) (t u : List ℕ)
+    → IsInOrderReport plan before log front f p s t → IsInOrderReport plan before log front f p z u → (s ≡ z) × (t ≡ u)
+one_in_order plan before log front f p s z t u a b =
     let same = one_since plan before f.ident.sa f.ident.ps a.0 b.0 a.1 b.1 in
     one_carried plan log front (b.0 ++ p ∷ []) (length b.0) f s z t u
     (subst (λ (h : List Packet). IsCarriedReport plan log front (h ++ p ∷ []) (length h) f s t) same a.2) b.2
+
+one_receipt : (plan : Plan) (log : List Timed) (front : List ℕ) (h : List Packet) (size pgn : ℕ) (f : Frame) (s z : List Sort) (t u : List ℕ)
+    → IsReceivedReport plan log front h size pgn f s t → IsReceivedReport plan log front h size pgn f z u → (s ≡ z) × (t ≡ u)
+one_receipt plan log front h size pgn f s z t u (inl a) (inl b) =
+    let i : Ident = turned f.ident in
+    let bytes : a.0 ≡ b.0 = one_received h size pgn a.0 b.0 a.2 b.2 in
+    let there = subst (λ (x : List ℕ). IsMessageReport plan log front (record { pgn = pgn; bytes = x; ident = i; framed = None }) a.1 t) bytes a.3 in
+    let same = one_message_report plan log front (record { pgn = pgn; bytes = b.0; ident = i; framed = None }) a.1 b.1 t u there b.3 in
+    (a.4 ∙ ap (λ (x : Sort). x ∷ []) same.0 ∙ sym b.4, same.1)
+one_receipt plan log front h size pgn f s z t u (inl a) (inr b) = absurd (b.0 a.0 a.2)
+one_receipt plan log front h size pgn f s z t u (inr a) (inl b) = absurd (a.0 b.0 b.2)
+one_receipt plan log front h size pgn f s z t u (inr a) (inr b) = (a.1 ∙ sym b.1, a.2 ∙ sym b.2)
+
+pub one_packet_report : (plan : Plan) (before : List Seen) (log : List Timed) (front : List ℕ) (f : Frame) (p : Option Packet) (s z : List Sort) (t u : List ℕ)
+    → IsPacketReport plan before log front f p s t → IsPacketReport plan before log front f p z u → (s ≡ z) × (t ≡ u)
+one_packet_report plan before log front f None s z t u a b = (a.0 ∙ sym b.0, a.1 ∙ sym b.1)
+one_packet_report plan before log front f (Some (EndAck size pgn)) s z t u a b =
+    let i = f.ident in
+    let same = ap (way_packets i.ps i.sa) (same_since plan before i.ps i.sa a.0 b.0 a.1 b.1) in
+    one_receipt plan log front (way_packets i.ps i.sa b.1.since) size pgn f s z t u
+    (subst (λ (h : List Packet). IsReceivedReport plan log front h size pgn f s t) same a.2) b.2
+one_packet_report plan before log front f (Some (Rts size limit pgn)) s z t u a b = one_in_order plan before log front f (Rts size limit pgn) s z t u a b
+one_packet_report plan before log front f (Some (Cts count first pgn)) s z t u a b = one_in_order plan before log front f (Cts count first pgn) s z t u a b
+one_packet_report plan before log front f (Some (Bam size pgn)) s z t u a b = one_in_order plan before log front f (Bam size pgn) s z t u a b
+one_packet_report plan before log front f (Some (Abort reason pgn)) s z t u a b = one_in_order plan before log front f (Abort reason pgn) s z t u a b
+one_packet_report plan before log front f (Some (Dt number chunk)) s z t u a b = one_in_order plan before log front f (Dt number chunk) s z t u a b

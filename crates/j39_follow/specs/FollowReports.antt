@@ -1,11 +1,13 @@
 -- The lines that report what a frame tells, and what was sent.
 use Rattle.std.specs.Prelude.{◌≡◌, ℕ, ◌==◌, ◌||◌, ◌&&◌, ◌%◌, ◌^◌, Bool, if◌then◌else◌, List, []}
-use Rattle.std.specs.Prelude.{◌∷◌, ◌++◌, codes, decimal, length, map, is_some, option_map, Option, Some, None}
+use Rattle.std.specs.Prelude.{◌∷◌, ◌++◌, codes, decimal, length, map, is_some, option_map, slice_index, Option, Some, None}
 use Rattle.std.specs.Option.{option_map_or, option_to_list}
 use Rattle.hex.specs.Hex.{encode_upper}
 use Rattle.j39_id.specs.Addresses.{global_address}
 use Rattle.j39_id.specs.Ident.{pgn_of}
 use Rattle.j39_id.specs.Pgn.{is_pdu2}
+use Rattle.j39_id.specs.Services.{connection_management}
+use Rattle.j39_tp.specs.Packets.{end_control}
 use Rattle.j39_id.specs.declared.frame.Frame.{Frame}
 use Rattle.j39_id.specs.declared.ident.Ident.{Ident}
 use Rattle.j39_search.specs.ListPlaces.{ValueAt}
@@ -19,6 +21,7 @@ use Rattle.j39_follow.specs.Contests.{IsTaken, Timed}
 use Rattle.j39_follow.specs.Fits.{IsSentGroup, fitting_flow}
 use Rattle.j39_follow.specs.LoggedRequests.{acknowledged_group, acknowledges, asked_request, asked_text, control_of, control_word, is_refusal}
 use Rattle.j39_follow.specs.LoggedRequests.{counted_number as number_of, asker_or_source}
+use Rattle.j39_follow.specs.Received.{turned}
 use Rattle.j39_follow.specs.Who.{is_of_any, name_text, unit_of_name, unit_of, who_text}
 use Rattle.j39_follow.specs.declared.request.event.Event.{Event}
 use Rattle.j39_follow.specs.declared.request.event.Event.TheVariants.{Asked, Brought, Refused}
@@ -165,17 +168,37 @@ notice_events plan f sent asker =
     if requests_group f then option_to_list (option_map Asked (asked_request plan (requested_group f) sent))
     else if acknowledges plan f then refusal_events plan f sent asker else []
 
-abbrev pub frame_events : Plan → Frame → Sending → Who → List Sort → List Event
-frame_events plan f sent asker sorts =
-    notice_events plan f sent asker ++ map (λ (sort : Sort). Brought (reply_of (number_of plan sort) sent.sender sent.aim)) sorts
+abbrev pub brought_by : Plan → Sending → Sort → Event
+brought_by plan sent sort = Brought (reply_of (number_of plan sort) sent.sender sent.aim)
+
+-- the message that a frame is, and that which it ends, as these were sent
+abbrev pub message_events : Plan → Sending → Sending → List Sort → List Event
+message_events plan sent ended [] = []
+message_events plan sent ended (sort ∷ sorts) = brought_by plan sent sort ∷ map (brought_by plan ended) sorts
+
+abbrev pub frame_events : Plan → Frame → Sending → Sending → Who → List Sort → List Event
+frame_events plan f sent ended asker sorts = notice_events plan f sent asker ++ message_events plan sent ended sorts
+
+-- by the frame the receiver of a message says that it has it whole (SAE J1939-21, end of message acknowledgement)
+abbrev pub tells_receipt : Frame → Bool
+tells_receipt f = pgn_of f.ident == connection_management && slice_index f.payload.items 0 == end_control
+
+-- the message that a frame ends goes the way of the frame, or the other way round where its receiver says so
+abbrev pub ended_ident : Frame → Ident
+ended_ident f = if tells_receipt f then turned f.ident else f.ident
+
+abbrev pub ended_message : Frame → Message
+ended_message f = record { pgn = pgn_of f.ident; bytes = []; ident = ended_ident f; framed = None }
 
 -- what a frame tells of requests: what it asks or refuses, and then the messages that it is and ends
 pub record AreEventsOf (plan : Plan) (log : List Timed) (f : Frame) (sorts : List Sort) (events : List Event) : Type 0 where
   pub sent : Sending
+  pub ended : Sending
   pub asker : Who
+  pub ended_is : IsSendingOf plan log (ended_message f) ended
   pub sent_is : IsSendingOf plan log (in_frame f) sent
   pub asker_is : IsTaken plan log (asker_or_source plan f) asker
-  pub events_are : events ≡ frame_events plan f sent asker sorts
+  pub events_are : events ≡ frame_events plan f sent ended asker sorts
 
 -- ---- groups
 

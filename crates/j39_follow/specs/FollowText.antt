@@ -23,12 +23,14 @@ use Rattle.j39_log.specs.LogPairs.{Seen, heard}
 use Rattle.j39_log.specs.ReadText.{CarriesNone, refused_plan_line}
 use Rattle.j39_tp.specs.Carried.{Carried}
 use Rattle.j39_tp.specs.declared.packet.Packet.{Packet}
+use Rattle.j39_tp.specs.declared.packet.Packet.TheVariants.{EndAck}
 use Rattle.j39_text.specs.Labels.{group_label, need_text, unit_label}
 use Rattle.j39_text.specs.Texts.{field, place_field}
 use Rattle.j39_stream.specs.declared.verdict.Verdict.{Verdict}
 use Rattle.j39_stream.specs.declared.verdict.Verdict.TheVariants.{Done, Findings, Refused, Unreadable}
 use Rattle.j39_follow.specs.Contests.{Timed}
 use Rattle.j39_follow.specs.FollowReports.{AreEventsOf, IsBareText, IsGroupOfMessage, IsMessageReport, IsNotice, in_frame, stamp}
+use Rattle.j39_follow.specs.Received.{IsReceived, turned, way_packets}
 use Rattle.j39_follow.specs.LoggedRequests.{times_answered, times_asked, times_refused}
 use Rattle.j39_follow.specs.declared.request.event.Event.{Event}
 use Rattle.j39_follow.specs.declared.message.Sort.{Sort}
@@ -77,11 +79,27 @@ IsCarriedReport plan log front h place f sorts text =
     × (sorts ≡ sort ∷ []))
     ⊎ (CarriesNone h place × (sorts ≡ []) × (text ≡ []))
 
-abbrev pub IsPacketReport : Plan → List Seen → List Timed → List ℕ → Frame → Option Packet → List Sort → List ℕ → Type 0
-IsPacketReport plan before log front f None sorts text = (sorts ≡ []) × (text ≡ [])
-IsPacketReport plan before log front f (Some p) sorts text =
+-- at a packet, behind those of its pair
+abbrev pub IsInOrderReport : Plan → List Seen → List Timed → List ℕ → Frame → Packet → List Sort → List ℕ → Type 0
+IsInOrderReport plan before log front f p sorts text =
     (h : List Packet) × HeardSince plan before f.ident.sa f.ident.ps h
     × IsCarriedReport plan log front (h ++ p ∷ []) (length h) f sorts text
+
+-- what is written where the receiver says that it has a message whole whose packets didn't come in order, and what that counts as: the message
+-- goes the other way round, and behind these packets of it
+abbrev pub IsReceivedReport : Plan → List Timed → List ℕ → List Packet → ℕ → ℕ → Frame → List Sort → List ℕ → Type 0
+IsReceivedReport plan log front h size pgn f sorts text =
+    ((bytes : List ℕ) × (sort : Sort) × IsReceived h size pgn bytes
+    × IsMessageReport plan log front (record { pgn = pgn; bytes = bytes; ident = turned f.ident; framed = None }) sort text
+    × (sorts ≡ sort ∷ []))
+    ⊎ (((bytes : List ℕ) → ¬ IsReceived h size pgn bytes) × (sorts ≡ []) × (text ≡ []))
+
+abbrev pub IsPacketReport : Plan → List Seen → List Timed → List ℕ → Frame → Option Packet → List Sort → List ℕ → Type 0
+IsPacketReport plan before log front f None sorts text = (sorts ≡ []) × (text ≡ [])
+IsPacketReport plan before log front f (Some (EndAck size pgn)) sorts text =
+    (h : List Packet) × (is : HeardSince plan before f.ident.ps f.ident.sa h)
+    × IsReceivedReport plan log front (way_packets f.ident.ps f.ident.sa is.since) size pgn f sorts text
+IsPacketReport plan before log front f (Some p) sorts text = IsInOrderReport plan before log front f p sorts text
 
 -- ---- a log
 

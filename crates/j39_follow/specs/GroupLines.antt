@@ -12,7 +12,9 @@ use Rattle.j39_follow.specs.Alike.{IsUndirected}
 use Rattle.j39_follow.specs.Contests.{Timed}
 use Rattle.j39_follow.specs.FollowReports.{IsNotice, Message, frame_line, message_line}
 use Rattle.j39_follow.specs.FollowText.{FollowedPast, FollowsLines, frames_seen, nothing_followed}
+use Rattle.j39_follow.specs.Received.{IsReceived}
 use Rattle.j39_follow.specs.Who.{ChangesHands}
+use Rattle.j39_tp.specs.declared.packet.Packet.{Packet}
 
 -- one message of one group of the plan: `follow` tells it by who sent it to whom and by which flow, `read` by its addresses
 pub record TellOneMessage (plan : Plan) (followed read : List ℕ) : Type 0 where
@@ -25,6 +27,21 @@ pub record TellOneMessage (plan : Plan) (followed read : List ℕ) : Type 0 wher
   pub group_is : slice_get plan.groups.items place ≡ Some group
   pub followed_is : followed ≡ message_line group front way flow message ++ named_reading_lines plan group message.bytes
   pub read_is : read ≡ named_report plan group message.ident message.bytes
+
+-- one message of one group of the plan that `follow` alone tells: its receiver says that it has it whole, and its packets didn't come in order
+pub record TellsReceived (plan : Plan) (followed read : List ℕ) : Type 0 where
+  pub place : ℕ
+  pub group : GroupPlan
+  pub front : List ℕ
+  pub way : List ℕ
+  pub flow : Option ℕ
+  pub message : Message
+  pub packets : List Packet
+  pub size : ℕ
+  pub received : IsReceived packets size message.pgn message.bytes
+  pub group_is : slice_get plan.groups.items place ≡ Some group
+  pub followed_is : followed ≡ message_line group front way flow message ++ named_reading_lines plan group message.bytes
+  pub read_is : read ≡ []
 
 -- what is written at one line: by `follow` what the frame tells of addresses and requests, or of itself, and then of a group; by `read` of a group
 pub record LineTexts : Type 0 where
@@ -47,20 +64,22 @@ IsNoticed plan line =
     ⊎ ((log : List Timed) × (front : List ℕ) × (f : Frame) × IsNotice plan log front f line.notice)
     ⊎ ((front : List ℕ) × (way : List ℕ) × (f : Frame) × (line.notice ≡ frame_line front way f))
 
--- `follow` writes of no group, or of the message that `read` writes of
+-- `follow` writes of no group, or of the message that `read` writes of, or of one that was received out of order, and `read` of none
 abbrev pub IsThinned : Plan → LineTexts → Type 0
-IsThinned plan line = (line.followed ≡ []) ⊎ TellOneMessage plan line.followed line.read
+IsThinned plan line =
+    (line.followed ≡ []) ⊎ TellOneMessage plan line.followed line.read ⊎ TellsReceived plan line.followed line.read
 
--- both write of no group, or of one message
+-- both write of no group, or of one message, or `follow` alone of one that was received out of order
 abbrev pub IsWhole : Plan → LineTexts → Type 0
-IsWhole plan line = ((line.followed ≡ []) × (line.read ≡ [])) ⊎ TellOneMessage plan line.followed line.read
+IsWhole plan line =
+    ((line.followed ≡ []) × (line.read ≡ [])) ⊎ TellOneMessage plan line.followed line.read ⊎ TellsReceived plan line.followed line.read
 
 -- at none of these frames an address changes hands
 abbrev pub StayInHands : Plan → List Frame → Type 0
 StayInHands plan frames =
     (before : List Frame) (f : Frame) (behind : List Frame) → frames ≡ before ++ f ∷ behind → (address : ℕ) → ¬ ChangesHands plan before f address
 
--- line after line, the messages that `follow` tells are told by `read`, and all of them where no address changes hands at these frames
+-- line after line, the messages that `follow` tells are told by `read`, but those received out of order, and all that `read` tells where no address changes hands at these frames
 pub record AreToldAlike (plan : Plan) (frames : List Frame) (reports texts : List ℕ) : Type 0 where
   pub rows : List LineTexts
   pub reports_are : reports ≡ all_followed rows

@@ -10,6 +10,8 @@ pub mod GroupLines
 pub mod Holders
 pub mod LogLines
 pub mod LoggedRequests
+pub mod Received
+pub mod ReceivedAsSent
 pub mod UnitsOfNames
 pub mod VehicleLogs
 pub mod Who

@@ -1,4 +1,5 @@
 -- What only private contracts and proofs need.
+pub mod Collecting
 pub mod Contesting
 pub mod Exchanging
 pub mod FollowedSoFar

@@ -6,6 +6,7 @@ ghost use Rattle.j39_follow.specs.CountedOnce.{NeedsAreMetOnce, RequestsAreAnswe
 ghost use Rattle.j39_follow.specs.FollowText.{LogHasOneFollowText};
 ghost use Rattle.j39_follow.specs.GroupLines.{GroupsAreToldAlike};
 ghost use Rattle.j39_follow.specs.Holders.{HasOneHolder, HoldsOneAddress};
+ghost use Rattle.j39_follow.specs.ReceivedAsSent.{ReceivesItsMessage, ReceivesOneMessage};
 ghost use Rattle.j39_follow.specs.UnitsOfNames.{NamesAreOfTheirUnits};
 ghost use Rattle.j39_follow.specs.VehicleLogs.{TypesTellVehicles};
 
@@ -33,8 +34,9 @@ pub fn follow_and_read_see_alike()
 {}
 
 /// Of a plan without private groups, and a log in which no line ends in a direction and none is of another interface,
-/// the messages that
-/// `follow` tells of groups are told by `read` too, line after line, and all that `read` tells are where no address changes hands.
+/// the messages that `follow` tells of groups are told by `read` too, line after line, but for those whose packets came
+/// out of order and of which the receiver says that it has them whole; and all that `read` tells are, where no address
+/// changes hands.
 pub fn groups_are_told_alike()
     ensures { GroupsAreToldAlike }
 {}
@@ -65,4 +67,11 @@ pub fn contests_last_a_wait()
 pub fn messages_count_once()
     ensures requests { RequestsAreAnsweredOnce }
     ensures needs { NeedsAreMetOnce }
+{}
+
+/// Where a receiver says that it has a message whole, whose packets came out of order, one message at most is told
+/// (`one`); and of a sender that keeps to the message that it announced last, this one, byte for byte (`as_sent`).
+pub fn received_messages_are_as_sent()
+    ensures one { ReceivesOneMessage }
+    ensures as_sent { ReceivesItsMessage }
 {}

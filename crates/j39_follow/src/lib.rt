@@ -11,6 +11,7 @@ mod line_report;
 mod log_text;
 mod message;
 mod notice;
+mod pair;
 mod request;
 mod unit_report;
 
@@ -21,7 +22,7 @@ pub use flow::sending::{Aim, Sending, flow_of, group_of};
 pub use laws::{
     a_followed_log_has_one_text, contests_are_short, contests_last_a_wait,
     follow_and_read_see_alike, groups_are_told_alike, holders_are_one_to_one, messages_count_once,
-    names_are_of_their_units,
+    names_are_of_their_units, received_messages_are_as_sent,
 };
 pub use line::log_line::{interface, is_elsewhere, read_part, time_text};
 pub use line::moment::moment;

@@ -26,10 +26,11 @@ use crate::frame_report::report_frame;
 use crate::line::moment::moment;
 use crate::line::stamp::Stamp;
 use crate::message::Sort;
+use crate::pair::heard_pairs::HeardPairs;
 use crate::request::acknowledgement::{acknowledges, asker_or_source};
 use crate::request::exchanges::Exchanges;
 use j39_id::{Frame, cannot_claim, claims_address};
-use j39_log::{Groups, Listeners};
+use j39_log::Groups;
 use j39_network::Plan;
 use j39_text::TextBuffer;
 use std::alloc::{AllocError, Global};
@@ -47,7 +48,7 @@ pub(crate) struct UnitReport {
     pub exchanges: Exchanges,
     pub directory: Directory,
     contests: Contests,
-    listeners: Listeners,
+    pairs: HeardPairs,
 }
 
 impl UnitReport {
@@ -63,7 +64,7 @@ impl UnitReport {
             exchanges: Exchanges::new(alloc)?,
             directory: Directory::new(alloc, plan)?,
             contests: Contests::new(alloc)?,
-            listeners: Listeners::new(alloc),
+            pairs: HeardPairs::new(alloc),
         })
     }
 
@@ -80,7 +81,7 @@ impl UnitReport {
         ensures written { IfOk result (λ sorts. WritesFrame
             (IsKnownSoFar groups.now self.old.directory self.old.contests (moment_of stamp.entry.time.now)) groups.now
             self.old.all_frames (front_of stamp.entry) frame.now
-            sorts self.old.listeners self.new.listeners self.old.exchanges self.new.exchanges text.old text.new) }
+            sorts self.old.pairs self.new.pairs self.old.exchanges self.new.exchanges text.old text.new) }
     {
         let parties = taken(
             self.directory.parties(),
@@ -92,7 +93,7 @@ impl UnitReport {
         report_frame(
             self.all_frames,
             text,
-            &mut self.listeners,
+            &mut self.pairs,
             &mut self.exchanges,
             groups,
             &parties,
@@ -114,12 +115,12 @@ impl UnitReport {
         ensures stays { IsSameButWritten self.old self.new }
         ensures written { IfOk result (λ sorts. WritesFrame (IsCalm groups.now self.old.directory frame.now.ident)
             groups.now self.old.all_frames (front_of stamp.entry) frame.now
-            sorts self.old.listeners self.new.listeners self.old.exchanges self.new.exchanges text.old text.new) }
+            sorts self.old.pairs self.new.pairs self.old.exchanges self.new.exchanges text.old text.new) }
     {
         report_frame(
             self.all_frames,
             text,
-            &mut self.listeners,
+            &mut self.pairs,
             &mut self.exchanges,
             groups,
             self.directory.parties(),
@@ -140,7 +141,7 @@ impl UnitReport {
         ensures written { IfOk result (λ sorts. WritesFrame
             (IsKnownSoFar groups.now self.old.directory self.old.contests (moment_of stamp.entry.time.now)) groups.now
             self.old.all_frames (front_of stamp.entry) frame.now
-            sorts self.old.listeners self.new.listeners self.old.exchanges self.new.exchanges text.old text.new) }
+            sorts self.old.pairs self.new.pairs self.old.exchanges self.new.exchanges text.old text.new) }
     {
         if acknowledges(groups.plan(), frame) {
             return self.write_taken(groups, stamp, frame, text);
@@ -166,7 +167,7 @@ impl UnitReport {
         ensures reported { OnOk result ((past : FollowedPast)
             → Knows groups.now self.old.directory (frames_of (lines_with past frame.now stamp.entry.time.now))
             → AreContests groups.now self.old.contests (lines_with past frame.now stamp.entry.time.now)
-            → HaveHeardSince groups.now self.old.listeners past.seen → AreAllInRange past.seen
+            → HaveHeardSince groups.now self.old.pairs past.seen → AreAllInRange past.seen
             → IsTally groups.now self.old.tally.value past.sent
             → AreExchanges groups.now self.old.exchanges past.events → length past.sent + 2 < 2 ^ 64
             → length past.events + 3 < 2 ^ 64
@@ -201,7 +202,7 @@ impl UnitReport {
         self.directory.hear(groups.plan(), frame, earlier);
         self.report(groups, stamp, frame, text)?;
         let after = &self.directory.parties().all;
-        begin_anew(&mut self.listeners, &before, after, taken);
+        begin_anew(&mut self.pairs, &before, after, taken);
         Ok(())
     }
 

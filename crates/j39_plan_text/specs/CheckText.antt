@@ -1,4 +1,4 @@
--- The text that the check command writes for a plan file.
+-- What the check command writes for a plan.
 use Rattle.std.specs.Prelude.{◌≡◌, ℕ, ◌+◌, List, [], ◌∷◌, ◌++◌, codes, length}
 use Rattle.j39_network.specs.declared.plan.Plan.{Plan}
 use Rattle.j39_variants.specs.declared.line.ProductLine.{ProductLine}
@@ -11,7 +11,7 @@ use Rattle.j39_load.specs.LoadFindings.{AreLoadFindings}
 use Rattle.j39_plan_text.specs.Certified.{IsCertified}
 use Rattle.j39_plan_text.specs.FindingLines.{finding_lines}
 use Rattle.j39_plan_text.specs.LoadLines.{load_finding_lines}
-use Rattle.j39_plan_text.specs.PlanText.{Describes, IsOfOnePlan, IsRefusedText, IsReportedText}
+use Rattle.j39_plan_text.specs.PlanText.{Describes, IsRefusedText}
 use Rattle.j39_text.specs.Texts.{field}
 use Rattle.j39_stream.specs.declared.verdict.Verdict.{Verdict}
 use Rattle.j39_stream.specs.declared.verdict.Verdict.TheVariants.{Done, Findings, Refused, Unreadable}
@@ -39,10 +39,6 @@ IsReport plan text Findings = (others : List LoadFinding) × AreLoadFindings pla
     × ¬ ((found plan ≡ []) × (others ≡ [])) × (text ≡ findings_text plan (found plan) others)
 IsReport plan text Refused = ⊥
 IsReport plan text Unreadable = ⊥
-
--- what is written for a file
-abbrev pub IsCheckText : List ℕ → List ℕ → Verdict → Type 0
-IsCheckText = IsReportedText (IsOfOnePlan IsReport)
 
 -- ---- laws
 

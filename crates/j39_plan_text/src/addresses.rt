@@ -33,7 +33,7 @@ impl LineReport for AddressesReport {
 }
 
 /// Writes which units of the plan that a file describes hold their planned addresses whatever happens, and which may
-/// move; of a plan whose NAMEs or addresses have findings, what `check_text` writes; or why the file describes no plan.
+/// move; of a plan whose NAMEs or addresses have findings, what `check` writes; or why the file describes no plan.
 pub fn addresses_text<S: Source, W: Sink>(
     alloc: Global,
     source: &mut S,

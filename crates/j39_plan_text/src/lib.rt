@@ -3,7 +3,6 @@
 
 mod addresses;
 mod certificate;
-mod check;
 mod finding_lines;
 mod laws;
 mod live_identifiers;
@@ -22,7 +21,6 @@ mod variant;
 
 pub use addresses::addresses_text;
 pub use certificate::clean_plans_are_certified;
-pub use check::check_text;
 pub use finding_lines::{write_finding, write_run};
 pub use laws::{
     addresses_have_one_text, check_has_one_text, load_has_one_text,

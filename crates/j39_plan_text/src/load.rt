@@ -35,8 +35,8 @@ impl LineReport for LoadReport {
 
 /// Writes of each flow of the plan that a file describes how long its frames wait at most, that they aren't shown to be
 /// in time, or that it has no period, how much of the bus all flows take, and the findings of which these lines say
-/// nothing; where a finding hides the times, what
-/// `check_text` writes; that nothing is known of its bus; or why the file describes no plan.
+/// nothing; where a finding hides the times, what `check` writes; that nothing is known of its bus; or why the file
+/// describes no plan.
 pub fn load_text<S: Source, W: Sink>(
     alloc: Global,
     source: &mut S,

@@ -63,13 +63,3 @@ pub fn write_check(
     write_findings(alloc, text, plan, &found.findings, found.others.as_slice())?;
     Ok(Verdict::Findings)
 }
-
-/// What is written for a plan, with the verdict.
-pub(super) fn report(alloc: Global, plan: &Plan) -> Result<(TextBuffer, Verdict), AllocError>
-    ensures { IfOk result (λ report. IsReport plan.now report.0 report.1) }
-{
-    let found = PlanFindings::new(alloc, plan)?;
-    let mut text = TextBuffer::new(alloc);
-    let verdict = write_check(alloc, &mut text, plan, &found)?;
-    Ok((text, verdict))
-}

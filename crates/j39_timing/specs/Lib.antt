@@ -9,9 +9,7 @@ pub mod AnyOrder
 pub mod Errors
 pub mod QueueGroups
 pub mod FreshFrames
-pub mod Gateways
 pub mod Prefixes
-pub mod Vehicles
 pub mod Messages
 pub mod Rounds
 pub mod WantedMessages

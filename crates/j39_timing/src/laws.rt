@@ -7,12 +7,7 @@ ghost use Rattle.j39_timing.specs.Errors.{with_errors};
 ghost use Rattle.j39_timing.specs.Messages.{LongMessage, AreSentInTurn, AreSentWithin, IsBroadcast, all_whole_at};
 ghost use Rattle.j39_timing.specs.Messages.{time_of_messages};
 ghost use Rattle.j39_timing.specs.FreshFrames.{ComeOneByOne, IsFresh, IsNewest, IsNewestFresh, KeepsComing};
-ghost use Rattle.j39_timing.specs.Vehicles.{IsKnown, KeepsItsStreams, Vehicle};
 ghost use Rattle.j39_timing.specs.Prefixes.{IsPlannedUntil, AreBegunUntil, HaveWaitsUntil, IsQueueGroupUntil};
-ghost use Rattle.j39_timing.specs.Gateways.{Carrier, IsIts, time_of, Comes, IsYoung, HasOwnReleases, IsOldAtMost};
-ghost use Rattle.j39_timing.specs.Gateways.{KeepTo, HandsOn, SendsNewest, IsHandedOn, AreApart, EndWithin};
-ghost use Rattle.j39_timing.specs.Gateways.{KeepsToStream, Coming, ComesSo, Hop, AreHops, age_of, coming_at_last};
-ghost use Rattle.j39_timing.specs.Gateways.{last_of};
 ghost use Rattle.j39_timing.specs.AnyOrder.{AreBegunWithin, Controllers, HaveWaits, IsLegalInAnyOrder, IsFromOrdered};
 ghost use Rattle.j39_timing.specs.AnyOrder.{IsOrderedStream, IsUnordered, after_buffering, buffered_traffic};
 ghost use Rattle.j39_timing.specs.QueueGroups.{QueueGroup, QueueGroupDemandFits, IsTrafficOfQueueGroup};
@@ -245,41 +240,6 @@ pub fn frames_beside_any_order_are_in_time()
         → AreSentWithin s planned of i (traffic.stream i) wait }
 {}
 
-/// What is handed on from bus to bus comes as often as it does at its origin, and how long behind its release, how old
-/// its value was then, and how old it is at most where it is received: on its own bus (`by_itself`), handed on directly
-/// (`directly`), or sent at a gateway's own beat, by what it is at the gateway (`at_releases`); and so how old it is
-/// (`young`), behind however many gateways (`at_last`).
-pub fn ages_add_over_gateways()
-    ensures by_itself { (x : Carrier) (stream : TheStream) (wait pause old from to early : ℕ) → 0 < x.clock.unit
-        → IsStreamInTime x.schedule x.planned x.of x.source stream wait → KeepTo x stream → HasOwnReleases x
-        → KeepsComing x.schedule x.planned x.of x.source pause from to → to + (stream.jitter + wait) < x.schedule.now
-        → early + x.clock.unit * pause ≤ time_of x.clock from → IsOldAtMost x old early (time_of x.clock to)
-        → Comes x old (x.clock.unit * pause) (x.clock.unit * delay_of stream wait) (time_of x.clock from) (time_of x.clock to) }
-    ensures directly { (x y : Carrier) (stream : TheStream) (wait within old interval behind from to : ℕ)
-        → Comes x old interval behind from to → HandsOn x y within
-        → IsStreamInTime y.schedule y.planned y.of y.source stream wait → KeepTo y stream
-        → ((q : ℕ) → IsIts y q → time_of y.clock (y.of.since q) ≤ y.release q)
-        → to + y.clock.unit * (stream.jitter + wait) < time_of y.clock y.schedule.now
-        → Comes y old interval (behind + (within + y.clock.unit * (wait + stream.bits))) from to }
-    ensures at_releases { (x y : Carrier) (within age from to : ℕ) → IsYoung x age from to → SendsNewest x y within
-        → IsOldAtMost y (age + within) (from + within) (to + within) }
-    ensures young { (x : Carrier) (old interval behind from to : ℕ) → Comes x old interval behind from to
-        → IsYoung x (old + (interval + behind)) (from + behind) (to + behind) }
-    ensures at_last { (x : Carrier) (c : Coming) (hops : List Hop) → ComesSo x c → AreHops x c hops
-        → let d = coming_at_last c hops in
-        IsYoung (last_of x hops) (age_of d) (d.from + d.behind) (d.to + d.behind) }
-{}
-
-/// What a bus takes for granted of a stream that is handed on to it directly follows from what comes on the other bus:
-/// its messages are a period apart, where they are there, and are queued so late at most, where there is room for the
-/// input's time and the gateway's.
-pub fn forwarded_frames_keep_to_their_streams()
-    ensures keeps { (x y : Carrier) (within behind period jitter apart : ℕ) → 0 < y.clock.unit → EndWithin x behind
-        → IsHandedOn x y within
-        → AreApart x apart → behind + within ≤ y.clock.unit * jitter → y.clock.unit * period ≤ apart
-        → KeepsToStream y period jitter }
-{}
-
 /// What is said of frames up to a bit rests on what is seen up to there: each of the stream's frames that should have
 /// begun before it has done so, though of frames that are queued later nothing is known but their identifiers and
 /// lengths (`until`); of a queue group of units that keep no order too (`queue_group`), and of a unit that keeps order
@@ -303,20 +263,4 @@ pub fn frames_are_in_time_until()
         → DemandFits (buffered_traffic traffic waits) others longest i wait
         → IsSingle (traffic.stream i) → delay_of (traffic.stream i) wait ≤ (traffic.stream i).period
         → AreBegunUntil s planned of i wait by }
-{}
-
-/// What is handed on directly from bus to bus keeps to the streams that are planned for it, also where buses hand on to
-/// one another: nothing of it needs to be known but what gateways do, that its streams' lateness has room for what
-/// comes before, and that their periods are no longer than those of where it comes from.
-pub fn gateways_keep_streams()
-    ensures keeps { (v : Vehicle) → IsKnown v → (b : ℕ) → KeepsItsStreams (v.bus b) }
-{}
-
-/// What is asked of a vehicle for this can be met: there is one of which a frame of its first bus is handed on to
-/// another one.
-pub fn a_frame_is_handed_on()
-    ensures { (v : Vehicle) × IsKnown v × (v.direct 1 0 ≡ true) × (v.from_bus 1 0 ≡ 0) × ((v.bus 0).schedule.count ≡ 1)
-        × ((v.bus 1).schedule.count ≡ 1)
-        × ((v.bus 1).planned 0 ≡ true) × ((v.bus 1).of.source 0 ≡ 0)
-        × ((v.bus 0).schedule.start 0 + (v.bus 0).schedule.bits 0 ≡ (v.bus 1).schedule.queued 0) }
 {}

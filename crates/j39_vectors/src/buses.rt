@@ -1,5 +1,5 @@
 //! Buses that are stepped: outcomes, which no schedule shows, and the largest bus.
-use crate::rows::CHECK_OF_A_PLAN;
+use crate::plan::PLAN;
 use j39_bus::{Bus, StepError};
 use j39_claim::{Choose, Lowest};
 use j39_plan::{Plan, Step, read_plan};
@@ -55,9 +55,7 @@ fn ends(
     outcome: Option<Outcome>,
     counts: (usize, usize),
 ) -> Result<(), Fail> {
-    let plan = read_plan(alloc, CHECK_OF_A_PLAN.plan.as_bytes())
-        .ok()
-        .ok_or("no plan")?;
+    let plan = read_plan(alloc, PLAN.as_bytes()).ok().ok_or("no plan")?;
     assert!(rt; plan.units.len() == 2);
     let choosers = choosers_of(alloc, &plan)?;
     let mut bus = Bus::new(alloc, &plan, choosers)?;

@@ -3,10 +3,11 @@ ghost use Rattle.std.specs.Prelude.{◌≡◌, ◌-◌, ◌<◌, unwrap_or};
 ghost use Rattle.std.specs.List.{find, range_with_len};
 ghost use Rattle.j39_claim.specs.AddressSets.{is_free};
 
-use j39_app::{Pieces, Stop, Verdict, run_text};
 use j39_claim::{AddressSet, Choose, Lowest};
 use j39_id::{Address, Name};
 use j39_plan::read_plan;
+use j39_run::run_text;
+use j39_stream::{Pieces, Stop, Verdict};
 use std::alloc::Global;
 use std::test::Fail;
 

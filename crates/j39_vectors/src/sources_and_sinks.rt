@@ -1,5 +1,6 @@
 //! Sources and sinks in pieces.
-use j39_app::{Failed, FromRead, Pieces, Sink, Source, Stop, ToWrite, Verdict, input_text};
+use j39_stream::{Failed, FromRead, Pieces, Sink, Source, Stop, ToWrite, Verdict};
+use j39_text::input_text;
 use std::test::Fail;
 
 #[test]

@@ -1,6 +1,6 @@
 //! Steps as lines of a schedule, and the units that such lines name.
 
-use crate::rows::CHECK_OF_A_PLAN;
+use crate::plan::PLAN;
 use j39_plan::{Step, read_plan};
 use j39_schedule::{Units, write_steps};
 use j39_text::TextBuffer;
@@ -35,9 +35,7 @@ name = { identity = 2 }
 #[test]
 fn each_step_has_its_line(rt: HostRuntime) -> Result<(), Fail> {
     let alloc = rt.alloc();
-    let plan = read_plan(alloc, CHECK_OF_A_PLAN.plan.as_bytes())
-        .ok()
-        .ok_or("no plan")?;
+    let plan = read_plan(alloc, PLAN.as_bytes()).ok().ok_or("no plan")?;
     let steps = vec![in alloc;
         Step::Up(0),
         Step::Down(0),

@@ -1,8 +1,6 @@
 -- What is written of a vehicle file alone: nothing of one that says what a vehicle has, else why it is refused; and of the plan of a bus.
-use Rattle.std.specs.Prelude.{◌≡◌, ◌⊎◌, ◌≢◌, ℕ, nat_lt, Bool, true, false, List, [], ◌∷◌, ◌++◌, codes, Option, Some, None, Ok, Err}
-use Rattle.std.specs.Option.{option_map_or}
+use Rattle.std.specs.Prelude.{◌≡◌, ◌⊎◌, ◌≢◌, ℕ, List, [], ◌∷◌, ◌++◌, codes, Option, Some, None, Ok, Err}
 use Rattle.j39_network.specs.declared.plan.Plan.{Plan}
-use Rattle.j39_network.specs.declared.plan.timing.Timing.{Timing}
 use Rattle.j39_toml.specs.CauseWords.{cause_word}
 use Rattle.j39_vehicle.specs.declared.file.VehicleFile.{VehicleFile}
 use Rattle.j39_vehicle.specs.VehicleErrors.{VehicleFault, VehicleError}
@@ -79,25 +77,6 @@ bus_choices label = bus_line label ++ choices_line
 abbrev pub RefusesBusChoices : List ℕ → List ℕ → Option Plan → Type 0
 RefusesBusChoices label text plan = (text ≡ bus_choices label) × (plan ≡ None)
 
--- times over gateways aren't told yet where clocks differ
-unfoldable pub drift_line : List ℕ
-drift_line = codes "refused plan Drift\n"
-
--- the bus, and that its clocks may differ
-unfoldable pub bus_drift : List ℕ → List ℕ
-bus_drift label = bus_line label ++ drift_line
-
-abbrev pub RefusesBusDrift : List ℕ → List ℕ → Option Plan → Type 0
-RefusesBusDrift label text plan = (text ≡ bus_drift label) × (plan ≡ None)
-
--- the plan's clocks may differ from true time
-abbrev pub has_drift : Plan → Bool
-has_drift plan = option_map_or (λ (timing : Timing). nat_lt 0 timing.drift) plan.timing false
-
--- the bytes describe one plan, whose clocks may differ
-abbrev pub DescribesDrift : List ℕ → Type 0
-DescribesDrift bytes = (plan : Plan) × DescribesOnePlan bytes plan × (has_drift plan ≡ true)
-
 -- the bytes describe a line of vehicles of several variants
 abbrev pub HasChoices : List ℕ → Type 0
 HasChoices bytes = (line : ProductLine) × Describes bytes line × (line.choices.items ≢ [])
@@ -105,10 +84,9 @@ HasChoices bytes = (line : ProductLine) × Describes bytes line × (line.choices
 -- the bytes describe no plan: the bus, and why
 abbrev pub IsRefusedBus : List ℕ → List ℕ → List ℕ → Type 0
 IsRefusedBus label bytes text =
-    ((line : List ℕ) × IsRefusedText bytes line × (text ≡ bus_line label ++ line))
-    ⊎ ((HasChoices bytes × (text ≡ bus_choices label)) ⊎ (DescribesDrift bytes × (text ≡ bus_drift label)))
+    ((line : List ℕ) × IsRefusedText bytes line × (text ≡ bus_line label ++ line)) ⊎ (HasChoices bytes × (text ≡ bus_choices label))
 
 -- what is written of the plan of a bus, with it, where it isn't refused
 abbrev pub IsBusPlanText : List ℕ → List ℕ → List ℕ → Option Plan → Type 0
-IsBusPlanText label bytes text (Some plan) = DescribesOnePlan bytes plan × (has_drift plan ≡ false) × (text ≡ [])
+IsBusPlanText label bytes text (Some plan) = DescribesOnePlan bytes plan × (text ≡ [])
 IsBusPlanText label bytes text None = IsRefusedBus label bytes text

@@ -2,8 +2,8 @@
 ghost use Rattle.std.specs.Prelude.{◌≡◌, ◌++◌, IfOk, OnOk, OnSome};
 ghost use Rattle.j39_stream.specs.CommandEnds.{AnswersWhole, PutsText};
 ghost use Rattle.j39_stream.specs.Streams.{plan_limits};
-ghost use Rattle.j39_vehicle_text.specs.VehicleFileText.{IsBusPlanText, IsBusRefusal, IsRefusedBus, RefusesBus, RefusesBusChoices};
-ghost use Rattle.j39_vehicle_text.specs.VehicleFileText.{RefusesBusDrift, bus_choices, bus_drift, bus_line, has_drift};
+ghost use Rattle.j39_vehicle_text.specs.VehicleFileText.{IsBusPlanText, IsBusRefusal, IsRefusedBus, RefusesBus, RefusesBusChoices, bus_choices};
+ghost use Rattle.j39_vehicle_text.specs.VehicleFileText.{bus_line};
 
 use j39_id::Label;
 use j39_network::Plan;
@@ -70,36 +70,7 @@ fn refuse_choices<W: Sink>(
     Ok(None)
 }
 
-// Whether the clocks of a plan may differ from true time.
-fn has_drift(plan: &Plan) -> bool
-    ensures { result ≡ has_drift plan.now }
-{
-    match plan.timing {
-        Some(timing) => timing.drift > 0,
-        None => false,
-    }
-}
-
-// Which bus it is whose clocks may differ.
-#[tactic(auto, unfolding(crate::specs::VehicleFileText::bus_drift, crate::specs::VehicleFileText::drift_line))]
-fn drift_refused(alloc: Global, label: &Label) -> Result<TextBuffer, AllocError>
-    ensures { IfOk result (λ text. text ≡ bus_drift label.now.bytes) }
-{
-    let mut text = TextBuffer::new(alloc);
-    write_bus(&mut text, label)?;
-    text.word("refused plan Drift\n")?;
-    Ok(text)
-}
-
-fn refuse_drift<W: Sink>(alloc: Global, label: &Label, sink: &mut W) -> Result<Option<Plan>, Fault>
-    ensures { PutsText (RefusesBusDrift label.now.bytes) W.state sink.old sink.new result }
-{
-    let text = drift_refused(alloc, label)?;
-    put_all(sink, text.as_slice())?;
-    Ok(None)
-}
-
-/// The plan that the file of a bus describes, which has no choices and whose clocks agree. Where there is none, writes the bus and the line
+/// The plan that the file of a bus describes, which has no choices. Where there is none, writes the bus and the line
 /// that says why, and gives none.
 pub fn bus_plan<S: Source, W: Sink>(
     alloc: Global,
@@ -116,8 +87,6 @@ pub fn bus_plan<S: Source, W: Sink>(
         Ok(line) => {
             if line.has_choices() {
                 refuse_choices(alloc, label, sink)
-            } else if has_drift(&line.plan) {
-                refuse_drift(alloc, label, sink)
             } else {
                 Ok(Some(line.plan))
             }

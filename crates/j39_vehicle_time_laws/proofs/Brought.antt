@@ -2,14 +2,11 @@
 use Rattle.std.proofs.Common.{◌≡◌, ℕ, zero, suc, ◌+◌, ◌≤◌, [], Bool, Option, Some, None, refl, sym, ap, ◌∙◌, subst, inl, inr, arith}
 use Rattle.std.proofs.lemmas.Bool.{cases_Bool, false≢true, leb-true}
 use Rattle.std.proofs.lemmas.Option.{none-some, same_Some}
-use Rattle.std.specs.Prelude.{if◌then◌else◌, nat_le}
+use Rattle.std.specs.Prelude.{nat_le}
 use Rattle.std.specs.List.{slice_get}
 use Rattle.std.specs.Option.{option_and_then, option_map_or}
-use Rattle.j39_signal.specs.Bits.{raw_of}
 use Rattle.j39_signal.specs.Parts.{IsSignal, SignalParts}
 use Rattle.j39_signal.specs.Places.{end_of}
-use Rattle.j39_signal.specs.State.{state_of}
-use Rattle.j39_signal.specs.declared.state.State.TheVariants.{Absent}
 use Rattle.j39_network.specs.declared.plan.group_plan.GroupPlan.{GroupPlan}
 use Rattle.j39_vehicle.specs.declared.vehicle.Vehicle.{Vehicle}
 use Rattle.j39_vehicle.specs.declared.vehicle.forward.Forward.{Forward}

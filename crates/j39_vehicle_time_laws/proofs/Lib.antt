@@ -16,3 +16,4 @@ mod Timely
 mod Until
 mod Whole
 mod Young
+mod TrueTimes

@@ -1,5 +1,5 @@
 -- A bus on which one frame is seen, of a flow of which a delay is told, or none: that it keeps to its plan.
-use Rattle.std.proofs.Common.{◌≡◌, ◌≢◌, ℕ, zero, suc, ◌+◌, ◌<◌, ◌≤◌, true, List, [], ◌∷◌, ◌++◌, length, Option, Some, None, refl, sym, ap, ◌∙◌, subst, inl}
+use Rattle.std.proofs.Common.{◌≡◌, ℕ, zero, suc, ◌*◌, ◌<◌, ◌≤◌, Bool, true, List, [], ◌∷◌, ◌++◌, length, Option, Some, None, refl, sym, ap, ◌∙◌, subst, inl}
 use Rattle.std.proofs.Common.{arith}
 use Rattle.std.proofs.lemmas.Bool.{true≢false}
 use Rattle.std.proofs.lemmas.Option.{slice_get-map}
@@ -27,6 +27,7 @@ use Rattle.j39_load.proofs.StreamsBefore.{get_or_inside, own_read, with_damage}
 use Rattle.j39_timing.specs.Sums.{total}
 use Rattle.j39_timing.specs.TimedFrames.{IsLegal, Schedule}
 use Rattle.j39_timing.specs.Traffic.{Traffic, others_queued}
+use Rattle.j39_load.specs.Clocks.{IsTrueTime}
 use Rattle.j39_vehicle.specs.declared.vehicle.Vehicle.{Vehicle}
 use Rattle.j39_vehicle_times.specs.BusDelays.{delays_on}
 use Rattle.j39_vehicle_times.specs.declared.bus_delays.Delays.{Delays}
@@ -42,11 +43,12 @@ use Rattle.j39_vehicle_time_laws.proofs.OneFlow.{short_frames}
 abbrev one_frame : ℕ → ℕ → ℕ → Schedule
 one_frame queued ident by = record { count = 1; queued = λ p. queued; start = λ p. queued; bits = λ p. 1; ident = λ p. ident; now = by }
 
-abbrev pub bus_with : ℕ → ℕ → ℕ → ℕ → ℕ → SeenBus
-bus_with count flow queued ident by = record {
+-- with a clock all of whose bits are as long
+abbrev pub bus_with : ℕ → ℕ → ℕ → ℕ → ℕ → ℕ → SeenBus
+bus_with unit count flow queued ident by = record {
   schedule = record { count = count; queued = λ p. queued; start = λ p. queued; bits = λ p. 1; ident = λ p. ident; now = by };
   controllers = all_in_order;
-  phase = 0;
+  time = λ t. unit * t;
   planned = λ p. true;
   of = record { source = λ p. flow; turn = λ p. 0; since = λ p. 0 };
   release = λ p. 0;
@@ -66,7 +68,7 @@ one_legal queued ident by = record {
   in_order = λ p q in_p in_q seen waits. omega arith;
 }
 
-none_legal : (flow queued ident by : ℕ) → IsLegal (bus_with 0 flow queued ident by).schedule
+none_legal : (flow queued ident by : ℕ) → IsLegal (bus_with 1 0 flow queued ident by).schedule
 none_legal flow queued ident by = record {
   positive = λ p in_p. absurd (omega arith);
   queued_first = λ p in_p. absurd (omega arith);
@@ -143,7 +145,7 @@ module _ (v : Vehicle) (delays : Delays) (b : ℕ) (timing : Timing) (of_bus : I
 
 -- ---- what such buses keep
 
-module _ (timing : Timing) (all : List (Option FlowFrames)) (flow queued ident by : ℕ) (suits : Fits (streams_of timing all) flow ident)
+module _ (timing : Timing) (unit : ℕ) (clock : IsTrueTime timing (λ t. unit * t)) (all : List (Option FlowFrames)) (flow queued ident by : ℕ) (suits : Fits (streams_of timing all) flow ident)
     (ordered : (j : ℕ) → keep_order (planned_at all j) ≡ true) where
   one_keeps : (i : ℕ) → KeepsOtherwise timing all (one_frame queued ident by) all_in_order (λ p. true) (record
       { source = λ p. flow; turn = λ p. 0; since = λ p. 0 }) i
@@ -162,9 +164,11 @@ module _ (timing : Timing) (all : List (Option FlowFrames)) (flow queued ident b
     queue_groups = λ j level goes kept is. absurd (true≢false (sym (ordered j) ∙ kept));
   }
 
-  pub one_kept : (v : Vehicle) (delays : Delays) (b : ℕ) → (¬ IsSentOn v delays (record { bus = b; flow = flow }) → queued ≡ 0)
-      → IsOtherwiseKept v delays b timing all (bus_with 1 flow queued ident by)
-  one_kept v delays b early = record {
+  pub one_kept : (v : Vehicle) (delays : Delays) (b : ℕ) (flows : ℕ → Bool) → (¬ IsSentOn v delays (record { bus = b; flow = flow }) → queued ≡ 0)
+      → IsOtherwiseKept v delays b timing all flows (bus_with unit 1 flow queued ident by)
+  one_kept v delays b flows early = record {
+    clock = clock;
+    apart = λ p q ms other in_p in_q differ. absurd (differ (one_place p q in_p in_q));
     legal = legal_in_order (one_frame queued ident by) (one_legal queued ident by);
     own = λ p in_p is own. record {
       known = suits.inside;
@@ -175,19 +179,21 @@ module _ (timing : Timing) (all : List (Option FlowFrames)) (flow queued ident b
     };
     sent_on = λ p in_p is sent. (suits.inside, suits.some_bits, let one = suits.single in omega (arith, one));
     spaced = λ p q in_p in_q differ. absurd (differ (one_place p q in_p in_q));
-    frames = λ other bits at. one_keeps other;
+    frames = λ other bits among at. one_keeps other;
   }
 
-pub none_kept : (v : Vehicle) (delays : Delays) (b : ℕ) (timing : Timing) (all : List (Option FlowFrames)) (by : ℕ)
-    → IsOtherwiseKept v delays b timing all (bus_with 0 0 0 0 by)
-none_kept v delays b timing all by = record {
-  legal = legal_in_order (bus_with 0 0 0 0 by).schedule (none_legal 0 0 0 by);
+pub none_kept : (v : Vehicle) (delays : Delays) (b : ℕ) (timing : Timing) (all : List (Option FlowFrames)) (flows : ℕ → Bool) (by unit : ℕ)
+    → IsTrueTime timing (λ t. unit * t) → IsOtherwiseKept v delays b timing all flows (bus_with unit 0 0 0 0 by)
+none_kept v delays b timing all flows by unit clock = record {
+  clock = clock;
+  apart = λ p q ms other in_p. absurd (omega arith);
+  legal = legal_in_order (bus_with unit 0 0 0 0 by).schedule (none_legal 0 0 0 by);
   own = λ p in_p. absurd (omega arith);
   sent_on = λ p in_p. absurd (omega arith);
   spaced = λ p q in_p. absurd (omega arith);
-  frames = λ flow bits at. record {
+  frames = λ flow bits among at. record {
     longest_at_most = λ p in_p. absurd (omega arith);
-    as_wanted = never_wanted (bus_with 0 0 0 0 by).schedule (λ p. true) (record { source = λ p. 0; turn = λ p. 0; since = λ p. 0 })
+    as_wanted = never_wanted (bus_with unit 0 0 0 0 by).schedule (λ p. true) (record { source = λ p. 0; turn = λ p. 0; since = λ p. 0 })
         (streams_of timing all).demands
         (streams_of timing all).stream (λ p in_p. absurd (omega arith));
     from_least = λ p in_p. absurd (omega arith);

@@ -1,8 +1,9 @@
 -- How old a value is at the release of the message that brings it.
-use Rattle.std.proofs.Common.{◌≡◌, ℕ, zero, suc, ◌+◌, ◌-◌, ◌<◌, ◌≤◌, if◌then◌else◌, Bool, true, false, [], length, Option, Some, None, refl, sym, ap, ◌∙◌}
+use Rattle.std.proofs.Common.{◌≡◌, ℕ, zero, suc, ◌+◌, ◌-◌, ◌*◌, ◌<◌, ◌≤◌, if◌then◌else◌, Bool, true, false, [], length, Option, Some, None, refl, sym, ap, ◌∙◌}
 use Rattle.std.proofs.Common.{subst, inl, inr, arith}
 use Rattle.std.proofs.lemmas.Bool.{cases_Bool}
 use Rattle.std.proofs.lemmas.Option.{none-some, same_Some}
+use Rattle.std.specs.Int.{div_ceil}
 use Rattle.std.specs.Option.{option_and_then, option_map_or}
 use Rattle.j39_network.specs.declared.plan.timing.Timing.{Timing}
 use Rattle.j39_vehicle.specs.declared.vehicle.Vehicle.{Vehicle}
@@ -12,19 +13,20 @@ use Rattle.j39_vehicle_findings.specs.Traces.{goes_on, next_forward}
 use Rattle.j39_vehicle_findings.specs.VehicleFindings.{AreFindings}
 use Rattle.j39_vehicle_findings.specs.declared.point.FlowAt.{FlowAt}
 use Rattle.j39_vehicle_findings.specs.declared.point.Point.{Point}
-use Rattle.j39_timing.specs.Gateways.{HasBegun, IsIts, end_time, queue_time}
+use Rattle.j39_gateways.specs.Gateways.{HasBegun, end_time, queue_time}
 use Rattle.j39_vehicle_times.specs.declared.bus_delays.Delays.{Delays}
-use Rattle.j39_vehicle_times.specs.Times.{age_with, behind_at, behind_by, direct_feeder, forward_at, first_input_at, old_behind, old_by, interval, sum_known, timing_on}
+use Rattle.j39_vehicle_times.specs.Times.{age_with, behind_at, behind_by, direct_feeder, forward_at, first_input_at, old_behind, old_by, interval, interval_us, sum_known, timing_on}
 use Rattle.j39_vehicle_times.specs.Times.{within_of}
 use Rattle.j39_vehicle_times.specs.BusDelays.{AreDelays}
-use Rattle.j39_vehicle_times.proofs.DecidingTimes.{and_then_some}
+use Rattle.j39_vehicle_times.proofs.DecidingTimes.{and_then_some, map_some}
 use Rattle.j39_vehicle_time_laws.specs.Prompt.{IsSentDirectly}
-use Rattle.j39_vehicle_time_laws.specs.Seen.{SeenBuses, frames_at}
-use Rattle.j39_vehicle_time_laws.specs.YoungValues.{IsBroughtFrom, IsOnTheWay, IsSeenVehicle, KeepPauses, at_its_origin, behind_it, by_forward}
-use Rattle.j39_vehicle_time_laws.proofs.Behind.{fed_never, fed_parts, is_behind, sends_directly}
+use Rattle.j39_vehicle_time_laws.specs.Seen.{SeenBuses, frames_at, of_us}
+use Rattle.j39_vehicle_time_laws.specs.YoungValues.{HasWay, IsBroughtFrom, IsOnTheWay, IsSeenVehicle, KeepPauses, at_its_origin, behind_it, by_forward}
+use Rattle.j39_vehicle_time_laws.proofs.Behind.{fed_never, fed_parts, is_behind, sends_directly, source_among}
 use Rattle.j39_vehicle_time_laws.proofs.Feeders.{goes_on_input, next_feeds, one_feeder, some_feeder}
 use Rattle.j39_vehicle_time_laws.proofs.Order.{ends_behind, in_order, queued_till_end}
 use Rattle.j39_vehicle_time_laws.proofs.Parts.{some_cases, sum_some}
+use Rattle.j39_vehicle_time_laws.proofs.TrueTimes.{in_us}
 use Rattle.j39_vehicle_time_laws.proofs.Interval.{KeepsOn, keeps_on}
 
 -- ---- the parts of what is known
@@ -87,7 +89,7 @@ record IsPeriodicOld (v : Vehicle) (delays : Delays) (forward : Forward) (at : F
   old : ℕ
   old_is : known ≡ Some old
   pause : ℕ
-  pause_is : interval v at ≡ Some pause
+  pause_is : interval_us v at ≡ Some pause
   before : ℕ
   before_is : behind_at v delays at ≡ Some before
   within : ℕ
@@ -100,8 +102,8 @@ periodic_old v delays at known forward periodic total is =
     let here : sum_known (age_with v delays at known) (within_of forward) ≡ Some total =
     subst (λ (b : Bool). (if b then known else sum_known (age_with v delays at known) (within_of forward)) ≡ Some total) periodic is in
     let (age, within, of_age, promised, one) = sum_some (age_with v delays at known) (within_of forward) total here in
-    let (old, rest, of_old, of_rest, two) = sum_some known (sum_known (interval v at) (behind_at v delays at)) age of_age in
-    let (pause, before, of_pause, of_behind, three) = sum_some (interval v at) (behind_at v delays at) rest of_rest in
+    let (old, rest, of_old, of_rest, two) = sum_some known (sum_known (interval_us v at) (behind_at v delays at)) age of_age in
+    let (pause, before, of_pause, of_behind, three) = sum_some (interval_us v at) (behind_at v delays at) rest of_rest in
     record {
       old = old;
       old_is = of_old;
@@ -119,46 +121,46 @@ periodic_old v delays at known forward periodic total is =
 trans3 : (a b c d : ℕ) → a ≤ b → b ≤ c → c ≤ d → a ≤ d
 trans3 a b c d one two three = omega arith
 
-into_reach : (from old pause before within m : ℕ) → from + (old + (pause + before) + within) ≤ m → from ≤ m - (before + within)
+into_reach : (from old pause before within m : ℕ) → from + of_us (old + (pause + before) + within) ≤ m → from ≤ m - of_us (before + within)
 into_reach from old pause before within m late = omega arith
 
-within_reach : (from old pause by before within m : ℕ) → from + (old + (pause + before) + within) ≤ m → m ≤ by → m - (before + within) + before ≤ by
+within_reach : (from old pause by before within m : ℕ) → from + of_us (old + (pause + before) + within) ≤ m → m ≤ by → m - of_us (before + within) + of_us before ≤ by
 within_reach from old pause by before within m late early = omega arith
 
-begun_reach : (from old pause by before within m r : ℕ) → from + (old + (pause + before) + within) ≤ m → m ≤ by → r ≤ m - (before + within) → r + before ≤ by
+begun_reach : (from old pause by before within m r : ℕ) → from + of_us (old + (pause + before) + within) ≤ m → m ≤ by → r ≤ m - of_us (before + within) → r + of_us before ≤ by
 begun_reach from old pause by before within m r late early order = omega arith
 
-had_ended : (from old pause before within m r end : ℕ) → from + (old + (pause + before) + within) ≤ m → r ≤ m - (before + within) → end ≤ r + before
-    → end + within ≤ m
+had_ended : (from old pause before within m r end : ℕ) → from + of_us (old + (pause + before) + within) ≤ m → r ≤ m - of_us (before + within) → end ≤ r + of_us before
+    → end + of_us within ≤ m
 had_ended from old pause before within m r end late early timely = omega arith
 
-not_too_old : (from old pause before within m r end : ℕ) → from + (old + (pause + before) + within) ≤ m → m - (before + within) < r + pause → r < end
-    → m < end + (pause + (before + within))
+not_too_old : (from old pause before within m r end : ℕ) → from + of_us (old + (pause + before) + within) ≤ m → m - of_us (before + within) < r + of_us pause → r < end
+    → m < end + of_us (pause + (before + within))
 not_too_old from old pause before within m r end late near later = omega arith
 
-still_late : (from old pause before within m r c : ℕ) → from + (old + (pause + before) + within) ≤ m → m - (before + within) < r + pause → r ≤ c
-    → from + old ≤ c
+still_late : (from old pause before within m r c : ℕ) → from + of_us (old + (pause + before) + within) ≤ m → m - of_us (before + within) < r + of_us pause → r ≤ c
+    → from + of_us old ≤ c
 still_late from old pause before within m r c late near order = omega arith
 
-old_there : (from old pause before within m r c time : ℕ) → from + (old + (pause + before) + within) ≤ m → m - (before + within) < r + pause → r ≤ c
-    → c ≤ time + old → m ≤ time + (old + (pause + before) + within)
+old_there : (from old pause before within m r c time : ℕ) → from + of_us (old + (pause + before) + within) ≤ m → m - of_us (before + within) < r + of_us pause → r ≤ c
+    → c ≤ time + of_us old → m ≤ time + of_us (old + (pause + before) + within)
 old_there from old pause before within m r c time late near order so = omega arith
 
 -- ---- values
 
 module _ (v : Vehicle) (delays : Delays) (none : AreFindings v []) (told : AreDelays v delays) (seen : SeenBuses) (by : ℕ) (is : IsSeenVehicle v delays seen by)
-    (start : Point) (from : ℕ) (pauses : KeepPauses v seen start from by) where
+    (start : Point) (has : HasWay v is.scope start) (from : ℕ) (pauses : KeepPauses v seen start from by) where
   -- each message that has ended says what was so no more than `old` before its release, where this is so much behind the time from which on pauses
   -- are kept, and brings it from its origin
   abbrev pub IsOldAtMost : Point → ℕ → Type 0
-  IsOldAtMost p old = (q : ℕ) → HasBegun (frames_at v seen p.at) q → end_time (frames_at v seen p.at) q ≤ by → from + old ≤ (seen p.at.bus).release q
-      → (time : ℕ) × ((seen p.at.bus).born q p.signal ≡ Some time) × ((seen p.at.bus).release q ≤ time + old) × (time ≤ end_time (frames_at v seen p.at) q)
+  IsOldAtMost p old = (q : ℕ) → HasBegun (frames_at v seen p.at) q → end_time (frames_at v seen p.at) q ≤ by → from + of_us old ≤ (seen p.at.bus).release q
+      → (time : ℕ) × ((seen p.at.bus).born q p.signal ≡ Some time) × ((seen p.at.bus).release q ≤ time + of_us old) × (time ≤ end_time (frames_at v seen p.at) q)
       × IsBroughtFrom v seen p q time
 
-  at_origin : (p : Point) (old : ℕ) → next_forward v p ≡ None → old ≡ 0 → (k time : ℕ) → behind_by v delays k p.at ≡ Some time → IsOldAtMost p old
-  at_origin p old last zero_old k time behind_p q its ended late =
-      let (born, says, so, written) = is.origins p last q its.0 in
-      let till = queued_till_end v delays seen by is p.at time (is_behind v delays told seen by is k p.at time behind_p) q its.0 in (
+  at_origin : (p : Point) (old : ℕ) → IsOnTheWay v start p → next_forward v p ≡ None → old ≡ 0 → (k time : ℕ) → behind_by v delays k p.at ≡ Some time → IsOldAtMost p old
+  at_origin p old way last zero_old k time behind_p q its ended late =
+      let (born, says, so, written) = is.origins p (has p way) last q its.0 in
+      let till = queued_till_end v delays seen by is p.at time (is_behind v delays told seen by is k p.at (has p way) time behind_p) q its.0 in (
         born,
         says,
         omega (arith, so, zero_old),
@@ -167,19 +169,20 @@ module _ (v : Vehicle) (delays : Delays) (none : AreFindings v []) (told : AreDe
       )
 
   -- by a direct forward
-  directly : (p x : Point) (n : ℕ) (forward : Forward) (old : ℕ) → next_forward v p ≡ Some n → goes_on v p n ≡ Some x → forward_at v n ≡ Some forward
+  directly : (p x : Point) (n : ℕ) (forward : Forward) (old : ℕ) → IsOnTheWay v start p → next_forward v p ≡ Some n → goes_on v p n ≡ Some x → forward_at v n ≡ Some forward
       → is_direct forward ≡ true → (steps time : ℕ) → behind_by v delays steps p.at ≡ Some time
       → ((k before : ℕ) → behind_by v delays k x.at ≡ Some before → IsOldAtMost x old) → IsOldAtMost p old
-  directly p x n forward old next on its direct steps time known input = go (direct_feeder v p.at) refl steps known
+  directly p x n forward old way next on its direct steps time known input = go (direct_feeder v p.at) refl steps known
     where
       go : (o : Option Forward) → direct_feeder v p.at ≡ o → (steps : ℕ) → behind_by v delays steps p.at ≡ Some time → IsOldAtMost p old
       go None feeder steps known = absurd (some_feeder v p n forward next its direct feeder)
       go (Some feeder) feeds_it zero known = absurd (fed_never v delays p.at time feeder feeds_it known)
       go (Some feeder) feeds_it (suc steps) known =
           let fed = fed_parts v delays steps p.at time feeder feeds_it known in
-          let behind_x = is_behind v delays told seen by is steps fed.source fed.before fed.before_is in
-          let behind_p = is_behind v delays told seen by is (suc steps) p.at time known in
-          let (place, found, sent_there) = sends_directly v delays told seen by is p.at feeder fed.source fed.within fed.before behind_p.own_time feeds_it
+          let too = source_among v delays told seen by is p.at (has p way) feeder fed.source fed.own_time feeds_it fed.source_is fed.own_is in
+          let behind_x = is_behind v delays told seen by is steps fed.source too fed.before fed.before_is in
+          let behind_p = is_behind v delays told seen by is (suc steps) p.at (has p way) time known in
+          let (place, found, sent_there) = sends_directly v delays told seen by is p.at (has p way) feeder fed.source fed.within fed.before behind_p.own_time feeds_it
           fed.source_is
           fed.promised behind_p.one behind_x in
           let same : n ≡ place = one_feeder v none p n place forward feeder next its direct found in
@@ -213,25 +216,28 @@ module _ (v : Vehicle) (delays : Delays) (none : AreFindings v []) (told : AreDe
           )
 
   -- by one that has its own releases
-  at_its_beat : (p x : Point) (n : ℕ) (forward : Forward) (old pause before within : ℕ) → IsOnTheWay v start x → next_forward v p ≡ Some n
+  at_its_beat : (p x : Point) (n : ℕ) (forward : Forward) (old pause before within : ℕ) → IsOnTheWay v start p → IsOnTheWay v start x → next_forward v p ≡ Some n
       → goes_on v p n ≡ Some x
-      → forward_at v n ≡ Some forward → is_direct forward ≡ false → interval v x.at ≡ Some pause → behind_at v delays x.at ≡ Some before
+      → forward_at v n ≡ Some forward → is_direct forward ≡ false → interval_us v x.at ≡ Some pause → behind_at v delays x.at ≡ Some before
       → within_of forward ≡ Some within
       → (steps time : ℕ) → behind_by v delays steps p.at ≡ Some time → IsOldAtMost x old → IsOldAtMost p (old + (pause + before) + within)
-  at_its_beat p x n forward old pause before within way next on its periodic pauses_x behind_x promised steps time known input =
+  at_its_beat p x n forward old pause before within here way next on its periodic pauses_x behind_x promised steps time known input =
       let sent = is.prompt.periodic n forward x.at p.at within pause before
-      (record { its = its; output = next_feeds v p n forward next its; input = goes_on_input v p x n forward its on; promised = promised }) periodic pauses_x
+      (record { its = its; output = next_feeds v p n forward next its; input = goes_on_input v p x n forward its on; promised = promised }) periodic (has p here) pauses_x
       behind_x in
-      let of_x = is_behind v delays told seen by is (length v.forwards.items) x.at before behind_x in
-      let of_p = is_behind v delays told seen by is steps p.at time known in
-      let keeps : KeepsOn v seen x.at pause before from by = keeps_on v delays told seen by is start from pauses x way (length v.forwards.items) pause pauses_x
+      let of_x = is_behind v delays told seen by is (length v.forwards.items) x.at (has x way) before behind_x in
+      let of_p = is_behind v delays told seen by is steps p.at (has p here) time known in
+      let (ns, ns_is, made) = map_some (λ (ns : ℕ). div_ceil ns 1000) (interval v x.at) pause pauses_x in
+      let enough : 1000 * ns ≤ of_us pause = subst (λ (us : ℕ). 1000 * ns ≤ of_us us) made (in_us ns) in
+      let keeps : KeepsOn v seen x.at ns before from by = keeps_on v delays told seen by is start has from pauses x way (length v.forwards.items) ns ns_is
       (length v.forwards.items) before behind_x in
       λ q it ended late.
       let till = queued_till_end v delays seen by is p.at time of_p q it.0 in
       let early : (seen p.at.bus).release q ≤ by = trans3 _ _ _ _ (of_p.first q it.0) till ended in
-      let (r, rits, earlier, near) = keeps ((seen p.at.bus).release q - (before + within))
+      let (r, rits, earlier, nearer) = keeps ((seen p.at.bus).release q - of_us (before + within))
       (into_reach from old pause before within ((seen p.at.bus).release q) late) (within_reach from old pause by before within
       ((seen p.at.bus).release q) late early) in
+      let near : (seen p.at.bus).release q - of_us (before + within) < (seen x.at.bus).release r + of_us pause = omega (arith, nearer, enough) in
       let begun = of_x.begun r rits (begun_reach from old pause by before within ((seen p.at.bus).release q) ((seen x.at.bus).release r) late early earlier) in
       let later = ends_behind v delays seen by is x.at before of_x r rits in
       let (c, carried, newer, over, says, keeps_it) = sent.newest x.signal p.signal (record { by = next; on = on }) r q begun it.0
@@ -258,23 +264,23 @@ module _ (v : Vehicle) (delays : Delays) (none : AreFindings v []) (told : AreDe
   is_old : (steps : ℕ) (p : Point) (old : ℕ) → IsOnTheWay v start p → old_by v delays steps p ≡ Some old → (k time : ℕ) → behind_by v delays k p.at ≡ Some time
       → IsOldAtMost p old
   is_old zero p old way known k time behind_p = some_cases (next_forward v p) (IsOldAtMost p old)
-      (λ last. at_origin p old last (ends v delays zero p old last known) k time behind_p)
+      (λ last. at_origin p old way last (ends v delays zero p old last known) k time behind_p)
       (λ n next. absurd (never_goes_on v delays p n old next known))
   is_old (suc steps) p old way known k time behind_p = some_cases (next_forward v p) (IsOldAtMost p old)
-      (λ last. at_origin p old last (ends v delays (suc steps) p old last known) k time behind_p)
+      (λ last. at_origin p old way last (ends v delays (suc steps) p old last known) k time behind_p)
       (λ n next.
       let further = goes_further v delays steps p n old next known in
       let there : IsOnTheWay v start further.from = behind_it p further.from n way next further.on in
       let (forward, its, sum) = of_forward v delays n further.from.at (old_by v delays steps further.from) old further.behind_it in
       elim (cases_Bool (is_direct forward)) [
         | inl direct ↦
-            directly p further.from n forward old next further.on its direct k time behind_p
+            directly p further.from n forward old way next further.on its direct k time behind_p
             (λ j before behind_x. is_old steps further.from old there (direct_old v delays further.from.at
             (old_by v delays steps further.from) forward direct sum) j before behind_x)
         | inr periodic ↦
             let parts = periodic_old v delays further.from.at (old_by v delays steps further.from) forward periodic old sum in
             subst (IsOldAtMost p) (sym parts.sum)
-            (at_its_beat p further.from n forward parts.old parts.pause parts.before parts.within there next further.on its periodic parts.pause_is
+            (at_its_beat p further.from n forward parts.old parts.pause parts.before parts.within way there next further.on its periodic parts.pause_is
             parts.before_is
             parts.within_is k time behind_p
             (is_old steps further.from parts.old there parts.old_is (length v.forwards.items) parts.before parts.before_is))

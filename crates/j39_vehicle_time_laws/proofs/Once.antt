@@ -1,5 +1,5 @@
 -- What is seen of a vehicle where one message is sent, and sent on.
-use Rattle.std.proofs.Common.{◌≡◌, ◌≢◌, ℕ, ◌+◌, ◌*◌, ◌<◌, ◌≤◌, ◌⊎◌, Bool, true, false, eqb, if◌then◌else◌, Option, Some, None, refl, sym, ap, ◌∙◌, subst, inl}
+use Rattle.std.proofs.Common.{◌≡◌, ◌≢◌, ℕ, ◌*◌, ◌<◌, ◌≤◌, ◌⊎◌, Bool, true, false, eqb, if◌then◌else◌, Option, Some, None, refl, sym, ap, ◌∙◌, subst, inl}
 use Rattle.std.proofs.Common.{inr, arith}
 use Rattle.std.proofs.lemmas.Bool.{cases_Bool, cases_eq, eq-eqb, eqb-true, true≢false}
 use Rattle.std.proofs.Math.Nat.{mul-le-mul_right}
@@ -12,43 +12,70 @@ use Rattle.j39_network.specs.declared.plan.timing.Timing.{Timing}
 use Rattle.j39_load.specs.declared.waits.delay.Delay.{Delay}
 use Rattle.j39_load.specs.declared.waits.delay.Delay.TheVariants.{Within}
 use Rattle.j39_load.specs.Asked.{frames_asked}
+use Rattle.j39_load.specs.BusTimes.{timing_of}
+use Rattle.j39_load.specs.Clocks.{IsTrueTime, bit_time, million}
 use Rattle.j39_timing.specs.Traffic.{Traffic}
-use Rattle.j39_timing.specs.Gateways.{Carrier, HasBegun, IsHandedOn, IsIts, end_time, queue_time}
+use Rattle.j39_gateways.specs.Gateways.{Carrier, HasBegun, IsHandedOn, IsIts, end_time, queue_time}
 use Rattle.j39_vehicle.specs.declared.vehicle.Vehicle.{Vehicle}
+use Rattle.j39_vehicle.specs.declared.vehicle.bus_plan.BusPlan.{BusPlan}
 use Rattle.j39_vehicle.specs.declared.vehicle.forward.Forward.{Forward}
 use Rattle.j39_vehicle_findings.specs.ForwardTests.{feeds, is_direct}
 use Rattle.j39_vehicle_findings.specs.declared.point.FlowAt.{FlowAt}
 use Rattle.j39_vehicle_times.specs.BusDelays.{AreDelays, delays_on}
-use Rattle.j39_vehicle_times.specs.Times.{us_of_bit, bits_within, delay_at, direct_feeder, forward_at, first_input_at, timing_on, us_of_ms, within_of}
+use Rattle.j39_vehicle_times.specs.Times.{bits_within, delay_at, direct_feeder, forward_at, first_input_at, timing_on, us_of_ms, within_of}
 use Rattle.j39_vehicle_times.specs.declared.bus_delays.Delays.{Delays}
 use Rattle.j39_vehicle_times.proofs.DecidingTimes.{and_then_some, map_some}
 use Rattle.j39_vehicle_time_laws.specs.ForwardedStreams.{AreOtherwiseKept, IsOtherwiseKept, streams_of}
 use Rattle.j39_vehicle_time_laws.specs.KeptBuses.{IsKnownBus, asked_on}
 use Rattle.j39_vehicle_time_laws.specs.OnceSentOn.{AreSentOnOnce, CanBeSentOn, IsLoneForward}
-use Rattle.j39_vehicle_time_laws.specs.Prompt.{ArePrompt, IsSentDirectly, IsSentOn}
-use Rattle.j39_vehicle_time_laws.specs.Seen.{SeenBus, SeenBuses, frames_at, unit_on}
+use Rattle.j39_vehicle_time_laws.specs.Prompt.{ArePrompt, IsSentDirectly, IsSentOn, scope_on, whole_vehicle}
+use Rattle.j39_vehicle_time_laws.specs.Seen.{SeenBus, SeenBuses, frames_at, longest_bit, of_us, shortest_bit}
 use Rattle.j39_vehicle_time_laws.specs.VehicleAges.{IsPromptVehicle}
 use Rattle.j39_vehicle_laws.specs.Faithful.{KeepsContents}
 use Rattle.j39_vehicle_time_laws.proofs.Brought.{empty_kept}
-use Rattle.j39_vehicle_time_laws.proofs.Circle.{unit_positive}
 use Rattle.j39_vehicle_time_laws.proofs.Feeders.{fed_by}
 use Rattle.j39_vehicle_time_laws.proofs.OneFlow.{known_bus}
 use Rattle.j39_vehicle_time_laws.proofs.Kept.{one_traffic}
 use Rattle.j39_vehicle_time_laws.proofs.LoneFrame.{Fits, bus_with, fits, none_kept, one_kept, one_place}
 use Rattle.j39_vehicle_time_laws.proofs.Parts.{within_some}
+use Rattle.j39_vehicle_time_laws.proofs.TrueTimes.{agreed_time}
 
-unit_small : (v : Vehicle) (b : ℕ) → unit_on v b ≤ 8
+-- how long a bit of the bus is, by a clock that agrees with true time
+abbrev unit_at : Vehicle → ℕ → ℕ
+unit_at v b = option_map_or (λ (timing : Timing). of_us (bit_time timing.bitrate)) (timing_on v.buses.items b) million
+
+unit_small : (v : Vehicle) (b : ℕ) → unit_at v b ≤ 8000000
 unit_small v b = go (timing_on v.buses.items b)
   where
-    by_rate : (bitrate : Bitrate) → us_of_bit bitrate ≤ 8
+    by_rate : (bitrate : Bitrate) → of_us (bit_time bitrate) ≤ 8000000
     by_rate Kbit125 = omega arith
     by_rate Kbit250 = omega arith
     by_rate Kbit500 = omega arith
     by_rate Mbit1 = omega arith
 
-    go : (o : Option Timing) → option_map_or (λ (timing : Timing). us_of_bit timing.bitrate) o 1 ≤ 8
+    go : (o : Option Timing) → option_map_or (λ (timing : Timing). of_us (bit_time timing.bitrate)) o million ≤ 8000000
     go None = omega arith
     go (Some timing) = by_rate timing.bitrate
+
+unit_some : (v : Vehicle) (b : ℕ) → 1000000 ≤ unit_at v b
+unit_some v b = go (timing_on v.buses.items b)
+  where
+    by_rate : (bitrate : Bitrate) → 1000000 ≤ of_us (bit_time bitrate)
+    by_rate Kbit125 = omega arith
+    by_rate Kbit250 = omega arith
+    by_rate Kbit500 = omega arith
+    by_rate Mbit1 = omega arith
+
+    go : (o : Option Timing) → 1000000 ≤ option_map_or (λ (timing : Timing). of_us (bit_time timing.bitrate)) o million
+    go None = omega arith
+    go (Some timing) = by_rate timing.bitrate
+
+-- it is one that a bus with this timing can have
+unit_true : (v : Vehicle) (b : ℕ) (timing : Timing) → timing_on v.buses.items b ≡ Some timing → IsTrueTime timing (λ t. unit_at v b * t)
+unit_true v b timing timed =
+    let same : of_us (bit_time timing.bitrate) ≡ unit_at v b =
+    sym (ap (λ (o : Option Timing). option_map_or (λ (t : Timing). of_us (bit_time t.bitrate)) o million) timed) in
+    subst (λ (u : ℕ). IsTrueTime timing (λ t. u * t)) same (agreed_time timing)
 
 module _ (v : Vehicle) (delays : Delays) (told : AreDelays v delays) (n : ℕ) (forward : Forward) (x y : FlowAt) (within by : ℕ)
     (lone : IsLoneForward v delays n forward x y within) (room : 100 ≤ by) where
@@ -80,28 +107,31 @@ module _ (v : Vehicle) (delays : Delays) (told : AreDelays v delays) (n : ℕ) (
   fits_of_y = fits_y.1
 
   abbrev bus_x : SeenBus
-  bus_x = bus_with 1 x.flow 0 ident_x by
+  bus_x = bus_with (unit_at v x.bus) 1 x.flow 0 ident_x by
 
   abbrev bus_y : SeenBus
-  bus_y = bus_with 1 y.flow 8 ident_y by
+  bus_y = bus_with (unit_at v y.bus) 1 y.flow 8 ident_y by
+
+  abbrev bus_none : ℕ → SeenBus
+  bus_none b = bus_with (unit_at v b) 0 0 0 0 by
 
   abbrev seen : SeenBuses
-  seen b = if eqb b x.bus then bus_x else (if eqb b y.bus then bus_y else bus_with 0 0 0 0 by)
+  seen b = if eqb b x.bus then bus_x else (if eqb b y.bus then bus_y else bus_none b)
 
   seen_x : (b : ℕ) → eqb b x.bus ≡ true → seen b ≡ bus_x
-  seen_x b is = ap (λ (c : Bool). if c then bus_x else (if eqb b y.bus then bus_y else bus_with 0 0 0 0 by)) is
+  seen_x b is = ap (λ (c : Bool). if c then bus_x else (if eqb b y.bus then bus_y else bus_none b)) is
 
   seen_y : (b : ℕ) → eqb b x.bus ≡ false → eqb b y.bus ≡ true → seen b ≡ bus_y
-  seen_y b isnt is = ap (λ (c : Bool). if c then bus_x else (if eqb b y.bus then bus_y else bus_with 0 0 0 0 by)) isnt
-      ∙ ap (λ (c : Bool). if c then bus_y else bus_with 0 0 0 0 by) is
+  seen_y b isnt is = ap (λ (c : Bool). if c then bus_x else (if eqb b y.bus then bus_y else bus_none b)) isnt
+      ∙ ap (λ (c : Bool). if c then bus_y else bus_none b) is
 
-  seen_none : (b : ℕ) → eqb b x.bus ≡ false → eqb b y.bus ≡ false → seen b ≡ bus_with 0 0 0 0 by
-  seen_none b isnt neither = ap (λ (c : Bool). if c then bus_x else (if eqb b y.bus then bus_y else bus_with 0 0 0 0 by)) isnt
-      ∙ ap (λ (c : Bool). if c then bus_y else bus_with 0 0 0 0 by) neither
+  seen_none : (b : ℕ) → eqb b x.bus ≡ false → eqb b y.bus ≡ false → seen b ≡ bus_none b
+  seen_none b isnt neither = ap (λ (c : Bool). if c then bus_x else (if eqb b y.bus then bus_y else bus_none b)) isnt
+      ∙ ap (λ (c : Bool). if c then bus_y else bus_none b) neither
 
   -- a statement on any bus holds where it does of these three
-  each_bus : (P : SeenBus → Type 0) → P bus_x → P bus_y → P (bus_with 0 0 0 0 by) → (b : ℕ) → P (seen b)
-  each_bus P of_x of_y of_none b = elim (cases_Bool (eqb b x.bus)) [
+  each_bus : (b : ℕ) (P : SeenBus → Type 0) → P bus_x → P bus_y → P (bus_none b) → P (seen b)
+  each_bus b P of_x of_y of_none = elim (cases_Bool (eqb b x.bus)) [
     | inl is ↦ subst P (sym (seen_x b is)) of_x
     | inr isnt ↦ elim (cases_Bool (eqb b y.bus)) [
       | inl is ↦ subst P (sym (seen_y b isnt is)) of_y
@@ -143,28 +173,31 @@ module _ (v : Vehicle) (delays : Delays) (told : AreDelays v delays) (n : ℕ) (
         ∙ (ap (option_and_then (first_input_at v)) lone.fed ∙ lone.sends.input),
   )
 
-  kept : AreOtherwiseKept v delays seen
-  kept b timing of_bus = elim (cases_Bool (eqb b x.bus)) [
+  timed_of : (b : ℕ) (timing : Timing) → IsKnownBus v delays b timing → timing_on v.buses.items b ≡ Some timing
+  timed_of b timing of_bus = ap (option_and_then (λ (bus : BusPlan). timing_of bus.plan)) of_bus.its ∙ of_bus.timed
+
+  kept : AreOtherwiseKept v delays whole_vehicle seen
+  kept b timing of_bus inside = elim (cases_Bool (eqb b x.bus)) [
     | inl is ↦
         let same : b ≡ x.bus = eqb-true b x.bus is in
-        subst (λ (s : SeenBus). IsOtherwiseKept v delays b timing (frames_asked (asked_on of_bus)) s) (sym (seen_x b is))
-        (subst (λ (c : ℕ). (other : IsKnownBus v delays c timing) → IsOtherwiseKept v delays c timing (frames_asked (asked_on other)) bus_x) (sym same)
-        (λ other. one_kept timing (frames_asked (asked_on other)) x.flow 0 ident_x by
+        subst (λ (s : SeenBus). IsOtherwiseKept v delays b timing (frames_asked (asked_on of_bus)) (scope_on whole_vehicle b) s) (sym (seen_x b is))
+        (subst (λ (c : ℕ). (other : IsKnownBus v delays c timing) → IsOtherwiseKept v delays c timing (frames_asked (asked_on other)) (scope_on whole_vehicle c) bus_x) (sym same)
+        (λ other. one_kept timing (unit_at v x.bus) (unit_true v x.bus timing (timed_of x.bus timing other)) (frames_asked (asked_on other)) x.flow 0 ident_x by
         (subst (λ (tr : Traffic). Fits tr x.flow ident_x)
         (one_traffic v delays x.bus lone.timed_x.0 timing (known_bus v delays told x.bus lone.timed_x.0 lone.timed_x.1) other) fits_of_x)
-        (lone.in_order x.bus timing other) v delays x.bus (λ own. refl)) of_bus)
+        (lone.in_order x.bus timing other) v delays x.bus (scope_on whole_vehicle x.bus) (λ own. refl)) of_bus)
     | inr isnt ↦ elim (cases_Bool (eqb b y.bus)) [
       | inl is ↦
           let same : b ≡ y.bus = eqb-true b y.bus is in
-          subst (λ (s : SeenBus). IsOtherwiseKept v delays b timing (frames_asked (asked_on of_bus)) s) (sym (seen_y b isnt is))
-          (subst (λ (c : ℕ). (other : IsKnownBus v delays c timing) → IsOtherwiseKept v delays c timing (frames_asked (asked_on other)) bus_y) (sym same)
-          (λ other. one_kept timing (frames_asked (asked_on other)) y.flow 8 ident_y by
+          subst (λ (s : SeenBus). IsOtherwiseKept v delays b timing (frames_asked (asked_on of_bus)) (scope_on whole_vehicle b) s) (sym (seen_y b isnt is))
+          (subst (λ (c : ℕ). (other : IsKnownBus v delays c timing) → IsOtherwiseKept v delays c timing (frames_asked (asked_on other)) (scope_on whole_vehicle c) bus_y) (sym same)
+          (λ other. one_kept timing (unit_at v y.bus) (unit_true v y.bus timing (timed_of y.bus timing other)) (frames_asked (asked_on other)) y.flow 8 ident_y by
           (subst (λ (tr : Traffic). Fits tr y.flow ident_y)
           (one_traffic v delays y.bus lone.timed_y.0 timing (known_bus v delays told y.bus lone.timed_y.0 lone.timed_y.1) other) fits_of_y)
-          (lone.in_order y.bus timing other) v delays y.bus (λ own. absurd (own is_sent_on))) of_bus)
+          (lone.in_order y.bus timing other) v delays y.bus (scope_on whole_vehicle y.bus) (λ own. absurd (own is_sent_on))) of_bus)
       | inr neither ↦
-          subst (λ (s : SeenBus). IsOtherwiseKept v delays b timing (frames_asked (asked_on of_bus)) s) (sym (seen_none b isnt neither))
-          (none_kept v delays b timing (frames_asked (asked_on of_bus)) by)
+          subst (λ (s : SeenBus). IsOtherwiseKept v delays b timing (frames_asked (asked_on of_bus)) (scope_on whole_vehicle b) s) (sym (seen_none b isnt neither))
+          (none_kept v delays b timing (frames_asked (asked_on of_bus)) (scope_on whole_vehicle b) by (unit_at v b) (unit_true v b timing (timed_of b timing of_bus)))
     ]
   ]
 
@@ -189,7 +222,7 @@ module _ (v : Vehicle) (delays : Delays) (told : AreDelays v delays) (n : ℕ) (
   abbrev carrier_of : SeenBus → FlowAt → Carrier
   carrier_of s at = record {
     schedule = s.schedule;
-    clock = record { phase = s.phase; unit = unit_on v at.bus };
+    clock = record { time = s.time; shortest = shortest_bit v at.bus; longest = longest_bit v at.bus };
     planned = s.planned;
     of = s.of;
     source = at.flow;
@@ -201,7 +234,7 @@ module _ (v : Vehicle) (delays : Delays) (told : AreDelays v delays) (n : ℕ) (
   in_both P p = subst (λ (s : SeenBus). P s (seen y.bus)) (sym at_x) (subst (λ (s : SeenBus). P bus_x s) (sym at_y) p)
 
   record Once (A B : SeenBus) : Type 0 where
-    handed : IsHandedOn (carrier_of A x) (carrier_of B y) within
+    handed : IsHandedOn (carrier_of A x) (carrier_of B y) (of_us within)
     each : (p : ℕ) → HasBegun (carrier_of A x) p → (q : ℕ) × IsIts (carrier_of B y) q × (handed.what q ≡ p)
     says : (q : ℕ) (s t : Option ℕ) → B.born q t ≡ A.born (handed.what q) s
     keeps : (other : Forward) (q : ℕ) → KeepsContents v other (Some (A.bytes (handed.what q))) (B.bytes q)
@@ -210,7 +243,7 @@ module _ (v : Vehicle) (delays : Delays) (told : AreDelays v delays) (n : ℕ) (
   once =
       let small_x = unit_small v x.bus in
       let small_y = unit_small v y.bus in
-      let some_y = unit_positive v y.bus in
+      let some_y = unit_some v y.bus in
       let enough = within_some_ms in
       record {
         handed = record {
@@ -249,9 +282,9 @@ module _ (v : Vehicle) (delays : Delays) (told : AreDelays v delays) (n : ℕ) (
     | inr same ↦ differ (lone.alone m other its (subst (λ (f : FlowAt). feeds v f other ≡ true) same feeding))
   ]
 
-  prompt : ArePrompt v delays seen
+  prompt : ArePrompt v delays whole_vehicle seen
   prompt = record {
-    direct = λ m other a b time sends direct told_a told_b. elim (cases_eq m n) [
+    direct = λ m other a b time sends direct inside told_a told_b. elim (cases_eq m n) [
       | inl same ↦
           let one : other ≡ forward = same_Some _ _ (sym sends.its ∙ (ap (forward_at v) same ∙ lone.sends.its)) in
           let heard : a ≡ x = same_Some _ _ (sym (subst (λ (f : Forward). first_input_at v f ≡ Some a) one sends.input) ∙ lone.sends.input) in
@@ -280,7 +313,7 @@ module _ (v : Vehicle) (delays : Delays) (told : AreDelays v delays) (n : ℕ) (
             keeps = λ one at q its. absurd (no_output q its);
           }
     ];
-    periodic = λ m other a b time pause behind sends periodic interval known. record {
+    periodic = λ m other a b time pause behind sends periodic among interval known. record {
       newest = λ s t leads p q begun its. elim (cases_eq m n) [
         | inl same ↦
             let one : other ≡ forward = same_Some _ _ (sym sends.its ∙ (ap (forward_at v) same ∙ lone.sends.its)) in
@@ -290,33 +323,35 @@ module _ (v : Vehicle) (delays : Delays) (told : AreDelays v delays) (n : ℕ) (
     };
   }
 
-  whole : IsPromptVehicle v delays seen by
+  abbrev whole : IsPromptVehicle v delays seen by
   whole = record {
+    scope = whole_vehicle;
+    closed = record { its_bus = λ at among. refl; sources = λ at from inside sent. refl };
     kept = kept;
-    until = λ b timing timed.
-        let some = unit_positive v b in
-        each_bus (λ s. by ≤ s.phase + unit_on v b * s.schedule.now) (times_more (unit_on v b) by some) (times_more (unit_on v b) by some) (times_more
-        (unit_on v b) by some) b;
+    until = λ b timing inside timed.
+        each_bus b (λ s. by ≤ s.time s.schedule.now) (times_more (unit_at v x.bus) by (unit_some v x.bus)) (times_more (unit_at v y.bus) by (unit_some v y.bus))
+        (times_more (unit_at v b) by (unit_some v b));
     prompt = prompt;
-    own_releases = λ at own q its. each_bus (λ s. s.release q ≡ s.phase + unit_on v at.bus * s.of.since q) (omega arith) (omega arith) (omega arith) at.bus;
-    origins = λ p last q its. each_bus (λ s. (time : ℕ) × (s.born q p.signal ≡ Some time) × (s.release q ≤ time)
-        × (time ≤ s.phase + unit_on v p.at.bus * s.schedule.queued q))
-        (0, refl, omega arith, omega arith) (0, refl, omega arith, omega arith) (0, refl, omega arith, omega arith) p.at.bus;
+    own_releases = λ at inside own q its. each_bus at.bus (λ s. s.release q ≡ s.time (s.of.since q)) (omega arith) (omega arith) (omega arith);
+    origins = λ p among last q its. each_bus p.at.bus (λ s. (time : ℕ) × (s.born q p.signal ≡ Some time) × (s.release q ≤ time)
+        × (time ≤ s.time (s.schedule.queued q)))
+        (0, refl, omega arith, omega arith) (0, refl, omega arith, omega arith) (0, refl, omega arith, omega arith);
   }
     where
-      times_more : (u t : ℕ) → 0 < u → t ≤ 0 + u * t
-      times_more u t some = let more : 1 * t ≤ u * t = mul-le-mul_right t some in omega (arith, more)
+      times_more : (u t : ℕ) → 1000000 ≤ u → t ≤ u * t
+      times_more u t some = let more : 1 * t ≤ u * t = mul-le-mul_right t (omega (arith, some)) in omega (arith, more)
 
   pub can_be_sent_on : CanBeSentOn v delays x y by
   can_be_sent_on = record {
     seen = seen;
     prompt = whole;
+    whole = refl;
     message = 0;
     begun = begun_x;
     next = 0;
     sent = begun_y;
     behind = in_both (λ A B. end_time (carrier_of A x) 0 ≤ queue_time (carrier_of B y) 0)
-        (let small = unit_small v x.bus in let some = unit_positive v y.bus in omega (arith, small, some));
+        (let small = unit_small v x.bus in let some = unit_some v y.bus in omega (arith, small, some));
   }
 
 pub sent_on_once : (v : Vehicle) (delays : Delays) → AreSentOnOnce v delays

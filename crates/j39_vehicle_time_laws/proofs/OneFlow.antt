@@ -1,8 +1,8 @@
 -- One flow of which a delay is told, on its own bus.
 use Rattle.std.proofs.Common.{◌≡◌, ◌≢◌, ℕ, ◌+◌, ◌*◌, ◌-◌, ◌<◌, ◌≤◌, ◌⊎◌, Bool, true, false, List, [], ◌++◌, if◌then◌else◌, Option, Some, refl, sym, ap, ◌∙◌}
-use Rattle.std.proofs.Common.{None, eqb, inl, inr, subst, arith}
-use Rattle.std.proofs.lemmas.Bool.{cases_Bool, eqb-true, leb-true}
-use Rattle.std.proofs.lemmas.Option.{none-some, same_Some, slice_get-map}
+use Rattle.std.proofs.Common.{subst, arith}
+use Rattle.std.proofs.lemmas.Bool.{leb-true}
+use Rattle.std.proofs.lemmas.Option.{same_Some, slice_get-map}
 use Rattle.std.specs.List.{slice_get}
 use Rattle.std.specs.Option.{option_and_then, option_map, option_map_or}
 use Rattle.j39_network.specs.declared.plan.Plan.{Plan}
@@ -14,8 +14,7 @@ use Rattle.j39_network.specs.declared.plan.to.To.{To}
 use Rattle.j39_network.specs.declared.plan.to.To.TheVariants.{All, One}
 use Rattle.j39_network.specs.declared.plan.unit_plan.UnitPlan.{UnitPlan}
 use Rattle.j39_load.specs.BusTimes.{timing_of}
-use Rattle.j39_load.proofs.Milliseconds.{agreed_least, agreed_most}
-use Rattle.j39_vehicle_times.specs.BusDelays.{where_exact, AreDelays, AreDelaysOn, agreed_timing, delays_on}
+use Rattle.j39_vehicle_times.specs.BusDelays.{AreDelays, AreDelaysOn, delays_on}
 use Rattle.j39_load.specs.declared.waits.delay.Delay.{Delay}
 use Rattle.j39_load.specs.declared.waits.delay.Delay.TheVariants.{Within}
 use Rattle.j39_load.specs.declared.frames.flow_frames.FlowFrames.{FlowFrames}
@@ -23,13 +22,13 @@ use Rattle.j39_load.specs.declared.loads.flow_load.FlowLoad.{FlowLoad}
 use Rattle.j39_load.specs.declared.frames.messages.Messages.TheVariants.{Short}
 use Rattle.j39_load.specs.Asked.{Asked, frames_asked}
 use Rattle.j39_load.specs.Damage.{damage_frames}
-use Rattle.j39_load.specs.Loads.{bits_of_ms, flow_load, is_always_short, load_of_flow, loads_of, long_messages, messages_of, single_frames}
+use Rattle.j39_load.specs.Loads.{bits_at_least, bits_at_most, flow_load, is_always_short, load_of_flow, loads_of, long_messages, messages_of, single_frames, us_of_bits}
 use Rattle.j39_load.specs.PlannedFrames.{AreFramesInAnyOrder, IsBounded, planned_at}
 use Rattle.j39_load.proofs.BoundedFlows.{bounded}
 use Rattle.j39_load.proofs.PositivePeriods.{ArePaced, of_loads}
 use Rattle.j39_load.proofs.StreamsBefore.{own_read, with_damage}
 use Rattle.j39_timing.specs.AnyOrder.{AreBegunWithin}
-use Rattle.j39_timing.specs.Gateways.{IsIts}
+use Rattle.j39_gateways.specs.Gateways.{IsClock, IsIts}
 use Rattle.j39_timing.specs.Traffic.{IsSingle, delay_of}
 use Rattle.j39_timing.specs.declared.stream.Stream.{Stream}
 use Rattle.j39_vehicle.specs.declared.vehicle.Vehicle.{Vehicle}
@@ -37,12 +36,14 @@ use Rattle.j39_vehicle.specs.declared.vehicle.bus_plan.BusPlan.{BusPlan}
 use Rattle.j39_vehicle_findings.specs.declared.point.FlowAt.{FlowAt}
 use Rattle.j39_vehicle_times.specs.declared.bus_delays.Delays.{Delays}
 use Rattle.j39_vehicle_times.specs.TimeFindings.{period_ms}
-use Rattle.j39_vehicle_times.specs.Times.{behind_release, us_of_bit, bits_within, delay_at, flow_at, jitter_ms, own, own_of, sum_known, timing_on, us_of_ms}
+use Rattle.j39_vehicle_times.specs.Times.{behind_release, bits_within, delay_at, flow_at, jitter_ms, own, own_of, timing_on, us_of_ms}
 use Rattle.j39_vehicle_times.proofs.DecidingTimes.{and_then_some, map_some}
 use Rattle.j39_vehicle_time_laws.specs.KeptBuses.{AreKeptBuses, IsKeptBus, IsKnownBus, asked_on}
-use Rattle.j39_vehicle_time_laws.specs.Seen.{SeenBuses, frames_at, unit_on}
+use Rattle.j39_vehicle_time_laws.specs.Prompt.{Scope, scope_on}
+use Rattle.j39_vehicle_time_laws.specs.Seen.{SeenBuses, clock_on, frames_at, longest_bit, of_us, shortest_bit}
 use Rattle.j39_vehicle_time_laws.proofs.Starts.{starts_within}
-use Rattle.j39_vehicle_time_laws.proofs.Parts.{some_unit, unit_of_ms, within_some}
+use Rattle.j39_vehicle_time_laws.proofs.Parts.{within_some}
+use Rattle.j39_vehicle_time_laws.proofs.TrueTimes.{clock_is, room_here, told_here}
 
 -- ---- what its own time has for parts
 
@@ -67,19 +68,37 @@ own_parts v delays at time is =
 pub known_bus : (v : Vehicle) (delays : Delays) → AreDelays v delays → (b : ℕ) (timing : Timing) → timing_on v.buses.items b ≡ Some timing
     → IsKnownBus v delays b timing
 known_bus v delays told b timing timed =
-    let (bus, its, has) = and_then_some (λ (bus : BusPlan). agreed_timing bus.plan) (slice_get v.buses.items b) timing timed in
+    let (bus, its, has) = and_then_some (λ (bus : BusPlan). timing_of bus.plan) (slice_get v.buses.items b) timing timed in
     let (stays, asks) = subst (λ (o : Option Timing). AreDelaysOn bus.plan o (delays_on delays b)) has (told.each b bus its) in
     record { bus = bus; its = its; timed = has; stays = stays; asks = asks }
+
+pub own_from : (v : Vehicle) (delays : Delays) (at : FlowAt) (timing : Timing) (flow : FlowPlan) (bits : ℕ) → timing_on v.buses.items at.bus ≡ Some timing
+    → flow_at v.buses.items at ≡ Some flow → delay_at delays at ≡ Some bits → own v delays at ≡ Some (own_of timing flow bits)
+own_from v delays at timing flow bits timed its delayed =
+    ap (λ (o : Option Timing). option_and_then (λ (t : Timing). option_and_then (λ (f : FlowPlan). option_map (own_of t f) (delay_at delays at))
+    (flow_at v.buses.items at)) o) timed
+    ∙ (ap (λ (o : Option FlowPlan). option_and_then (λ (f : FlowPlan). option_map (own_of timing f) (delay_at delays at)) o) its
+    ∙ ap (option_map (own_of timing flow)) delayed)
+
+-- what ends so long behind a release of its own has a time of its own
+pub own_of_release : (v : Vehicle) (delays : Delays) (at : FlowAt) (time : ℕ) → behind_release v delays at ≡ Some time
+    → (n : ℕ) × (own v delays at ≡ Some n)
+own_of_release v delays at time known =
+    let (timing, timed, rest) = and_then_some (λ (t : Timing). option_and_then (λ (f : FlowPlan). option_map (us_of_bits t) (delay_at delays at))
+    (flow_at v.buses.items at)) (timing_on v.buses.items at.bus) time known in
+    let (flow, its, more) = and_then_some (λ (f : FlowPlan). option_map (us_of_bits timing) (delay_at delays at)) (flow_at v.buses.items at) time rest in
+    let (bits, delayed, made) = map_some (us_of_bits timing) (delay_at delays at) time more in
+    (own_of timing flow bits, own_from v delays at timing flow bits timed its delayed)
 
 -- ---- what its stream is
 
 pub record HasStream (timing : Timing) (flow : FlowPlan) (frames : FlowFrames) (limit : ℕ) : Type 0 where
   pub single : IsSingle frames.stream
   pub limited : limit ≤ frames.stream.period
-  pub jitter : frames.stream.jitter ≡ bits_of_ms timing (jitter_ms flow)
+  pub jitter : frames.stream.jitter ≡ bits_at_most timing (jitter_ms flow)
   pub period : ℕ
   pub period_is : period_ms flow ≡ Some period
-  pub apart : frames.stream.period ≡ bits_of_ms timing period
+  pub apart : frames.stream.period ≡ bits_at_least timing period
 
 short_is : (a b : FlowFrames) → Short a ≡ Short b → a ≡ b
 short_is a b is = cc
@@ -100,20 +119,10 @@ short_frames timing units stays flow pace group frames is = go (is_always_short 
     go true at = short_is _ _ at
     go false at = absurd (long_short timing units stays flow pace group flow.to frames at)
 
--- its clocks agree
-exact_timing : (timing : Timing) (known : Option Timing) → option_and_then where_exact known ≡ Some timing → timing.drift ≡ 0
-exact_timing timing None is = absurd (none-some timing is)
-exact_timing timing (Some found) is = elim (cases_Bool (eqb found.drift 0)) [
-  | inl none ↦
-      let same : found ≡ timing = same_Some _ _ (sym (ap (λ (b : Bool). if b then Some found else None) none) ∙ is) in
-      ap (λ (t : Timing). t.drift) (sym same) ∙ eqb-true found.drift 0 none
-  | inr some ↦ absurd (none-some timing (sym (ap (λ (b : Bool). if b then Some found else None) some) ∙ is))
-]
-
-pub stream_of : (timing : Timing) → timing.drift ≡ 0 → (plan : Plan) (stays : UnitPlan → Bool) (place : ℕ) (flow : FlowPlan) → slice_get plan.flows.items place ≡ Some flow
+pub stream_of : (timing : Timing) (plan : Plan) (stays : UnitPlan → Bool) (place : ℕ) (flow : FlowPlan) → slice_get plan.flows.items place ≡ Some flow
     → (load : FlowLoad) → slice_get (loads_of timing plan stays) place ≡ Some (Some load) → (frames : FlowFrames) → load.messages ≡ Short frames
     → HasStream timing flow frames load.limit
-stream_of timing exact plan stays place flow its load at frames short =
+stream_of timing plan stays place flow its load at frames short =
     let told : load_of_flow timing plan stays flow ≡ Some load =
     same_Some _ _ (sym (slice_get-map (load_of_flow timing plan stays) plan.flows.items place ∙ ap (option_map (load_of_flow timing plan stays)) its) ∙ at) in
     let (pace, paced, rest) = and_then_some _ flow.pace load told in
@@ -125,11 +134,11 @@ stream_of timing exact plan stays place flow its load at frames short =
     record {
       single = paces.1;
       limited = paces.2;
-      jitter = ap (λ (f : FlowFrames). f.stream.jitter) (sym same) ∙ (agreed_most timing pace.jitter exact
-          ∙ ap (λ (p : Option Pace). bits_of_ms timing (option_map_or (λ (x : Pace). x.jitter) p 0)) (sym paced));
+      jitter = ap (λ (f : FlowFrames). f.stream.jitter) (sym same)
+          ∙ ap (λ (p : Option Pace). bits_at_most timing (option_map_or (λ (x : Pace). x.jitter) p 0)) (sym paced);
       period = pace.period;
       period_is = ap (option_map (λ (x : Pace). x.period)) paced;
-      apart = ap (λ (f : FlowFrames). f.stream.period) (sym same) ∙ agreed_least timing pace.period exact;
+      apart = ap (λ (f : FlowFrames). f.stream.period) (sym same);
     }
 
 short_is_short : (timing : Timing) (units : List UnitPlan) (stays : UnitPlan → Bool) (flow : FlowPlan) (pace : Pace) (group : GroupPlan) (frames : FlowFrames)
@@ -164,9 +173,11 @@ pub record IsOneFlow (v : Vehicle) (delays : Delays) (seen : SeenBuses) (at : Fl
   pub delayed : delay_at delays at ≡ Some bits
   pub sum : bits ≡ delay_of stream wait
   pub fits : bits ≤ stream.period
-  pub some_unit : 1 ≤ unit_on v at.bus
-  pub own_time : time ≡ unit_on v at.bus * (wait + stream.bits)
-  pub release_time : behind_release v delays at ≡ Some (unit_on v at.bus * delay_of stream wait)
+  pub clock : IsClock (clock_on v seen at.bus)
+  pub own_time : longest_bit v at.bus * (wait + stream.bits) ≤ of_us time
+  pub total : ℕ
+  pub total_is : behind_release v delays at ≡ Some total
+  pub release_time : longest_bit v at.bus * delay_of stream wait ≤ of_us total
   pub some_bits : (p : ℕ) → p < (seen at.bus).schedule.count → 1 ≤ (seen at.bus).schedule.bits p
   pub queued_first : (p : ℕ) → p < (seen at.bus).schedule.count → (seen at.bus).schedule.queued p ≤ (seen at.bus).schedule.start p
   pub few_bits : (p : ℕ) → IsIts (frames_at v seen at) p → (seen at.bus).schedule.bits p ≤ stream.bits
@@ -199,48 +210,52 @@ module _ (v : Vehicle) (delays : Delays) (told : AreDelays v delays) (at : FlowA
   bound = bounded of_bus.bus.plan has.timing of_bus.stays (delays_on delays at.bus) of_bus.asks at.flow has.bits delay_here
 
   pub its_stream : HasStream has.timing has.flow bound.frames bound.load.limit
-  its_stream = stream_of has.timing (exact_timing has.timing (timing_of of_bus.bus.plan) of_bus.timed) of_bus.bus.plan of_bus.stays at.flow has.flow flow_here bound.load bound.its bound.frames bound.short
+  its_stream = stream_of has.timing of_bus.bus.plan of_bus.stays at.flow has.flow flow_here bound.load bound.its bound.frames bound.short
 
   -- its group
   pub short_group : (group : GroupPlan) × (slice_get of_bus.bus.plan.groups.items has.flow.group ≡ Some group) × (group.most ≤ 8)
   short_group = group_of has.timing of_bus.bus.plan of_bus.stays at.flow has.flow flow_here bound.load bound.its bound.frames bound.short
 
-  pub unit_here : unit_on v at.bus ≡ us_of_bit has.timing.bitrate
-  unit_here = ap (λ (o : Option Timing). option_map_or (λ (t : Timing). us_of_bit t.bitrate) o 1) has.timed
-
   pub placed : planned_at (frames_asked asked ++ damage_frames has.timing) at.flow ≡ bound.frames
   placed = with_damage has.timing (frames_asked asked) at.flow bound.frames
       (own_read asked.flows asked.units asked.requests at.flow bound.load bound.frames bound.its bound.short)
 
-  pub jitter_bits : unit_on v at.bus * bound.frames.stream.jitter ≡ 1000 * jitter_ms has.flow
-  jitter_bits = ap (λ (n : ℕ). unit_on v at.bus * n) its_stream.jitter ∙ (ap (λ (u : ℕ). u * bits_of_ms has.timing (jitter_ms has.flow)) unit_here
-      ∙ unit_of_ms has.timing.bitrate (jitter_ms has.flow))
+  -- its jitter has room for as many true milliseconds
+  pub jitter_room : of_us (us_of_ms (jitter_ms has.flow)) ≤ shortest_bit v at.bus * bound.frames.stream.jitter
+  jitter_room =
+      let room = room_here v at.bus has.timing has.timed (jitter_ms has.flow) in
+      let same : shortest_bit v at.bus * bound.frames.stream.jitter ≡ shortest_bit v at.bus * bits_at_most has.timing (jitter_ms has.flow) =
+      ap (λ (n : ℕ). shortest_bit v at.bus * n) its_stream.jitter in
+      omega (arith, room, same)
 
-  pub own_is : time ≡ unit_on v at.bus * (bound.wait + bound.frames.stream.bits)
+  pub own_is : longest_bit v at.bus * (bound.wait + bound.frames.stream.bits) ≤ of_us time
   own_is =
       let total = bound.sum in
       let late = its_stream.jitter in
-      let rest : has.bits - bits_of_ms has.timing (jitter_ms has.flow) ≡ bound.wait + bound.frames.stream.bits = omega (arith, total, late) in
-      has.sum ∙ (ap (λ (n : ℕ). us_of_bit has.timing.bitrate * n) rest ∙ ap (λ (u : ℕ). u * (bound.wait + bound.frames.stream.bits)) (sym unit_here))
+      let rest : has.bits - bits_at_most has.timing (jitter_ms has.flow) ≡ bound.wait + bound.frames.stream.bits = omega (arith, total, late) in
+      let told = told_here v at.bus has.timing has.timed (bound.wait + bound.frames.stream.bits) in
+      let same : time ≡ us_of_bits has.timing (bound.wait + bound.frames.stream.bits) = has.sum ∙ ap (us_of_bits has.timing) rest in
+      omega (arith, told, same)
 
-  pub release_is : own v delays at ≡ Some time → behind_release v delays at ≡ Some (unit_on v at.bus * delay_of bound.frames.stream bound.wait)
-  release_is is =
-      let jitter : (Rattle.j39_vehicle_times.specs.Times.timed v at (λ timing flow. Some (us_of_ms (jitter_ms flow)))) ≡ Some (us_of_ms (jitter_ms has.flow)) =
-      ap (λ (o : Option Timing). Rattle.std.specs.Option.option_and_then (λ (t : Timing). Rattle.std.specs.Option.option_and_then (λ (f : FlowPlan). Some
-      (us_of_ms (jitter_ms f))) (flow_at v.buses.items at)) o) has.timed
-      ∙ ap (λ (o : Option FlowPlan). Rattle.std.specs.Option.option_and_then (λ (f : FlowPlan). Some (us_of_ms (jitter_ms f))) o) has.its in
-      let bits = own_is in
-      let late = jitter_bits in
-      ap (λ (o : Option ℕ). sum_known o (Rattle.j39_vehicle_times.specs.Times.timed v at (λ timing flow. Some (us_of_ms (jitter_ms flow))))) is
-      ∙ (ap (λ (o : Option ℕ). sum_known (Some time) o) jitter ∙ ap (λ (n : ℕ). Some n) (omega (arith, bits, late)))
+  pub release_is : behind_release v delays at ≡ Some (us_of_bits has.timing has.bits)
+  release_is =
+      ap (λ (o : Option Timing). option_and_then (λ (t : Timing). option_and_then (λ (f : FlowPlan). option_map (us_of_bits t) (delay_at delays at))
+      (flow_at v.buses.items at)) o) has.timed
+      ∙ (ap (λ (o : Option FlowPlan). option_and_then (λ (f : FlowPlan). option_map (us_of_bits has.timing) (delay_at delays at)) o) has.its
+      ∙ ap (option_map (us_of_bits has.timing)) has.delayed)
 
-  module _ (seen : SeenBuses) (kept : AreKeptBuses v delays seen) where
-    keeps_bus : IsKeptBus has.timing asked (delays_on delays at.bus) (seen at.bus)
-    keeps_bus = kept at.bus has.timing of_bus
+  pub release_fits : longest_bit v at.bus * delay_of bound.frames.stream bound.wait ≤ of_us (us_of_bits has.timing has.bits)
+  release_fits = subst (λ (n : ℕ). longest_bit v at.bus * n ≤ of_us (us_of_bits has.timing has.bits)) bound.sum
+      (told_here v at.bus has.timing has.timed has.bits)
+
+  module _ (scope : Scope) (inside : scope.buses at.bus ≡ true) (among : scope.flows at ≡ true) (seen : SeenBuses)
+      (kept : AreKeptBuses v delays scope seen) where
+    keeps_bus : IsKeptBus has.timing asked (delays_on delays at.bus) (scope_on scope at.bus) (seen at.bus)
+    keeps_bus = kept at.bus has.timing of_bus inside
 
     frames_here : AreFramesInAnyOrder has.timing (frames_asked asked) (seen at.bus).schedule (seen at.bus).controllers (seen at.bus).planned
         (seen at.bus).of at.flow
-    frames_here = keeps_bus.frames at.flow has.bits delay_here
+    frames_here = keeps_bus.frames at.flow has.bits among delay_here
 
     keeps : (p : ℕ) → IsIts (frames_at v seen at) p
         → ((seen at.bus).schedule.bits p ≤ bound.frames.stream.bits) × ((seen at.bus).of.since p ≤ (seen at.bus).schedule.queued p)
@@ -284,9 +299,11 @@ module _ (v : Vehicle) (delays : Delays) (told : AreDelays v delays) (at : FlowA
       delayed = has.delayed;
       sum = bound.sum;
       fits = let inside = bound.inside in let limited = its_stream.limited in omega (arith, inside, limited);
-      some_unit = let some = some_unit has.timing.bitrate in let same = unit_here in omega (arith, some, same);
+      clock = clock_is v seen at.bus has.timing has.timed keeps_bus.clock;
       own_time = own_is;
-      release_time = release_is is;
+      total = us_of_bits has.timing has.bits;
+      total_is = release_is;
+      release_time = release_fits;
       some_bits = keeps_bus.legal.positive;
       queued_first = keeps_bus.legal.queued_first;
       few_bits = λ p its. (keeps p its).0;

@@ -1,38 +1,33 @@
 -- Messages of a flow end in the order of their releases.
-use Rattle.std.proofs.Common.{◌≡◌, ◌≢◌, ℕ, ◌+◌, ◌*◌, ◌<◌, ◌≤◌, ap, inl, inr, arith}
-use Rattle.std.proofs.Math.Nat.{mul-le-mul_left, lt_of_mul-lt-mul_left}
+use Rattle.std.proofs.Common.{◌≡◌, ◌≢◌, ℕ, ◌+◌, ◌<◌, ◌≤◌, ap, inl, inr, arith}
 use Rattle.std.proofs.lemmas.Bool.{cases_lt}
 use Rattle.j39_vehicle.specs.declared.vehicle.Vehicle.{Vehicle}
 use Rattle.j39_vehicle_findings.specs.declared.point.FlowAt.{FlowAt}
-use Rattle.j39_timing.specs.Gateways.{HasBegun, IsIts, end_time, queue_time}
+use Rattle.j39_gateways.proofs.Clocks.{before_in_time, bits_in_order, in_time_order}
+use Rattle.j39_gateways.specs.Gateways.{HasBegun, IsIts, end_time, queue_time}
 use Rattle.j39_timing.specs.Traffic.{delay_of}
 use Rattle.j39_vehicle_times.specs.declared.bus_delays.Delays.{Delays}
-use Rattle.j39_vehicle_time_laws.specs.Seen.{SeenBuses, frames_at, unit_on}
+use Rattle.j39_vehicle_time_laws.specs.Seen.{SeenBuses, clock_on, frames_at}
 use Rattle.j39_vehicle_time_laws.specs.YoungValues.{IsSeenVehicle}
 use Rattle.j39_vehicle_time_laws.proofs.Behind.{IsBehind}
 
 module _ (v : Vehicle) (delays : Delays) (seen : SeenBuses) (by : ℕ) (is : IsSeenVehicle v delays seen by) (at : FlowAt) (time : ℕ)
     (known : IsBehind v delays seen by at time) where
-  abbrev u : ℕ
-  u = unit_on v at.bus
-
   -- it is sent behind its release
   pub ends_behind : (q : ℕ) → IsIts (frames_at v seen at) q → (seen at.bus).release q < end_time (frames_at v seen at) q
   ends_behind q its =
       let early = known.first q its in
       let first : (seen at.bus).schedule.queued q ≤ (seen at.bus).schedule.start q = known.one.queued_first q its.0 in
       let some : 1 ≤ (seen at.bus).schedule.bits q = known.one.some_bits q its.0 in
-      let unit : 1 ≤ u = known.one.some_unit in
-      let order : u * ((seen at.bus).schedule.queued q + 1) ≤ u * ((seen at.bus).schedule.start q + (seen at.bus).schedule.bits q) = mul-le-mul_left u
-      (omega arith) in
-      omega arith
+      let order = before_in_time (clock_on v seen at.bus) known.one.clock ((seen at.bus).schedule.queued q)
+      ((seen at.bus).schedule.start q + (seen at.bus).schedule.bits q) (omega (arith, first, some)) in
+      omega (arith, early, order)
 
   pub queued_till_end : (q : ℕ) → IsIts (frames_at v seen at) q → queue_time (frames_at v seen at) q ≤ end_time (frames_at v seen at) q
   queued_till_end q its =
       let first : (seen at.bus).schedule.queued q ≤ (seen at.bus).schedule.start q = known.one.queued_first q its.0 in
-      let order : u * (seen at.bus).schedule.queued q ≤ u * ((seen at.bus).schedule.start q + (seen at.bus).schedule.bits q) = mul-le-mul_left u
-      (omega arith) in
-      omega arith
+      in_time_order (clock_on v seen at.bus) known.one.clock ((seen at.bus).schedule.queued q)
+      ((seen at.bus).schedule.start q + (seen at.bus).schedule.bits q) (omega (arith, first))
 
   -- its end is a period behind the bit of its release at most
   ends_by : (r : ℕ) → HasBegun (frames_at v seen at) r → (seen at.bus).schedule.start r + (seen at.bus).schedule.bits r ≤
@@ -67,13 +62,13 @@ module _ (v : Vehicle) (delays : Delays) (seen : SeenBuses) (by : ℕ) (is : IsS
               let end = ends_by r begun in
               let first : (seen at.bus).of.since q ≤ (seen at.bus).schedule.queued q = known.one.release_first q its in
               let start : (seen at.bus).schedule.queued q ≤ (seen at.bus).schedule.start q = known.one.queued_first q its.0 in
-              let unit : 1 ≤ u = known.one.some_unit in
-              let far : u * ((seen at.bus).schedule.start r + (seen at.bus).schedule.bits r + 1) ≤ u * ((seen at.bus).schedule.start q +
-              (seen at.bus).schedule.bits q) =
-              mul-le-mul_left u (omega arith) in
-              absurd (omega arith)
+              let far = before_in_time (clock_on v seen at.bus) known.one.clock ((seen at.bus).schedule.start r + (seen at.bus).schedule.bits r)
+              ((seen at.bus).schedule.start q + (seen at.bus).schedule.bits q) (omega (arith, before, end, first, start, some)) in
+              absurd (omega (arith, far, order))
           | inr behind ↦
-              let soon : (seen at.bus).of.since r < (seen at.bus).of.since q + 1 = lt_of_mul-lt-mul_left u (omega arith) in
-              absurd (omega arith)
+              let soon : (seen at.bus).of.since r < (seen at.bus).of.since q + 1 =
+              bits_in_order (clock_on v seen at.bus) known.one.clock ((seen at.bus).of.since r) ((seen at.bus).of.since q + 1)
+              (omega (arith, low_r, high_q, less)) in
+              absurd (omega (arith, behind, soon, some, few, sum, fits))
         ]
   ]

@@ -1,12 +1,9 @@
 -- What is known of a number that has several parts.
-use Rattle.std.proofs.Common.{◌≡◌, ℕ, ◌+◌, ◌*◌, ◌≤◌, Option, Some, None, refl, sym, ap, arith}
+use Rattle.std.proofs.Common.{◌≡◌, ℕ, ◌+◌, Option, Some, None, refl, sym, ap}
 use Rattle.std.proofs.lemmas.Option.{none-some, same_Some}
-use Rattle.j39_network.specs.declared.plan.timing.Bitrate.{Bitrate}
-use Rattle.j39_network.specs.declared.plan.timing.Bitrate.TheVariants.{Kbit125, Kbit250, Kbit500, Mbit1}
-use Rattle.j39_load.specs.Loads.{bits_per_ms}
 use Rattle.j39_load.specs.declared.waits.delay.Delay.{Delay}
 use Rattle.j39_load.specs.declared.waits.delay.Delay.TheVariants.{Within, Beyond, Late, Long, Whole}
-use Rattle.j39_vehicle_times.specs.Times.{us_of_bit, bits_within, sum_known}
+use Rattle.j39_vehicle_times.specs.Times.{bits_within, sum_known}
 
 pub sum_some : (a b : Option ℕ) (n : ℕ) → sum_known a b ≡ Some n → (x : ℕ) × (y : ℕ) × (a ≡ Some x) × (b ≡ Some y) × (n ≡ x + y)
 sum_some None b n is = absurd (none-some n is)
@@ -24,15 +21,3 @@ within_some (Some (Whole w)) bits is = absurd (none-some bits is)
 pub some_cases : {A : Type 0} (o : Option A) → (P : Type 0) → (o ≡ None → P) → ((a : A) → o ≡ Some a → P) → P
 some_cases None P none some = none refl
 some_cases (Some a) P none some = some a refl
-
-pub unit_of_ms : (bitrate : Bitrate) (ms : ℕ) → us_of_bit bitrate * (ms * bits_per_ms bitrate) ≡ 1000 * ms
-unit_of_ms Kbit125 ms = omega arith
-unit_of_ms Kbit250 ms = omega arith
-unit_of_ms Kbit500 ms = omega arith
-unit_of_ms Mbit1 ms = omega arith
-
-pub some_unit : (bitrate : Bitrate) → 1 ≤ us_of_bit bitrate
-some_unit Kbit125 = omega arith
-some_unit Kbit250 = omega arith
-some_unit Kbit500 = omega arith
-some_unit Mbit1 = omega arith

@@ -1,26 +1,26 @@
 -- In the words of plans: what nothing found in times leaves of direct forwards.
-use Rattle.std.proofs.Common.{◌≡◌, ℕ, zero, suc, ◌*◌, ◌<◌, ◌≤◌, ◌⊎◌, [], length, true, false, if◌then◌else◌, Option, Some, None, refl, sym, ap, ◌∙◌, subst, inl, inr, arith}
+use Rattle.std.proofs.Common.{◌≡◌, ℕ, zero, suc, ◌+◌, ◌-◌, ◌*◌, ◌⊎◌, [], length, false, if◌then◌else◌, Option, Some, None, refl, sym, ap, ◌∙◌, subst, inl, inr, arith}
 use Rattle.std.proofs.lemmas.Bool.{cases_Bool, cases_lt}
 use Rattle.std.proofs.lemmas.Option.{none-some, same_Some}
+use Rattle.std.specs.Int.{div_ceil}
 use Rattle.std.specs.Option.{option_and_then, option_map_or}
 use Rattle.j39_network.specs.declared.plan.flow_plan.FlowPlan.{FlowPlan}
 use Rattle.j39_network.specs.declared.plan.pace.Pace.{Pace}
-use Rattle.j39_network.specs.declared.plan.timing.Bitrate.{Bitrate}
-use Rattle.j39_network.specs.declared.plan.timing.Bitrate.TheVariants.{Kbit125, Kbit250, Kbit500, Mbit1}
 use Rattle.j39_network.specs.declared.plan.timing.Timing.{Timing}
-use Rattle.j39_load.specs.Clocks.{bit_time}
+use Rattle.j39_load.specs.Clocks.{bit_time, million}
 use Rattle.j39_vehicle.specs.declared.vehicle.Vehicle.{Vehicle}
 use Rattle.j39_vehicle.specs.declared.vehicle.forward.Forward.{Forward}
-use Rattle.j39_vehicle_times.specs.TimeFindings.{AreTimeFindings, IsDirectBetween, IsKnownWithin, IsUnlimited, TimeHolds, written_deadline}
-use Rattle.j39_vehicle_times.specs.Times.{behind_at, direct_feeder, first_input_at, flow_at, interval, interval_by, jitter_ms, old, pause_us, queued_of, sum_known, timing_on}
-use Rattle.j39_vehicle_times.specs.Times.{unasked_at, us_of_bit, us_of_ms}
+use Rattle.j39_vehicle_times.specs.TimeFindings.{AreTimeFindings, IsDirectBetween, IsKnownWithin, IsUnlimited, TimeHolds}
+use Rattle.j39_vehicle_times.specs.Times.{behind_at, direct_feeder, first_input_at, flow_at, interval, interval_by, interval_us, jitter_ms, old, pause_on, queued_of, sum_known, timing_on}
+use Rattle.j39_vehicle_times.specs.Times.{unasked_at, us_of_ms}
 use Rattle.j39_vehicle_findings.specs.declared.point.FlowAt.{FlowAt}
 use Rattle.j39_vehicle_times.specs.declared.bus_delays.Delays.{Delays}
 use Rattle.j39_vehicle_times.specs.declared.ends.Ends.{Ends}
 use Rattle.j39_vehicle_times.specs.declared.finding.TimeFinding.{TimeFinding}
 use Rattle.j39_vehicle_times.specs.declared.finding.TimeFinding.TheVariants.{TooLate, TooOften}
-use Rattle.j39_vehicle_times.proofs.DecidingTimes.{and_then_some}
+use Rattle.j39_vehicle_times.proofs.DecidingTimes.{and_then_some, map_some}
 use Rattle.j39_vehicle_time_laws.proofs.Parts.{sum_some}
+use Rattle.j39_vehicle_time_laws.proofs.TrueTimes.{longest_is, shortest_is}
 use Rattle.j39_vehicle_time_laws.specs.PlainTimes.{AgesAreUnasked, AnswersStayAnswers, ClocksAreOfBitrates, DeadlinesHaveRoom, GoesDirectly}
 
 nothing_timed : (v : Vehicle) (delays : Delays) → AreTimeFindings v delays [] → (finding : TimeFinding) → ¬ TimeHolds v delays finding
@@ -80,10 +80,10 @@ comes_again : (v : Vehicle) (steps : ℕ) (at : FlowAt) (pause : ℕ) → interv
     → (flow : FlowPlan) × (unasked_at v at ≡ Some flow)
 unfolding interval_by
 comes_again v zero at pause is =
-    let (flow, its, more) = and_then_some (λ flow. option_map_or (λ n. None) (direct_feeder v at) (pause_us flow)) (unasked_at v at) pause is in (flow, its)
+    let (flow, its, more) = and_then_some (λ flow. option_map_or (λ n. None) (direct_feeder v at) (pause_on v at flow)) (unasked_at v at) pause is in (flow, its)
 comes_again v (suc steps) at pause is =
     let (flow, its, more) =
-    and_then_some (λ flow. option_map_or (λ n. option_and_then (interval_by v steps) (first_input_at v n)) (direct_feeder v at) (pause_us flow))
+    and_then_some (λ flow. option_map_or (λ n. option_and_then (interval_by v steps) (first_input_at v n)) (direct_feeder v at) (pause_on v at flow))
     (unasked_at v at) pause is in (flow, its)
 
 abbrev unless_asked : FlowPlan → Option FlowPlan
@@ -97,9 +97,10 @@ by_itself flow other is = elim (cases_Bool flow.on_request) [
 
 pub ages_are_unasked : (v : Vehicle) (delays : Delays) → AgesAreUnasked v delays
 ages_are_unasked v delays p most flow is its =
-    let (x, y, x_is, y_is, sum) = sum_some (old v delays p) (sum_known (interval v p.at) (behind_at v delays p.at)) most is in
-    let (pause, time, pause_is, time_is, both) = sum_some (interval v p.at) (behind_at v delays p.at) y y_is in
-    let (other, again) = comes_again v (length v.forwards.items) p.at pause pause_is in
+    let (x, y, x_is, y_is, sum) = sum_some (old v delays p) (sum_known (interval_us v p.at) (behind_at v delays p.at)) most is in
+    let (pause, time, pause_is, time_is, both) = sum_some (interval_us v p.at) (behind_at v delays p.at) y y_is in
+    let (ns, ns_is, made) = map_some (λ (ns : ℕ). div_ceil ns 1000) (interval v p.at) pause pause_is in
+    let (other, again) = comes_again v (length v.forwards.items) p.at ns ns_is in
     let (timing, timed, known) =
     and_then_some (λ (timing : Timing). option_and_then unless_asked (flow_at v.buses.items p.at)) (timing_on v.buses.items p.at.bus) other again in
     let (one, one_is, unasked) = and_then_some unless_asked (flow_at v.buses.items p.at) other known in
@@ -107,11 +108,8 @@ ages_are_unasked v delays p most flow is its =
 
 -- ---- clocks
 
-same_rate : (r : Bitrate) → us_of_bit r ≡ bit_time r
-same_rate Kbit125 = refl
-same_rate Kbit250 = refl
-same_rate Kbit500 = refl
-same_rate Mbit1 = refl
-
 pub clocks_are_of_bitrates : (v : Vehicle) → ClocksAreOfBitrates v
-clocks_are_of_bitrates v b timing is = ap (λ o. option_map_or (λ (t : Timing). us_of_bit t.bitrate) o 1) is ∙ same_rate timing.bitrate
+clocks_are_of_bitrates v b timing is agree = (
+  shortest_is v b timing is ∙ ap (λ (d : ℕ). bit_time timing.bitrate * (million - d)) agree,
+  longest_is v b timing is ∙ ap (λ (d : ℕ). bit_time timing.bitrate * (million + d)) agree,
+)

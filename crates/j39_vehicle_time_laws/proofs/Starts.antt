@@ -1,5 +1,5 @@
 -- Frames of a flow of which a delay is told begin within its wait from when they are queued, as far as their bus is seen.
-use Rattle.std.proofs.Common.{◌≡◌, ℕ, ◌+◌, ◌≤◌, Bool, true, false, List, ◌++◌, get_or, All, IfSome, Option, Some, None, refl, sym, subst}
+use Rattle.std.proofs.Common.{◌≡◌, ℕ, ◌≤◌, Bool, true, false, List, ◌++◌, get_or, All, IfSome, Option, Some, None, refl, sym, subst}
 use Rattle.std.proofs.Common.{inl, arith}
 use Rattle.std.specs.Bool.{MatchBool}
 use Rattle.std.specs.List.{slice_get}
@@ -25,7 +25,6 @@ use Rattle.j39_load.proofs.StreamsBefore.{own_read}
 use Rattle.j39_timing.specs.AnyOrder.{AreBegunWithin, Controllers, IsLegalInAnyOrder}
 use Rattle.j39_timing.specs.FrameBits.{longest_frame}
 use Rattle.j39_timing.specs.FrameStreams.{Origins}
-use Rattle.j39_timing.specs.Sums.{total}
 use Rattle.j39_timing.specs.TimedFrames.{Schedule}
 use Rattle.j39_timing.specs.Traffic.{IsSingle, delay_of}
 use Rattle.j39_timing.proofs.Buffering.{ordered_begun}

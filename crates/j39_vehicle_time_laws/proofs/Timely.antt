@@ -1,5 +1,5 @@
 -- Where no finding says that a direct forward is too often or too late, each flow that it feeds has room for it.
-use Rattle.std.proofs.Common.{◌≡◌, ℕ, zero, suc, ◌<◌, ◌≤◌, Bool, true, false, cond, List, [], ◌∷◌, get_or, Option, Some, None, refl, sym, ap, ◌∙◌, subst, inl}
+use Rattle.std.proofs.Common.{◌≡◌, ℕ, zero, suc, ◌*◌, ◌<◌, ◌≤◌, Bool, true, false, cond, List, [], ◌∷◌, get_or, Option, Some, None, refl, sym, ap, ◌∙◌, subst, inl}
 use Rattle.std.proofs.Common.{inr, arith}
 use Rattle.std.proofs.lemmas.Bool.{cases_lt, lt-ltb, true≢false}
 use Rattle.std.proofs.lemmas.List.Quantifiers.{position-Some}
@@ -10,7 +10,8 @@ use Rattle.std.specs.Option.{option_and_then, option_map, option_map_or}
 use Rattle.j39_network.specs.declared.plan.flow_plan.FlowPlan.{FlowPlan}
 use Rattle.j39_network.specs.declared.plan.group_plan.GroupPlan.{GroupPlan}
 use Rattle.j39_network.specs.declared.plan.timing.Timing.{Timing}
-use Rattle.j39_vehicle_times.specs.BusDelays.{AreDelays, AreDelaysOn, agreed_timing, delays_on}
+use Rattle.j39_load.specs.BusTimes.{timing_of}
+use Rattle.j39_vehicle_times.specs.BusDelays.{AreDelays, AreDelaysOn, delays_on}
 use Rattle.j39_load.specs.declared.waits.delay.Delay.{Delay}
 use Rattle.j39_vehicle.specs.declared.vehicle.Vehicle.{Vehicle}
 use Rattle.j39_vehicle.specs.declared.vehicle.bus_plan.BusPlan.{BusPlan}
@@ -24,7 +25,7 @@ use Rattle.j39_vehicle_findings.specs.declared.finding.VehicleFinding.TheVariant
 use Rattle.j39_vehicle_findings.specs.declared.point.FlowAt.{FlowAt}
 use Rattle.j39_vehicle_findings.proofs.Deciding.{Decides-has_many_outputs, Decides-is_direct, Decides-is_input}
 use Rattle.j39_vehicle_times.specs.TimeFindings.{AreTimeFindings, IsDirectBetween, IsUnlimited, first_output, period_ms}
-use Rattle.j39_vehicle_times.specs.Times.{bits_within, delay_at, direct_feeder, flow_at, first_input_at, jitter_ms, queued_of, interval, timing_on, us_of_ms}
+use Rattle.j39_vehicle_times.specs.Times.{bits_within, delay_at, direct_feeder, flow_at, first_input_at, jitter_ms, queued_of, interval, longest_on, shortest_on, timing_on, us_of_ms}
 use Rattle.j39_vehicle_times.specs.declared.bus_delays.Delays.{Delays}
 use Rattle.j39_vehicle_times.specs.declared.ends.Ends.{Ends}
 use Rattle.j39_vehicle_times.specs.declared.finding.TimeFinding.TheVariants.{TooLate, TooOften, TooRare}
@@ -158,7 +159,7 @@ module _ (v : Vehicle) (delays : Delays) (none : AreFindings v []) (told : AreDe
   unfolding bus
   bus_is = (bus_of v.buses.items at.bus at.flow sends.flow sends.its).1
 
-  no_delays : agreed_timing bus.plan ≡ None → ⊥
+  no_delays : timing_of bus.plan ≡ None → ⊥
   no_delays untimed =
       let empty : delays_on delays at.bus ≡ [] = subst (λ (o : Option Timing). AreDelaysOn bus.plan o (delays_on delays at.bus)) untimed
       (told.each at.bus bus bus_is) in
@@ -167,14 +168,14 @@ module _ (v : Vehicle) (delays : Delays) (none : AreFindings v []) (told : AreDe
       omega (arith, inside)
 
   has_timing : ¬ (timing_on v.buses.items n.output.bus ≡ None)
-  has_timing missing = no_delays (sym (ap (option_and_then (λ (x : BusPlan). agreed_timing x.plan)) bus_is)
+  has_timing missing = no_delays (sym (ap (option_and_then (λ (x : BusPlan). timing_of x.plan)) bus_is)
       ∙ subst (λ (b : ℕ). timing_on v.buses.items b ≡ None) sends.bus missing)
 
   is_short : (group : GroupPlan) → slice_get (groups_on v.buses.items n.output.bus) sends.flow.group ≡ Some group → group.most ≤ 8
-  is_short group its = some_cases (agreed_timing bus.plan) (group.most ≤ 8)
+  is_short group its = some_cases (timing_of bus.plan) (group.most ≤ 8)
       (λ untimed. absurd (no_delays untimed))
       (λ timing timed.
-      let time : timing_on v.buses.items at.bus ≡ Some timing = ap (option_and_then (λ (x : BusPlan). agreed_timing x.plan)) bus_is ∙ timed in
+      let time : timing_on v.buses.items at.bus ≡ Some timing = ap (option_and_then (λ (x : BusPlan). timing_of x.plan)) bus_is ∙ timed in
       let has : HasOwn v delays at (Rattle.j39_vehicle_times.specs.Times.own_of timing sends.flow bits) =
       record { timing = timing; timed = time; flow = sends.flow; its = sends.its; bits = bits; delayed = delayed; sum = refl } in
       let (short, of_flow, few) = short_group v delays told at (Rattle.j39_vehicle_times.specs.Times.own_of timing sends.flow bits) has in
@@ -226,29 +227,41 @@ module _ (v : Vehicle) (delays : Delays) (none : AreFindings v []) (told : AreDe
         | inr within ↦ record { queued = q; queued_is = is; in_jitter = omega (arith, within) }
       ])
 
-  too_often : (p : ℕ) → period_ms sends.flow ≡ Some p → ¬ ((q : ℕ) × (period_ms input.plan ≡ Some q) × (p ≤ q)) → ⊥
+  -- the fastest and the slowest clocks of its bus, and the fastest ones of the bus of its input
+  abbrev least : ℕ
+  least = shortest_on v.buses.items n.output.bus
+
+  abbrev least_there : ℕ
+  least_there = shortest_on v.buses.items source.bus
+
+  abbrev most : ℕ
+  most = longest_on v.buses.items n.output.bus
+
+  too_often : (p : ℕ) → period_ms sends.flow ≡ Some p → ¬ ((q : ℕ) × (period_ms input.plan ≡ Some q) × (p * least ≤ q * least_there)) → ⊥
   too_often p is nearer =
       let finding = in_time.complete (TooOften place) (record { value = n; value_is = feeding.its; meets = between _ (inl (p, is, nearer)) }) in
       omega (arith, finding.1)
 
-  periods : (p : ℕ) → period_ms sends.flow ≡ Some p → (q : ℕ) × (period_ms input.plan ≡ Some q) × (p ≤ q)
-  periods p is = some_cases (period_ms input.plan) ((q : ℕ) × (period_ms input.plan ≡ Some q) × (p ≤ q))
+  periods : (p : ℕ) → period_ms sends.flow ≡ Some p → (q : ℕ) × (period_ms input.plan ≡ Some q) × (p * least ≤ q * least_there)
+  periods p is = some_cases (period_ms input.plan) ((q : ℕ) × (period_ms input.plan ≡ Some q) × (p * least ≤ q * least_there))
       (λ unknown. absurd (too_often p is (λ known. none-some known.0 (sym unknown ∙ known.1))))
-      (λ q its. elim (cases_lt q p) [
-        | inl below ↦ absurd (too_often p is (λ known. let same : known.0 ≡ q = same_Some _ _ (sym known.1
-            ∙ its) in let le = known.2 in omega (arith, below, same, le)))
+      (λ q its. elim (cases_lt (q * least_there) (p * least)) [
+        | inl below ↦ absurd (too_often p is (λ known.
+            let same : known.0 ≡ q = same_Some _ _ (sym known.1 ∙ its) in
+            let le : p * least ≤ q * least_there = subst (λ (k : ℕ). p * least ≤ k * least_there) same known.2 in
+            omega (arith, below, le)))
         | inr far ↦ (q, its, omega (arith, far))
       ])
 
-  too_rare : (ms : ℕ) → sends.flow.pause ≡ Some ms → ¬ ((s : ℕ) × (interval v source ≡ Some s) × (s ≤ us_of_ms ms)) → ⊥
+  too_rare : (ms : ℕ) → sends.flow.pause ≡ Some ms → ¬ ((s : ℕ) × (interval v source ≡ Some s) × (s ≤ ms * most)) → ⊥
   too_rare ms is rarer =
       let finding = in_time.complete (TooRare place) (record { value = n; value_is = feeding.its; meets = between _ (ms, is, rarer) }) in
       omega (arith, finding.1)
 
-  pauses : (ms : ℕ) → sends.flow.pause ≡ Some ms → (s : ℕ) × (interval v source ≡ Some s) × (s ≤ us_of_ms ms)
-  pauses ms is = some_cases (interval v source) ((s : ℕ) × (interval v source ≡ Some s) × (s ≤ us_of_ms ms))
+  pauses : (ms : ℕ) → sends.flow.pause ≡ Some ms → (s : ℕ) × (interval v source ≡ Some s) × (s ≤ ms * most)
+  pauses ms is = some_cases (interval v source) ((s : ℕ) × (interval v source ≡ Some s) × (s ≤ ms * most))
       (λ unknown. absurd (too_rare ms is (λ known. none-some known.0 (sym unknown ∙ known.1))))
-      (λ s its. elim (cases_lt (us_of_ms ms) s) [
+      (λ s its. elim (cases_lt (ms * most) s) [
         | inl above ↦ absurd (too_rare ms is (λ known. let same : known.0 ≡ s = same_Some _ _ (sym known.1
             ∙ its) in let le = known.2 in omega (arith, above, same, le)))
         | inr within ↦ (s, its, omega (arith, within))
@@ -257,12 +270,12 @@ module _ (v : Vehicle) (delays : Delays) (none : AreFindings v []) (told : AreDe
   -- what it comes from is silent no longer than its pause allows
   pub keeps_rarely : (flow : FlowPlan) → flow_at v.buses.items at ≡ Some flow → (from : FlowAt) → first_input_at v n ≡ Some from → (ms : ℕ)
       → flow.pause ≡ Some ms
-      → (s : ℕ) × (interval v from ≡ Some s) × (s ≤ us_of_ms ms)
+      → (s : ℕ) × (interval v from ≡ Some s) × (s ≤ ms * longest_on v.buses.items at.bus)
   keeps_rarely flow its from input_is ms is =
       let same : flow ≡ sends.flow = same_Some _ _ (sym its ∙ sends.its) in
       let there : source ≡ from = same_Some _ _ (sym source_is ∙ input_is) in
       let (s, known, few) = pauses ms (ap (λ (f : FlowPlan). f.pause) (sym same) ∙ is) in
-      (s, subst (λ (f : FlowAt). interval v f ≡ Some s) there known, few)
+      (s, subst (λ (f : FlowAt). interval v f ≡ Some s) there known, subst (λ (b : ℕ). s ≤ ms * longest_on v.buses.items b) sends.bus few)
 
   pub is_timely : IsForwardTimely v delays at n
   unfolding source
@@ -276,7 +289,9 @@ module _ (v : Vehicle) (delays : Delays) (none : AreFindings v []) (told : AreDe
     in_jitter = queued.in_jitter;
     other = input.plan;
     other_is = input.plan_is;
-    no_nearer = periods;
+    no_nearer = λ p is.
+        let (q, its, far) = periods p is in
+        (q, its, subst (λ (b : ℕ). p * shortest_on v.buses.items b ≤ q * shortest_on v.buses.items source.bus) sends.bus far);
   }
 
 pub are_timely : (v : Vehicle) (delays : Delays) → AreFindings v [] → AreDelays v delays → AreTimeFindings v delays [] → AreForwardsTimely v delays

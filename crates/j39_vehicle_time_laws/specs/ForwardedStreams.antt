@@ -7,22 +7,23 @@ use Rattle.j39_load.specs.declared.waits.delay.Delay.TheVariants.{Within}
 use Rattle.j39_load.specs.declared.frames.flow_frames.FlowFrames.{FlowFrames}
 use Rattle.j39_load.specs.AnyQueues.{IsQueueGroupLevel, are_of_unit, keep_order, leasts_of, with_unplanned}
 use Rattle.j39_load.specs.Asked.{frames_asked}
+use Rattle.j39_load.specs.Clocks.{IsTrueTime, shortest_million}
 use Rattle.j39_load.specs.Damage.{damage_frames}
 use Rattle.j39_load.specs.PlannedFrames.{KeepToQueueGroup, queue_group_of, others_of, planned_at, traffic_of}
 use Rattle.j39_timing.specs.AnyOrder.{Controllers, IsLegalInAnyOrder, IsUnordered}
 use Rattle.j39_timing.specs.FrameBits.{longest_frame}
 use Rattle.j39_timing.specs.FrameStreams.{KeepsStream, Origins}
 use Rattle.j39_timing.specs.TimedFrames.{Schedule, Waits}
-use Rattle.j39_timing.specs.Traffic.{AreAsWanted, IsQueuedAt, PlannedFramesWait, Traffic, may_share, others_queued}
+use Rattle.j39_timing.specs.Traffic.{AreAsWanted, IsQueuedAt, IsSingle, PlannedFramesWait, Traffic, may_share, others_queued}
 use Rattle.j39_vehicle.specs.declared.vehicle.Vehicle.{Vehicle}
 use Rattle.j39_vehicle.specs.declared.vehicle.forward.Forward.{Forward}
 use Rattle.j39_vehicle_findings.specs.declared.point.FlowAt.{FlowAt}
 use Rattle.j39_vehicle_times.specs.BusDelays.{AreDelays, delays_on}
 use Rattle.j39_vehicle_times.specs.TimeFindings.{period_ms}
-use Rattle.j39_vehicle_times.specs.Times.{delay_at, direct_feeder, flow_at, first_input_at, jitter_ms, queued_of}
+use Rattle.j39_vehicle_times.specs.Times.{delay_at, direct_feeder, flow_at, first_input_at, jitter_ms, queued_of, shortest_on}
 use Rattle.j39_vehicle_times.specs.declared.bus_delays.Delays.{Delays}
 use Rattle.j39_vehicle_time_laws.specs.KeptBuses.{AreKeptBuses, IsKnownBus, asked_on}
-use Rattle.j39_vehicle_time_laws.specs.Prompt.{ArePrompt, HaveOwnReleases, IsSentOn}
+use Rattle.j39_vehicle_time_laws.specs.Prompt.{ArePrompt, HaveOwnReleases, IsScope, IsSentOn, Scope, scope_on}
 use Rattle.j39_vehicle_time_laws.specs.Seen.{SeenBus, SeenBuses}
 
 -- the streams of a plan's frames, and of what comes of damage
@@ -51,8 +52,11 @@ pub record KeepsOtherwise (timing : Timing) (all : List (Option FlowFrames)) (s 
 
 -- ---- flows that are sent on directly
 
--- the bus keeps to its plan; but it isn't asked when messages are queued that are sent on directly, nor how far apart their releases are
-pub record IsOtherwiseKept (v : Vehicle) (delays : Delays) (b : ℕ) (timing : Timing) (all : List (Option FlowFrames)) (bus : SeenBus) : Type 0 where
+-- the bus keeps to its plan, and its bits last as long as its clock can have them; but it isn't asked when messages are queued that are sent on directly, nor how far apart their releases are; and what
+-- holds while frames of a flow wait is asked of these flows alone
+pub record IsOtherwiseKept (v : Vehicle) (delays : Delays) (b : ℕ) (timing : Timing) (all : List (Option FlowFrames)) (flows : ℕ → Bool) (bus : SeenBus)
+    : Type 0 where
+  pub clock : IsTrueTime timing bus.time
   pub legal : IsLegalInAnyOrder bus.schedule bus.controllers
   pub own : (p : ℕ) → p < bus.schedule.count → bus.planned p ≡ true → ¬ IsSentOn v delays (record { bus = b; flow = bus.of.source p })
       → KeepsStream bus.schedule (streams_of timing all).count (streams_of timing all).stream bus.of p
@@ -63,17 +67,24 @@ pub record IsOtherwiseKept (v : Vehicle) (delays : Delays) (b : ℕ) (timing : T
       → ¬ IsSentOn v delays (record { bus = b; flow = bus.of.source p }) → bus.of.source p ≡ bus.of.source q → bus.of.turn p ≡ bus.of.turn q
       → (bus.of.since p + ((streams_of timing all).stream (bus.of.source p)).period ≤ bus.of.since q)
       ⊎ (bus.of.since q + ((streams_of timing all).stream (bus.of.source p)).period ≤ bus.of.since p)
-  pub frames : (flow bits : ℕ) → slice_get (delays_on delays b) flow ≡ Some (Some (Within bits))
+  -- of a flow each of whose messages goes in one frame two releases are as far apart in true time as the fastest clock of a unit has its period
+  pub apart : (p q ms : ℕ) (flow : FlowPlan) → p < bus.schedule.count → q < bus.schedule.count → p ≢ q → bus.planned p ≡ true → bus.planned q ≡ true
+      → ¬ IsSentOn v delays (record { bus = b; flow = bus.of.source p }) → bus.of.source p ≡ bus.of.source q
+      → IsSingle ((streams_of timing all).stream (bus.of.source p))
+      → flow_at v.buses.items (record { bus = b; flow = bus.of.source p }) ≡ Some flow → period_ms flow ≡ Some ms
+      → (bus.release p + 1000 * ms * shortest_million timing ≤ bus.release q) ⊎ (bus.release q + 1000 * ms * shortest_million timing ≤ bus.release p)
+  pub frames : (flow bits : ℕ) → flows flow ≡ true → slice_get (delays_on delays b) flow ≡ Some (Some (Within bits))
       → KeepsOtherwise timing all bus.schedule bus.controllers bus.planned bus.of flow
 
--- so it is of each bus that has timing
-abbrev pub AreOtherwiseKept : Vehicle → Delays → SeenBuses → Type 0
-AreOtherwiseKept v delays seen = (b : ℕ) (timing : Timing) (of_bus : IsKnownBus v delays b timing)
-    → IsOtherwiseKept v delays b timing (frames_asked (asked_on of_bus)) (seen b)
+-- so it is of each bus of the scope that has timing
+abbrev pub AreOtherwiseKept : Vehicle → Delays → Scope → SeenBuses → Type 0
+AreOtherwiseKept v delays scope seen = (b : ℕ) (timing : Timing) (of_bus : IsKnownBus v delays b timing) → scope.buses b ≡ true
+    → IsOtherwiseKept v delays b timing (frames_asked (asked_on of_bus)) (scope_on scope b) (seen b)
 
 -- ---- what follows
 
--- the jitter of a flow that is sent on has room for the time before it is queued, and its messages needn't be further apart than those of the input are
+-- the jitter of a flow that is sent on has room for the time before it is queued, and its messages needn't be further apart than those of the input
+-- are, each by the fastest clocks
 pub record IsForwardTimely (v : Vehicle) (delays : Delays) (at : FlowAt) (n : Forward) : Type 0 where
   pub input : FlowAt
   pub input_is : first_input_at v n ≡ Some input
@@ -84,13 +95,14 @@ pub record IsForwardTimely (v : Vehicle) (delays : Delays) (at : FlowAt) (n : Fo
   pub in_jitter : queued ≤ 1000 * jitter_ms flow
   pub other : FlowPlan
   pub other_is : flow_at v.buses.items input ≡ Some other
-  pub no_nearer : (p : ℕ) → period_ms flow ≡ Some p → (q : ℕ) × (period_ms other ≡ Some q) × (p ≤ q)
+  pub no_nearer : (p : ℕ) → period_ms flow ≡ Some p → (q : ℕ) × (period_ms other ≡ Some q)
+      × (p * shortest_on v.buses.items at.bus ≤ q * shortest_on v.buses.items input.bus)
 
 abbrev pub AreForwardsTimely : Vehicle → Delays → Type 0
 AreForwardsTimely v delays = (at : FlowAt) (bits : ℕ) (n : Forward) → delay_at delays at ≡ Some bits → direct_feeder v at ≡ Some n
     → IsForwardTimely v delays at n
 
--- where gateways are prompt, each frame of a bus keeps to its stream, those that are sent on directly too
+-- where gateways are prompt, each frame of a bus of the scope keeps to its stream, those that are sent on directly too
 abbrev pub AreStreamsKept : Vehicle → Delays → Type 0
-AreStreamsKept v delays = AreForwardsTimely v delays → AreDelays v delays → (seen : SeenBuses) → AreOtherwiseKept v delays seen → ArePrompt v delays seen
-    → HaveOwnReleases v delays seen → AreKeptBuses v delays seen
+AreStreamsKept v delays = AreForwardsTimely v delays → AreDelays v delays → (scope : Scope) → IsScope v delays scope → (seen : SeenBuses)
+    → AreOtherwiseKept v delays scope seen → ArePrompt v delays scope seen → HaveOwnReleases v delays scope seen → AreKeptBuses v delays scope seen

@@ -4,7 +4,7 @@ use Rattle.j39_network.specs.declared.plan.timing.Timing.{Timing}
 use Rattle.j39_load.specs.AnyQueues.{keep_order}
 use Rattle.j39_load.specs.Asked.{frames_asked}
 use Rattle.j39_load.specs.PlannedFrames.{planned_at}
-use Rattle.j39_timing.specs.Gateways.{HasBegun, end_time, queue_time}
+use Rattle.j39_gateways.specs.Gateways.{HasBegun, end_time, queue_time}
 use Rattle.j39_vehicle.specs.declared.vehicle.Vehicle.{Vehicle}
 use Rattle.j39_vehicle.specs.declared.vehicle.forward.Forward.{Forward}
 use Rattle.j39_vehicle_findings.specs.ForwardTests.{feeds, is_direct}
@@ -13,7 +13,7 @@ use Rattle.j39_vehicle_times.specs.BusDelays.{AreDelays}
 use Rattle.j39_vehicle_times.specs.Times.{direct_feeder, forward_at, first_input_at, timing_on}
 use Rattle.j39_vehicle_times.specs.declared.bus_delays.Delays.{Delays}
 use Rattle.j39_vehicle_time_laws.specs.KeptBuses.{IsKnownBus, asked_on}
-use Rattle.j39_vehicle_time_laws.specs.Prompt.{IsDelayKnown, SendsOn}
+use Rattle.j39_vehicle_time_laws.specs.Prompt.{IsDelayKnown, SendsOn, whole_vehicle}
 use Rattle.j39_vehicle_time_laws.specs.Seen.{SeenBuses, frames_at}
 use Rattle.j39_vehicle_time_laws.specs.VehicleAges.{IsPromptVehicle}
 
@@ -35,10 +35,11 @@ pub record IsLoneForward (v : Vehicle) (delays : Delays) (n : ℕ) (forward : Fo
   pub alone : (m : ℕ) (other : Forward) → forward_at v m ≡ Some other → feeds v y other ≡ true → m ≡ n
   pub in_order : (b : ℕ) (timing : Timing) (of_bus : IsKnownBus v delays b timing) (j : ℕ) → keep_order (planned_at (frames_asked (asked_on of_bus)) j) ≡ true
 
--- until a time, such things are seen of the vehicle: a message of x, and the one by which it is sent on
+-- until a time, such things are seen of the whole vehicle: a message of x, and the one by which it is sent on
 pub record CanBeSentOn (v : Vehicle) (delays : Delays) (x y : FlowAt) (by : ℕ) : Type 0 where
   pub seen : SeenBuses
   pub prompt : IsPromptVehicle v delays seen by
+  pub whole : prompt.scope ≡ whole_vehicle
   pub message : ℕ
   pub begun : HasBegun (frames_at v seen x) message
   pub next : ℕ

@@ -13,7 +13,7 @@ use Rattle.j39_vehicle_findings.specs.declared.point.Point.{Point}
 use Rattle.j39_vehicle_times.specs.TimeFindings.{first_output}
 use Rattle.j39_vehicle_times.specs.Times.{age, flow_at, first_input_at, queued_of, timing_on}
 use Rattle.j39_vehicle_times.specs.declared.bus_delays.Delays.{Delays}
-use Rattle.j39_vehicle_time_laws.specs.Seen.{unit_on}
+use Rattle.j39_vehicle_time_laws.specs.Seen.{longest_bit, of_us, shortest_bit}
 
 -- the forward at a place sends messages of the one flow directly as messages of the other one, on a bus of whose timing something is known
 pub record GoesDirectly (v : Vehicle) (place : ℕ) (n : Forward) (input output : FlowPlan) : Type 0 where
@@ -46,6 +46,7 @@ AgesAreUnasked v delays = (p : Point) (most : ℕ) (flow : FlowPlan) → age v d
 
 -- ---- clocks
 
--- a bit of a bus takes the time that it takes in the words of its plan
+-- where the clocks of a bus agree with true time, each of its bits takes the time that it takes in the words of its plan
 abbrev pub ClocksAreOfBitrates : Vehicle → Type 0
-ClocksAreOfBitrates v = (b : ℕ) (timing : Timing) → timing_on v.buses.items b ≡ Some timing → unit_on v b ≡ bit_time timing.bitrate
+ClocksAreOfBitrates v = (b : ℕ) (timing : Timing) → timing_on v.buses.items b ≡ Some timing → timing.drift ≡ 0
+    → (shortest_bit v b ≡ of_us (bit_time timing.bitrate)) × (longest_bit v b ≡ of_us (bit_time timing.bitrate))

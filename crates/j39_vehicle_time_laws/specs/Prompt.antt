@@ -1,5 +1,5 @@
 -- Gateways that send on in time: directly, for each message that ends one of their own; or at their own releases, the newest that they have.
-use Rattle.std.specs.Prelude.{◌≡◌, ℕ, ◌+◌, ◌*◌, ◌<◌, ◌≤◌, true, false, Option, Some, None}
+use Rattle.std.specs.Prelude.{◌≡◌, ℕ, ◌+◌, ◌*◌, ◌<◌, ◌≤◌, Bool, true, false, Option, Some, None}
 use Rattle.std.specs.Option.{option_and_then, option_map}
 use Rattle.j39_vehicle.specs.declared.vehicle.Vehicle.{Vehicle}
 use Rattle.j39_vehicle.specs.declared.vehicle.forward.Forward.{Forward}
@@ -7,11 +7,24 @@ use Rattle.j39_vehicle_findings.specs.ForwardTests.{feeds, is_direct}
 use Rattle.j39_vehicle_findings.specs.Traces.{goes_on, next_forward}
 use Rattle.j39_vehicle_findings.specs.declared.point.FlowAt.{FlowAt}
 use Rattle.j39_vehicle_findings.specs.declared.point.Point.{Point}
-use Rattle.j39_timing.specs.Gateways.{HasBegun, HasOwnReleases, IsHandedOn, IsIts, end_time, queue_time}
+use Rattle.j39_gateways.specs.Gateways.{HasBegun, HasOwnReleases, IsHandedOn, IsIts, end_time, queue_time}
 use Rattle.j39_vehicle_laws.specs.Faithful.{KeepsContents}
 use Rattle.j39_vehicle_times.specs.declared.bus_delays.Delays.{Delays}
-use Rattle.j39_vehicle_times.specs.Times.{behind_at, delay_at, direct_feeder, forward_at, first_input_at, interval}
-use Rattle.j39_vehicle_time_laws.specs.Seen.{SeenBuses, frames_at}
+use Rattle.j39_vehicle_times.specs.Times.{behind_at, delay_at, direct_feeder, forward_at, first_input_at, interval_us}
+use Rattle.j39_vehicle_time_laws.specs.Seen.{SeenBuses, frames_at, of_us}
+
+-- some of the buses and flows of a vehicle, of which something is asked
+pub record Scope : Type 0 where
+  pub buses : ℕ → Bool
+  pub flows : FlowAt → Bool
+
+-- all of them
+abbrev pub whole_vehicle : Scope
+whole_vehicle = record { buses = λ b. true; flows = λ at. true }
+
+-- its flows of a bus, by their places
+abbrev pub scope_on : Scope → ℕ → ℕ → Bool
+scope_on scope b flow = scope.flows (record { bus = b; flow = flow })
 
 -- a delay is told of the flow: each of its messages goes in one frame
 abbrev pub IsDelayKnown : Delays → FlowAt → Type 0
@@ -32,7 +45,7 @@ pub record SendsOn (v : Vehicle) (n : ℕ) (forward : Forward) (x y : FlowAt) (w
 -- each message of the output is one of the input, sent on at most `within` behind its end; each of the input that ends is sent on; what is said of
 -- a signal is what was said of the one that goes into it; and the bytes keep what the forward has to keep
 pub record IsSentDirectly (v : Vehicle) (seen : SeenBuses) (n : ℕ) (x y : FlowAt) (within : ℕ) : Type 0 where
-  pub handed : IsHandedOn (frames_at v seen x) (frames_at v seen y) within
+  pub handed : IsHandedOn (frames_at v seen x) (frames_at v seen y) (of_us within)
   pub each : (p : ℕ) → HasBegun (frames_at v seen x) p → (q : ℕ) × IsIts (frames_at v seen y) q × (handed.what q ≡ p)
   pub says : (s t : Option ℕ) → LeadsTo v n x s y t → (q : ℕ) → IsIts (frames_at v seen y) q
       → (seen y.bus).born q t ≡ (seen x.bus).born (handed.what q) s
@@ -43,17 +56,20 @@ pub record IsSentDirectly (v : Vehicle) (seen : SeenBuses) (n : ℕ) (x y : Flow
 -- a later one that has ended by when it is queued; and its bytes keep what the forward has to keep of this one
 pub record IsSentAtItsBeat (v : Vehicle) (seen : SeenBuses) (n : ℕ) (x y : FlowAt) (within patience : ℕ) : Type 0 where
   pub newest : (s t : Option ℕ) → LeadsTo v n x s y t → (p q : ℕ) → HasBegun (frames_at v seen x) p → IsIts (frames_at v seen y) q
-      → end_time (frames_at v seen x) p + within ≤ (seen y.bus).release q → (seen y.bus).release q < end_time (frames_at v seen x) p + patience
+      → end_time (frames_at v seen x) p + of_us within ≤ (seen y.bus).release q
+      → (seen y.bus).release q < end_time (frames_at v seen x) p + of_us patience
       → (r : ℕ) × HasBegun (frames_at v seen x) r × (end_time (frames_at v seen x) p ≤ end_time (frames_at v seen x) r)
       × (end_time (frames_at v seen x) r ≤ queue_time (frames_at v seen y) q) × ((seen y.bus).born q t ≡ (seen x.bus).born r s)
       × ((forward : Forward) → forward_at v n ≡ Some forward → KeepsContents v forward (Some ((seen x.bus).bytes r)) ((seen y.bus).bytes q))
 
--- all gateways do so, of flows of which a delay is told; no message is too old for them before the next one has to be there
-pub record ArePrompt (v : Vehicle) (delays : Delays) (seen : SeenBuses) : Type 0 where
+-- gateways do so, of flows of which a delay is told, where they send directly to a bus of the scope, or a flow of it at its own releases; no message
+-- is too old for them before the next one has to be there
+pub record ArePrompt (v : Vehicle) (delays : Delays) (scope : Scope) (seen : SeenBuses) : Type 0 where
   pub direct : (n : ℕ) (forward : Forward) (x y : FlowAt) (within : ℕ) → SendsOn v n forward x y within → is_direct forward ≡ true
-      → IsDelayKnown delays x → IsDelayKnown delays y → IsSentDirectly v seen n x y within
+      → scope.buses y.bus ≡ true → IsDelayKnown delays x → IsDelayKnown delays y → IsSentDirectly v seen n x y within
   pub periodic : (n : ℕ) (forward : Forward) (x y : FlowAt) (within pause time : ℕ) → SendsOn v n forward x y within → is_direct forward ≡ false
-      → interval v x ≡ Some pause → behind_at v delays x ≡ Some time → IsSentAtItsBeat v seen n x y within (pause + (time + within))
+      → scope.flows y ≡ true → interval_us v x ≡ Some pause → behind_at v delays x ≡ Some time
+      → IsSentAtItsBeat v seen n x y within (pause + (time + within))
 
 -- the flow that a direct forward takes for its input, for a flow of which a delay is told: each of its messages goes in one frame
 abbrev pub sent_from : Vehicle → Delays → FlowAt → Option FlowAt
@@ -62,11 +78,16 @@ sent_from v delays at = option_and_then (λ (bits : ℕ). option_and_then (first
 abbrev pub IsSentOn : Vehicle → Delays → FlowAt → Type 0
 IsSentOn v delays at = (from : FlowAt) × (sent_from v delays at ≡ Some from)
 
--- all others have releases of their own bus
-abbrev pub HaveOwnReleases : Vehicle → Delays → SeenBuses → Type 0
-HaveOwnReleases v delays seen = (at : FlowAt) → ¬ IsSentOn v delays at → HasOwnReleases (frames_at v seen at)
+-- the bus of each of its flows is in it, and with a bus each flow that is sent on directly to this bus
+pub record IsScope (v : Vehicle) (delays : Delays) (scope : Scope) : Type 0 where
+  pub its_bus : (at : FlowAt) → scope.flows at ≡ true → scope.buses at.bus ≡ true
+  pub sources : (at from : FlowAt) → scope.buses at.bus ≡ true → sent_from v delays at ≡ Some from → scope.flows from ≡ true
 
--- at its origin a message says what is so at its release, or later, when it is queued at the latest
-abbrev pub SayWhatIsSo : Vehicle → SeenBuses → Type 0
-SayWhatIsSo v seen = (p : Point) → next_forward v p ≡ None → (q : ℕ) → IsIts (frames_at v seen p.at) q
+-- all other flows of its buses have releases of their own bus
+abbrev pub HaveOwnReleases : Vehicle → Delays → Scope → SeenBuses → Type 0
+HaveOwnReleases v delays scope seen = (at : FlowAt) → scope.buses at.bus ≡ true → ¬ IsSentOn v delays at → HasOwnReleases (frames_at v seen at)
+
+-- at its origin a message of one of its flows says what is so at its release, or later, when it is queued at the latest
+abbrev pub SayWhatIsSo : Vehicle → Scope → SeenBuses → Type 0
+SayWhatIsSo v scope seen = (p : Point) → scope.flows p.at ≡ true → next_forward v p ≡ None → (q : ℕ) → IsIts (frames_at v seen p.at) q
     → (time : ℕ) × ((seen p.at.bus).born q p.signal ≡ Some time) × ((seen p.at.bus).release q ≤ time) × (time ≤ queue_time (frames_at v seen p.at) q)

@@ -5,9 +5,8 @@ use Rattle.std.specs.List.{slice_get}
 use Rattle.j39_search.specs.ListPlaces.{ValueAt}
 use Rattle.j39_network.specs.declared.plan.flow_plan.FlowPlan.{FlowPlan}
 use Rattle.j39_network.specs.declared.plan.timing.Timing.{Timing}
-use Rattle.j39_load.specs.Loads.{bits_of_ms}
-use Rattle.j39_timing.specs.FreshFrames.{KeepsComing}
-use Rattle.j39_timing.specs.Gateways.{time_of}
+use Rattle.j39_load.specs.Clocks.{longest_million}
+use Rattle.j39_gateways.specs.Gateways.{KeepsReleasing}
 use Rattle.j39_vehicle.specs.declared.vehicle.Vehicle.{Vehicle}
 use Rattle.j39_vehicle.specs.declared.vehicle.vehicle_need.VehicleNeed.{VehicleNeed}
 use Rattle.j39_vehicle_findings.specs.Traces.{IsNeedFlow, flows_of_need, is_sent_by, point_on}
@@ -20,9 +19,9 @@ use Rattle.j39_vehicle_times.specs.Times.{age, behind_at, flow_at, timing_on}
 use Rattle.j39_vehicle_times.specs.declared.bus_delays.Delays.{Delays}
 use Rattle.j39_vehicle_time_laws.specs.ForwardedStreams.{AreOtherwiseKept}
 use Rattle.j39_vehicle_time_laws.specs.KeptBuses.{AreKeptBuses, AreSeenUntil}
-use Rattle.j39_vehicle_time_laws.specs.Prompt.{ArePrompt, HaveOwnReleases, IsSentOn, SayWhatIsSo}
-use Rattle.j39_vehicle_time_laws.specs.Seen.{SeenBuses, clock_on}
-use Rattle.j39_vehicle_time_laws.specs.YoungValues.{IsBroughtFrom, IsBroughtYoung, KeepPauses}
+use Rattle.j39_vehicle_time_laws.specs.Prompt.{ArePrompt, HaveOwnReleases, IsScope, IsSentOn, SayWhatIsSo, Scope}
+use Rattle.j39_vehicle_time_laws.specs.Seen.{SeenBuses, frames_at, of_us}
+use Rattle.j39_vehicle_time_laws.specs.YoungValues.{HasWay, IsBroughtFrom, IsBroughtYoung, KeepPauses}
 
 -- nothing is wrong with its paths, nor with its times
 pub record IsSoundVehicle (v : Vehicle) (delays : Delays) : Type 0 where
@@ -30,21 +29,24 @@ pub record IsSoundVehicle (v : Vehicle) (delays : Delays) : Type 0 where
   pub paths : AreFindings v []
   pub times : AreTimeFindings v delays []
 
--- what is asked of what is seen of it up to a time: its buses keep to their plans, but for when messages are queued that are sent on directly;
--- its gateways are prompt; and at its origin a message says what is so
+-- what is asked of what is seen of it up to a time, of the buses and flows of a scope, which may be the whole vehicle: they keep to their plans, but
+-- for when messages are queued that are sent on directly; gateways that send to them are prompt; and at its origin a message says what is so
 pub record IsPromptVehicle (v : Vehicle) (delays : Delays) (seen : SeenBuses) (by : ℕ) : Type 0 where
-  pub kept : AreOtherwiseKept v delays seen
-  pub until : AreSeenUntil v seen by
-  pub prompt : ArePrompt v delays seen
-  pub own_releases : HaveOwnReleases v delays seen
-  pub origins : SayWhatIsSo v seen
+  pub scope : Scope
+  pub closed : IsScope v delays scope
+  pub kept : AreOtherwiseKept v delays scope seen
+  pub until : AreSeenUntil v scope seen by
+  pub prompt : ArePrompt v delays scope seen
+  pub own_releases : HaveOwnReleases v delays scope seen
+  pub origins : SayWhatIsSo v scope seen
 
 -- ---- ages
 
--- each age that is known is a bound
+-- each age that is known is a bound, where the scope has the way to the point
 abbrev pub AreAgesKept : Vehicle → Delays → Type 0
-AreAgesKept v delays = (seen : SeenBuses) (p : Point) (most from t : ℕ) → age v delays p ≡ Some most → from + most ≤ t
-    → IsPromptVehicle v delays seen t → KeepPauses v seen p from t → IsBroughtYoung v seen p most t
+AreAgesKept v delays = (seen : SeenBuses) (p : Point) (most from t : ℕ) → age v delays p ≡ Some most
+    → from + of_us most ≤ t → (is : IsPromptVehicle v delays seen t) → HasWay v is.scope p → KeepPauses v seen p from t
+    → IsBroughtYoung v seen p (of_us most) t
 
 -- some flow of the need brings what is never older than the need asks for
 pub record IsNeedKept (v : Vehicle) (delays : Delays) (d : VehicleNeed) (within : ℕ) : Type 0 where
@@ -53,8 +55,9 @@ pub record IsNeedKept (v : Vehicle) (delays : Delays) (d : VehicleNeed) (within 
   pub most : ℕ
   pub age_is : age v delays (point_on d.unit.bus flow d.signal) ≡ Some most
   pub young : most ≤ 1000 * within
-  pub brought : (seen : SeenBuses) (from t : ℕ) → from + most ≤ t → IsPromptVehicle v delays seen t
-      → KeepPauses v seen (point_on d.unit.bus flow d.signal) from t → IsBroughtYoung v seen (point_on d.unit.bus flow d.signal) (1000 * within) t
+  pub brought : (seen : SeenBuses) (from t : ℕ) → from + of_us most ≤ t → (is : IsPromptVehicle v delays seen t)
+      → HasWay v is.scope (point_on d.unit.bus flow d.signal)
+      → KeepPauses v seen (point_on d.unit.bus flow d.signal) from t → IsBroughtYoung v seen (point_on d.unit.bus flow d.signal) (of_us (1000 * within)) t
   -- what it brings was sent by the unit from which the need wants it
   pub sender : (seen : SeenBuses) (frame born : ℕ) (brought : IsBroughtFrom v seen (point_on d.unit.bus flow d.signal) frame born)
       → is_sent_by v d.from brought.origin ≡ true
@@ -66,18 +69,17 @@ AreVehicleNeedsKept v delays = (d : ℕ) (need : VehicleNeed) (within : ℕ) →
 
 -- ---- pauses
 
--- a flow that is sent on directly has a release in each of the pauses that the plan of its bus has for it, from one bit to another, while what it
--- comes from keeps its own
+-- a flow that is sent on directly has a release in each of the pauses that the plan of its bus has for it, by the slowest clocks there, from one time
+-- to another, while what it comes from keeps its own
 abbrev pub AreForwardedPausesKept : Vehicle → Delays → Type 0
-AreForwardedPausesKept v delays = (seen : SeenBuses) (by : ℕ) (at : FlowAt) (timing : Timing) (flow : FlowPlan) (ms time first last : ℕ)
+AreForwardedPausesKept v delays = (seen : SeenBuses) (by : ℕ) (at : FlowAt) (timing : Timing) (flow : FlowPlan) (ms time from to : ℕ)
     → IsSentOn v delays at → timing_on v.buses.items at.bus ≡ Some timing → flow_at v.buses.items at ≡ Some flow → flow.pause ≡ Some ms
-    → behind_at v delays at ≡ Some time → IsPromptVehicle v delays seen by → KeepPauses v seen (record { at = at; signal = None }) (time_of
-    (clock_on v seen at.bus) first) by
-    → time_of (clock_on v seen at.bus) (last + 1) + time ≤ by
-    → KeepsComing (seen at.bus).schedule (seen at.bus).planned (seen at.bus).of at.flow (bits_of_ms timing ms) first last
+    → behind_at v delays at ≡ Some time → (is : IsPromptVehicle v delays seen by) → HasWay v is.scope (record { at = at; signal = None })
+    → KeepPauses v seen (record { at = at; signal = None }) from by → to + of_us time ≤ by
+    → KeepsReleasing (frames_at v seen at) (1000 * (ms * longest_million timing)) from to
 
 -- ---- streams
 
--- the planned frames of each of its buses keep to what the plan of this bus takes for granted of them, those that are sent on directly too
+-- the planned frames of each bus of the scope keep to what the plan of this bus takes for granted of them, those that are sent on directly too
 abbrev pub AreVehicleStreamsKept : Vehicle → Delays → Type 0
-AreVehicleStreamsKept v delays = (seen : SeenBuses) (by : ℕ) → IsPromptVehicle v delays seen by → AreKeptBuses v delays seen
+AreVehicleStreamsKept v delays = (seen : SeenBuses) (by : ℕ) (is : IsPromptVehicle v delays seen by) → AreKeptBuses v delays is.scope seen

@@ -1,44 +1,51 @@
 -- How old what is brought over gateways is at most.
-use Rattle.std.specs.Prelude.{◌≡◌, ℕ, ◌+◌, ◌*◌, ◌<◌, ◌≤◌, [], Option, Some, None}
+use Rattle.std.specs.Prelude.{◌≡◌, ℕ, ◌+◌, ◌*◌, ◌<◌, ◌≤◌, true, [], Option, Some, None}
 use Rattle.std.specs.Option.{option_and_then, option_map}
 use Rattle.j39_signal.specs.Parts.{SignalParts}
 use Rattle.j39_network.specs.declared.plan.flow_plan.FlowPlan.{FlowPlan}
+use Rattle.j39_network.specs.declared.plan.timing.Timing.{Timing}
+use Rattle.j39_load.specs.Clocks.{longest_million}
 use Rattle.j39_vehicle.specs.declared.vehicle.Vehicle.{Vehicle}
 use Rattle.j39_vehicle.specs.declared.vehicle.forward.Forward.{Forward}
 use Rattle.j39_vehicle_findings.specs.Traces.{goes_on, next_forward}
 use Rattle.j39_vehicle_findings.specs.VehicleFindings.{AreFindings}
 use Rattle.j39_vehicle_findings.specs.declared.point.FlowAt.{FlowAt}
 use Rattle.j39_vehicle_findings.specs.declared.point.Point.{Point}
-use Rattle.j39_timing.specs.Gateways.{HasBegun, IsIts, end_time}
+use Rattle.j39_gateways.specs.Gateways.{HasBegun, IsIts, end_time}
 use Rattle.j39_vehicle_times.specs.BusDelays.{AreDelays}
 use Rattle.j39_vehicle_times.specs.declared.bus_delays.Delays.{Delays}
-use Rattle.j39_vehicle_times.specs.Times.{age, direct_feeder, first_input_at, forward_at, unasked_at}
+use Rattle.j39_vehicle_times.specs.Times.{age, direct_feeder, first_input_at, forward_at, timing_on, unasked_at}
 use Rattle.j39_vehicle_laws.specs.BusRuns.{BusMessage}
 use Rattle.j39_vehicle_laws.specs.Carrying.{AreAllCopies, AreAllExact, signal_at}
 use Rattle.j39_vehicle_laws.specs.Faithful.{KeepsContents}
 use Rattle.j39_vehicle_laws.specs.Unaltered.{ReadsAsOrigin}
 use Rattle.j39_vehicle_time_laws.specs.KeptBuses.{AreKeptBuses, AreSeenUntil}
-use Rattle.j39_vehicle_time_laws.specs.Prompt.{ArePrompt, HaveOwnReleases, SayWhatIsSo}
-use Rattle.j39_vehicle_time_laws.specs.Seen.{SeenBuses, frames_at}
+use Rattle.j39_vehicle_time_laws.specs.Prompt.{ArePrompt, HaveOwnReleases, IsScope, SayWhatIsSo, Scope}
+use Rattle.j39_vehicle_time_laws.specs.Seen.{SeenBuses, frames_at, of_us}
 
 -- the trace of the first point goes on to the other one, or is there
 pub data IsOnTheWay (v : Vehicle) (p : Point) : Point → Type 0 where
   itself : IsOnTheWay v p p
   behind_it : (q r : Point) (n : ℕ) → IsOnTheWay v p q → next_forward v q ≡ Some n → goes_on v q n ≡ Some r → IsOnTheWay v p r
 
+-- each flow on the way to the point is in the scope
+abbrev pub HasWay : Vehicle → Scope → Point → Type 0
+HasWay v scope p = (q : Point) → IsOnTheWay v p q → scope.flows q.at ≡ true
+
 -- messages of the first flow are those of the other one, sent on directly, or their own
 pub data ComesDirectly (v : Vehicle) (at : FlowAt) : FlowAt → Type 0 where
   by_itself : ComesDirectly v at at
   sent_on : (x y : FlowAt) (n : Forward) → ComesDirectly v at y → direct_feeder v y ≡ Some n → first_input_at v n ≡ Some x → ComesDirectly v at x
 
--- the longest time between two releases of a flow, as its own plan has it
+-- the longest time between two releases of a flow, as its own plan has it, by the slowest clock of its unit, in nanoseconds
 abbrev pub pause_at : Vehicle → FlowAt → Option ℕ
-pause_at v at = option_and_then (λ (flow : FlowPlan). option_map (λ (ms : ℕ). 1000 * ms) flow.pause) (unasked_at v at)
+pause_at v at = option_and_then (λ (flow : FlowPlan). option_and_then (λ (timing : Timing). option_map (λ (ms : ℕ). ms * longest_million timing) flow.pause)
+    (timing_on v.buses.items at.bus)) (unasked_at v at)
 
 -- from one time to another, a message of the flow has had its release less than its pause ago
 abbrev pub KeepsItsPause : Vehicle → SeenBuses → FlowAt → ℕ → ℕ → Type 0
 KeepsItsPause v seen at from to = (pause : ℕ) → pause_at v at ≡ Some pause → (t : ℕ) → from ≤ t → t ≤ to
-    → (p : ℕ) × IsIts (frames_at v seen at) p × ((seen at.bus).release p ≤ t) × (t < (seen at.bus).release p + pause)
+    → (p : ℕ) × IsIts (frames_at v seen at) p × ((seen at.bus).release p ≤ t) × (t < (seen at.bus).release p + 1000 * pause)
 
 -- so do all on the way that have releases of their own: the origin's flow, and those that gateways send at their own beat
 abbrev pub KeepPauses : Vehicle → SeenBuses → Point → ℕ → ℕ → Type 0
@@ -89,15 +96,18 @@ pub record IsBroughtYoung (v : Vehicle) (seen : SeenBuses) (p : Point) (age t : 
   pub newest : (q : ℕ) → HasBegun (frames_at v seen p.at) q → end_time (frames_at v seen p.at) frame ≤ end_time (frames_at v seen p.at) q
       → end_time (frames_at v seen p.at) q ≤ t → SaysYoung v seen p age t q
 
--- what is asked of what is seen of a vehicle up to a time: its buses keep to their plans, and its gateways are prompt
+-- what is asked of what is seen of a vehicle up to a time: some of its buses keep to their plans, and gateways that send to them are prompt
 pub record IsSeenVehicle (v : Vehicle) (delays : Delays) (seen : SeenBuses) (by : ℕ) : Type 0 where
-  pub kept : AreKeptBuses v delays seen
-  pub until : AreSeenUntil v seen by
-  pub prompt : ArePrompt v delays seen
-  pub own_releases : HaveOwnReleases v delays seen
-  pub origins : SayWhatIsSo v seen
+  pub scope : Scope
+  pub closed : IsScope v delays scope
+  pub kept : AreKeptBuses v delays scope seen
+  pub until : AreSeenUntil v scope seen by
+  pub prompt : ArePrompt v delays scope seen
+  pub own_releases : HaveOwnReleases v delays scope seen
+  pub origins : SayWhatIsSo v scope seen
 
 -- each age that is known bounds how old what the flow brings is: at each time before which pauses were kept for as long
 abbrev pub AreAgesBounds : Vehicle → Delays → Type 0
-AreAgesBounds v delays = AreFindings v [] → AreDelays v delays → (seen : SeenBuses) (p : Point) (most from t : ℕ) → age v delays p ≡ Some most → from + most ≤ t
-    → IsSeenVehicle v delays seen t → KeepPauses v seen p from t → IsBroughtYoung v seen p most t
+AreAgesBounds v delays = AreFindings v [] → AreDelays v delays → (seen : SeenBuses) (p : Point) (most from t : ℕ) → age v delays p ≡ Some most
+    → from + of_us most ≤ t → (is : IsSeenVehicle v delays seen t) → HasWay v is.scope p → KeepPauses v seen p from t
+    → IsBroughtYoung v seen p (of_us most) t

@@ -10,8 +10,8 @@ ghost use Rattle.j39_vehicle_time_laws.specs.VehicleAges.{AreAgesKept, AreForwar
 ghost use Rattle.j39_vehicle_time_laws.specs.VehicleAges.{AreVehicleStreamsKept, IsSoundVehicle};
 ghost use Rattle.j39_vehicle_time_laws.specs.YoungValues.{AreAgesBounds};
 
-/// Each age that is known of what a flow brings over gateways bounds it, on buses whose frames keep to their
-/// streams.
+/// Each age that is known of what a flow brings over gateways bounds it, where the frames of some buses keep to their
+/// streams: of those on its way, and of those from which messages are sent on directly to such a bus (`Scope`).
 pub fn ages_are_bounds()
     ensures { (v : Vehicle) (delays : Delays) → AreAgesBounds v delays }
 {}
@@ -28,7 +28,8 @@ pub fn gateways_keep_to_plans()
 /// need that asks for an age has a flow that keeps it, from the unit that the need names (`needs`); a flow that is sent on
 /// directly keeps the pause that the plan of its bus has for it (`pauses`); and the planned frames of each bus keep to its
 /// streams, those that are sent on directly too (`streams`), since jitters and periods have room for them (`timely`).
-/// Nothing is asked of when messages are queued that are sent on directly, but that gateways are prompt.
+/// Nothing is asked of when messages are queued that are sent on directly, but that gateways are prompt; and nothing of
+/// buses that aren't on the way, unless messages are sent on directly from there to one that counts (`Scope`).
 pub fn sound_vehicles_keep_ages()
     ensures ages { (v : Vehicle) (delays : Delays) → IsSoundVehicle v delays → AreAgesKept v delays }
     ensures needs { (v : Vehicle) (delays : Delays) → IsSoundVehicle v delays → AreVehicleNeedsKept v delays }

@@ -1,5 +1,5 @@
 -- Each test of times decides its statement.
-use Rattle.std.proofs.Common.{◌≡◌, ℕ, ◌<◌, ◌≤◌, ◌⊎◌, List, Bool, true, false, not, if◌then◌else◌, ◌&&◌, Option, Some, None, Contains, Decides}
+use Rattle.std.proofs.Common.{◌≡◌, ℕ, ◌*◌, ◌<◌, ◌≤◌, ◌⊎◌, List, Bool, true, false, not, if◌then◌else◌, ◌&&◌, Option, Some, None, Contains, Decides}
 use Rattle.std.proofs.Common.{refl, sym, ap, ◌∙◌, subst, inl, inr, arith}
 use Rattle.std.specs.List.{slice_get}
 use Rattle.std.specs.Option.{option_and_then, option_map, option_map_or}
@@ -30,7 +30,7 @@ use Rattle.j39_vehicle_times.specs.TimeFindings.{IsDirectBetween, IsNearer, IsNe
 use Rattle.j39_vehicle_times.specs.TimeFindings.{written_deadline, first_output, period_ms}
 use Rattle.j39_vehicle_times.specs.FoundTimes.{direct_ends, ends_of, flow_of_need, is_long, is_nearer, is_need_too_old, is_older, is_timed_bus, goes_to_all, is_too_late}
 use Rattle.j39_vehicle_times.specs.FoundTimes.{is_too_often, is_too_rare, is_unlimited, is_known_within, need_flow_at, need_flows_at}
-use Rattle.j39_vehicle_times.specs.Times.{age, flow_at, first_input_at, jitter_ms, queued_of, interval, timing_on, us_of_ms}
+use Rattle.j39_vehicle_times.specs.Times.{age, flow_at, first_input_at, jitter_ms, queued_of, interval, longest_on, shortest_on, timing_on, us_of_ms}
 use Rattle.j39_vehicle_times.proofs.Youngest.{IsLeast, youngest_among, youngest_least, youngest_some}
 use Rattle.j39_search.proofs.Deciding.{Decides-leb}
 
@@ -125,15 +125,16 @@ between_decides v n P by =
     ))
     (some_decides P by (direct_ends v n))
 
-nearer_decides : (i f : FlowPlan) → Decides (is_nearer i f) (IsNearer i f)
-nearer_decides i f =
-    some_decides (λ p. ¬ ((q : ℕ) × (period_ms i ≡ Some q) × (p ≤ q)))
-    (λ p. Decides-not _ (some_decides (λ q. p ≤ q) (λ q. Decides-leb p q) (period_ms i))) (period_ms f)
+nearer_decides : (here : ℕ) (i : FlowPlan) (there : ℕ) (f : FlowPlan) → Decides (is_nearer here i there f) (IsNearer here i there f)
+nearer_decides here i there f =
+    some_decides (λ p. ¬ ((q : ℕ) × (period_ms i ≡ Some q) × (p * there ≤ q * here)))
+    (λ p. Decides-not _ (some_decides (λ q. p * there ≤ q * here) (λ q. Decides-leb (p * there) (q * here)) (period_ms i))) (period_ms f)
 
 pub Decides-is_too_often : (v : Vehicle) (n : Forward) → Decides (is_too_often v n) (IsTooOften v n)
 Decides-is_too_often v n =
-    between_decides v n (λ ends. IsNearer ends.input ends.output ⊎ ((ends.output.on_request ≡ true) × (ends.input.on_request ≡ false)))
-    (λ ends. Decides-or _ _ (nearer_decides ends.input ends.output)
+    between_decides v n (λ ends. IsNearer (shortest_on v.buses.items ends.at.bus) ends.input (shortest_on v.buses.items n.output.bus) ends.output
+    ⊎ ((ends.output.on_request ≡ true) × (ends.input.on_request ≡ false)))
+    (λ ends. Decides-or _ _ (nearer_decides (shortest_on v.buses.items ends.at.bus) ends.input (shortest_on v.buses.items n.output.bus) ends.output)
     (Decides-and _ _ (it_is ends.output.on_request) (not_is ends.input.on_request)))
 
 to_all_decides : (to : To) → Decides (goes_to_all to) (to ≡ All)
@@ -159,9 +160,9 @@ Decides-is_too_late v delays n =
 
 pub Decides-is_too_rare : (v : Vehicle) (n : Forward) → Decides (is_too_rare v n) (IsTooRare v n)
 Decides-is_too_rare v n =
-    between_decides v n (λ ends. (ms : ℕ) × (ends.output.pause ≡ Some ms) × (¬ IsKnownWithin (us_of_ms ms) (interval v ends.at)))
-    (λ ends. some_decides (λ ms. ¬ IsKnownWithin (us_of_ms ms) (interval v ends.at))
-    (λ ms. Decides-not _ (within_decides (us_of_ms ms) (interval v ends.at))) ends.output.pause)
+    between_decides v n (λ ends. (ms : ℕ) × (ends.output.pause ≡ Some ms) × (¬ IsKnownWithin (ms * longest_on v.buses.items n.output.bus) (interval v ends.at)))
+    (λ ends. some_decides (λ ms. ¬ IsKnownWithin (ms * longest_on v.buses.items n.output.bus) (interval v ends.at))
+    (λ ms. Decides-not _ (within_decides (ms * longest_on v.buses.items n.output.bus) (interval v ends.at))) ends.output.pause)
 
 -- ---- needs
 

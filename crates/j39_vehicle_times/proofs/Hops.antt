@@ -11,8 +11,8 @@ use Rattle.j39_vehicle_findings.specs.declared.point.FlowAt.{FlowAt}
 use Rattle.j39_vehicle_findings.specs.declared.point.Point.{Point}
 use Rattle.j39_vehicle_findings.proofs.Tracing.{one_more}
 use Rattle.j39_vehicle_times.specs.declared.bus_delays.Delays.{Delays}
-use Rattle.j39_vehicle_times.specs.Times.{age_with, behind_at, behind_by, behind_release, direct_feeder, forward_at, first_input_at, old_behind, old_by, own, pause_us}
-use Rattle.j39_vehicle_times.specs.Times.{queued_behind, interval, interval_by, sum_known, timing_on, unasked_at, within_of}
+use Rattle.j39_vehicle_times.specs.Times.{age_with, behind_at, behind_by, behind_release, direct_feeder, forward_at, first_input_at, old_behind, old_by, own, pause_on}
+use Rattle.j39_vehicle_times.specs.Times.{queued_behind, interval_by, interval_us, sum_known, timing_on, unasked_at, within_of}
 use Rattle.j39_vehicle_times.specs.inside.Aging.{aged_by, aged_of, ends_here}
 use Rattle.j39_vehicle_times.proofs.Sums.{sum_more, sum_none, sum_swap, sum_swapped, sum_turned, sum_zero}
 
@@ -82,28 +82,28 @@ behind_first v delays all at = ap (λ k. sum_known (Some 0) (behind_by v delays 
 -- ---- silent
 
 pub interval_here : (v : Vehicle) (steps : ℕ) (at : FlowAt) (flow : FlowPlan) → unasked_at v at ≡ Some flow → direct_feeder v at ≡ None
-    → interval_by v steps at ≡ pause_us flow
+    → interval_by v steps at ≡ pause_on v at flow
 unfolding interval_by
 interval_here v zero at flow is none =
-    ap (λ o. option_and_then (λ f. option_map_or (λ n. None) (direct_feeder v at) (pause_us f)) o) is
-    ∙ ap (λ d. option_map_or (λ n. None) d (pause_us flow)) none
+    ap (λ o. option_and_then (λ f. option_map_or (λ n. None) (direct_feeder v at) (pause_on v at f)) o) is
+    ∙ ap (λ d. option_map_or (λ n. None) d (pause_on v at flow)) none
 interval_here v (suc steps) at flow is none =
-    ap (λ o. option_and_then (λ f. option_map_or (λ n. option_and_then (interval_by v steps) (first_input_at v n)) (direct_feeder v at) (pause_us f)) o) is
-    ∙ ap (λ d. option_map_or (λ n. option_and_then (interval_by v steps) (first_input_at v n)) d (pause_us flow)) none
+    ap (λ o. option_and_then (λ f. option_map_or (λ n. option_and_then (interval_by v steps) (first_input_at v n)) (direct_feeder v at) (pause_on v at f)) o) is
+    ∙ ap (λ d. option_map_or (λ n. option_and_then (interval_by v steps) (first_input_at v n)) d (pause_on v at flow)) none
 
 pub interval_unknown : (v : Vehicle) (steps : ℕ) (at : FlowAt) → unasked_at v at ≡ None → interval_by v steps at ≡ None
 unfolding interval_by
 interval_unknown v zero at none =
-    ap (λ o. option_and_then (λ f. option_map_or (λ n. None) (direct_feeder v at) (pause_us f)) o) none
+    ap (λ o. option_and_then (λ f. option_map_or (λ n. None) (direct_feeder v at) (pause_on v at f)) o) none
 interval_unknown v (suc steps) at none =
-    ap (λ o. option_and_then (λ f. option_map_or (λ n. option_and_then (interval_by v steps) (first_input_at v n)) (direct_feeder v at) (pause_us f)) o) none
+    ap (λ o. option_and_then (λ f. option_map_or (λ n. option_and_then (interval_by v steps) (first_input_at v n)) (direct_feeder v at) (pause_on v at f)) o) none
 
 interval_step : (v : Vehicle) (steps : ℕ) (at : FlowAt) (flow : FlowPlan) (n : Forward) → unasked_at v at ≡ Some flow → direct_feeder v at ≡ Some n
     → interval_by v (suc steps) at ≡ option_and_then (interval_by v steps) (first_input_at v n)
 unfolding interval_by
 interval_step v steps at flow n is some =
-    ap (λ o. option_and_then (λ f. option_map_or (λ n. option_and_then (interval_by v steps) (first_input_at v n)) (direct_feeder v at) (pause_us f)) o) is
-    ∙ ap (λ d. option_map_or (λ n. option_and_then (interval_by v steps) (first_input_at v n)) d (pause_us flow)) some
+    ap (λ o. option_and_then (λ f. option_map_or (λ n. option_and_then (interval_by v steps) (first_input_at v n)) (direct_feeder v at) (pause_on v at f)) o) is
+    ∙ ap (λ d. option_map_or (λ n. option_and_then (interval_by v steps) (first_input_at v n)) d (pause_on v at flow)) some
 
 pub interval_further : (v : Vehicle) (all i : ℕ) (at source : FlowAt) (flow : FlowPlan) (n : Forward) → i < all → unasked_at v at ≡ Some flow
     → direct_feeder v at ≡ Some n → first_input_at v n ≡ Some source → interval_by v (all - (i + 1)) source ≡ interval_by v (all - i) at
@@ -121,8 +121,8 @@ pub interval_no_further : (v : Vehicle) (at : FlowAt) (flow : FlowPlan) (n : For
     → interval_by v zero at ≡ None
 unfolding interval_by
 interval_no_further v at flow n is some =
-    ap (λ o. option_and_then (λ f. option_map_or (λ n. None) (direct_feeder v at) (pause_us f)) o) is
-    ∙ ap (λ d. option_map_or (λ n. None) d (pause_us flow)) some
+    ap (λ o. option_and_then (λ f. option_map_or (λ n. None) (direct_feeder v at) (pause_on v at f)) o) is
+    ∙ ap (λ d. option_map_or (λ n. None) d (pause_on v at flow)) some
 
 -- ---- old
 
@@ -135,7 +135,7 @@ at_forward : (v : Vehicle) (delays : Delays) (at : FlowAt) (old : Option ℕ) (n
     → option_map_or (λ forward. if is_direct forward then old else sum_known (age_with v delays at old) (within_of forward)) n None
     ≡ sum_known (option_map_or (aged_of v delays at) n None) old
 at_forward v delays at old None = refl
-at_forward v delays at old (Some n) = by_mode (is_direct n) old (sum_known (interval v at) (behind_at v delays at)) (within_of n)
+at_forward v delays at old (Some n) = by_mode (is_direct n) old (sum_known (interval_us v at) (behind_at v delays at)) (within_of n)
 
 aged_from : (v : Vehicle) (delays : Delays) (n : ℕ) (at : FlowAt) (old : Option ℕ)
     → old_behind v delays n at old ≡ sum_known (aged_by v delays n at) old

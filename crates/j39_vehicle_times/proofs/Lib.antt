@@ -1,3 +1,4 @@
+pub mod Nanoseconds
 pub mod DecidingTimes
 pub mod Feeding
 pub mod Hops

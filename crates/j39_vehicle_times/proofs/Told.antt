@@ -8,7 +8,8 @@ use Rattle.std.proofs.lemmas.Bool.{cases_lt}
 use Rattle.std.proofs.lemmas.List.{length-append}
 use Rattle.std.proofs.lemmas.Option.{same_Some, slice_get_within}
 use Rattle.j39_findings.specs.Standing.{DecidesWhoStays}
-use Rattle.j39_vehicle_times.specs.BusDelays.{AreDelays, AreDelaysOn, agreed_timing}
+use Rattle.j39_load.specs.BusTimes.{timing_of}
+use Rattle.j39_vehicle_times.specs.BusDelays.{AreDelays, AreDelaysOn}
 use Rattle.j39_network.specs.declared.plan.Plan.{Plan}
 use Rattle.j39_network.specs.declared.plan.timing.Timing.{Timing}
 use Rattle.j39_network.specs.declared.plan.unit_plan.UnitPlan.{UnitPlan}
@@ -27,7 +28,7 @@ told_at told b = option_map_or (λ (t : Told). t.items) (slice_get told b) []
 
 -- those of the first buses
 pub record AreSoFar (buses : List BusPlan) (told : List Told) : Type 0 where
-  pub each : (b : ℕ) (bus : BusPlan) → b < length told → slice_get buses b ≡ Some bus → AreDelaysOn bus.plan (agreed_timing bus.plan) (told_at told b)
+  pub each : (b : ℕ) (bus : BusPlan) → b < length told → slice_get buses b ≡ Some bus → AreDelaysOn bus.plan (timing_of bus.plan) (told_at told b)
 
 pub none_told : (buses : List BusPlan) (told : List Told) → told ≡ [] → AreSoFar buses told
 none_told buses told none = record { each = λ b bus less is. let over = ap length none in absurd (omega arith) }
@@ -61,11 +62,11 @@ pub length_more : {A : Type 0} (xs : List A) (y : A) → length (xs ++ y ∷ [])
 length_more xs y = length-append xs (y ∷ [])
 
 pub one_more : (buses : List BusPlan) (told : List Told) (next : Told) (bus : BusPlan) → AreSoFar buses told → slice_get buses (length told) ≡ Some bus
-    → AreDelaysOn bus.plan (agreed_timing bus.plan) next.items → AreSoFar buses (told ++ next ∷ [])
+    → AreDelaysOn bus.plan (timing_of bus.plan) next.items → AreSoFar buses (told ++ next ∷ [])
 one_more buses told next bus before is on = record {
   each = λ b other less at. elim (cases_lt b (length told)) [
     | inl within ↦
-        subst (AreDelaysOn other.plan (agreed_timing other.plan))
+        subst (AreDelaysOn other.plan (timing_of other.plan))
         (sym (ap (λ (o : Option Told). option_map_or (λ (t : Told). t.items) o []) (kept_at told next b within))) (before.each b other within at)
     | inr over ↦
         let more : b < length (told ++ next ∷ []) = less in
@@ -73,7 +74,7 @@ one_more buses told next bus before is on = record {
         let same : bus ≡ other = same_Some _ _ (sym is ∙ ap (slice_get buses) (sym now) ∙ at) in
         let there : told_at (told ++ next ∷ []) b ≡ next.items =
         ap (λ n. told_at (told ++ next ∷ []) n) now ∙ ap (λ (o : Option Told). option_map_or (λ (t : Told). t.items) o []) (added_at told next) in
-        subst (AreDelaysOn other.plan (agreed_timing other.plan)) (sym there)
-        (subst (λ (x : BusPlan). AreDelaysOn x.plan (agreed_timing x.plan) next.items) same on)
+        subst (AreDelaysOn other.plan (timing_of other.plan)) (sym there)
+        (subst (λ (x : BusPlan). AreDelaysOn x.plan (timing_of x.plan) next.items) same on)
   ];
 }

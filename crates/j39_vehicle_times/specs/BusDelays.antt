@@ -1,7 +1,7 @@
 -- How long the messages of each flow of each bus take, as the plans of the buses ask of them.
-use Rattle.std.specs.Prelude.{◌≡◌, ℕ, ◌==◌, if◌then◌else◌, List, [], length, Bool, Option, Some, None}
+use Rattle.std.specs.Prelude.{◌≡◌, ℕ, List, [], length, Bool, Option, Some, None}
 use Rattle.std.specs.List.{slice_get}
-use Rattle.std.specs.Option.{option_and_then, option_map_or}
+use Rattle.std.specs.Option.{option_map_or}
 use Rattle.j39_network.specs.declared.plan.Plan.{Plan}
 use Rattle.j39_network.specs.declared.plan.timing.Timing.{Timing}
 use Rattle.j39_network.specs.declared.plan.unit_plan.UnitPlan.{UnitPlan}
@@ -11,13 +11,6 @@ use Rattle.j39_load.specs.declared.waits.delay.Delay.{Delay}
 use Rattle.j39_vehicle.specs.declared.vehicle.Vehicle.{Vehicle}
 use Rattle.j39_vehicle.specs.declared.vehicle.bus_plan.BusPlan.{BusPlan}
 use Rattle.j39_vehicle_times.specs.declared.bus_delays.Delays.{Delays}
-
--- where the clocks of a bus agree: times over gateways aren't told yet of clocks that may differ
-abbrev pub where_exact : Timing → Option Timing
-where_exact timing = if timing.drift == 0 then Some timing else None
-
-abbrev pub agreed_timing : Plan → Option Timing
-agreed_timing plan = option_and_then where_exact (timing_of plan)
 
 -- those of the flows of a bus with this plan: none where nothing is known of the bus
 abbrev pub AreDelaysOn : Plan → Option Timing → List (Option Delay) → Type 0
@@ -31,4 +24,4 @@ delays_on delays b = option_map_or (λ told. told.items) (slice_get delays.of_bu
 -- so it is of each bus
 pub record AreDelays (v : Vehicle) (delays : Delays) : Type 0 where
   pub count : length delays.of_buses.items ≡ length v.buses.items
-  pub each : (b : ℕ) (bus : BusPlan) → slice_get v.buses.items b ≡ Some bus → AreDelaysOn bus.plan (agreed_timing bus.plan) (delays_on delays b)
+  pub each : (b : ℕ) (bus : BusPlan) → slice_get v.buses.items b ≡ Some bus → AreDelaysOn bus.plan (timing_of bus.plan) (delays_on delays b)

@@ -1,5 +1,5 @@
 -- The findings of times as a list: a test for each statement, and the list of all that pass; and of the flows of a need the one that is told.
-use Rattle.std.specs.Prelude.{ℕ, List, [], ◌∷◌, ◌++◌, length, Bool, true, false, not, ◌&&◌, ◌||◌, nat_lt, nat_le, if◌then◌else◌, Option, Some, None}
+use Rattle.std.specs.Prelude.{ℕ, ◌*◌, List, [], ◌∷◌, ◌++◌, length, Bool, true, false, not, ◌&&◌, ◌||◌, nat_lt, nat_le, if◌then◌else◌, Option, Some, None}
 use Rattle.std.specs.List.{slice_get}
 use Rattle.std.specs.Option.{option_and_then, option_map, option_map_or}
 use Rattle.j39_search.specs.ListPlaces.{each, found_if, in_each}
@@ -22,7 +22,7 @@ use Rattle.j39_vehicle_times.specs.declared.finding.TimeFinding.{TimeFinding}
 use Rattle.j39_vehicle_times.specs.declared.finding.TimeFinding.TheVariants.{TooOften, TooLate, TooRare, NeedTooOld}
 use Rattle.j39_vehicle_times.specs.declared.needs.NeedFlow.{NeedFlow}
 use Rattle.j39_vehicle_times.specs.TimeFindings.{written_deadline, first_output, period_ms}
-use Rattle.j39_vehicle_times.specs.Times.{age, flow_at, forward_at, first_input_at, jitter_ms, queued_of, interval, timing_on, us_of_ms}
+use Rattle.j39_vehicle_times.specs.Times.{age, flow_at, forward_at, first_input_at, jitter_ms, queued_of, interval, longest_on, shortest_on, timing_on, us_of_ms}
 
 abbrev pub is_known_within : ℕ → Option ℕ → Bool
 is_known_within most number = option_map_or (λ n. nat_le n most) number false
@@ -41,17 +41,18 @@ is_timed_bus v b = option_map_or (λ (timing : Timing). true) (timing_on v.buses
 abbrev pub direct_ends : Vehicle → Forward → Option Ends
 direct_ends v n = if is_direct n && is_timed_bus v n.output.bus then ends_of v n else None
 
-abbrev pub has_such_a_period : FlowPlan → ℕ → Bool
-has_such_a_period i p = option_map_or (λ q. nat_le p q) (period_ms i) false
+abbrev pub has_such_a_period : ℕ → FlowPlan → ℕ → Bool
+has_such_a_period here i apart = option_map_or (λ q. nat_le apart (q * here)) (period_ms i) false
 
-abbrev pub is_nearer : FlowPlan → FlowPlan → Bool
-is_nearer i f = option_map_or (λ p. not (has_such_a_period i p)) (period_ms f) false
+abbrev pub is_nearer : ℕ → FlowPlan → ℕ → FlowPlan → Bool
+is_nearer here i there f = option_map_or (λ p. not (has_such_a_period here i (p * there))) (period_ms f) false
 
-abbrev pub is_more_often : FlowPlan → FlowPlan → Bool
-is_more_often i f = is_nearer i f || (f.on_request && not i.on_request)
+abbrev pub is_more_often : ℕ → FlowPlan → ℕ → FlowPlan → Bool
+is_more_often here i there f = is_nearer here i there f || (f.on_request && not i.on_request)
 
 abbrev pub is_too_often : Vehicle → Forward → Bool
-is_too_often v n = option_map_or (λ (ends : Ends). is_more_often ends.input ends.output) (direct_ends v n) false
+is_too_often v n = option_map_or (λ (ends : Ends).
+    is_more_often (shortest_on v.buses.items ends.at.bus) ends.input (shortest_on v.buses.items n.output.bus) ends.output) (direct_ends v n) false
 
 abbrev pub goes_to_all : To → Bool
 goes_to_all All = true
@@ -81,11 +82,11 @@ is_later v delays n f = is_asked v n f && not (is_known_within (us_of_ms (jitter
 abbrev pub is_too_late : Vehicle → Delays → Forward → Bool
 is_too_late v delays n = option_map_or (λ (ends : Ends). is_later v delays n ends.output) (direct_ends v n) false
 
-abbrev pub is_rarer : Vehicle → FlowAt → FlowPlan → Bool
-is_rarer v at f = option_map_or (λ ms. not (is_known_within (us_of_ms ms) (interval v at))) f.pause false
+abbrev pub is_rarer : Vehicle → FlowAt → ℕ → FlowPlan → Bool
+is_rarer v at there f = option_map_or (λ ms. not (is_known_within (ms * there) (interval v at))) f.pause false
 
 abbrev pub is_too_rare : Vehicle → Forward → Bool
-is_too_rare v n = option_map_or (λ (ends : Ends). is_rarer v ends.at ends.output) (direct_ends v n) false
+is_too_rare v n = option_map_or (λ (ends : Ends). is_rarer v ends.at (longest_on v.buses.items n.output.bus) ends.output) (direct_ends v n) false
 
 -- ---- needs
 

@@ -1,6 +1,6 @@
 -- What can be wrong with the times of what a vehicle's gateways send on: each finding as a plain statement on its forwards and needs, by their
 -- places from 0.
-use Rattle.std.specs.Prelude.{◌≡◌, ℕ, ◌<◌, ◌≤◌, ◌⊎◌, List, [], ◌∷◌, Option, Some, None, true, false, Contains, AllPairs}
+use Rattle.std.specs.Prelude.{◌≡◌, ℕ, ◌*◌, ◌<◌, ◌≤◌, ◌⊎◌, List, [], ◌∷◌, Option, Some, None, true, false, Contains, AllPairs}
 use Rattle.std.specs.List.{slice_get, position}
 use Rattle.std.specs.Option.{option_and_then, option_map}
 use Rattle.j39_search.specs.ListPlaces.{ValueAt}
@@ -20,7 +20,7 @@ use Rattle.j39_vehicle_times.specs.declared.bus_delays.Delays.{Delays}
 use Rattle.j39_vehicle_times.specs.declared.ends.Ends.{Ends}
 use Rattle.j39_vehicle_times.specs.declared.finding.TimeFinding.{TimeFinding}
 use Rattle.j39_vehicle_times.specs.declared.finding.TimeFinding.TheVariants.{TooOften, TooLate, TooRare, NeedTooOld}
-use Rattle.j39_vehicle_times.specs.Times.{age, flow_at, first_input_at, jitter_ms, queued_of, interval, timing_on, us_of_ms}
+use Rattle.j39_vehicle_times.specs.Times.{age, flow_at, first_input_at, jitter_ms, queued_of, interval, longest_on, shortest_on, timing_on, us_of_ms}
 
 -- a number is known, and at most so large
 abbrev pub IsKnownWithin : ℕ → Option ℕ → Type 0
@@ -44,14 +44,15 @@ pub record IsDirectBetween (v : Vehicle) (n : Forward) (R : Ends → Type 0) : T
 abbrev pub period_ms : FlowPlan → Option ℕ
 period_ms flow = option_map (λ (pace : Pace). pace.period) flow.pace
 
--- the input's messages needn't be as far apart as those of the output have to be
-abbrev pub IsNearer : FlowPlan → FlowPlan → Type 0
-IsNearer i f = (p : ℕ) × (period_ms f ≡ Some p) × (¬ ((q : ℕ) × (period_ms i ≡ Some q) × (p ≤ q)))
+-- the input's messages needn't be as far apart as those of the output have to be, where a million of the units of the clocks there last so long
+-- at least: both periods by the fastest clocks
+abbrev pub IsNearer : ℕ → FlowPlan → ℕ → FlowPlan → Type 0
+IsNearer here i there f = (p : ℕ) × (period_ms f ≡ Some p) × (¬ ((q : ℕ) × (period_ms i ≡ Some q) × (p * there ≤ q * here)))
 
 -- so it is, or these are sent only where they are asked for, and those aren't
 abbrev pub IsTooOften : Vehicle → Forward → Type 0
 IsTooOften v n = IsDirectBetween v n (λ ends.
-    IsNearer ends.input ends.output ⊎ ((ends.output.on_request ≡ true) × (ends.input.on_request ≡ false)))
+    IsNearer (shortest_on v.buses.items ends.at.bus) ends.input (shortest_on v.buses.items n.output.bus) ends.output ⊎ ((ends.output.on_request ≡ true) × (ends.input.on_request ≡ false)))
 
 abbrev pub written_deadline : FlowPlan → Option ℕ
 written_deadline flow = option_and_then (λ (pace : Pace). pace.deadline) flow.pace
@@ -67,10 +68,10 @@ abbrev pub IsTooLate : Vehicle → Delays → Forward → Type 0
 IsTooLate v delays n = IsDirectBetween v n (λ ends.
     (¬ IsUnlimited v n ends.output) × (¬ IsKnownWithin (us_of_ms (jitter_ms ends.output)) (queued_of v delays n)))
 
--- a message of the output has its release in each of its pauses, and none of the input need have
+-- a message of the output has its release in each of its pauses, and none of the input need have: both by the slowest clocks
 abbrev pub IsTooRare : Vehicle → Forward → Type 0
 IsTooRare v n = IsDirectBetween v n (λ ends.
-    (ms : ℕ) × (ends.output.pause ≡ Some ms) × (¬ IsKnownWithin (us_of_ms ms) (interval v ends.at)))
+    (ms : ℕ) × (ends.output.pause ≡ Some ms) × (¬ IsKnownWithin (ms * longest_on v.buses.items n.output.bus) (interval v ends.at)))
 
 -- ---- needs
 

@@ -1,15 +1,15 @@
--- How long what gateways send on takes, and how old values are that it brings, in microseconds (data age: AUTOSAR Timing Extensions). What
--- misses a part, or has no end, is unknown; and so is all of a flow of a bus of whose timing nothing is known.
+-- How long what gateways send on takes, and how old values are that it brings, in microseconds of true time (data age: AUTOSAR Timing
+-- Extensions). What misses a part, or has no end, is unknown; and so is all of a flow of a bus of whose timing nothing is known.
 use Rattle.std.specs.Prelude.{ℕ, zero, suc, ◌+◌, ◌-◌, ◌*◌, List, length, if◌then◌else◌, ◌&&◌, Option, Some, None}
+use Rattle.std.specs.Int.{div_ceil}
 use Rattle.std.specs.List.{slice_get, position}
 use Rattle.std.specs.Option.{option_and_then, option_map, option_map_or}
 use Rattle.j39_network.specs.declared.plan.flow_plan.FlowPlan.{FlowPlan}
 use Rattle.j39_network.specs.declared.plan.pace.Pace.{Pace}
-use Rattle.j39_network.specs.declared.plan.timing.Bitrate.{Bitrate}
-use Rattle.j39_network.specs.declared.plan.timing.Bitrate.TheVariants.{Kbit125, Kbit250, Kbit500, Mbit1}
 use Rattle.j39_network.specs.declared.plan.timing.Timing.{Timing}
-use Rattle.j39_vehicle_times.specs.BusDelays.{agreed_timing, delays_on}
-use Rattle.j39_load.specs.Loads.{bits_of_ms}
+use Rattle.j39_load.specs.BusTimes.{timing_of}
+use Rattle.j39_load.specs.Clocks.{longest_million, million, shortest_million}
+use Rattle.j39_load.specs.Loads.{bits_at_most, us_of_bits}
 use Rattle.j39_load.specs.declared.waits.delay.Delay.{Delay}
 use Rattle.j39_load.specs.declared.waits.delay.Delay.TheVariants.{Within}
 use Rattle.j39_vehicle.specs.declared.vehicle.Vehicle.{Vehicle}
@@ -20,16 +20,10 @@ use Rattle.j39_vehicle_findings.specs.ForwardTests.{feeds, is_direct}
 use Rattle.j39_vehicle_findings.specs.Traces.{first_input, goes_on, next_forward}
 use Rattle.j39_vehicle_findings.specs.declared.point.FlowAt.{FlowAt}
 use Rattle.j39_vehicle_findings.specs.declared.point.Point.{Point}
+use Rattle.j39_vehicle_times.specs.BusDelays.{delays_on}
 use Rattle.j39_vehicle_times.specs.declared.bus_delays.Delays.{Delays}
 
 -- ---- numbers
-
--- how many microseconds a bit takes
-abbrev pub us_of_bit : Bitrate → ℕ
-us_of_bit Kbit125 = 8
-us_of_bit Kbit250 = 4
-us_of_bit Kbit500 = 2
-us_of_bit Mbit1 = 1
 
 -- how many microseconds so many milliseconds are
 abbrev pub us_of_ms : ℕ → ℕ
@@ -44,7 +38,14 @@ sum_known (Some a) (Some b) = Some (a + b)
 
 -- of the bus at a place, where its plan has it
 abbrev pub timing_on : List BusPlan → ℕ → Option Timing
-timing_on buses b = option_and_then (λ (bus : BusPlan). agreed_timing bus.plan) (slice_get buses b)
+timing_on buses b = option_and_then (λ (bus : BusPlan). timing_of bus.plan) (slice_get buses b)
+
+-- what a million of a clock's units last there at most, in true time, and at least: where nothing is known of the bus, as if its clocks agreed
+abbrev pub longest_on : List BusPlan → ℕ → ℕ
+longest_on buses b = option_map_or longest_million (timing_on buses b) million
+
+abbrev pub shortest_on : List BusPlan → ℕ → ℕ
+shortest_on buses b = option_map_or shortest_million (timing_on buses b) million
 
 abbrev pub flow_at : List BusPlan → FlowAt → Option FlowPlan
 flow_at buses at = slice_get (flows_on buses at.bus) at.flow
@@ -66,7 +67,7 @@ delay_at delays at = option_and_then bits_within (slice_get (delays_on delays at
 
 -- how long a frame takes that was queued: its delay counts from the release of the message, and it was queued within the jitter behind this
 abbrev pub own_of : Timing → FlowPlan → ℕ → ℕ
-own_of timing flow delay = us_of_bit timing.bitrate * (delay - bits_of_ms timing (jitter_ms flow))
+own_of timing flow delay = us_of_bits timing (delay - bits_at_most timing (jitter_ms flow))
 
 abbrev pub own : Vehicle → Delays → FlowAt → Option ℕ
 own v delays at = timed v at (λ timing flow. option_map (own_of timing flow) (delay_at delays at))
@@ -91,7 +92,7 @@ within_of n = option_map us_of_ms n.within
 
 -- of a flow that has releases of its own
 abbrev pub behind_release : Vehicle → Delays → FlowAt → Option ℕ
-behind_release v delays at = sum_known (own v delays at) (timed v at (λ timing flow. Some (us_of_ms (jitter_ms flow))))
+behind_release v delays at = timed v at (λ timing flow. option_map (us_of_bits timing) (delay_at delays at))
 
 -- until a forward has queued what it sends, where that which it heard took so long
 abbrev pub queued_behind : Vehicle → Forward → (FlowAt → Option ℕ) → Option ℕ
@@ -113,10 +114,14 @@ queued_of v delays n = queued_behind v n (behind_at v delays)
 abbrev pub queued : Vehicle → Delays → ℕ → Option ℕ
 queued v delays n = option_and_then (queued_of v delays) (forward_at v n)
 
--- ---- from one release to the next
+-- ---- from one release to the next, in nanoseconds
 
-abbrev pub pause_us : FlowPlan → Option ℕ
-pause_us flow = option_map us_of_ms flow.pause
+-- the longest pause of a flow of a bus with this timing: its milliseconds are those of its unit's clock
+abbrev pub pause_ns : Timing → FlowPlan → Option ℕ
+pause_ns timing flow = option_map (λ (ms : ℕ). ms * longest_million timing) flow.pause
+
+abbrev pub pause_on : Vehicle → FlowAt → FlowPlan → Option ℕ
+pause_on v at flow = option_and_then (λ (timing : Timing). pause_ns timing flow) (timing_on v.buses.items at.bus)
 
 -- a flow that isn't sent only where it is asked for, on a bus of which something is known
 abbrev pub unasked_at : Vehicle → FlowAt → Option FlowPlan
@@ -124,18 +129,22 @@ unasked_at v at = option_and_then (λ (timing : Timing). option_and_then (λ (fl
     (flow_at v.buses.items at)) (timing_on v.buses.items at.bus)
 
 unfoldable pub interval_by : Vehicle → ℕ → FlowAt → Option ℕ
-interval_by v zero at = option_and_then (λ flow. option_map_or (λ n. None) (direct_feeder v at) (pause_us flow)) (unasked_at v at)
+interval_by v zero at = option_and_then (λ flow. option_map_or (λ n. None) (direct_feeder v at) (pause_on v at flow)) (unasked_at v at)
 interval_by v (suc steps) at =
-    option_and_then (λ flow. option_map_or (λ n. option_and_then (interval_by v steps) (first_input_at v n)) (direct_feeder v at) (pause_us flow)) (unasked_at v at)
+    option_and_then (λ flow. option_map_or (λ n. option_and_then (interval_by v steps) (first_input_at v n)) (direct_feeder v at) (pause_on v at flow)) (unasked_at v at)
 
 abbrev pub interval : Vehicle → FlowAt → Option ℕ
 interval v at = interval_by v (length v.forwards.items) at
+
+-- in microseconds
+abbrev pub interval_us : Vehicle → FlowAt → Option ℕ
+interval_us v at = option_map (λ (ns : ℕ). div_ceil ns 1000) (interval v at)
 
 -- ---- ages
 
 -- where a message is received whose value was so old at its release
 abbrev pub age_with : Vehicle → Delays → FlowAt → Option ℕ → Option ℕ
-age_with v delays at old = sum_known old (sum_known (interval v at) (behind_at v delays at))
+age_with v delays at old = sum_known old (sum_known (interval_us v at) (behind_at v delays at))
 
 -- at the release of what a forward sends of a point: of a direct one as old as it was at that of what it heard; of a periodic one as old as it
 -- may have grown where it was heard, and waited

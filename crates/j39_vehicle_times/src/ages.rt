@@ -1,10 +1,10 @@
 //! How old the values are that flows bring.
 ghost use Rattle.std.specs.Prelude.{◌≡◌, ◌<◌, ◌^◌, Some, IfSome};
-ghost use Rattle.j39_vehicle_times.specs.Times.{age, behind_at, old, interval, sum_known};
+ghost use Rattle.j39_vehicle_times.specs.Times.{age, behind_at, old, interval_us, sum_known};
 ghost use Rattle.j39_vehicle_times.specs.inside.Aging.{aged_by, aged_of, ends_here};
 
 use crate::bus_delays::Delays;
-use crate::chains::{behind, interval};
+use crate::chains::{behind, interval_us};
 use crate::flows::{timing_on, within_of};
 use j39_vehicle::Forward;
 use j39_vehicle_findings::{FlowAt, Point, Routes, is_direct};
@@ -12,10 +12,10 @@ use j39_vehicle_findings::{FlowAt, Point, Routes, is_direct};
 // How much older a value becomes than at the release of the message that brings it, until the next one has ended.
 fn grown(routes: &Routes<'_>, delays: &Delays, at: FlowAt) -> Option<u64>
     ensures value { result
-        ≡ sum_known (interval routes.now.vehicle.now at) (behind_at routes.now.vehicle.now delays.now at) }
+        ≡ sum_known (interval_us routes.now.vehicle.now at) (behind_at routes.now.vehicle.now delays.now at) }
     ensures few { IfSome result (λ grown. grown < 2 ^ 47) }
 {
-    let Some(interval) = interval(routes, at) else {
+    let Some(interval) = interval_us(routes, at) else {
         return None;
     };
     match behind(routes, delays, at) {

@@ -1,11 +1,12 @@
 //! How long the messages of each flow of each bus take.
 ghost use Rattle.std.specs.Prelude.{◌≡◌, ◌≢◌, [], IfOk, OnErr};
 ghost use Rattle.std.specs.Option.{option_copied};
-ghost use Rattle.j39_vehicle_times.specs.BusDelays.{AreDelays, AreDelaysOn, agreed_timing, delays_on};
+ghost use Rattle.j39_load.specs.BusTimes.{timing_of};
+ghost use Rattle.j39_vehicle_times.specs.BusDelays.{AreDelays, AreDelaysOn, delays_on};
 ghost use Rattle.j39_vehicle_times.specs.Times.{bits_within, delay_at};
 
 use j39_load::{Delay, Loads, timing_of};
-use j39_network::{Plan, Timing};
+use j39_network::Plan;
 use j39_vehicle::Vehicle;
 use j39_vehicle_findings::FlowAt;
 use std::alloc::{AllocError, Global};
@@ -50,21 +51,11 @@ pub fn delay_at(delays: &Delays, at: FlowAt) -> Option<u32>
     }
 }
 
-/// What is known of the bus of a plan, where its clocks agree.
-pub fn agreed_timing(plan: &Plan) -> Option<Timing>
-    ensures { result ≡ agreed_timing plan.now }
-{
-    match timing_of(plan) {
-        Some(timing) if timing.drift == 0 => Some(timing),
-        _ => None,
-    }
-}
-
 // The delays of the flows of a bus with this plan.
 fn delays_by(alloc: Global, plan: &Plan) -> Result<Vec<Option<Delay>>, AllocError>
-    ensures { IfOk result (λ delays. AreDelaysOn plan.now (agreed_timing plan.now) delays.items) }
+    ensures { IfOk result (λ delays. AreDelaysOn plan.now (timing_of plan.now) delays.items) }
 {
-    let Some(timing) = agreed_timing(plan) else {
+    let Some(timing) = timing_of(plan) else {
         return Ok(Vec::new(alloc));
     };
     let loads = Loads::new(alloc, timing, plan)?;

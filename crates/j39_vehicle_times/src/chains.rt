@@ -1,14 +1,14 @@
 //! How long what comes along direct forwards takes, and how often it comes.
 ghost use Rattle.std.specs.Prelude.{◌≡◌, ◌<◌, ◌≤◌, ◌^◌, Some, IfSome};
 ghost use Rattle.j39_vehicle_times.specs.Times.{behind_at, behind_by, behind_release, own, queued, queued_of, interval};
-ghost use Rattle.j39_vehicle_times.specs.Times.{interval_by, sum_known, unasked_at, within_of};
+ghost use Rattle.j39_vehicle_times.specs.Times.{interval_by, interval_us, sum_known, unasked_at, within_of};
 ghost use Rattle.j39_vehicle_times.specs.inside.Chains.{hop_by};
 
 use crate::bus_delays::{Delays, delay_at};
 use crate::flows::{
-    direct_place, flow_at, input_at, input_by, jitter_of, own, own_of, pause_of, timing_on,
-    us_of_ms, within_of,
+    direct_place, flow_at, input_at, input_by, own, pause_on, timing_on, within_of,
 };
+use j39_load::us_of_bits;
 use j39_network::FlowPlan;
 use j39_vehicle::{Forward, Vehicle};
 use j39_vehicle_findings::{FlowAt, Routes};
@@ -21,11 +21,11 @@ fn behind_release(vehicle: &Vehicle, delays: &Delays, at: FlowAt) -> Option<u64>
     let Some(timing) = timing_on(&vehicle.buses, at.bus) else {
         return None;
     };
-    let Some(flow) = flow_at(&vehicle.buses, at) else {
+    let Some(_flow) = flow_at(&vehicle.buses, at) else {
         return None;
     };
     match delay_at(delays, at) {
-        Some(delay) => Some(own_of(timing, flow, delay) + us_of_ms(jitter_of(flow))),
+        Some(delay) => Some(us_of_bits(timing, u64::from(delay)) as u64),
         None => None,
     }
 }
@@ -142,24 +142,24 @@ fn unasked_at(vehicle: &Vehicle, at: FlowAt) -> Option<FlowPlan>
     }
 }
 
-// In how many microseconds a message of the flow has its release, where no more direct forwards are followed.
+// In how many nanoseconds a message of the flow has its release, where no more direct forwards are followed.
 fn last_interval(routes: &Routes<'_>, at: FlowAt) -> Option<u64>
     ensures value { result ≡ interval_by routes.now.vehicle.now 0 at }
-    ensures few { IfSome result (λ interval. interval < 2 ^ 26) }
+    ensures few { IfSome result (λ interval. interval < 2 ^ 36) }
 {
     let Some(flow) = unasked_at(routes.vehicle, at) else {
         return None;
     };
     match direct_place(routes, at) {
-        None => pause_of(&flow),
+        None => pause_on(routes.vehicle, at, &flow),
         Some(_forward) => None,
     }
 }
 
-/// In how many microseconds a message of the flow has its release, however they lie.
+/// In how many nanoseconds a message of the flow has its release, however they lie.
 pub fn interval(routes: &Routes<'_>, start: FlowAt) -> Option<u64>
     ensures value { result ≡ interval routes.now.vehicle.now start }
-    ensures few { IfSome result (λ interval. interval < 2 ^ 26) }
+    ensures few { IfSome result (λ interval. interval < 2 ^ 36) }
 {
     let mut at = start;
     'chain: for _step in 0..routes.vehicle.forwards.len() {
@@ -167,7 +167,7 @@ pub fn interval(routes: &Routes<'_>, start: FlowAt) -> Option<u64>
             return None;
         };
         let Some(forward) = direct_place(routes, at) else {
-            return pause_of(&flow);
+            return pause_on(routes.vehicle, at, &flow);
         };
         let Some(heard) = input_by(routes, forward) else {
             return None;
@@ -175,4 +175,15 @@ pub fn interval(routes: &Routes<'_>, start: FlowAt) -> Option<u64>
         at = heard;
     }
     last_interval(routes, at)
+}
+
+/// In how many microseconds.
+pub fn interval_us(routes: &Routes<'_>, at: FlowAt) -> Option<u64>
+    ensures value { result ≡ interval_us routes.now.vehicle.now at }
+    ensures few { IfSome result (λ interval. interval ≤ 2 ^ 36) }
+{
+    match interval(routes, at) {
+        Some(ns) => Some(ns.div_ceil(1_000)),
+        None => None,
+    }
 }

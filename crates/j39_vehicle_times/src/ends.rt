@@ -13,6 +13,7 @@ ghost use Rattle.j39_vehicle_times.specs.FoundTimes.{is_too_rare, is_unlimited, 
 
 use crate::bus_delays::Delays;
 use crate::chains::{interval, queued_of};
+use crate::clocks::{longest_on, shortest_on};
 use crate::flows::{flow_at, input_at, jitter_of, timing_on, us_of_ms};
 use j39_network::{FlowPlan, To};
 use j39_vehicle::{Forward, GroupAt, Vehicle};
@@ -99,40 +100,43 @@ fn period_of(flow: &FlowPlan) -> Option<u16>
     }
 }
 
-fn has_such_a_period(input: &FlowPlan, period: u16) -> bool
-    ensures { result ≡ has_such_a_period input.now period }
+// Whether the input's messages are so far apart in true time, where a million of the units of its clock last so long.
+fn has_such_a_period(here: u32, input: &FlowPlan, apart: u64) -> bool
+    ensures { result ≡ has_such_a_period here input.now apart }
 {
     match period_of(input) {
-        Some(own) => period <= own,
+        Some(own) => apart <= u64::from(own) * u64::from(here),
         None => false,
     }
 }
 
 // Whether the output has a period, and the input's messages may be nearer to each other.
-fn is_nearer(input: &FlowPlan, output: &FlowPlan) -> bool
-    ensures { result ≡ is_nearer input.now output.now }
+fn is_nearer(here: u32, input: &FlowPlan, there: u32, output: &FlowPlan) -> bool
+    ensures { result ≡ is_nearer here input.now there output.now }
 {
     match period_of(output) {
-        Some(period) => !has_such_a_period(input, period),
+        Some(period) => !has_such_a_period(here, input, u64::from(period) * u64::from(there)),
         None => false,
     }
 }
 
 // Whether the input's messages may come more often than those of the output may be sent.
-fn is_more_often(input: &FlowPlan, output: &FlowPlan) -> bool
-    ensures { result ≡ is_more_often input.now output.now }
+fn is_more_often(here: u32, input: &FlowPlan, there: u32, output: &FlowPlan) -> bool
+    ensures { result ≡ is_more_often here input.now there output.now }
 {
-    is_nearer(input, output) || output.on_request && !input.on_request
+    is_nearer(here, input, there, output) || output.on_request && !input.on_request
 }
 
 /// Whether what the forward hears may come more often than its output may be sent.
 pub fn is_too_often(vehicle: &Vehicle, forward: &Forward) -> bool
     ensures { result ≡ is_too_often vehicle.now forward.now }
 {
-    match direct_ends(vehicle, forward) {
-        Some(ends) => is_more_often(&ends.input, &ends.output),
-        None => false,
-    }
+    let Some(ends) = direct_ends(vehicle, forward) else {
+        return false;
+    };
+    let here = shortest_on(&vehicle.buses, ends.at.bus);
+    let there = shortest_on(&vehicle.buses, forward.output.bus);
+    is_more_often(here, &ends.input, there, &ends.output)
 }
 
 fn has_deadline(flow: &FlowPlan) -> bool
@@ -221,11 +225,11 @@ pub fn is_too_late(routes: &Routes<'_>, delays: &Delays, forward: &Forward) -> b
 }
 
 // Whether messages of the input may stay away for longer than those of the output.
-fn is_rarer(routes: &Routes<'_>, at: FlowAt, output: &FlowPlan) -> bool
-    ensures { result ≡ is_rarer routes.now.vehicle.now at output.now }
+fn is_rarer(routes: &Routes<'_>, at: FlowAt, there: u32, output: &FlowPlan) -> bool
+    ensures { result ≡ is_rarer routes.now.vehicle.now at there output.now }
 {
     match output.pause {
-        Some(ms) => !is_within(us_of_ms(ms), interval(routes, at)),
+        Some(ms) => !is_within(u64::from(ms) * u64::from(there), interval(routes, at)),
         None => false,
     }
 }
@@ -234,8 +238,9 @@ fn is_rarer(routes: &Routes<'_>, at: FlowAt, output: &FlowPlan) -> bool
 pub fn is_too_rare(routes: &Routes<'_>, forward: &Forward) -> bool
     ensures { result ≡ is_too_rare routes.now.vehicle.now forward.now }
 {
-    match direct_ends(routes.vehicle, forward) {
-        Some(ends) => is_rarer(routes, ends.at, &ends.output),
-        None => false,
-    }
+    let Some(ends) = direct_ends(routes.vehicle, forward) else {
+        return false;
+    };
+    let there = longest_on(&routes.vehicle.buses, forward.output.bus);
+    is_rarer(routes, ends.at, there, &ends.output)
 }

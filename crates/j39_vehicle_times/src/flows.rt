@@ -1,29 +1,17 @@
 //! What is known of a flow and of a forward by itself, in microseconds.
-ghost use Rattle.std.specs.Prelude.{◌≡◌, ◌≤◌, ◌<◌, ◌^◌, IfSome};
+ghost use Rattle.std.specs.Prelude.{◌≡◌, ◌≤◌, ◌<◌, ◌*◌, ◌^◌, IfSome};
 ghost use Rattle.std.specs.List.{find};
 ghost use Rattle.std.specs.Option.{option_copied};
-ghost use Rattle.j39_vehicle_times.specs.Times.{us_of_bit, flow_at, first_input_at, jitter_ms, own, own_of, pause_us, timed};
+ghost use Rattle.j39_vehicle_times.specs.Times.{flow_at, first_input_at, jitter_ms, own, own_of, pause_ns, pause_on, timed};
 ghost use Rattle.j39_vehicle_times.specs.Times.{timing_on, us_of_ms, within_of};
 ghost use Rattle.j39_vehicle_times.specs.inside.Chains.{direct_place, input_by, is_direct_at};
 
-use crate::bus_delays::{Delays, agreed_timing, delay_at};
-use j39_load::bits_of_ms;
-use j39_network::{Bitrate, FlowPlan, Timing};
+use crate::bus_delays::{Delays, delay_at};
+use crate::clocks::{bits_at_most, longest_million};
+use j39_load::{timing_of, us_of_bits};
+use j39_network::{FlowPlan, Timing};
 use j39_vehicle::{BusPlan, Forward, Vehicle};
 use j39_vehicle_findings::{FlowAt, Routes, first_input, flows_on, is_direct};
-
-// How many microseconds a bit takes.
-fn bit_time(bitrate: Bitrate) -> u64
-    ensures value { result ≡ us_of_bit bitrate }
-    ensures few { result ≤ 8 }
-{
-    match bitrate {
-        Bitrate::Kbit125 => 8,
-        Bitrate::Kbit250 => 4,
-        Bitrate::Kbit500 => 2,
-        Bitrate::Mbit1 => 1,
-    }
-}
 
 /// How many microseconds so many milliseconds are.
 pub fn us_of_ms(ms: u16) -> u64
@@ -43,13 +31,25 @@ pub fn jitter_of(flow: &FlowPlan) -> u16
     }
 }
 
-/// In how many microseconds a message of the flow has its release, however they lie.
-pub fn pause_of(flow: &FlowPlan) -> Option<u64>
-    ensures value { result ≡ pause_us flow.now }
-    ensures few { IfSome result (λ pause. pause < 2 ^ 26) }
+/// In how many nanoseconds a message of the flow has its release, on a bus with this timing.
+#[tactic(auto, using(crate::proofs::Nanoseconds::few_ns))]
+fn pause_ns(timing: Timing, flow: &FlowPlan) -> Option<u64>
+    ensures value { result ≡ pause_ns timing flow.now }
+    ensures few { IfSome result (λ pause. pause < 2 ^ 36) }
 {
     match flow.pause {
-        Some(ms) => Some(us_of_ms(ms)),
+        Some(ms) => Some(u64::from(ms) * u64::from(longest_million(timing))),
+        None => None,
+    }
+}
+
+/// The same of the flow at a place.
+pub fn pause_on(vehicle: &Vehicle, at: FlowAt, flow: &FlowPlan) -> Option<u64>
+    ensures value { result ≡ pause_on vehicle.now at flow.now }
+    ensures few { IfSome result (λ pause. pause < 2 ^ 36) }
+{
+    match timing_on(&vehicle.buses, at.bus) {
+        Some(timing) => pause_ns(timing, flow),
         None => None,
     }
 }
@@ -59,7 +59,7 @@ pub fn timing_on(buses: &[BusPlan], bus: usize) -> Option<Timing>
     ensures { result ≡ timing_on buses.now bus }
 {
     match buses.get(bus) {
-        Some(bus) => agreed_timing(&bus.plan),
+        Some(bus) => timing_of(&bus.plan),
         None => None,
     }
 }
@@ -71,18 +71,19 @@ pub fn flow_at(buses: &[BusPlan], at: FlowAt) -> Option<&FlowPlan>
     flows_on(buses, at.bus).get(at.flow)
 }
 
-/// How long a frame of the flow takes that was queued, where it has this delay in bits.
-pub fn own_of(timing: Timing, flow: &FlowPlan, delay: u32) -> u64
+// How long a frame of the flow takes that was queued, where it has this delay in bits.
+fn own_of(timing: Timing, flow: &FlowPlan, delay: u32) -> u64
     ensures value { result ≡ own_of timing flow.now delay }
-    ensures few { result < 2 ^ 35 }
+    ensures few { result ≤ 9 * 2 ^ 32 }
 {
-    bit_time(timing.bitrate) * u64::from(delay.saturating_sub(bits_of_ms(timing, jitter_of(flow))))
+    let jitter = bits_at_most(timing, jitter_of(flow));
+    us_of_bits(timing, u64::from(delay).saturating_sub(jitter)) as u64
 }
 
 /// How long a frame of the flow takes that was queued.
 pub fn own(vehicle: &Vehicle, delays: &Delays, at: FlowAt) -> Option<u64>
     ensures value { result ≡ own vehicle.now delays.now at }
-    ensures few { IfSome result (λ own. own < 2 ^ 35) }
+    ensures few { IfSome result (λ own. own ≤ 9 * 2 ^ 32) }
 {
     let Some(timing) = timing_on(&vehicle.buses, at.bus) else {
         return None;

@@ -5,6 +5,7 @@ mod ages;
 mod bus_delays;
 mod chains;
 mod checking;
+mod clocks;
 mod ends;
 mod finding;
 mod flows;

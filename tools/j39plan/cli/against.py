@@ -20,6 +20,7 @@ from j39plan.log.checks.deviations import lines_of as lines_of_deviation
 from j39plan.log.checks.distances import SILENCE, Distances, Rule, Tolerance
 from j39plan.log.checks.feed import Feed
 from j39plan.log.checks.meter import Meter
+from j39plan.log.checks.premises import Audit, Telling
 from j39plan.log.checks.reader import Reader
 from j39plan.log.checks.requirements import Requirements, refuse_of_vehicle, requirement_options, wants_requirements
 from j39plan.log.checks.summary import requests_of, summary_tables, units_of
@@ -54,6 +55,8 @@ def words_of(words: list[str] | None) -> argparse.Namespace:
                         help=f"after how many periods without a message a flow without a pause is silent; 0: such silences aren't reported ({SILENCE})")
     parser.add_argument("--events", metavar="FLOW", action="append", default=[],
                         help="a group, or a flow by its number, that is sent when something happens: no silence of it is reported; may be given several times")
+    parser.add_argument("--part", action="store_true", help="the log lacks frames of the bus: a filter took them out, or the logger lost some")
+    parser.add_argument("--ask", action="store_true", help="below a deviation what to ask the supplier of the unit, where that is known")
     parser.add_argument("--table", action="store_true", help="tables first: how often each flow was sent, and how far apart; when each unit was heard; "
                         "requests that the plan doesn't have")
     parser.add_argument("--all", action="store_true", help="all lines of each deviation below it")
@@ -85,7 +88,7 @@ class Output:
     """What is written: lines, or JSON objects."""
 
     def __init__(self, given: argparse.Namespace, log: Log) -> None:
-        self._plan, self._log, self._is_json = given.plan, log, given.json
+        self._plan, self._log, self._is_json, self._asks = given.plan, log, given.json, given.ask
         self._written: set[str] = set()
 
     def live(self, found: Deviation, place: Place) -> None:
@@ -117,6 +120,8 @@ class Output:
             yield json.dumps(row_of(found, self._log.place), ensure_ascii=False)
         else:
             yield from lines_of_deviation(found, self._place)
+            if self._asks and found.ask:
+                yield f"  ask the supplier: {found.ask}"
 
     def _place(self, place: Place) -> str:
         """A place, as it stands before a text."""
@@ -174,8 +179,11 @@ def compared(given: argparse.Namespace) -> int:
         compare = compare_live if given.live and log.is_live else compare_all
         if given.live:
             comparison.watches()
-        with bare(known, tables) as (shorter, parts):
-            compare(Reader(comparison, feed, parts, counts), comparison, lines_of(shorter, log, counts, feed.pieces, given.live))
+        with bare(known, tables) as (shorter, parts), Audit(shorter, given.part) as audit:
+            comparison.is_unjudged = bool(audit.findings)
+            lines = lines_of(shorter, log, counts, lambda part: audit.pieces(feed.pieces(part)), given.live)
+            compare(Reader(comparison, feed, parts, counts), comparison, lines)
+            audit.end()
         for noted in feed.unheard(math.inf):
             comparison.unheard(noted)
     counts.bad -= comparison.damage.frames + comparison.odd
@@ -185,6 +193,9 @@ def compared(given: argparse.Namespace) -> int:
     comparison.clock.say(log)
     say_what_is_left(given, comparison.distances)
     comparison.ends(nanoseconds(feed.last_time), counts.frames > 0)
+    if audit.findings:
+        program.say(f"the plan has findings, as {audit.findings}: until they are mended audit judges nobody, and what follow says is told")
+    Telling(tables, log, comparison.of_premises, found).tell(audit.lines, comparison.hands.addresses())
     if given.table and not given.json:
         for row in summary_tables(comparison, log.place):
             print(row)

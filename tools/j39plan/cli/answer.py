@@ -1,9 +1,10 @@
-"""Writes what j39plan check, addresses or load answers of a plan, or vehicle of a vehicle, as a JSON object, each line by its parts."""
+"""Writes what j39plan check, addresses or load answers of a plan, audit of a plan and a log, or vehicle of a vehicle, as a JSON object, each line by its parts."""
 
 import json
 import sys
 
 from j39plan import program
+from j39plan.log.audit import audit_object, lines_of
 from j39plan.plan.answer_objects import answer_object, check_object
 from j39plan.plan.answer_places import placed
 from j39plan.plan.files import opened
@@ -11,7 +12,7 @@ from j39plan.vehicle.answer_objects import vehicle_object
 from j39plan.vehicle.answers import answered, readable
 from j39plan.vehicle.drives import refuse_variant
 
-COMMANDS = ("check", "addresses", "load", "vehicle")
+COMMANDS = ("check", "addresses", "load", "audit", "vehicle")
 
 
 def of_vehicle(name: str) -> int:
@@ -30,13 +31,22 @@ def main(words: list[str] | None = None) -> int:
     parser.epilog = "example: %(prog)s load plan.toml"
     parser.add_argument("command", metavar="COMMAND", choices=COMMANDS, help=f"which answer: {', '.join(COMMANDS)}")
     parser.add_argument("plan", metavar="PLAN", type=program.input_name, help="the name of a plan file, of vehicle that of a vehicle file")
+    parser.add_argument("log", metavar="LOG", nargs="?", help="of audit the name of a log")
+    parser.add_argument("--part", action="store_true", help="the log lacks frames of the bus")
+    parser.add_argument("--stamps", metavar="US", help="by how many us the times of a log differ at most (1000)")
     program.variant_option(parser)
     given = parser.parse_args(words)
+    if (given.command == "audit") != (given.log is not None) or given.command != "audit" and (given.part or given.stamps):
+        parser.error("audit alone takes a LOG, --part and --stamps")
     if given.command == "vehicle":
         refuse_variant(given.plan, given.variant)
         return of_vehicle(given.plan)
     with opened(given.plan, given.variant) as plan:
-        status, answer = program.call([given.command, "--", plan])
+        options = ["--part"] * given.part + (["--stamps", given.stamps] if given.stamps else [])
+        status, answer = program.call([given.command, *options, "--", plan, *([given.log] if given.log else [])])
+        if lines := lines_of(answer):
+            print(json.dumps(audit_object(given.plan, given.log, status, lines), indent=1))
+            return status
         with open(plan, "rb") as file:
             parts = list(placed(file.read(), answer))
     found = check_object(given.plan, status, parts) if given.command == "check" else answer_object(given.plan, status, parts)

@@ -57,7 +57,7 @@ _j39plan_tool() {
   elif [ "$tool" = j39plan-dbc2plan ]; then
     _j39plan_files "$word" dbc arxml kcd sym
   elif [ "$tool" = j39plan-answer ] && [ "$COMP_CWORD" -eq 1 ]; then
-    mapfile -t COMPREPLY < <(compgen -W 'check addresses load vehicle' -- "$word")
+    mapfile -t COMPREPLY < <(compgen -W 'check addresses load audit vehicle' -- "$word")
   elif [ "$tool" = j39plan-table ] && [ "$COMP_CWORD" -gt 1 ]; then
     mapfile -t COMPREPLY < <(compgen -W 'units groups signals flows needs requests' -- "$word")
   elif [ "$tool" = j39plan-log2plan ]; then

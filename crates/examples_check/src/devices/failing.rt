@@ -1,9 +1,9 @@
 //! Devices that fail, call by call.
 ghost use Rattle.std.specs.Prelude.{◌<◌};
 
-use crate::devices::attempt::{Attempt, Given, NEVER, Stops, attempted};
+use crate::attempt::{Attempt, Given, NEVER, Stops, attempted};
+use crate::row::{Command, Row};
 use j39_app::{Fault, Stop, Verdict, status};
-use j39_vectors::{Command, Row};
 use std::alloc::{AllocError, Global};
 
 // More calls than any row makes of a device.

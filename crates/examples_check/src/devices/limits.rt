@@ -1,9 +1,10 @@
 //! Limits of an input and of an output.
 ghost use Rattle.std.specs.Prelude.{◌<◌, ◌≤◌, length};
 
-use crate::devices::attempt::{Given, NEVER, attempted};
+use crate::attempt::{Given, NEVER, attempted};
+use crate::row::Command;
+use crate::rows::RUN_OF_A_BROADCAST;
 use j39_app::{Fault, Pieces, Stop, Verdict, frame_text, read_whole};
-use j39_vectors::{Command, RUN_OF_A_BROADCAST};
 use std::alloc::{AllocError, Global};
 
 const BYTES: usize = 16_777_216;

@@ -1,8 +1,8 @@
 //! Texts that a command can write.
 
-use crate::devices::attempt::Attempt;
+use crate::attempt::Attempt;
+use crate::row::Command;
 use j39_app::Verdict;
-use j39_vectors::Command;
 
 // Words behind `refused` where a line or a plan can't be read.
 const UNREADABLE: [&str; 13] = [
@@ -160,7 +160,7 @@ fn is_line_of(command: Command, line: &str) -> bool {
         Command::Load => LOAD.contains(&first) || CHECK.contains(&first),
         Command::Run => RUN.contains(&first) || first.contains('#'),
         Command::Read => READ.contains(&first),
-        Command::Audit => AUDIT.contains(&first) || CHECK.contains(&first),
+        Command::Audit | Command::AuditPart => AUDIT.contains(&first) || CHECK.contains(&first),
         Command::Vehicle => VEHICLE.contains(&first) || CHECK.contains(&first),
         Command::Follow | Command::FollowAll => {
             FOLLOW.contains(&first) || first.parse::<u64>().is_ok()

@@ -1,8 +1,8 @@
 //! Commands on damaged plans and inputs.
 
-use crate::devices::attempt::{Given, NEVER, attempted};
+use crate::attempt::{Given, NEVER, attempted};
 use crate::devices::named::is_named;
-use j39_vectors::Row;
+use crate::row::Row;
 use std::alloc::{AllocError, Global};
 
 // More than any row writes, damaged or not.

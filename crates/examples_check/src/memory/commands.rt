@@ -1,7 +1,8 @@
 //! Commands of rows.
 
+use crate::performing::perform;
+use crate::row::Row;
 use j39_app::{Fault, Pieces, Stop, Verdict, status};
-use j39_vectors::{Row, perform};
 use std::alloc::{AllocError, Global};
 
 // How the row's command ends, and whether what was written is its text, or a part of it where memory was wanted.

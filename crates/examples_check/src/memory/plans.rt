@@ -1,9 +1,9 @@
 //! Plans that are checked.
 
+use crate::row::Row;
 use j39_app::Verdict;
 use j39_findings::{RefusedCause, checked};
 use j39_plan::{FileError, Plan, read_plan};
-use j39_vectors::Row;
 use std::alloc::{AllocError, Global};
 
 // Whether the plan is one of so many units, groups and flows.

@@ -1,5 +1,5 @@
 -- What an audit keeps of the lines that were read.
-use Rattle.std.specs.Prelude.{◌≡◌, ◌≤◌, ℕ, List, length, Option, Some, None}
+use Rattle.std.specs.Prelude.{◌≡◌, ◌≤◌, ℕ, if◌then◌else◌, List, length, Option, Some, None}
 use Rattle.std.specs.declared.alloc.Global.{Global}
 use Rattle.std.specs.declared.vec.Vec.{Vec}
 use Rattle.std.specs.Io.KnownBytes.{Consumes, IsAtEnd}
@@ -9,17 +9,25 @@ use Rattle.j39_follow.specs.inside.FollowedSoFar.{interface_of}
 use Rattle.j39_log.specs.LineCounting.{AreWithin}
 use Rattle.j39_stream.specs.declared.verdict.Verdict.{Verdict}
 use Rattle.j39_tp.specs.declared.packet.Packet.{Packet}
-use Rattle.j39_audit.specs.AuditText.{AuditPast, AuditsLines, AuditsShort, accusation_count, nothing_read, text_by, verdict_by, past_with_frame}
+use Rattle.j39_audit.specs.AuditText.{AuditPast, AuditsLines, AuditsShort, accusation_count, is_of_times, nothing_read, text_by, verdict_by, past_with_frame}
+use Rattle.j39_audit.specs.Counting.{key_of}
 use Rattle.j39_audit.specs.Looking.{IsPacketOf}
 use Rattle.j39_audit.specs.Settings.{Settings}
 use Rattle.j39_audit.specs.declared.audit_log.AuditLog.{AuditLog}
-use Rattle.j39_audit.specs.inside.Recalling.{AreCounted, KnowsClaims, tallied, settings_of}
+use Rattle.j39_audit.specs.declared.mark.Mark.{Mark}
+use Rattle.j39_audit.specs.declared.tally.Told.{Told}
+use Rattle.j39_audit.specs.inside.Recalling.{AreCounted, AreNear, KnowsClaims, RecallsMoments, tallied_at, settings_of}
 
--- the claims, what was noted and the newest time are these
+-- what was found of a mark
+abbrev pub tallied : AuditLog → Mark → Told
+tallied log m = if is_of_times m.word then tallied_at log.moments.untimely (key_of m) else tallied_at log.tally (key_of m)
+
+-- the claims, what was noted, the newest time and what times tell are these
 pub record AccordsWith (log : AuditLog) (past : AuditPast) : Type 0 where
   pub knows : KnowsClaims (settings_of log.basis) log.known past.claims
   pub counted : AreCounted log.tally past.noted
   pub newest_is : log.newest ≡ past.newest
+  pub moments : RecallsMoments log.moments past.moments
 
 -- what was read so far is this
 pub record RecallsAudit (log : AuditLog) (past : AuditPast) : Type 0 where
@@ -58,10 +66,11 @@ pub record HasAudited (s : Settings) (log : AuditLog) (ls : List Line) : Type 0 
   pub number_is : past.number ≡ length ls
   pub settings_are : settings_of log.basis ≡ s
 
--- no more lines were counted than this
+-- no more lines were counted than this, and no moment that is kept lies far ahead
 pub record IsWithinLines (log : AuditLog) (most : ℕ) : Type 0 where
   pub number : log.number ≤ most
   pub counts : AreWithin log.counts most
+  pub near : AreNear log.moments
 
 -- all that was left was read, to its end
 pub record HasReadLog (s : Settings) (log : AuditLog) (old new : Option (List ℕ)) : Type 0 where
@@ -72,5 +81,5 @@ pub record HasReadLog (s : Settings) (log : AuditLog) (old new : Option (List �
 
 -- what is written of the log that was read, with the verdict
 pub record IsAuditReport (log : AuditLog) (text : List ℕ) (verdict : Verdict) : Type 0 where
-  pub text_is : text ≡ text_by (settings_of log.basis) log.counts (tallied log.tally)
-  pub verdict_is : verdict ≡ verdict_by (accusation_count (settings_of log.basis) (tallied log.tally))
+  pub text_is : text ≡ text_by (settings_of log.basis) log.counts (tallied log)
+  pub verdict_is : verdict ≡ verdict_by (accusation_count (settings_of log.basis) (tallied log))

@@ -1,16 +1,20 @@
 -- What an audit keeps of what came so far.
-use Rattle.std.specs.Prelude.{◌≡◌, ℕ, ◌++◌, ◌*◌, ◌≤◌, ◌<◌, ◌==◌, ◌&&◌, Bool, false, List, length, slice_index_or, unwrap_or, nat_eq, Option, Some, None}
+use Rattle.std.specs.Prelude.{◌≡◌, ℕ, ◌++◌, ◌*◌, ◌^◌, ◌≤◌, ◌<◌, ◌==◌, ◌&&◌, Bool, false, IfSome, List, length, slice_index_or, unwrap_or, nat_eq, Option, Some, None}
 use Rattle.std.specs.HashMap.{get}
 use Rattle.std.specs.Option.{option_copied}
 use Rattle.j39_network.specs.declared.plan.Plan.{Plan}
 use Rattle.j39_audit.specs.Claiming.{HeardClaims, Knowledge, knowledge}
 use Rattle.j39_audit.specs.Counting.{Key, Noted, is_same_key, key_of, never, told_at}
+use Rattle.j39_audit.specs.Moments.{Moments}
 use Rattle.j39_audit.specs.SentMessages.{SentMessage}
 use Rattle.j39_audit.specs.Settings.{Settings}
+use Rattle.j39_audit.specs.Streams.{sighted_behind}
 use Rattle.j39_audit.specs.declared.basis.Basis.{Basis}
+use Rattle.j39_audit.specs.declared.earliest.Earliest.{Earliest}
 use Rattle.j39_audit.specs.declared.known.Known.{Known}
 use Rattle.j39_audit.specs.declared.mark.Mark.{Mark}
 use Rattle.j39_audit.specs.declared.messages.UnitMessage.{UnitMessage}
+use Rattle.j39_audit.specs.declared.moments.Moments.{Moments as KeptMoments}
 use Rattle.j39_audit.specs.declared.senders.SureSender.{SureSender}
 use Rattle.j39_audit.specs.declared.senders.SureSender.TheVariants.{Unit as OfUnit, Nobody, Unknown}
 use Rattle.j39_audit.specs.declared.tally.MarkTally.{MarkTally}
@@ -25,9 +29,6 @@ settings_of basis = record { plan = basis.plan.now; moving = basis.moving.items;
 abbrev pub tallied_at : MarkTally → Key → Told
 tallied_at tally key = unwrap_or (get is_same_key tally.found key) never
 
-abbrev pub tallied : MarkTally → Mark → Told
-tallied tally m = tallied_at tally (key_of m)
-
 -- what was noted is counted
 abbrev pub AreCounted : MarkTally → List Noted → Type 0
 AreCounted tally noted = (key : Key) → tallied_at tally key ≡ told_at noted key
@@ -35,6 +36,29 @@ AreCounted tally noted = (key : Key) → tallied_at tally key ≡ told_at noted 
 -- what is counted behind a call is these more
 pub record Notes (old new : MarkTally) (more : List Noted) : Type 0 where
   pub counts : (noted : List Noted) → AreCounted old noted → AreCounted new (noted ++ more)
+  pub sights : new.sighting ≡ sighted_behind old.sighting more
+
+-- ---- moments
+
+-- no moment and no time lies so far ahead that a sum doesn't fit
+abbrev pub far_ahead : ℕ
+far_ahead = 2 ^ 62
+
+-- the earliest moment that is kept of a stream
+abbrev pub earliest_in : Earliest → Key → Option ℕ
+earliest_in kept key = unwrap_or (get is_same_key kept.moments key) None
+
+-- what the times tell is kept
+pub record RecallsMoments (kept : KeptMoments) (m : Moments) : Type 0 where
+  pub before : kept.before ≡ m.before
+  pub idle : kept.idle ≡ m.idle
+  pub earliest : (key : Key) → earliest_in kept.earliest key ≡ m.earliest key
+  pub counted : AreCounted kept.untimely m.untimely
+
+-- and none of it lies far ahead
+pub record AreNear (kept : KeptMoments) : Type 0 where
+  pub earliest : (key : Key) → IfSome (earliest_in kept.earliest key) (λ e. e < far_ahead)
+  pub idle : IfSome kept.idle (λ q. q < far_ahead)
 
 -- ---- claims
 

@@ -2,7 +2,6 @@
 use Rattle.std.proofs.Common.{◌≡◌, ◌==◌, ◌&&◌, ◌||◌, ◌+◌, ◌<◌, ◌≤◌, ℕ, nat_lt, Bool, true, false, if◌then◌else◌, List, Option, inl, inr, refl, sym, ap, ◌∙◌}
 use Rattle.std.proofs.Common.{arith, eqb-true}
 use Rattle.std.proofs.lemmas.Bool.{cases_Bool, eqb-false, lt-ltb}
-use Rattle.j39_tp.specs.Receiver.{Receiving}
 use Rattle.j39_log.specs.inside.Listening.{is_of_pair}
 use Rattle.j39_follow.specs.declared.address.who.Who.{Who}
 use Rattle.j39_follow.specs.inside.Hearing.{differs_at, is_changed}
@@ -48,7 +47,7 @@ next_no differs s k together = elim (cases_Bool (k == s)) [
   | inr other ↦ ap (λ (b : Bool). b && differs s) (lt_next_other s k (eqb-false k s other))
 ]
 
-merged : (a b c d : Bool) (f x : Receiving) → (if a || b then f else (if c || d then f else x)) ≡ (if (c || a) || (d || b) then f else x)
+merged : {A : Type 0} (a b c d : Bool) (f x : A) → (if a || b then f else (if c || d then f else x)) ≡ (if (c || a) || (d || b) then f else x)
 merged true b true d f x = refl
 merged true b false d f x = refl
 merged false true true d f x = refl
@@ -59,31 +58,31 @@ merged false false false true f x = refl
 merged false false false false f x = refl
 
 -- a party that differs
-pub changed_here : (old new : List Who) (replaced : Option ℕ) (k s d : ℕ) (f x now before : Receiving) → differs_at old new replaced k ≡ true
+pub changed_here : {A : Type 0} (old new : List Who) (replaced : Option ℕ) (k s d : ℕ) (f x now before : A) → differs_at old new replaced k ≡ true
     → now ≡ (if is_of_pair k s d then f else before) → before ≡ (if is_changed_below old new replaced k s d then f else x)
     → now ≡ (if is_changed_below old new replaced (k + 1) s d then f else x)
-changed_here old new replaced k s d f x now before apart turned was =
+changed_here {A} old new replaced k s d f x now before apart turned was =
     let source = nat_lt s k && differs_at old new replaced s in
     let destination = nat_lt d k && differs_at old new replaced d in
-    turned ∙ ap (λ (r : Receiving). if is_of_pair k s d then f else r) was
+    turned ∙ ap (λ (r : A). if is_of_pair k s d then f else r) was
     ∙ merged (k == s) (k == d) source destination f x
     ∙ sym (ap (λ (b : Bool). if b || (nat_lt d (k + 1) && differs_at old new replaced d) then f else x) (next_yes (differs_at old new replaced) s k apart)
     ∙ ap (λ (b : Bool). if (source || k == s) || b then f else x) (next_yes (differs_at old new replaced) d k apart))
 
 -- one that doesn't
-pub changed_not : (old new : List Who) (replaced : Option ℕ) (k s d : ℕ) (f x now : Receiving) → differs_at old new replaced k ≡ false
+pub changed_not : {A : Type 0} (old new : List Who) (replaced : Option ℕ) (k s d : ℕ) (f x now : A) → differs_at old new replaced k ≡ false
     → now ≡ (if is_changed_below old new replaced k s d then f else x) → now ≡ (if is_changed_below old new replaced (k + 1) s d then f else x)
 changed_not old new replaced k s d f x now together was =
     was ∙ sym (ap (λ (b : Bool). if b || (nat_lt d (k + 1) && differs_at old new replaced d) then f else x) (next_no (differs_at old new replaced) s k together)
     ∙ ap (λ (b : Bool). if (nat_lt s k && differs_at old new replaced s) || b then f else x) (next_no (differs_at old new replaced) d k together))
 
-pub changed_all : (old new : List Who) (replaced : Option ℕ) (k s d : ℕ) (f x now : Receiving) → s < 256 → d < 256 → 256 ≤ k
+pub changed_all : {A : Type 0} (old new : List Who) (replaced : Option ℕ) (k s d : ℕ) (f x now : A) → s < 256 → d < 256 → 256 ≤ k
     → now ≡ (if is_changed_below old new replaced k s d then f else x) → now ≡ (if is_changed old new replaced s d then f else x)
 changed_all old new replaced k s d f x now first second past was =
     was ∙ ap (λ (b : Bool). if (b && differs_at old new replaced s) || (nat_lt d k && differs_at old new replaced d) then f else x) (lt-ltb s k (omega arith))
     ∙ ap (λ (b : Bool). if differs_at old new replaced s || (b && differs_at old new replaced d) then f else x) (lt-ltb d k (omega arith))
 
-pub none_changed : (old new : List Who) (replaced : Option ℕ) (s d : ℕ) (f x : Receiving) → nat_lt s 0 ≡ false → nat_lt d 0 ≡ false
+pub none_changed : {A : Type 0} (old new : List Who) (replaced : Option ℕ) (s d : ℕ) (f x : A) → nat_lt s 0 ≡ false → nat_lt d 0 ≡ false
     → x ≡ (if is_changed_below old new replaced 0 s d then f else x)
 none_changed old new replaced s d f x first second =
     sym (ap (λ (b : Bool). if (b && differs_at old new replaced s) || (nat_lt d 0 && differs_at old new replaced d) then f else x) first

@@ -7,16 +7,20 @@ use Rattle.std.proofs.lemmas.List.Elements.{All-tail}
 use Rattle.j39_id.specs.declared.frame.Frame.{Frame}
 use Rattle.j39_network.specs.declared.plan.Plan.{Plan}
 use Rattle.j39_log.specs.LogPairs.{Seen, heard, heard_of, is_heard_by}
-use Rattle.j39_log.specs.declared.listeners.Listeners.{Listeners}
 use Rattle.j39_log.specs.inside.Listening.{AreAllInRange, IsInRange, ListenerRow, after_all, listener_of_pair}
 use Rattle.j39_log.proofs.PairLists.{heard_in_range, heard_more, one_turn}
 use Rattle.j39_tp.specs.Packets.{InRange}
-use Rattle.j39_tp.specs.Receiver.{Receiving, fresh, receives}
+use Rattle.j39_tp.specs.Receiver.{fresh, receives}
 use Rattle.j39_tp.specs.declared.receiving.manner.Manner.TheVariants.{Listening}
 use Rattle.j39_tp.specs.declared.packet.Packet.{Packet}
 use Rattle.j39_follow.specs.FollowText.{HeardSince, OneChangesHands, frames_seen}
 use Rattle.j39_follow.specs.inside.Hearing.{AreReplaced, HaveHeardOneMore, HaveHeardSince, differs_at, is_changed, is_same_number, is_same_party}
-use Rattle.j39_follow.specs.inside.Hearing.{listener_between}
+use Rattle.j39_follow.specs.inside.Hearing.{kept_between, listener_between}
+use Rattle.j39_follow.specs.inside.Collecting.{HasNoneOpen, IsCollectedOf, CollectsOn}
+use Rattle.j39_follow.specs.Received.{way_packet, way_packets}
+use Rattle.j39_follow.specs.declared.pair.collected.Collected.{Collected}
+use Rattle.j39_follow.specs.declared.pair.heard_pairs.HeardPairs.{HeardPairs}
+use Rattle.j39_follow.proofs.Pairs.Ways.{no_way_yet, nothing_open, way_more}
 use Rattle.j39_follow.specs.Who.{ChangesHands, IsSameParty, stranger_of, unit_of}
 use Rattle.j39_follow.specs.declared.address.who.Who.{Who}
 use Rattle.j39_follow.specs.inside.Recounting.{ArePartiesOf, party_at}
@@ -28,50 +32,74 @@ no_row [] x back e = cc
 no_row (y ∷ front) x back e = cc
 
 -- before the first frame nothing was heard
-pub nothing_since : (plan : Plan) (s d : ℕ) → HeardSince plan [] s d []
+nothing_since : (plan : Plan) (s d : ℕ) → (is : HeardSince plan [] s d []) × (is.since ≡ [])
 unfolding heard
-nothing_since plan s d = record {
-  before = [];
-  since = [];
-  row = refl;
-  anew = inl refl;
-  steady = λ front x back e. absurd (no_row front x back e);
-  packets_are = refl;
-}
+nothing_since plan s d = (
+  record {
+    before = [];
+    since = [];
+    row = refl;
+    anew = inl refl;
+    steady = λ front x back e. absurd (no_row front x back e);
+    packets_are = refl;
+  },
+  refl,
+)
 
-pub nothing_heard_since : (plan : Plan) (listeners : Listeners) → listeners.rows.items ≡ [] → HaveHeardSince plan listeners []
-nothing_heard_since plan listeners empty s d ls ld =
-    ([], nothing_since plan s d, ap (λ (rows : List ListenerRow). listener_of_pair rows s d) empty)
+-- nothing is kept where nothing was heard since
+none_kept : (plan : Plan) (pairs : HeardPairs) (seen : List Seen) (s d : ℕ) (h : List Packet) (is : HeardSince plan seen s d h) → is.since ≡ []
+    → kept_between pairs s d ≡ None → IsCollectedOf (kept_between pairs s d) (way_packets s d is.since)
+none_kept plan pairs seen s d h is empty none =
+    subst (λ (c : Option Collected). IsCollectedOf c (way_packets s d is.since)) (sym none)
+    (subst HasNoneOpen (sym (ap (way_packets s d) empty ∙ no_way_yet s d)) nothing_open)
+
+pub nothing_heard_since : (plan : Plan) (pairs : HeardPairs) → pairs.listeners.rows.items ≡ [] → ((s d : ℕ) → kept_between pairs s d ≡ None)
+    → HaveHeardSince plan pairs []
+nothing_heard_since plan pairs empty none s d ls ld =
+    let one = nothing_since plan s d in
+    record {
+      packets = [];
+      is = one.0;
+      listener = ap (λ (rows : List ListenerRow). listener_of_pair rows s d) empty;
+      kept = none_kept plan pairs [] s d [] one.0 one.1 (none s d);
+    }
 
 -- at a frame at which neither address changes hands the list goes on
-pub goes_on : (plan : Plan) (seen : List Seen) (x : Seen) (s d : ℕ) (h : List Packet) → HeardSince plan seen s d h → ¬ OneChangesHands plan seen x s d
-    → HeardSince plan (seen ++ x ∷ []) s d (h ++ heard_of s d x.frame.ident x.packet)
-goes_on plan seen x s d h of steady = record {
-  before = of.before;
-  since = of.since ++ x ∷ [];
-  row = ap (λ (t : List Seen). t ++ x ∷ []) of.row ∙ append_assoc of.before of.since (x ∷ []);
-  anew = of.anew;
-  steady = λ front y back e. elim (one_more of.since x front y back e) [
-    | inl last ↦
-        let all : of.before ++ front ≡ seen = ap (λ (t : List Seen). of.before ++ t) last.1 ∙ sym of.row in
-        subst (λ (z : Seen). ¬ OneChangesHands plan (of.before ++ front) z s d) (sym last.0)
-        (subst (λ (t : List Seen). ¬ OneChangesHands plan t x s d) (sym all) steady)
-    | inr earlier ↦ of.steady front y earlier.0 earlier.2
-  ];
-  packets_are = ap (λ (t : List Packet). t ++ heard_of s d x.frame.ident x.packet) of.packets_are ∙ sym (heard_more s d of.since x);
-}
+goes_on : (plan : Plan) (seen : List Seen) (x : Seen) (s d : ℕ) (h : List Packet) (of : HeardSince plan seen s d h) → ¬ OneChangesHands plan seen x s d
+    → (is : HeardSince plan (seen ++ x ∷ []) s d (h ++ heard_of s d x.frame.ident x.packet)) × (is.since ≡ of.since ++ x ∷ [])
+goes_on plan seen x s d h of steady = (
+  record {
+    before = of.before;
+    since = of.since ++ x ∷ [];
+    row = ap (λ (t : List Seen). t ++ x ∷ []) of.row ∙ append_assoc of.before of.since (x ∷ []);
+    anew = of.anew;
+    steady = λ front y back e. elim (one_more of.since x front y back e) [
+      | inl last ↦
+          let all : of.before ++ front ≡ seen = ap (λ (t : List Seen). of.before ++ t) last.1 ∙ sym of.row in
+          subst (λ (z : Seen). ¬ OneChangesHands plan (of.before ++ front) z s d) (sym last.0)
+          (subst (λ (t : List Seen). ¬ OneChangesHands plan t x s d) (sym all) steady)
+      | inr earlier ↦ of.steady front y earlier.0 earlier.2
+    ];
+    packets_are = ap (λ (t : List Packet). t ++ heard_of s d x.frame.ident x.packet) of.packets_are ∙ sym (heard_more s d of.since x);
+  },
+  refl,
+)
 
 -- at one at which it does it begins anew
-pub begins_anew : (plan : Plan) (seen : List Seen) (x : Seen) (s d : ℕ) → OneChangesHands plan seen x s d → HeardSince plan (seen ++ x ∷ []) s d []
+begins_anew : (plan : Plan) (seen : List Seen) (x : Seen) (s d : ℕ) → OneChangesHands plan seen x s d
+    → (is : HeardSince plan (seen ++ x ∷ []) s d []) × (is.since ≡ [])
 unfolding heard
-begins_anew plan seen x s d parts = record {
-  before = seen ++ x ∷ [];
-  since = [];
-  row = sym (append-nil (seen ++ x ∷ []));
-  anew = inr (seen, x, refl, parts);
-  steady = λ front y back e. absurd (no_row front y back e);
-  packets_are = refl;
-}
+begins_anew plan seen x s d parts = (
+  record {
+    before = seen ++ x ∷ [];
+    since = [];
+    row = sym (append-nil (seen ++ x ∷ []));
+    anew = inr (seen, x, refl, parts);
+    steady = λ front y back e. absurd (no_row front y back e);
+    packets_are = refl;
+  },
+  refl,
+)
 
 -- ---- ranges
 
@@ -182,34 +210,47 @@ stays_at plan seen x olds news replaced s d before after are ls ld together one 
       | inr destination ↦ stays plan (frames_seen seen) x.frame olds news replaced d before after are ld same.1 destination
     ]
 
-if_true : (b : Bool) (x y : Receiving) → b ≡ true → (if b then x else y) ≡ x
+if_true : {A : Type 0} (b : Bool) (x y : A) → b ≡ true → (if b then x else y) ≡ x
 if_true true x y e = refl
 if_true false x y e = cc
 
-if_false : (b : Bool) (x y : Receiving) → b ≡ false → (if b then x else y) ≡ y
+if_false : {A : Type 0} (b : Bool) (x y : A) → b ≡ false → (if b then x else y) ≡ y
 if_false true x y e = cc
 if_false false x y e = refl
 
 -- once the pairs of which an address has changed hands have begun anew
-pub heard_anew : (plan : Plan) (seen : List Seen) (x : Seen) (olds news : List Who) (replaced : Option ℕ) (mid new : Listeners)
+pub heard_anew : (plan : Plan) (seen : List Seen) (x : Seen) (olds news : List Who) (replaced : Option ℕ) (mid new : HeardPairs)
     → ArePartiesOf plan (frames_seen seen) olds → ArePartiesOf plan (frames_seen seen ++ x.frame ∷ []) news
     → AreReplaced (frames_seen seen) x.frame replaced
     → ((s d : ℕ) → s < 256 → d < 256
     → listener_between new s d ≡ (if is_changed olds news replaced s d then fresh Listening else listener_between mid s d))
+    → ((s d : ℕ) → s < 256 → d < 256 → kept_between new s d ≡ (if is_changed olds news replaced s d then None else kept_between mid s d))
     → HaveHeardOneMore plan mid seen x → HaveHeardSince plan new (seen ++ x ∷ [])
-heard_anew plan seen x olds news replaced mid new before after are changed more s d ls ld = elim (cases_Bool (is_changed olds news replaced s d)) [
-  | inl is ↦ (
-    [],
-    begins_anew plan seen x s d (changes_at plan seen x olds news replaced s d before after are ls ld is),
-    changed s d ls ld ∙ if_true (is_changed olds news replaced s d) (fresh Listening) (listener_between mid s d) is,
-  )
-  | inr together ↦
-      let one = more s d ls ld in (
-        one.0 ++ heard_of s d x.frame.ident x.packet,
-        goes_on plan seen x s d one.0 one.1 (stays_at plan seen x olds news replaced s d before after are ls ld together),
-        changed s d ls ld ∙ if_false (is_changed olds news replaced s d) (fresh Listening) (listener_between mid s d) together ∙ one.2,
-      )
-]
+heard_anew plan seen x olds news replaced mid new before after are changed kept more s d ls ld =
+    let b = is_changed olds news replaced s d in
+    elim (cases_Bool b) [
+      | inl is ↦
+          let one = begins_anew plan seen x s d (changes_at plan seen x olds news replaced s d before after are ls ld is) in
+          record {
+            packets = [];
+            is = one.0;
+            listener = changed s d ls ld ∙ if_true b (fresh Listening) (listener_between mid s d) is;
+            kept = none_kept plan new (seen ++ x ∷ []) s d [] one.0 one.1 (kept s d ls ld ∙ if_true b None (kept_between mid s d) is);
+          }
+      | inr together ↦
+          let one = more s d ls ld in
+          let on = goes_on plan seen x s d one.packets one.is (stays_at plan seen x olds news replaced s d before after are ls ld together) in
+          let same : kept_between new s d ≡ kept_between mid s d = kept s d ls ld ∙ if_false b None (kept_between mid s d) together in
+          let row : way_packets s d on.0.since ≡ way_packets s d one.is.since ++ way_packet s d x.frame.ident x.packet =
+          ap (way_packets s d) on.1 ∙ way_more s d one.is.since x in
+          record {
+            packets = one.packets ++ heard_of s d x.frame.ident x.packet;
+            is = on.0;
+            listener = changed s d ls ld ∙ if_false b (fresh Listening) (listener_between mid s d) together ∙ one.listener;
+            kept = subst (λ (c : Option Collected). IsCollectedOf c (way_packets s d on.0.since)) (sym same)
+                (subst (IsCollectedOf (kept_between mid s d)) (sym row) one.kept);
+          }
+    ]
 
 same_itself : (w : Who) → is_same_party w w ≡ true
 same_itself w = party_again w w (record { unit = refl; stranger = refl })
@@ -220,26 +261,39 @@ unchanged_hands parties s d =
     ∙ ap (λ (b : Bool). not b || false) (same_itself (party_at parties d))
 
 -- where all parties stay
-pub heard_on : (plan : Plan) (seen : List Seen) (x : Seen) (parties : List Who) (listeners : Listeners)
+pub heard_on : (plan : Plan) (seen : List Seen) (x : Seen) (parties : List Who) (pairs : HeardPairs)
     → ArePartiesOf plan (frames_seen seen) parties → ArePartiesOf plan (frames_seen seen ++ x.frame ∷ []) parties
-    → AreReplaced (frames_seen seen) x.frame None → HaveHeardOneMore plan listeners seen x → HaveHeardSince plan listeners (seen ++ x ∷ [])
-heard_on plan seen x parties listeners before after are more =
-    heard_anew plan seen x parties parties None listeners listeners before after are
-    (λ s d ls ld. sym (if_false (is_changed parties parties None s d) (fresh Listening) (listener_between listeners s d) (unchanged_hands parties s d))) more
+    → AreReplaced (frames_seen seen) x.frame None → HaveHeardOneMore plan pairs seen x → HaveHeardSince plan pairs (seen ++ x ∷ [])
+heard_on plan seen x parties pairs before after are more =
+    heard_anew plan seen x parties parties None pairs pairs before after are
+    (λ s d ls ld. sym (if_false (is_changed parties parties None s d) (fresh Listening) (listener_between pairs s d) (unchanged_hands parties s d)))
+    (λ s d ls ld. sym (if_false (is_changed parties parties None s d) None (kept_between pairs s d) (unchanged_hands parties s d))) more
 
 -- ---- a frame
 
 -- that no pair hears
-pub unheard_more : (plan : Plan) (listeners : Listeners) (seen : List Seen) (f : Frame) → HaveHeardSince plan listeners seen
-    → HaveHeardOneMore plan listeners seen (record { frame = f; packet = None })
-unheard_more plan listeners seen f have s d ls ld =
-    let one = have s d ls ld in (one.0, one.1, one.2 ∙ sym (ap after_all (append-nil one.0)))
+pub unheard_more : (plan : Plan) (pairs : HeardPairs) (seen : List Seen) (f : Frame) → HaveHeardSince plan pairs seen
+    → HaveHeardOneMore plan pairs seen (record { frame = f; packet = None })
+unheard_more plan pairs seen f have s d ls ld =
+    let one = have s d ls ld in
+    record {
+      packets = one.packets;
+      is = one.is;
+      listener = one.listener ∙ sym (ap after_all (append-nil one.packets));
+      kept = subst (IsCollectedOf (kept_between pairs s d)) (sym (append-nil (way_packets s d one.is.since))) one.kept;
+    }
 
 -- of which a packet is heard
-pub heard_packet : (plan : Plan) (old new : Listeners) (seen : List Seen) (f : Frame) (p : Packet)
+pub heard_packet : (plan : Plan) (old new : HeardPairs) (seen : List Seen) (f : Frame) (p : Packet)
     → ((s d : ℕ) → s < 256 → d < 256
     → listener_between new s d ≡ (if is_heard_by s d f.ident p then receives (listener_between old s d) p else listener_between old s d))
+    → ((s d : ℕ) → s < 256 → d < 256 → CollectsOn (kept_between old s d) (kept_between new s d) (way_packet s d f.ident (Some p)))
     → HaveHeardSince plan old seen → HaveHeardOneMore plan new seen (record { frame = f; packet = Some p })
-heard_packet plan old new seen f p turn have s d ls ld =
+heard_packet plan old new seen f p turn leads have s d ls ld =
     let one = have s d ls ld in
-    (one.0, one.1, turn s d ls ld ∙ one_turn (is_heard_by s d f.ident p) (listener_between old s d) one.0 p one.2)
+    record {
+      packets = one.packets;
+      is = one.is;
+      listener = turn s d ls ld ∙ one_turn (is_heard_by s d f.ident p) (listener_between old s d) one.packets p one.listener;
+      kept = leads s d ls ld (way_packets s d one.is.since) one.kept;
+    }

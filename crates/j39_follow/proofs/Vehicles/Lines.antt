@@ -12,10 +12,12 @@ use Rattle.j39_id.specs.declared.line_error.LineError.TheVariants.{Empty, NoHash
 use Rattle.j39_network.specs.declared.plan.Plan.{Plan}
 use Rattle.j39_log.specs.LogPairs.{Seen}
 use Rattle.j39_tp.specs.declared.packet.Packet.{Packet}
+use Rattle.j39_tp.specs.declared.packet.Packet.TheVariants.{Rts, Cts, EndAck, Bam, Abort, Dt}
 use Rattle.j39_follow.specs.Contests.{Timed, frames_of}
 use Rattle.j39_follow.specs.FollowReports.{identity_text, in_frame, stamp}
 use Rattle.j39_follow.specs.FollowText.{FollowedPast, FollowsFrame, FollowsLine, FollowsLines, FollowsPart, HeardSince, IsCarriedReport, IsFollowedAs}
-use Rattle.j39_follow.specs.FollowText.{IsPacketReport, OneChangesHands}
+use Rattle.j39_follow.specs.FollowText.{IsInOrderReport, IsPacketReport, IsReceivedReport, OneChangesHands}
+use Rattle.j39_follow.specs.Received.{turned, way_packets}
 use Rattle.j39_follow.specs.FollowText.{frames_seen, line_passed_over, lines_with, one_line_more}
 use Rattle.j39_follow.specs.Holders.{ClaimsOrCannot}
 use Rattle.j39_follow.specs.VehicleLogs.{IsButForNumber, NumberedLine, notice_alone, with_numbers, without_numbers}
@@ -44,26 +46,29 @@ one_changes G p q same front x back all s d (inr c) =
     inr (same_hands G p q same (frames_seen front) x.frame (tell_at G front x back all) d c)
 
 heard_since : (G : ℕ → Type 0) (p q : Plan) → TellAlike G p q → (seen : List Seen) → TellAll G (frames_seen seen) → (s d : ℕ) (h : List Packet)
-    → HeardSince p seen s d h → HeardSince q seen s d h
-heard_since G p q same seen all s d h is = record {
-  before = is.before;
-  since = is.since;
-  row = is.row;
-  anew = elim is.anew [
-    | inl none ↦ inl none
-    | inr c ↦
-        let parted : seen ≡ c.0 ++ c.1 ∷ is.since =
-        is.row ∙ ap (λ (t : List Seen). t ++ is.since) c.2 ∙ append_assoc c.0 (c.1 ∷ []) is.since in
-        let known : TellAll G (frames_seen (c.0 ++ c.1 ∷ is.since)) = subst (λ (t : List Seen). TellAll G (frames_seen t)) parted all in
-        inr (c.0, c.1, c.2, one_changes G p q same c.0 c.1 is.since known s d c.3)
-  ];
-  steady = λ front x back row c.
-      let parted : seen ≡ (is.before ++ front) ++ x ∷ back =
-      is.row ∙ ap (λ (t : List Seen). is.before ++ t) row ∙ sym (append_assoc is.before front (x ∷ back)) in
-      let known : TellAll G (frames_seen ((is.before ++ front) ++ x ∷ back)) = subst (λ (t : List Seen). TellAll G (frames_seen t)) parted all in
-      is.steady front x back row (one_changes G q p (flip G p q same) (is.before ++ front) x back known s d c);
-  packets_are = is.packets_are;
-}
+    (is : HeardSince p seen s d h) → (there : HeardSince q seen s d h) × (there.since ≡ is.since)
+heard_since G p q same seen all s d h is = (
+  record {
+    before = is.before;
+    since = is.since;
+    row = is.row;
+    anew = elim is.anew [
+      | inl none ↦ inl none
+      | inr c ↦
+          let parted : seen ≡ c.0 ++ c.1 ∷ is.since =
+          is.row ∙ ap (λ (t : List Seen). t ++ is.since) c.2 ∙ append_assoc c.0 (c.1 ∷ []) is.since in
+          let known : TellAll G (frames_seen (c.0 ++ c.1 ∷ is.since)) = subst (λ (t : List Seen). TellAll G (frames_seen t)) parted all in
+          inr (c.0, c.1, c.2, one_changes G p q same c.0 c.1 is.since known s d c.3)
+    ];
+    steady = λ front x back row c.
+        let parted : seen ≡ (is.before ++ front) ++ x ∷ back =
+        is.row ∙ ap (λ (t : List Seen). is.before ++ t) row ∙ sym (append_assoc is.before front (x ∷ back)) in
+        let known : TellAll G (frames_seen ((is.before ++ front) ++ x ∷ back)) = subst (λ (t : List Seen). TellAll G (frames_seen t)) parted all in
+        is.steady front x back row (one_changes G q p (flip G p q same) (is.before ++ front) x back known s d c);
+    packets_are = is.packets_are;
+  },
+  refl,
+)
 
 -- ---- a frame
 
@@ -86,14 +91,41 @@ module _ (G : ℕ → Type 0) (p q : Plan) (same : TellAlike G p q) (log : List 
       )
   carried_report front h place f sorts text (inr none) = inr none
 
+  received_report : (front : List ℕ) (h : List Packet) (size pgn : ℕ) (f : Frame) (sorts : List Sort) (text : List ℕ)
+      → IsReceivedReport p log front h size pgn f sorts text → IsReceivedReport q log front h size pgn f sorts text
+  received_report front h size pgn f sorts text (inl r) =
+      inl (
+        r.0,
+        r.1,
+        r.2,
+        same_report G p q same log all front (record { pgn = pgn; bytes = r.0; ident = turned f.ident; framed = None }) r.1 text r.3,
+        r.4,
+      )
+  received_report front h size pgn f sorts text (inr none) = inr none
+
+  in_order_report : (before : List Seen) → TellAll G (frames_seen before) → (front : List ℕ) (f : Frame) (packet : Packet) (sorts : List Sort)
+      (text : List ℕ) → IsInOrderReport p before log front f packet sorts text → IsInOrderReport q before log front f packet sorts text
+  in_order_report before seen front f packet sorts text is = (
+    is.0,
+    (heard_since G p q same before seen f.ident.sa f.ident.ps is.0 is.1).0,
+    carried_report front (is.0 ++ packet ∷ []) (length is.0) f sorts text is.2,
+  )
+
   packet_report : (before : List Seen) → TellAll G (frames_seen before) → (front : List ℕ) (f : Frame) (packet : Option Packet) (sorts : List Sort)
       (text : List ℕ) → IsPacketReport p before log front f packet sorts text → IsPacketReport q before log front f packet sorts text
   packet_report before seen front f None sorts text is = is
-  packet_report before seen front f (Some packet) sorts text is = (
-    is.0,
-    heard_since G p q same before seen f.ident.sa f.ident.ps is.0 is.1,
-    carried_report front (is.0 ++ packet ∷ []) (length is.0) f sorts text is.2,
-  )
+  packet_report before seen front f (Some (EndAck size pgn)) sorts text is =
+      let since = heard_since G p q same before seen f.ident.ps f.ident.sa is.0 is.1 in (
+        is.0,
+        since.0,
+        subst (λ (t : List Seen). IsReceivedReport q log front (way_packets f.ident.ps f.ident.sa t) size pgn f sorts text) (sym since.1)
+            (received_report front (way_packets f.ident.ps f.ident.sa is.1.since) size pgn f sorts text is.2),
+      )
+  packet_report before seen front f (Some (Rts size limit pgn)) sorts text is = in_order_report before seen front f (Rts size limit pgn) sorts text is
+  packet_report before seen front f (Some (Cts count first pgn)) sorts text is = in_order_report before seen front f (Cts count first pgn) sorts text is
+  packet_report before seen front f (Some (Bam size pgn)) sorts text is = in_order_report before seen front f (Bam size pgn) sorts text is
+  packet_report before seen front f (Some (Abort reason pgn)) sorts text is = in_order_report before seen front f (Abort reason pgn) sorts text is
+  packet_report before seen front f (Some (Dt number chunk)) sorts text is = in_order_report before seen front f (Dt number chunk) sorts text is
 
 -- what is written at a line by the one plan, and by the other one, which leads to the same
 pub record SameStep (p q : Plan) (text : List ℕ) (Leads : List ℕ → Type 0) : Type 0 where

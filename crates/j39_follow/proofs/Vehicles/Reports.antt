@@ -23,7 +23,7 @@ use Rattle.j39_text.specs.Texts.{field}
 use Rattle.j39_follow.specs.Contests.{IsTaken, Timed, frames_of}
 use Rattle.j39_follow.specs.Fits.{IsSentGroup, MayBeGroup, fits, fits_all, fitting_flow, is_unit}
 use Rattle.j39_follow.specs.FollowReports.{AreEventsOf, IsAnswerWay, IsAsked, IsBareText, IsGroupOfMessage, IsGrouped, IsMessageReport, IsNotice, IsSendingOf}
-use Rattle.j39_follow.specs.FollowReports.{IsWay, Message}
+use Rattle.j39_follow.specs.FollowReports.{IsWay, Message, brought_by, ended_message, message_events}
 use Rattle.j39_follow.specs.FollowReports.{answer_aim, frame_line, answer_line, answer_way_text, asked_line, cannot_line, cannot_text, claim_line, claim_text}
 use Rattle.j39_follow.specs.FollowReports.{identity_text, in_frame, is_to_all, message_line, named_text, notice_events, notice_text, refusal_events, reply_of}
 use Rattle.j39_follow.specs.Holders.{ClaimsOrCannot}
@@ -236,21 +236,30 @@ module _ (G : ℕ → Type 0) (p q : Plan) (same : TellAlike G p q) (log : List 
       ∙ ap (λ (address : ℕ). if acknowledges q f then (if is_refusal f then Refused (reply_of (acknowledged_group f) sent.sender
       (answer_aim address asker)) ∷ [] else []) else []) (same_asker_or_source G p q same f))
 
+  same_brought : (sent : Sending) (sort : Sort) → brought_by p sent sort ≡ brought_by q sent sort
+  same_brought sent sort = ap (λ (n : ℕ). Brought (reply_of n sent.sender sent.aim)) (same_number G p q same sort)
+
+  same_messages : (sent ended : Sending) (sorts : List Sort) → message_events p sent ended sorts ≡ message_events q sent ended sorts
+  same_messages sent ended [] = refl
+  same_messages sent ended (sort ∷ sorts) =
+      ap (λ (e : Event). e ∷ map (brought_by p ended) sorts) (same_brought sent sort)
+      ∙ ap (λ (e : List Event). brought_by q sent sort ∷ e) (map_same (brought_by p ended) (brought_by q ended) (same_brought ended) sorts)
+
   same_told : (f : Frame) (sorts : List Sort) (events : List Event) → AreEventsOf p log f sorts events → AreEventsOf q log f sorts events
   same_told f sorts events t =
       let told = same_asker_or_source G p q same f in
-      let brought = map_same (λ (sort : Sort). Brought (reply_of (counted_number p sort) t.sent.sender t.sent.aim))
-      (λ (sort : Sort). Brought (reply_of (counted_number q sort) t.sent.sender t.sent.aim))
-      (λ sort. ap (λ (n : ℕ). Brought (reply_of n t.sent.sender t.sent.aim)) (same_number G p q same sort)) sorts in
+      let brought = same_messages t.sent t.ended sorts in
       let notice = same_notice_events f t.sent t.asker in
       record {
         sent = t.sent;
+        ended = t.ended;
         asker = t.asker;
+        ended_is = same_sending (ended_message f) t.ended t.ended_is;
         sent_is = same_sending (in_frame f) t.sent t.sent_is;
         asker_is = subst (λ (address : ℕ). IsTaken q log address t.asker) told (taken (asker_or_source p f) t.asker t.asker_is);
         events_are =
             t.events_are
-            ∙ ap (λ (e : List Event). e ++ map (λ (sort : Sort). Brought (reply_of (counted_number p sort) t.sent.sender t.sent.aim)) sorts) notice
+            ∙ ap (λ (e : List Event). e ++ message_events p t.sent t.ended sorts) notice
             ∙ ap (λ (e : List Event). notice_events q f t.sent t.asker ++ e) brought;
       }
 

@@ -9,7 +9,6 @@ use Rattle.j39_id.specs.declared.ident.Ident.{Ident}
 use Rattle.j39_network.specs.declared.plan.Plan.{Plan}
 use Rattle.j39_log.specs.LogPairs.{Seen}
 use Rattle.j39_log.specs.declared.line_counts.LineCounts.{LineCounts}
-use Rattle.j39_log.specs.declared.listeners.Listeners.{Listeners}
 use Rattle.j39_log.specs.inside.Listening.{AreAllInRange}
 use Rattle.j39_follow.specs.Contests.{IsNow, Timed, frames_of}
 use Rattle.j39_follow.specs.FollowText.{AreUnitLines, FollowedPast, FollowsLines, follow_counts_line, flow_ends, frames_seen, group_ends, lines_with}
@@ -19,6 +18,7 @@ use Rattle.j39_follow.specs.declared.address.directory.Directory.{Directory}
 use Rattle.j39_follow.specs.declared.line.stamp.Stamp.{Stamp}
 use Rattle.j39_follow.specs.declared.message.Sort.{Sort}
 use Rattle.j39_follow.specs.declared.request.event.Event.{Event}
+use Rattle.j39_follow.specs.declared.pair.heard_pairs.HeardPairs.{HeardPairs}
 use Rattle.j39_follow.specs.declared.unit_report.UnitReport.{UnitReport}
 use Rattle.j39_follow.specs.inside.Contesting.{AreContests, IsDefender}
 use Rattle.j39_follow.specs.inside.Exchanging.{AreExchanges, AreNoted}
@@ -38,7 +38,7 @@ pub record Remembers (plan : Plan) (report : UnitReport) (seen : List Seen) (tim
   pub knows : Knows plan report.directory (frames_seen seen)
   pub contests : AreContests plan report.contests timed
   pub frames : frames_of timed ≡ frames_seen seen
-  pub heard : HaveHeardSince plan report.listeners seen
+  pub heard : HaveHeardSince plan report.pairs seen
   pub ranges : AreAllInRange seen
   pub tally : IsTally plan report.tally.value sent
   pub few : length sent ≤ 2 * length seen
@@ -78,7 +78,7 @@ IsCalm plan directory i log = Knows plan directory (frames_of log) × IsDefender
 pub record IsReported (plan : Plan) (old new : UnitReport) (past : FollowedPast) (s : Stamp) (f : Frame) (old_text new_text : List ℕ) : Type 0 where
   pub sort : Sort
   pub ended : Option Sort
-  pub written : IsFrameWritten plan old.all_frames new.listeners past.seen (lines_with past f s.time.now) (front_of s) f sort ended old_text new_text
+  pub written : IsFrameWritten plan old.all_frames new.pairs past.seen (lines_with past f s.time.now) (front_of s) f sort ended old_text new_text
   pub tally : IsTally plan new.tally.value (past.sent ++ sort ∷ option_to_list ended)
   pub noted : AreNoted plan (lines_with past f s.time.now) f (sort ∷ option_to_list ended) past.events new.exchanges
 
@@ -86,11 +86,11 @@ pub record IsReported (plan : Plan) (old new : UnitReport) (past : FollowedPast)
 pub record IsFollowed (plan : Plan) (old new : UnitReport) (past : FollowedPast) (s : Stamp) (f : Frame) (old_text new_text : List ℕ) : Type 0 where
   pub sort : Sort
   pub ended : Option Sort
-  pub listeners : Listeners
-  pub written : IsFrameWritten plan old.all_frames listeners past.seen (lines_with past f s.time.now) (front_of s) f sort ended old_text new_text
+  pub pairs : HeardPairs
+  pub written : IsFrameWritten plan old.all_frames pairs past.seen (lines_with past f s.time.now) (front_of s) f sort ended old_text new_text
   pub knows : Knows plan new.directory (frames_with past.seen f)
   pub contests : AreContests plan new.contests (lines_with past f s.time.now)
-  pub heard : HaveHeardSince plan new.listeners (past.seen ++ record { frame = f; packet = written.packet } ∷ [])
+  pub heard : HaveHeardSince plan new.pairs (past.seen ++ record { frame = f; packet = written.packet } ∷ [])
   pub tally : IsTally plan new.tally.value (past.sent ++ sort ∷ option_to_list ended)
   pub noted : AreNoted plan (lines_with past f s.time.now) f (sort ∷ option_to_list ended) past.events new.exchanges
 

@@ -4,7 +4,6 @@ use Rattle.std.specs.Option.{option_to_list}
 use Rattle.j39_id.specs.declared.frame.Frame.{Frame}
 use Rattle.j39_network.specs.declared.plan.Plan.{Plan}
 use Rattle.j39_log.specs.LogPairs.{Seen}
-use Rattle.j39_log.specs.declared.listeners.Listeners.{Listeners}
 use Rattle.j39_log.specs.inside.Listening.{AreAllInRange, IsInRange}
 use Rattle.j39_tp.specs.declared.packet.Packet.{Packet}
 use Rattle.j39_follow.specs.Contests.{Timed}
@@ -12,6 +11,7 @@ use Rattle.j39_follow.specs.FollowReports.{IsBareText, IsMessageReport, IsNotice
 use Rattle.j39_follow.specs.FollowText.{IsFollowedAs, IsPacketReport, frames_seen}
 use Rattle.j39_follow.specs.declared.message.Sort.{Sort}
 use Rattle.j39_follow.specs.declared.request.event.Event.{Event}
+use Rattle.j39_follow.specs.declared.pair.heard_pairs.HeardPairs.{HeardPairs}
 use Rattle.j39_follow.specs.declared.request.exchanges.Exchanges.{Exchanges}
 use Rattle.j39_follow.specs.inside.Exchanging.{AreExchanges, AreNoted}
 use Rattle.j39_follow.specs.inside.Hearing.{HaveHeardOneMore, HaveHeardSince}
@@ -31,7 +31,7 @@ pub record IsItselfWritten (plan : Plan) (all_frames : Bool) (log : List Timed) 
   pub text_is : new ≡ old ++ (notice ++ (report ++ bare))
 
 -- and what it ends
-pub record IsFrameWritten (plan : Plan) (all_frames : Bool) (listeners : Listeners) (seen : List Seen) (log : List Timed) (front : List ℕ) (f : Frame)
+pub record IsFrameWritten (plan : Plan) (all_frames : Bool) (pairs : HeardPairs) (seen : List Seen) (log : List Timed) (front : List ℕ) (f : Frame)
     (sort : Sort) (ended : Option Sort) (old new : List ℕ) : Type 0 where
   pub packet : Option Packet
   pub notice : List ℕ
@@ -44,13 +44,13 @@ pub record IsFrameWritten (plan : Plan) (all_frames : Bool) (listeners : Listene
   pub report_is : IsMessageReport plan log front (in_frame f) sort report
   pub bare_is : IsBareText plan all_frames log front f (notice ++ report) bare
   pub carried_is : IsPacketReport plan seen log front f packet (option_to_list ended) carried
-  pub heard : HaveHeardOneMore plan listeners seen (record { frame = f; packet = packet })
+  pub heard : HaveHeardOneMore plan pairs seen (record { frame = f; packet = packet })
   pub text_is : new ≡ old ++ (notice ++ (report ++ (bare ++ carried)))
 
 -- by each log that is so the frame was written, and what it tells of requests was noted
 pub record WritesFrame (IsSo : List Timed → Type 0) (plan : Plan) (all_frames : Bool) (front : List ℕ) (f : Frame) (sorts : Sort × Option Sort)
-    (listened listeners : Listeners) (kept exchanges : Exchanges) (old new : List ℕ) : Type 0 where
-  pub written : (seen : List Seen) (log : List Timed) → IsSo log → HaveHeardSince plan listened seen → AreAllInRange seen
-      → IsFrameWritten plan all_frames listeners seen log front f sorts.0 sorts.1 old new
+    (heard pairs : HeardPairs) (kept exchanges : Exchanges) (old new : List ℕ) : Type 0 where
+  pub written : (seen : List Seen) (log : List Timed) → IsSo log → HaveHeardSince plan heard seen → AreAllInRange seen
+      → IsFrameWritten plan all_frames pairs seen log front f sorts.0 sorts.1 old new
   pub noted : (log : List Timed) (events : List Event) → IsSo log → length events + 3 < 2 ^ 64 → AreExchanges plan kept events
       → AreNoted plan log f (sorts.0 ∷ option_to_list sorts.1) events exchanges

@@ -5,28 +5,46 @@ use Rattle.std.specs.Option.{option_eq}
 use Rattle.j39_id.specs.declared.frame.Frame.{Frame}
 use Rattle.j39_network.specs.declared.plan.Plan.{Plan}
 use Rattle.j39_log.specs.LogPairs.{Seen, heard_of}
-use Rattle.j39_log.specs.declared.listeners.Listeners.{Listeners}
 use Rattle.j39_log.specs.inside.Listening.{after_all, listener_of_pair}
 use Rattle.j39_tp.specs.Receiver.{Receiving}
 use Rattle.j39_tp.specs.declared.packet.Packet.{Packet}
 use Rattle.j39_follow.specs.FollowText.{HeardSince}
+use Rattle.j39_follow.specs.Received.{way_packet, way_packets}
+use Rattle.j39_follow.specs.declared.pair.collected.Collected.{Collected}
+use Rattle.j39_follow.specs.declared.pair.heard_pairs.HeardPairs.{HeardPairs}
+use Rattle.j39_follow.specs.inside.Collecting.{IsCollectedOf, collected_between}
 use Rattle.j39_follow.specs.Who.{IsReplaced, stranger_of, unit_of}
 use Rattle.j39_follow.specs.declared.address.who.Who.{Who}
 use Rattle.j39_follow.specs.inside.Recounting.{party_at}
 
-abbrev pub listener_between : Listeners → ℕ → ℕ → Receiving
-listener_between listeners source destination = listener_of_pair listeners.rows.items source destination
+abbrev pub listener_between : HeardPairs → ℕ → ℕ → Receiving
+listener_between pairs source destination = listener_of_pair pairs.listeners.rows.items source destination
 
--- each listener heard what its pair heard since
-abbrev pub HaveHeardSince : Plan → Listeners → List Seen → Type 0
-HaveHeardSince plan listeners seen = (source destination : ℕ) → source < 256 → destination < 256
-    → (h : List Packet) × HeardSince plan seen source destination h × (listener_between listeners source destination ≡ after_all h)
+-- and what is kept of its packets in whatever order
+abbrev pub kept_between : HeardPairs → ℕ → ℕ → Option Collected
+kept_between pairs source destination = collected_between pairs.collections source destination
 
--- each heard one frame more, and what its pair had heard since before that
-abbrev pub HaveHeardOneMore : Plan → Listeners → List Seen → Seen → Type 0
-HaveHeardOneMore plan listeners seen x = (source destination : ℕ) → source < 256 → destination < 256
-    → (h : List Packet) × HeardSince plan seen source destination h
-    × (listener_between listeners source destination ≡ after_all (h ++ heard_of source destination x.frame.ident x.packet))
+-- the listener of each pair heard what its pair heard since, and what is kept is of the packets since
+pub record HasHeardSince (plan : Plan) (pairs : HeardPairs) (seen : List Seen) (source destination : ℕ) : Type 0 where
+  pub packets : List Packet
+  pub is : HeardSince plan seen source destination packets
+  pub listener : listener_between pairs source destination ≡ after_all packets
+  pub kept : IsCollectedOf (kept_between pairs source destination) (way_packets source destination is.since)
+
+abbrev pub HaveHeardSince : Plan → HeardPairs → List Seen → Type 0
+HaveHeardSince plan pairs seen = (source destination : ℕ) → source < 256 → destination < 256 → HasHeardSince plan pairs seen source destination
+
+-- one frame more, and what its pair had heard since before that
+pub record HasHeardOneMore (plan : Plan) (pairs : HeardPairs) (seen : List Seen) (x : Seen) (source destination : ℕ) : Type 0 where
+  pub packets : List Packet
+  pub is : HeardSince plan seen source destination packets
+  pub listener : listener_between pairs source destination ≡ after_all (packets ++ heard_of source destination x.frame.ident x.packet)
+  pub kept : IsCollectedOf (kept_between pairs source destination)
+      (way_packets source destination is.since ++ way_packet source destination x.frame.ident x.packet)
+
+abbrev pub HaveHeardOneMore : Plan → HeardPairs → List Seen → Seen → Type 0
+HaveHeardOneMore plan pairs seen x =
+    (source destination : ℕ) → source < 256 → destination < 256 → HasHeardOneMore plan pairs seen x source destination
 
 -- ---- change of hands
 

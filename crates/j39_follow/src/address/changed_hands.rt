@@ -1,16 +1,16 @@
 //! Pairs of which an address changes hands.
-ghost use Rattle.std.specs.Prelude.{◌≡◌, ◌<◌, ◌==◌, ◌||◌, ℕ, List, Option, Some, if◌then◌else◌, length, not};
+ghost use Rattle.std.specs.Prelude.{◌≡◌, ◌<◌, ◌==◌, ◌||◌, ℕ, List, Option, Some, None, if◌then◌else◌, length, not};
 ghost use Rattle.j39_id.specs.declared.frame.Frame.{Frame as AFrame};
 ghost use Rattle.j39_tp.specs.Receiver.{fresh};
 ghost use Rattle.j39_tp.specs.declared.receiving.manner.Manner.TheVariants.{Listening};
 ghost use Rattle.j39_follow.specs.Who.{stranger_of};
 ghost use Rattle.j39_follow.specs.Holders.{IsHolder};
 ghost use Rattle.j39_follow.specs.inside.Hearing.{AreReplaced, is_changed, is_same_number};
-ghost use Rattle.j39_follow.specs.inside.Hearing.{is_same_party as is_one_party, listener_between};
+ghost use Rattle.j39_follow.specs.inside.Hearing.{is_same_party as is_one_party, kept_between, listener_between};
 
 use crate::address::who::Who;
+use crate::pair::heard_pairs::HeardPairs;
 use j39_id::{Frame, carried_name, claims_address};
-use j39_log::Listeners;
 
 // The NAME that isn't planned, if it is one.
 fn stranger(who: Who) -> Option<u64>
@@ -54,17 +54,19 @@ fn differs(old: Who, new: Who, replaced: Option<u8>, address: u8) -> bool
 
 /// Each pair of which an address changes hands begins anew.
 pub(crate) fn begin_anew(
-    listeners: &mut Listeners,
+    pairs: &mut HeardPairs,
     old: &[Who; 256],
     new: &[Who; 256],
     replaced: Option<u8>,
 )
-    ensures { (s d : ℕ) → s < 256 → d < 256 → listener_between listeners.new s d
-        ≡ (if is_changed old.now new.now replaced s d then fresh Listening else listener_between listeners.old s d) }
+    ensures listeners { (s d : ℕ) → s < 256 → d < 256 → listener_between pairs.new s d
+        ≡ (if is_changed old.now new.now replaced s d then fresh Listening else listener_between pairs.old s d) }
+    ensures collections { (s d : ℕ) → s < 256 → d < 256 → kept_between pairs.new s d
+        ≡ (if is_changed old.now new.now replaced s d then None else kept_between pairs.old s d) }
 {
     for address in 0..256 {
         if differs(old[address], new[address], replaced, address as u8) {
-            listeners.forget(address as u8);
+            pairs.forget(address as u8);
         }
     }
 }

@@ -3,7 +3,7 @@ ghost use Rattle.std.specs.Prelude.{◌≡◌, ◌+◌, ◌^◌, ◌<◌, ◌∷
 ghost use Rattle.std.specs.Option.{option_to_list};
 ghost use Rattle.j39_follow.specs.Contests.{Timed};
 ghost use Rattle.j39_follow.specs.FollowReports.{aim_at as aim_at_unit, answer_aim as aim_of_answer, notice_events};
-ghost use Rattle.j39_follow.specs.FollowReports.{refusal_events, reply_of};
+ghost use Rattle.j39_follow.specs.FollowReports.{brought_by, refusal_events, reply_of};
 ghost use Rattle.j39_follow.specs.LoggedRequests.{asked_request as asked_request_of};
 ghost use Rattle.j39_follow.specs.LoggedRequests.{counted_number as number_that_counts};
 ghost use Rattle.j39_id.specs.FrameMeaning.{requested_group};
@@ -18,7 +18,7 @@ use crate::address::known_parties::Parties;
 use crate::address::who::Who;
 use crate::flow::group_line::sending_of;
 use crate::flow::sending::{Aim, Sending};
-use crate::message::{Sort, in_frame};
+use crate::message::{Sort, ended_message, in_frame};
 use crate::request::acknowledgement::{
     acknowledged_group, acknowledges, asker_or_source, is_refusal,
 };
@@ -101,7 +101,7 @@ fn number_of(plan: &Plan, sort: Sort) -> u32
 
 // The event that a message is.
 fn brought(plan: &Plan, sent: Sending, sort: Sort) -> Event
-    ensures { result ≡ Brought (reply_of (number_that_counts plan.now sort) sent.sender sent.aim) }
+    ensures { result ≡ brought_by plan.now sent sort }
 {
     Event::Brought(Reply {
         number: number_of(plan, sort),
@@ -112,8 +112,7 @@ fn brought(plan: &Plan, sent: Sending, sort: Sort) -> Event
 
 // The event that a message is, if there is one.
 fn brought_any(plan: &Plan, sent: Sending, sort: Option<Sort>) -> Option<Event>
-    ensures { result
-        ≡ option_map (λ (s : ASort). Brought (reply_of (number_that_counts plan.now s) sent.sender sent.aim)) sort }
+    ensures { result ≡ option_map (brought_by plan.now sent) sort }
 {
     match sort {
         Some(sort) => Some(brought(plan, sent, sort)),
@@ -140,5 +139,6 @@ pub(crate) fn note(
     let asker = parties.party(asker_or_source(plan, frame));
     exchanges.hear_any(plan, noticed(plan, frame, sent, asker));
     exchanges.hear(plan, brought(plan, sent, sort));
-    exchanges.hear_any(plan, brought_any(plan, sent, ended));
+    let way = sending_of(parties, ended_message(frame));
+    exchanges.hear_any(plan, brought_any(plan, way, ended));
 }

@@ -9,11 +9,11 @@ use Rattle.j39_vehicle_findings.specs.Traces.{next_forward}
 use Rattle.j39_vehicle_findings.specs.declared.point.FlowAt.{FlowAt}
 use Rattle.j39_vehicle_findings.specs.declared.point.Point.{Point}
 use Rattle.j39_vehicle_times.specs.declared.bus_delays.Delays.{Delays}
-use Rattle.j39_vehicle_times.specs.Times.{behind_at, forward_at, interval, sum_known, timing_on, within_of}
+use Rattle.j39_vehicle_times.specs.Times.{behind_at, forward_at, interval_us, sum_known, timing_on, within_of}
 
 -- from the release of what the forward hears to that of what it sends
 abbrev pub aged_of : Vehicle → Delays → FlowAt → Forward → Option ℕ
-aged_of v delays at n = if is_direct n then Some 0 else sum_known (sum_known (interval v at) (behind_at v delays at)) (within_of n)
+aged_of v delays at n = if is_direct n then Some 0 else sum_known (sum_known (interval_us v at) (behind_at v delays at)) (within_of n)
 
 abbrev pub aged_by : Vehicle → Delays → ℕ → FlowAt → Option ℕ
 aged_by v delays n at = option_map_or (aged_of v delays at) (forward_at v n) None

@@ -1,4 +1,4 @@
-"""A log compared with a plan, report by report: senders, NAMEs and addresses, groups, lengths, priorities, flows, needs and requests."""
+"""A log compared with a plan, report by report: claims, groups, flows and their times, needs and requests. Premises are judged by `audit` (premises.py)."""
 
 import math
 from typing import NamedTuple
@@ -16,11 +16,11 @@ from j39plan.log.checks.feed import Noted
 from j39plan.log.checks.hands import Hands
 from j39plan.log.checks.numbers import Numbers
 from j39plan.log.checks.other_requests import OtherRequests
+from j39plan.log.checks.premises import Beside
 from j39plan.log.checks.queued import Begun, Queued
 from j39plan.log.checks.requests import Asked
 from j39plan.log.checks.transfers import WHOLE, Announcement, Cause, Pair, Route, Transfers, announcement_in, is_managing, pair_of, pgn_of
 from j39plan.log.checks.unplanned import Bounds, Unplanned
-from j39plan.log.checks.wording import fields_of, lengths_of
 from j39plan.log.clock import MILLISECOND, SECOND, Clock
 from j39plan.log.reports import Acknowledgement, Claim, Frame, Message, Report, Request, Who
 from j39plan.log.serial_numbers import Renumbered
@@ -76,8 +76,9 @@ class Comparison:
         labels = {pgn: groups[0].label for pgn, groups in self.groups.items() if len(groups) == 1}
         self.others = OtherRequests(labels, found, self.hands.is_on)
         self._begun: dict[Pair, Begun] = {}
-        self._strange: set[str] = set()  # who was told as nobody's
-        self._nameless: dict[int, set[str]] = {}  # what was told of addresses at which no NAME was known
+        self.of_premises = Beside()
+        self.is_unjudged = False  # whether the plan has findings, so that `audit` judges nobody, and what `follow` says is told
+        self._received: tuple[int, Pair] | None = None  # the line on which a receiver said that it has a message, and counted it
         self._pgns = {label: group.pgn for label, group in self.planned.items()}
         self._is_watched = False  # whether what is due is told as soon as it is
         self._line, self._still = 0, ""  # the line of the last report; and what is told of nothing coming since
@@ -90,37 +91,21 @@ class Comparison:
         """A claim of an address, or that none was found, by a box of this serial number where its unit is of any."""
         if who.label and identity is not None:
             self.numbers.claim(line, at, who.label, identity)
-        self.names_itself(at, who)
         if who.label:
             self.claims.claimed(line, at, who.label)
-        gives_back = who.address is None and self.hands.holds(who, identity)
-        is_commanded = self.commanded.is_obeyed(self.hands.name_of(who, identity), who.address)
+            self.of_premises.given_back[who.label] += who.address is None and self.hands.holds(who, identity)
+        if self.commanded.is_obeyed(self.hands.name_of(who, identity), who.address) and who.label and who.address is not None:
+            self.of_premises.obeyed.add((who.label, who.address))
         for address in self.hands.claim(line, at, who, identity):
             for begun in self._begun.values():
                 if address in (begun.pair[0][2], begun.pair[1][2]) and not begun.between:
                     begun.between = f"address {address} changed hands at line {line}"
         self.unplanned.came(line, at, identifier_of(6, ADDRESS_CLAIMED, 0))
-        claims = "could not claim an address" if who.address is None else f"claims address {who.address}"
-        unit = self.units.get(who.label or "")
-        if unit is None:
-            self.found.tell("stranger", f"NAME {who.name} ({fields_of(who.name or '0')}) {claims}: no unit has it", line, at)
-        elif gives_back:
-            return  # nobody has taken the address that it held
-        elif who.address is None:
-            self.found.tell("address", f"{unit.label} {claims}", line, at, unit=unit.label)
-        elif who.address != unit.address and not unit.may_choose and not is_commanded:
-            self.found.tell("address", f"{unit.label} {claims}, planned is {unit.address}", line, at, unit=unit.label)
-
-    def names_itself(self, at: int | None, who: Who) -> None:
-        """A unit claims an address. Where it was asked, nothing is known of it yet, and nobody claimed the address before, what came from there was its own."""
-        told = self._nameless.pop(who.address, set()) if who.address is not None else set()
-        if who.label and who.label not in self.hands.last and self.hands.was_asked(at) and not self.hands.was_held(who.address):
-            self.withdraw(told)
-
-    def withdraw(self, told: set[str]) -> None:
-        """What was told of an address doesn't hold: it is known now who sent from there."""
-        for text in told:
-            self.found.withdraw(text)
+        if who.name and who.label is None:
+            address = NULL_ADDRESS if who.address is None else who.address
+            self.of_premises.claims.setdefault(address, {}).setdefault(who.name, [line, 0])[1] += 1
+            if self.is_unjudged:
+                self.found.tell("stranger", f"NAME {who.name} claims address {address}: no unit has it", line, at)
 
     def sender(self, line: int, at: int | None, sender: Who, pgn: int, group: str = "") -> None:
         """Who sent something, as a message of a planned group."""
@@ -131,22 +116,21 @@ class Comparison:
     def unknown(self, line: int, at: int | None, sender: Who, pgn: int, group: str) -> None:
         """Somebody whom the plan doesn't have sends something, as a message of a planned group."""
         former, what = self.hands.former(at, sender), f"sends {group}, a planned group" if group else "sends"
-        if former is None:
-            spelled = sender.spelled
-            self._strange.add(spelled)
-            text = f"{spelled} {what}: no unit has it"
-            self.found.tell("stranger", text, line, at)
-            if sender.address is not None and sender.name is None:
-                self._nameless.setdefault(sender.address, set()).add(text)
-        else:
+        if former is not None:
             text = f"{former.spelled} claims address {former.address}, and its former address {sender.address} {what}: two boxes of one NAME?"
             self.found.tell("two-boxes", text, line, at, unit=former.label)
-            self.withdraw(self._nameless.pop(sender.address or 0, set()))
+            self.of_premises.left.add(sender.address)
             self.distances.touched(former.label or "", self._pgns, pgn, line, at)
+        elif group:
+            self.of_premises.sent.setdefault(sender.name or sender.address, {})[group] = None
+        if sender.address in (NULL_ADDRESS, GLOBAL_ADDRESS) or self.is_unjudged and former is None:
+            self.found.tell("stranger", f"{sender.spelled} {what}: no unit has it", line, at)
 
     def message(self, line: int, at: int | None, message: Message) -> None:
         """A message of a planned group."""
         _, _, group, sender, to, flow, odd_priority, data, _ = message
+        if (line, pair_of(sender, to)) == self._received:
+            return
         planned = self.planned[group]
         begun = self._begun.pop(pair_of(sender, to), None) if len(data) > 2 * FRAME_BYTES else None
         first, began = (begun.line, begun.at) if begun else (line, at)
@@ -158,17 +142,17 @@ class Comparison:
             if sender.label is None:
                 self.unknown(line, at, sender, planned.pgn, group)
             self.answers(line, at, sender, to, planned.pgn)
-        if odd_priority is not None:
+        if self.is_unjudged and odd_priority is not None:
             text = f"{group} from {sender.shown} has priority {odd_priority}, planned is {planned.priority}"
             self.found.tell("priority", text, first, began, unit=sender.label)
         if flow:
             self.sends(flow, first, began, begun.waited if begun else 0)
             return
-        if sender.label:
+        if self.is_unjudged and sender.label:
             self.found.tell("no-flow", f"{group} from {sender.label} to {to.shown}: no flow", first, began, unit=sender.label)
         if begun is None:
             priority = planned.priority if odd_priority is None else odd_priority
-            self.passes(line, at, identifier_of(priority, planned.pgn, 0, 0), group if sender.label else "", sender)
+            self.passes(line, at, identifier_of(priority, planned.pgn, 0, 0), "", sender)
 
     def answers(self, line: int, at: int | None, sender: Who, to: Who, pgn: int) -> None:
         """A message of a group begins, which may be asked for."""
@@ -187,12 +171,12 @@ class Comparison:
         return self.sent[self._ways[number - 1]]
 
     def passes(self, line: int, at: int | None, identifier: int, what: str, sender: Who) -> None:
-        """A frame of no flow goes by. Where nobody has it by the plan, and it is told as that, it has no name here."""
+        """A frame of no flow goes by. What is too urgent is told here of those alone who are no unit; such a frame of a planned group has no name here."""
         if self.timing:
             self.unplanned.came(line, at, identifier)
-            if what and identifier >> 26 < self.timing.unplanned_priority:
+            if what and sender.label is None and identifier >> 26 < self.timing.unplanned_priority:
                 limit = f"by 'load' what no flow has is of {self.timing.unplanned_priority} or more"
-                self.found.tell("urgent", f"{what} from {sender.shown} has priority {identifier >> 26}: {limit}", line, at, unit=sender.label)
+                self.found.tell("urgent", f"{what} from {sender.shown} has priority {identifier >> 26}: {limit}", line, at)
 
     def group_of(self, pgn: int, length: int, sender: Who, to: Who, data: bytes | None = None) -> Group | None:
         """The group of a message: of those of its number one whose bits of `when` its data has, else one of its length, else the first; a private one
@@ -214,8 +198,6 @@ class Comparison:
         if noted.kind:
             self.odd += 1
             self.found.tell(noted.kind, f"{noted.kind_text} of the identifier {noted.identifier:08X}: no frame of J1939", line, at)
-        else:
-            self.found.tell("short-identifier", "a frame with an 11-bit identifier, which may go before each planned one", line, at)
         self.unplanned.came(line, at, noted.identifier)
 
     def frame(self, line: int, at: int | None, frame: Frame) -> None:
@@ -248,31 +230,27 @@ class Comparison:
             self.anew(line, at)
 
     def carried(self, line: int, at: int | None, frame: Frame) -> None:
-        """A packet, or a frame that manages a connection. Who isn't planned is told once by these."""
+        """A packet, or a frame that manages a connection."""
         sender = frame.sender
-        if sender.label is None and sender.spelled not in self._strange:
-            self.sender(line, at, sender, frame.pgn)
-        else:
-            self.hands.sends(line, at, sender)
+        self.hands.sends(line, at, sender)
         if frame.pgn == DATA_TRANSFER:
             self.commanded.packet(line, at, frame)
             if frame.to.address is None and sender.label and at is not None:
                 self.queued.packet(sender.label, at)
         is_planned = self.transfers.came(line, at, frame)
         if frame.pgn == CONNECTION_MANAGEMENT and frame.data[0] == WHOLE:
-            self.acknowledged(pair_of(frame.to, sender))
+            self.acknowledged(line, pair_of(frame.to, sender))
         if not is_planned:
             self.passes(line, at, frame.identifier, f"PGN {frame.pgn if frame.pgn == DATA_TRANSFER else pgn_of(frame)}", sender)
 
-    def acknowledged(self, pair: Pair) -> None:
-        """The receiver may have said that it has a message which isn't reported, as where a packet was asked for once more: it was carried whole."""
+    def acknowledged(self, line: int, pair: Pair) -> None:
+        """The receiver may have said that it has a message which isn't reported yet, as where a packet was asked for once more: it was carried whole."""
         if pair in self._begun and self.transfers.is_acknowledged(pair):
+            self._received = line, pair
             begun = self._begun.pop(pair)
             self.queued.whole(begun.way)
             if number := self.flow_of(begun.way):
                 self.sends(number, begun.line, begun.at, begun.waited)
-            elif begun.unit:
-                self.found.tell("no-flow", f"{begun.text}: no flow", begun.line, begun.at, unit=begun.unit)
 
     def flow_of(self, way: Way) -> int:
         """The number of the first flow of a way, 0 where there is none."""
@@ -293,7 +271,6 @@ class Comparison:
             self.nobody(line, at, frame.pgn, sender)
             self.answers(line, at, sender, to, frame.pgn)
         elif not group.length <= len(frame.data) <= group.most or group.when is not None:
-            self.another_layout(line, at, group, frame)
             self.answers(line, at, sender, to, frame.pgn)
             way = group.label, sender.label or "", to.shown
             if way in self.sent:
@@ -303,20 +280,6 @@ class Comparison:
         """A message of no group."""
         if pgn not in UNPLANNED:
             self.found.tell("no-group", f"PGN {pgn} from {sender.shown}: no group has it", line, at, unit=sender.label)
-
-    def another_layout(self, line: int, at: int | None, group: Group, frame: Frame) -> None:
-        """A frame of a number that has groups which are told by their data, or are as long: it is none of them."""
-        sender = frame.sender
-        if group.length <= len(frame.data) <= group.most:
-            text = f"PGN {frame.pgn} from {sender.shown}: its bits are those of no group's 'when'"
-            self.found.tell("layout", text, line, at, unit=sender.label)
-        else:
-            self.another_length(line, at, group, len(frame.data), sender)
-
-    def another_length(self, line: int, at: int | None, group: Group, length: int, sender: Who) -> None:
-        """A message of a group that isn't as long as it may be."""
-        text = f"{group.label} from {sender.shown} has {length} bytes, planned are {lengths_of(group)}"
-        self.found.tell("length", text, line, at, unit=sender.label)
 
     def announced(self, line: int, at: int | None, frame: Frame, announced: Announcement) -> None:
         """A long message is announced."""
@@ -341,12 +304,12 @@ class Comparison:
             self.passes(line, at, frame.identifier, f"PGN {announced.pgn}", sender)
         if group is None:
             self.nobody(line, at, announced.pgn, sender)
-        elif not group.length <= announced.length <= group.most:
-            self.another_length(line, at, group, announced.length, sender)
-        elif announced.is_sound:
-            self._begun[pair] = Begun(line, at, route.text, pair, way, sender.label, waited)
-        else:
-            self.broken(Begun(line, at, route.text, pair, way, sender.label), Cause("its announcement breaks the rules"))
+        elif group.length <= announced.length <= group.most:  # of another length `audit` tells
+            begun = Begun(line, at, route.text, pair, way, sender.label, waited)
+            if announced.is_sound:
+                self._begun[pair] = begun
+            else:
+                self.broken(begun, Cause("its announcement breaks the rules"))
 
     def request(self, line: int, at: int | None, request: Request) -> None:
         """A request."""
@@ -482,6 +445,7 @@ class Comparison:
         self.claims.end(last)
         self.commanded.end()
         self.hands.end(last)
+        self.of_premises.left.update(self.hands.held())
         self.distances.end(None if self.damage.is_off else last)
         self.transfers.end(last)
         self.unplanned.end()

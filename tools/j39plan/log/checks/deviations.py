@@ -47,7 +47,7 @@ class Place(NamedTuple):
 @dataclass
 class Deviation:
     """A deviation: its kind, what is told of it, the flow by its number and the unit that it is of; where it was met first, or was worst; how
-    often; what is said of that place alone; and all places, where they are kept."""
+    often; what is said of that place alone; all places, where they are kept; and what to ask the supplier, where that is known."""
 
     kind: str
     text: str
@@ -57,6 +57,7 @@ class Deviation:
     detail: str = ""
     times: int = 1
     places: list[Place] = field(default_factory=list)
+    ask: str = ""
 
     @property
     def told(self) -> str:
@@ -90,19 +91,19 @@ class Found:
         self._met: dict[str, Deviation] = {}
 
     def tell(self, kind: str, text: str, line: int | None, at: int | None = None, value: int | None = None, *, flow: int | None = None,
-             unit: str | None = None, detail: str = "", before: Place | None = None) -> None:
-        """A deviation is met, or is met again. Its text is what it is of; the detail is of its place alone. One that is of two places is told with
-        the one before."""
+             unit: str | None = None, detail: str = "", before: Place | None = None, times: int = 1, ask: str = "") -> None:
+        """A deviation is met, or is met again, so many times. Its text is what it is of; the detail is of its place alone. One that is of two places is
+        told with the one before."""
         known = self._met.get(text)
         if known is not None and value is None and self._is_plain and known.place.line is not None and line is not None and line >= known.place.line:
-            known.times += 1  # the shortest way, since most come so
+            known.times += times  # the shortest way, since most come so
             return
         place = Place(line, at, value)
         if known is None:
-            known = self._met[text] = Deviation(kind, text, flow, unit, place, detail, places=[before] if before else [])
+            known = self._met[text] = Deviation(kind, text, flow, unit, place, detail, times, [before] if before else [], ask)
             is_heard = True
         else:
-            known.times += 1
+            known.times += times
             is_heard = self._keeps_all
             if self._is_worse(known, place):
                 known.place, known.detail = place, detail
@@ -124,8 +125,8 @@ class Found:
         return measure.is_worse(place.value, known.place.value)
 
     def all(self) -> Iterator[Deviation]:
-        """All of them, in the order of the lines; last what is met at no line."""
-        yield from sorted(self._met.values(), key=lambda found: (found.place.line is None, found.place.line or 0))
+        """All of them, in the order of the lines, of one line first what `audit` accuses of; last what is met at no line."""
+        yield from sorted(self._met.values(), key=lambda found: (found.place.line is None, found.place.line or 0, not found.ask))
 
 
 def lines_of(found: Deviation, spelled_place: Callable[[Place], str]) -> Iterator[str]:
@@ -151,6 +152,8 @@ def row_of(found: Deviation, place_of: Callable[[int], tuple[str, int]]) -> dict
     """A deviation as plain values, for JSON; what there is nothing of is left out."""
     row: dict[str, Any] = {"kind": found.kind, "flow": found.flow, "unit": found.unit, **place_row(found.kind, found.place, place_of), "text": found.told,
            "what": found.what, "times": found.times}
+    if found.ask:
+        row["ask"] = found.ask
     if found.places:
         row["all"] = [place_row(found.kind, place, place_of) for place in found.places]
     return {key: value for key, value in row.items() if value is not None}

@@ -170,13 +170,18 @@ class Hands:
         self._tell_changes()
         self._stood, self._stale = line, set(self._holders)
 
-    def was_held(self, address: int | None) -> bool:
-        """Whether somebody claimed an address, as far as that is known now."""
-        return address in self._holders or address in self._left
-
     def has_claimed(self, label: str) -> bool:
         """Whether any claim came of a unit."""
         return label in self._units_told
+
+    def held(self) -> set[int]:
+        """The addresses that boxes of units hold, of one unit with two boxes both."""
+        return {address for address, who in self._holders.items() if who.label}
+
+    def addresses(self) -> dict[int | None, str]:
+        """The units by the addresses at which they were heard last."""
+        return {address: label for label, (_, _, address) in self.last.items() if label in self._units}
+
     def holds(self, who: Who, identity: int | None = None) -> bool:
         """Whether the box of somebody holds an address that it claimed and that nobody has claimed since."""
         return box_of(self._with_name(who, identity)) in self._at

@@ -2,7 +2,8 @@ use Rattle.std.proofs.Common.{◌≡◌, ◌≤◌, ◌++◌, ℕ, refl, sym, ap
 use Rattle.j39_audit.specs.AuditText.{accusation_count, accusations, accusing_at, word_count, word_lines}
 use Rattle.j39_audit.specs.Below.{each_below, sum_below}
 use Rattle.j39_audit.specs.declared.mark.Word.{Word}
-use Rattle.j39_audit.specs.inside.Recalling.{tallied, settings_of}
+use Rattle.j39_audit.specs.inside.Auditing.{tallied}
+use Rattle.j39_audit.specs.inside.Recalling.{settings_of}
 use Rattle.j39_audit.proofs.Below.{sum_none}
 use Rattle.j39_audit.proofs.Writing.{count_more, text_more, text_none}
 use Rattle.j39_audit.proofs.summary.write_accusations.Goals as goal
@@ -13,7 +14,7 @@ loop-place-init c = record { text = text_none _ _; count = sym (sum_none _); few
 pub loop-place-preserved : goal.loop-place-preserved
 loop-place-preserved c =
     let s = settings_of c.args.basis.now in
-    let look = tallied c.args.tally.now in
+    let look = tallied c.args.log.now in
     let before = c.loop-place.invariant in
     let more = c.in_ok-count.ensures in
     let few = before.few in
@@ -32,11 +33,11 @@ pub returns : goal.returns
 unfolding accusations accusation_count
 returns c =
     let s = settings_of c.args.basis.now in
-    let look = tallied c.args.tally.now in
+    let look = tallied c.args.log.now in
     let before = c.loop-place.invariant in
     let done = c.loop-place-test.false in
     let within = before.within in
-    let end : c.loop-place.place ≡ 9 = omega (arith, done, within) in
+    let end : c.loop-place.place ≡ 11 = omega (arith, done, within) in
     record {
       text = before.text ∙ ap (λ (n : ℕ). c.args.text.now ++ each_below (λ k. word_lines s look (accusing_at k)) n) end;
       count = before.count ∙ ap (λ (n : ℕ). sum_below (λ k. word_count s look (accusing_at k)) n) end;

@@ -1,7 +1,7 @@
 use Rattle.std.proofs.Common.{◌≡◌, ◌++◌, ℕ, length, ap, ◌∙◌, arith}
 use Rattle.j39_audit.specs.AuditText.{flow_seen, flows_seen}
 use Rattle.j39_audit.specs.Below.{each_below}
-use Rattle.j39_audit.specs.inside.Recalling.{tallied}
+use Rattle.j39_audit.specs.inside.Auditing.{tallied}
 use Rattle.j39_audit.proofs.Writing.{text_more, text_none}
 use Rattle.j39_audit.proofs.summary.write_flows.Goals as goal
 
@@ -10,7 +10,7 @@ loop-place-init c = text_none _ _
 
 pub loop-place-preserved : goal.loop-place-preserved
 loop-place-preserved c =
-    text_more _ _ _ (flow_seen c.args.plan.now (tallied c.args.tally.now)) c.loop-place.place c.loop-place.invariant c.in_ok-write_flow_seen.ensures
+    text_more _ _ _ (flow_seen c.args.plan.now (tallied c.args.log.now)) c.loop-place.place c.loop-place.invariant c.in_ok-write_flow_seen.ensures
 
 pub returns : goal.returns
 unfolding flows_seen
@@ -18,4 +18,4 @@ returns c =
     let count = c.len-place-end.ensures in
     let done = c.loop-place-test.false in
     let end : c.loop-place.place ≡ length c.args.plan.now.flows.items = omega (arith, count, done) in
-    c.loop-place.invariant ∙ ap (λ (n : ℕ). c.args.text.now ++ each_below (flow_seen c.args.plan.now (tallied c.args.tally.now)) n) end
+    c.loop-place.invariant ∙ ap (λ (n : ℕ). c.args.text.now ++ each_below (flow_seen c.args.plan.now (tallied c.args.log.now)) n) end

@@ -1,7 +1,8 @@
 use Rattle.std.proofs.Common.{◌≡◌, ◌≤◌, ◌++◌, ℕ, refl, sym, ap, ◌∙◌, arith}
 use Rattle.j39_audit.specs.AuditText.{subjects, subject_count, subject_lines, word_count, word_lines}
 use Rattle.j39_audit.specs.Below.{each_below, sum_below}
-use Rattle.j39_audit.specs.inside.Recalling.{tallied, settings_of}
+use Rattle.j39_audit.specs.inside.Auditing.{tallied}
+use Rattle.j39_audit.specs.inside.Recalling.{settings_of}
 use Rattle.j39_audit.proofs.Below.{sum_none}
 use Rattle.j39_audit.proofs.Writing.{count_more, text_more, text_none}
 use Rattle.j39_audit.proofs.summary.write_word_lines.Goals as goal
@@ -16,8 +17,8 @@ loop-subject-preserved c =
     let few = before.few in
     let one = more.few in
     record {
-      text = text_more _ _ _ (subject_lines (settings_of c.args.basis.now) (tallied c.args.tally.now) c.args.word) c.loop-subject.subject before.text more.text;
-      count = count_more (subject_count (settings_of c.args.basis.now) (tallied c.args.tally.now) c.args.word) c.loop-subject.subject _ _ before.count more.count;
+      text = text_more _ _ _ (subject_lines (settings_of c.args.basis.now) (tallied c.args.log.now) c.args.word) c.loop-subject.subject before.text more.text;
+      count = count_more (subject_count (settings_of c.args.basis.now) (tallied c.args.log.now) c.args.word) c.loop-subject.subject _ _ before.count more.count;
       few = omega (arith, few, one);
     }
 
@@ -32,7 +33,7 @@ returns c =
     let few = before.few in
     let end : c.loop-subject.subject ≡ subjects (settings_of c.args.basis.now) c.args.word = omega (arith, done, auto, bound.value) in
     record {
-      text = before.text ∙ ap (λ (n : ℕ). c.args.text.now ++ each_below (subject_lines (settings_of c.args.basis.now) (tallied c.args.tally.now) c.args.word) n) end;
-      count = before.count ∙ ap (λ (n : ℕ). sum_below (subject_count (settings_of c.args.basis.now) (tallied c.args.tally.now) c.args.word) n) end;
+      text = before.text ∙ ap (λ (n : ℕ). c.args.text.now ++ each_below (subject_lines (settings_of c.args.basis.now) (tallied c.args.log.now) c.args.word) n) end;
+      count = before.count ∙ ap (λ (n : ℕ). sum_below (subject_count (settings_of c.args.basis.now) (tallied c.args.log.now) c.args.word) n) end;
       few = omega (arith, few, done, auto, most);
     }

@@ -25,7 +25,7 @@ returns-then-is_grouped c = λ seen log shows asker have ranges.
       report_is = report;
       bare_is = own.bare_is;
       carried_is = (refl, refl);
-      heard = unheard_more plan c.args.listeners.now seen f have;
+      heard = unheard_more plan c.args.pairs.now seen f have;
       text_is = last_text c.args.text.now own.notice own.report own.bare [] _ _ own.text_is (sym (append-nil c.write_itself.new.text));
     }
 
@@ -44,7 +44,7 @@ returns-in_default c = λ seen log shows asker have ranges.
       report_is = own.report_is;
       bare_is = own.bare_is;
       carried_is = (refl, refl);
-      heard = unheard_more c.args.groups.now c.args.listeners.now seen c.args.frame.now have;
+      heard = unheard_more c.args.groups.now c.args.pairs.now seen c.args.frame.now have;
       text_is = last_text c.args.text.now own.notice own.report own.bare [] _ _ own.text_is (sym (append-nil c.write_itself.new.text));
     }
 

@@ -18,7 +18,7 @@ returns-in_default-direct_place-clause-value c =
     let is : unasked_at v c.chain.at ≡ Some flow = cc in
     let unfed : direct_place v c.chain.at ≡ None = cc in
     let none : direct_feeder v c.chain.at ≡ None = no_feeder v c.chain.at unfed in
-    c.pause_of.ensures.value ∙ sym (interval_here v (length v.forwards.items - c.chain._step) c.chain.at flow is none) ∙ c.chain.invariant
+    c.pause_on.ensures.value ∙ sym (interval_here v (length v.forwards.items - c.chain._step) c.chain.at flow is none) ∙ c.chain.invariant
 
 pub returns-in_default-input_by-clause-value : goal.returns-in_default-input_by-clause-value
 returns-in_default-input_by-clause-value c =

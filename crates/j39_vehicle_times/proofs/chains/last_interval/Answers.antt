@@ -18,7 +18,7 @@ returns-in-None-clause-value c =
     let is : unasked_at v c.args.at ≡ Some flow = cc in
     let unfed : direct_place v c.args.at ≡ None = cc in
     let none : direct_feeder v c.args.at ≡ None = no_feeder v c.args.at unfed in
-    c.pause_of.ensures.value ∙ sym (interval_here v 0 c.args.at flow is none)
+    c.pause_on.ensures.value ∙ sym (interval_here v 0 c.args.at flow is none)
 
 pub returns-in-Some-direct_place-clause-value : goal.returns-in-Some-direct_place-clause-value
 returns-in-Some-direct_place-clause-value c =

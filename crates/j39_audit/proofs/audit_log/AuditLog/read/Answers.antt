@@ -21,7 +21,12 @@ returns-in-Line-clause-lines c =
     let past : AuditPast = audited.past in
     let old = audited.recalls in
     let one = took (with_next_number past) (record {
-      follows = record { knows = old.follows.knows; counted = old.follows.counted; newest_is = old.follows.newest_is };
+      follows = record {
+        knows = old.follows.knows;
+        counted = old.follows.counted;
+        newest_is = old.follows.newest_is;
+        moments = old.follows.moments;
+      };
       number_is = ap (λ (n : ℕ). n + 1) old.number_is;
       interface_is = old.interface_is;
       frames_are = old.frames_are;
@@ -58,7 +63,12 @@ returns-in-Long-clause-lines c = λ s ls audited.
       read = subst (λ (k : List Line). AuditsLines s nothing_read (ls ++ k) end) (sym cut)
           (line_more s ls Long nothing_read past end audited.read refl);
       recalls = record {
-        follows = record { knows = old.follows.knows; counted = old.follows.counted; newest_is = old.follows.newest_is };
+        follows = record {
+          knows = old.follows.knows;
+          counted = old.follows.counted;
+          newest_is = old.follows.newest_is;
+          moments = c.pass_over.ensures.moments past.moments old.follows.moments;
+        };
         number_is = ap (λ (n : ℕ). n + 1) old.number_is;
         interface_is = old.interface_is;
         frames_are = old.frames_are;

@@ -18,7 +18,12 @@ returns-clause-frame c = λ past recalls.
       packet = took.packet;
       packet_is = took.packet_is;
       recalls = record {
-        follows = record { knows = took.follows.knows; counted = took.follows.counted; newest_is = took.follows.newest_is };
+        follows = record {
+          knows = took.follows.knows;
+          counted = took.follows.counted;
+          newest_is = took.follows.newest_is;
+          moments = took.follows.moments;
+        };
         number_is = timed.number ∙ recalls.number_is;
         interface_is = c.in_ok-keep_interface.ensures ∙ ap (λ (i : Option (List ℕ)). interface_behind i named)
             (ap (λ (i : Option (Vec ℕ Global)). interface_of i) timed.interface ∙ recalls.interface_is);

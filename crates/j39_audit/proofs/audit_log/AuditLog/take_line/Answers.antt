@@ -33,7 +33,12 @@ returns-then-is_elsewhere-clause-line c = λ past recalls.
         ),
       );
       recalls = record {
-        follows = record { knows = recalls.follows.knows; counted = recalls.follows.counted; newest_is = recalls.follows.newest_is };
+        follows = record {
+          knows = recalls.follows.knows;
+          counted = recalls.follows.counted;
+          newest_is = recalls.follows.newest_is;
+          moments = recalls.follows.moments;
+        };
         number_is = recalls.number_is;
         interface_is = recalls.interface_is;
         frames_are = recalls.frames_are;
@@ -78,7 +83,7 @@ returns-in-Ok-clause-line c =
               done.packet,
               done.packet_is,
               ap (λ (t : Option ℕ). past_with_frame s past t (option_copied named.result) f done.packet)
-                  (c.line_time-time.ensures ∙ ap (λ (p : Plan). line_time p c.time_text.result.now) plan),
+                  (c.line_time-time.ensures.value ∙ ap (λ (p : Plan). line_time p c.time_text.result.now) plan),
             ),
           ),
         ),

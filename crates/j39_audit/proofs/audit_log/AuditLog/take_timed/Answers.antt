@@ -1,4 +1,4 @@
-use Rattle.std.proofs.Common.{◌≡◌, ◌++◌, ℕ, Bool, Option, Some, None, sym, ap, subst, ◌∙◌}
+use Rattle.std.proofs.Common.{◌≡◌, ◌++◌, ℕ, Bool, List, Option, Some, None, sym, ap, subst, ◌∙◌}
 use Rattle.std.specs.Prelude.{IfNone, IfSome}
 use Rattle.j39_id.specs.declared.frame.Frame.{Frame}
 use Rattle.j39_log.specs.LogFrames.{IsPacket}
@@ -7,8 +7,13 @@ use Rattle.j39_tp.specs.declared.packet.Packet.{Packet}
 use Rattle.j39_audit.specs.AuditText.{claims_before, past_with_frame}
 use Rattle.j39_audit.specs.Breaks.{breaks, newest_behind}
 use Rattle.j39_audit.specs.Claiming.{broken_off}
+use Rattle.j39_audit.specs.Counting.{Noted}
 use Rattle.j39_audit.specs.Looking.{IsPacketOf, break_noted, frame_noted}
-use Rattle.j39_audit.specs.inside.Recalling.{AreCounted, KnowsClaims, Notes, settings_of}
+use Rattle.j39_audit.specs.Moments.{begins_anew, moments_behind}
+use Rattle.j39_audit.specs.Streams.{sighted_behind}
+use Rattle.j39_audit.specs.declared.tally.Sighting.{Sighting}
+use Rattle.j39_audit.specs.inside.Recalling.{AreCounted, KnowsClaims, Notes, RecallsMoments, settings_of}
+use Rattle.j39_audit.proofs.Counted.{counted_on}
 use Rattle.j39_audit.proofs.Noting.{notes_both}
 use Rattle.j39_audit.proofs.audit_log.AuditLog.take_timed.Goals as goal
 
@@ -29,16 +34,29 @@ returns-clause-frame c = λ past named accords number.
     let known = subst (λ (b : Bool). KnowsClaims s c.take_break.new.known (broken_off b past.claims)) broken
     (c.take_break.ensures.known past.claims accords.knows) in
     let took = c.in_ok-take_frame.ensures before known in
-    let noted = subst (λ (b : Bool). Notes c.args.self.now.tally c.take_break.new.tally (break_noted c.args.self.now.number b)) broken
-    c.in_ok-take_break.ensures.noted in
+    let number_now = c.args.self.now.number in
+    let clean = c.look_at_next.new.self in
+    let noted = subst (λ (b : Bool). Notes clean c.take_break.new.tally (break_noted number_now b)) broken c.in_ok-take_break.ensures.noted in
     let both = notes_both noted took.1 in
+    let lines : ℕ → List Noted = λ n. break_noted n (breaks s.stamps past.newest time) ++ frame_noted s before f packet n in
+    let anew : c.begins_anew-anew.result ≡ begins_anew s.stamps past.newest time =
+    c.begins_anew-anew.ensures ∙ ap (λ (n : Option ℕ). begins_anew s.stamps n time) accords.newest_is in
+    let sights = both.sights ∙ ap (λ (w : Sighting). sighted_behind w (lines number_now)) c.look_at_next.ensures.nothing in
+    let looked = c.in_ok-look.ensures.moments past.moments (lines number_now) accords.moments sights in
+    let kept = c.look.new.self in
     record {
       packet = packet;
       packet_is = packet_of f packet c.transport_packet.ensures.found c.transport_packet.ensures.none;
       follows = record {
         knows = took.0;
         counted = subst (λ (n : ℕ). AreCounted c.take_frame.new.tally (past.noted ++ (break_noted n (breaks s.stamps past.newest time) ++ frame_noted s before f packet n)))
-            number (both.counts past.noted accords.counted);
+            number (both.counts past.noted (counted_on c.args.self.now.tally clean past.noted c.look_at_next.ensures.found accords.counted));
         newest_is = c.newest_behind-self.ensures ∙ ap (λ (n : Option ℕ). newest_behind s.stamps n time) accords.newest_is;
+        moments = subst (λ (n : ℕ). RecallsMoments kept
+            (moments_behind s (breaks s.stamps past.newest time) (begins_anew s.stamps past.newest time) time f n (lines n) past.moments)) number
+            (subst (λ (a : Bool). RecallsMoments kept
+            (moments_behind s (breaks s.stamps past.newest time) a time f number_now (lines number_now) past.moments)) anew
+            (subst (λ (b : Bool). RecallsMoments kept
+            (moments_behind s b c.begins_anew-anew.result time f number_now (lines number_now) past.moments)) broken looked));
       };
     }

@@ -34,11 +34,11 @@ returns-clause-followed c =
     record {
       sort = told.sort;
       ended = told.ended;
-      listeners = c.report.new.self.listeners;
+      pairs = c.report.new.self.pairs;
       written = w;
       knows = subst (λ (d : Directory). Knows plan d (frames_with past.seen f)) (sym c.report.ensures.directory) knows;
       contests = subst (λ (cs : Contests). AreContests plan cs (lines_with past f c.args.stamp.time.now)) (sym c.report.ensures.contests) contests;
-      heard = heard_on plan past.seen (record { frame = f; packet = w.packet }) directory.parties.all c.report.new.self.listeners
+      heard = heard_on plan past.seen (record { frame = f; packet = w.packet }) directory.parties.all c.report.new.self.pairs
           of.knows.parties knows.parties (none_told (frames_seen past.seen) f nothing) w.heard;
       tally = told.tally;
       noted = told.noted;

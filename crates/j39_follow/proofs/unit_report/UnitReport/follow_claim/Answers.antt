@@ -45,13 +45,13 @@ returns-clause-followed c = λ past of few counted.
     record {
       sort = told.sort;
       ended = told.ended;
-      listeners = c.report.new.self.listeners;
+      pairs = c.report.new.self.pairs;
       written = w;
       knows = knows;
       contests = subst (λ (cs : Contests). AreContests plan cs log) (sym c.in_ok-report.ensures.contests) contests;
       heard = heard_anew plan past.seen (record { frame = f; packet = w.packet }) c.all_parties-before.result c.parties.result.now.all c.replaced-taken.result
-          c.report.new.self.listeners c.begin_anew.new.listeners before after
-          (c.replaced-taken.ensures (frames_seen past.seen) (c.holder.ensures plan (frames_seen past.seen) of.knows)) c.begin_anew.ensures w.heard;
+          c.report.new.self.pairs c.begin_anew.new.pairs before after
+          (c.replaced-taken.ensures (frames_seen past.seen) (c.holder.ensures plan (frames_seen past.seen) of.knows)) c.begin_anew.ensures.listeners c.begin_anew.ensures.collections w.heard;
       tally = told.tally;
       noted = told.noted;
     }

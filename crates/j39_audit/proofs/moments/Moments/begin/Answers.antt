@@ -1,0 +1,6 @@
+use Rattle.std.proofs.Common.{refl}
+use Rattle.j39_audit.proofs.moments.Moments.begin.Goals as goal
+
+pub returns-then-anew-clause-moments : goal.returns-then-anew-clause-moments
+returns-then-anew-clause-moments c = λ m recalls.
+    rw c.if-anew.true (record { before = refl; idle = refl; earliest = λ key. c.forget.ensures key; counted = recalls.counted })

@@ -1,0 +1,104 @@
+-- Streams: messages whose moments are a step apart at least, and how long behind its moment one may be queued.
+use Rattle.std.specs.Prelude.{ℕ, ◌+◌, ◌-◌, ◌*◌, ◌/◌, nat_le, nat_lt, ◌==◌, Bool, true, false, if◌then◌else◌, List, [], ◌∷◌, Option, Some, None}
+use Rattle.std.specs.Int.{div_ceil}
+use Rattle.std.specs.List.{slice_get}
+use Rattle.std.specs.Option.{option_and_then}
+use Rattle.j39_id.specs.Ident.{pgn_of}
+use Rattle.j39_id.specs.Limits.{frame_bytes}
+use Rattle.j39_id.specs.declared.frame.Frame.{Frame}
+use Rattle.j39_network.specs.declared.plan.flow_plan.FlowPlan.{FlowPlan}
+use Rattle.j39_network.specs.declared.plan.group_plan.GroupPlan.{GroupPlan}
+use Rattle.j39_network.specs.declared.plan.pace.Pace.{Pace}
+use Rattle.j39_network.specs.declared.plan.request_plan.RequestPlan.{RequestPlan}
+use Rattle.j39_network.specs.declared.plan.timing.Timing.{Timing}
+use Rattle.j39_audit.specs.Counting.{Noted}
+use Rattle.j39_audit.specs.Looking.{is_single}
+use Rattle.j39_audit.specs.Settings.{Settings}
+use Rattle.j39_audit.specs.declared.mark.Mark.{Mark}
+use Rattle.j39_audit.specs.declared.mark.Word.TheVariants.{Seen, Asked, NearFlow, NearRequest}
+use Rattle.j39_audit.specs.declared.mark.Word.{Word}
+use Rattle.j39_audit.specs.declared.streams.Stream.{Stream}
+use Rattle.j39_audit.specs.declared.tally.Sighting.{Sighting}
+
+-- ---- times of units
+
+-- so many milliseconds of a unit's clock, in microseconds of the logger's: at least, and at most. The unit's clock differs from true time by
+-- the plan's drift, and the logger's by a thousandth
+abbrev pub shortest_us : Timing → ℕ → ℕ
+shortest_us t ms = 999 * ms * (1000000 - t.drift) / 1000000
+
+abbrev pub longest_us : Timing → ℕ → ℕ
+longest_us t ms = div_ceil (1001 * ms * (1000000 + t.drift)) 1000000
+
+-- ---- streams
+
+abbrev pub stream_mark : Word → ℕ → Mark
+stream_mark word place = record { word = word; subject = place; group = 0 }
+
+-- a message of one frame is queued within the jitter, and one of several is announced within a period more
+abbrev pub latest_ms : Pace → Bool → ℕ
+latest_ms pace true = pace.jitter
+latest_ms pace false = pace.period + pace.jitter
+
+-- the messages of a stream are a flow's single frames where its group has none that are longer than a frame, else what announces them
+abbrev pub is_in_stream : GroupPlan → Bool → Bool
+is_in_stream group true = nat_le group.most frame_bytes
+is_in_stream group false = nat_lt frame_bytes group.most
+
+-- the stream of a flow with a period
+abbrev pub paced_stream : Timing → Frame → ℕ → GroupPlan → Pace → Option Stream
+paced_stream t f n group pace =
+    if is_in_stream group (is_single (pgn_of f.ident))
+    then Some (record {
+      mark = stream_mark NearFlow n;
+      step = shortest_us t pace.period;
+      jitter = longest_us t (latest_ms pace (is_single (pgn_of f.ident)));
+    })
+    else None
+
+abbrev pub flow_pace : Settings → ℕ → Option Pace
+flow_pace s n = option_and_then (λ (flow : FlowPlan). flow.pace) (slice_get s.plan.flows.items n)
+
+abbrev pub group_of_flow : Settings → ℕ → Option GroupPlan
+group_of_flow s n = option_and_then (λ (flow : FlowPlan). slice_get s.plan.groups.items flow.group) (slice_get s.plan.flows.items n)
+
+unfoldable pub flow_stream : Settings → Timing → Frame → ℕ → Option Stream
+flow_stream s t f n =
+    option_and_then (λ (pace : Pace). option_and_then (λ (group : GroupPlan). paced_stream t f n group pace) (group_of_flow s n)) (flow_pace s n)
+
+-- requests have this priority
+abbrev pub request_priority : ℕ
+request_priority = 6
+
+-- the stream of a request with a period: one is queued at its moment
+abbrev pub request_period : Settings → ℕ → Option ℕ
+request_period s n = option_and_then (λ (r : RequestPlan). r.period) (slice_get s.plan.requests.items n)
+
+abbrev pub paced_request : Timing → Frame → ℕ → ℕ → Option Stream
+paced_request t f n period =
+    if f.ident.priority == request_priority
+    then Some (record { mark = stream_mark NearRequest n; step = shortest_us t period; jitter = 0 }) else None
+
+unfoldable pub request_stream : Settings → Timing → Frame → ℕ → Option Stream
+request_stream s t f n = option_and_then (λ (period : ℕ). paced_request t f n period) (request_period s n)
+
+-- ---- a frame
+
+-- of which flow and of which request a frame is seen, by what was noted of it
+abbrev pub nothing_sighted : Sighting
+nothing_sighted = record { flow = None; request = None }
+
+abbrev pub sighted_as : Word → ℕ → Sighting → Sighting
+sighted_as Seen n w = record w { flow = Some n }
+sighted_as Asked n w = record w { request = Some n }
+sighted_as _ n w = w
+
+abbrev pub sighted_behind : Sighting → List Noted → Sighting
+sighted_behind w [] = w
+sighted_behind w (n ∷ rest) = sighted_behind (sighted_as n.mark.word n.mark.subject w) rest
+
+-- the stream of which a frame is a message
+abbrev pub sighted_stream : Settings → Timing → Frame → Option ℕ → Option ℕ → Option Stream
+sighted_stream s t f (Some n) asked = flow_stream s t f n
+sighted_stream s t f None (Some n) = request_stream s t f n
+sighted_stream s t f None None = None

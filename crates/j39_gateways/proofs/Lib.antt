@@ -1,0 +1,4 @@
+pub mod Clocks
+pub mod Gateways
+pub mod Vehicles
+pub mod KnownVehicle

@@ -1,0 +1,5 @@
+mod Beside
+mod Damaged
+mod Reached
+mod ReachedDamaged
+mod Refilled

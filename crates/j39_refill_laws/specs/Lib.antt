@@ -1,0 +1,3 @@
+pub mod Refill
+pub mod RefillErrors
+pub mod RefillTraffic

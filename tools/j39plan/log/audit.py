@@ -1,0 +1,63 @@
+"""What the program's `audit` answers of a plan and a log: each line by its parts, and what a line that accuses means."""
+
+from typing import Any, NamedTuple
+
+from j39plan.plan.answer_grammar import Form, Line, form_of, line_of
+
+
+class Word(NamedTuple):
+    """What lines of a word mean, and what to ask the supplier."""
+
+    means: str
+    ask: str
+
+
+# The words that accuse, as the table of docs/guide/AUDIT.md has them.
+WORDS = {
+    "short": Word("a frame with an 11-bit identifier", "what else sends on this bus"),
+    "stranger": Word("a NAME of no unit claims A, and the plan has no `strangers`", "whose the NAME is"),
+    "nobody": Word("a frame from an address at which no unit may be", "which unit has this source address"),
+    "address": Word("U claims an address that isn't its own, or claims though `claims = false`", "which addresses it may take"),
+    "cannot": Word("U says that it can't claim an address", "why"),
+    "layout": Word("a message of G's number, with another length or none of its `when`", "which layout it has"),
+    "no_flow": Word("a message of G that no flow of U brings there", "what it sends, and to whom"),
+    "priority": Word("a message of a flow with another priority", "which priority is set"),
+    "urgent": Word("a frame that isn't planned, above `unplanned_priority`", "what it is for"),
+    "near": Word("messages of a flow, or requests, sooner than `period` and `jitter` allow, at line M most", "its period and jitter"),
+}
+
+# What may be accused, and the measure that may stand behind.
+SUBJECTS = ("", " address {#address}", " address {#address} (?P<name>#[0-9A-F]{16})", " unit {unit}", " unit {unit} at {#at}", " unit {unit} group {group}",
+            " flow {#flow} {group} {from} {to}", " request {#request} {group} {from} {to}", " packets {unit}")
+MEASURES = ("", " worst {#worst} by {#by} us")
+
+# The lines by what they are. Times are in us.
+LINES: dict[str, list[Form]] = {
+    "accused": [form_of("(?P<word>[a-z_]+)" + subject + " times {#times} first {#first}" + measure) for subject in SUBJECTS for measure in MEASURES],
+    "flow": [form_of("flow {#flow} {group} {from} {to} seen {#seen} unclear {#unclear}")],
+    "request": [form_of("request {#request} {group} {from} {to} seen {#seen}")],
+    "unit": [form_of("unit {unit} frames {#frames}")],
+    "counts": [form_of("frames {#frames} skipped {#skipped} bad {#bad} elsewhere {#elsewhere} unsure {#unsure} breaks {#breaks} stamps {#stamps}"),
+               form_of("deviations {#deviations}")],
+}
+
+# Lines of which an answer has several, and what these are called.
+SEVERAL = {"accused": "accused", "flow": "flows", "request": "requests", "unit": "units"}
+
+
+def lines_of(answer: str) -> list[Line]:
+    """The lines of an answer; none of a plan that has findings, or is refused, since `audit` then answers as `check` does."""
+    lines = answer.splitlines()
+    return [line_of(text, LINES) for text in lines] if lines and lines[-1].startswith("deviations ") else []
+
+
+def audit_object(plan: str, log: str, status: int, lines: list[Line]) -> dict[str, Any]:
+    """What it answers, as JSON: who is accused of what, with what that means and what to ask the supplier, what was seen, and the counts."""
+    found: dict[str, Any] = {"plan": plan, "log": log, "status": status, **{name: [] for name in SEVERAL.values()}}
+    for line in lines:
+        if line.kind in SEVERAL:
+            word = WORDS.get(line.word("word"))
+            found[SEVERAL[line.kind]].append({**line.parts, **(word._asdict() if word else {})})
+        else:
+            found.update(line.parts)
+    return found
