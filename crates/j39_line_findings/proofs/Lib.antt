@@ -2,5 +2,6 @@ pub mod Enumerating
 pub mod EveryVariant
 pub mod FoundLists
 pub mod Ranking
+pub mod ToldExactly
 pub mod VariantVerdicts
 pub mod Witnesses

@@ -9,7 +9,7 @@ use Rattle.j39_line_findings.specs.AllVariants.{IsOneOf, all_variants}
 use Rattle.j39_line_findings.specs.Best.{IsAmong, amount_in, is_better, rank_in}
 use Rattle.j39_line_findings.specs.InFile.{amount_of, rank_of}
 use Rattle.j39_line_findings.specs.LineAnswers.{IsPossible}
-use Rattle.j39_line_findings.specs.LineFindingLaws.{AreExact, FindingsAreExact, HasThese, IsFound, IsTold, IsWitnessed}
+use Rattle.j39_line_findings.specs.LineFindingLaws.{AreExact, FindingsAreExact, HasThese, IsFound, IsFindingTold, IsWitnessed}
 use Rattle.j39_line_findings.specs.LineFound.{AreFindingsOf, AreLineFindings, AreVariantFindings, all_witnessed, witnessed}
 use Rattle.j39_line_findings.specs.declared.full.FullAlternatives.{FullAlternatives}
 use Rattle.j39_line_findings.specs.declared.line_finding.LineFinding.{LineFinding}

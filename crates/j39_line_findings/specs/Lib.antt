@@ -4,6 +4,7 @@ pub mod Boxes
 pub mod FullVariants
 pub mod InFile
 pub mod LineAnswers
+pub mod LineFindingLaws
 pub mod LineFound
 pub mod MissedNeeds
 pub mod There

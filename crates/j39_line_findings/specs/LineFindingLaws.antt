@@ -29,14 +29,14 @@ pub record IsWitnessed (line : ProductLine) (w : Witnessed) : Type 0 where
   pub one : IsFound findings w.finding
 
 -- a finding is told: one of its number and places, which has at least its number of addresses or bits
-abbrev pub IsTold : List Witnessed → LineFinding → Type 0
-IsTold told finding = (w : Witnessed) × IsAmong told w × (rank_in w ≡ rank_of finding) × (amount_of finding ≤ amount_in w)
+abbrev pub IsFindingTold : List Witnessed → LineFinding → Type 0
+IsFindingTold told finding = (w : Witnessed) × IsAmong told w × (rank_in w ≡ rank_of finding) × (amount_of finding ≤ amount_in w)
 
 -- what is told is exactly what possible variants have
 pub record AreExact (line : ProductLine) (told : List Witnessed) : Type 0 where
   pub sound : (w : Witnessed) → IsAmong told w → IsWitnessed line w
   pub complete : (variant : List ℕ) → IsPossible line variant
-      → (findings : List LineFinding) × HasThese line variant findings × ((finding : LineFinding) → IsFound findings finding → IsTold told finding)
+      → (findings : List LineFinding) × HasThese line variant findings × ((finding : LineFinding) → IsFound findings finding → IsFindingTold told finding)
 
 abbrev pub FindingsAreExact : Type 0
 FindingsAreExact = (line : ProductLine) (told : List Witnessed) → AreLineFindings line told → AreExact line told
