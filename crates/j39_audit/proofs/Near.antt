@@ -2,8 +2,8 @@
 use Rattle.std.proofs.Common.{◌≡◌, ◌↔◌, ℕ, zero, suc, ◌+◌, ◌-◌, ◌*◌, ◌<◌, ◌≤◌, ◌⊎◌, max, true, false, refl, subst, sym, ap, ◌∙◌, arith, inl, inr, Option, Some, None}
 use Rattle.std.proofs.lemmas.Bool.{cases_Bool, cases_eq, cases_lt, ltb-true, lt-ltb, true≢false}
 use Rattle.j39_audit.specs.declared.window.Window.{Window}
-use Rattle.j39_audit.specs.Near.{IsTooNear, candidate, earliest, is_later, is_near, step_on}
-use Rattle.j39_audit.specs.Stepping.{AreApart, AreWithin}
+use Rattle.j39_audit.specs.Near.{IsTooNear, candidate, earliest, is_later_than, is_too_near, step_on}
+use Rattle.j39_audit.specs.Stepping.{AreStepsApart, AreMomentsWithin}
 use Rattle.j39_audit.proofs.Steps.{first_or_none, none_yet, one_more}
 use Rattle.j39_audit.proofs.Spread.{spread}
 
@@ -32,13 +32,13 @@ step_from_bound step None x y is = (y, is, omega arith)
 step_from_bound step (Some c) None y is = absurd (grind (arith, is))
 step_from_bound step (Some c) (Some x) y is = let same : x ≡ y = grind (arith, is) in (max (c + step) x, refl, omega (arith, same))
 
-later_is : (e : Option ℕ) (upper : ℕ) → is_later e upper ≡ true → (m : ℕ) × (e ≡ Some m) × (upper < m)
-unfolding is_later
+later_is : (e : Option ℕ) (upper : ℕ) → is_later_than e upper ≡ true → (m : ℕ) × (e ≡ Some m) × (upper < m)
+unfolding is_later_than
 later_is None upper is = absurd (true≢false (sym is))
 later_is (Some m) upper is = (m, refl, ltb-true upper m is)
 
-is_later_at : (e : Option ℕ) (upper m : ℕ) → e ≡ Some m → upper < m → is_later e upper ≡ true
-unfolding is_later
+is_later_at : (e : Option ℕ) (upper m : ℕ) → e ≡ Some m → upper < m → is_later_than e upper ≡ true
+unfolding is_later_than
 is_later_at None upper m is less = absurd (grind (arith, is))
 is_later_at (Some c) upper m is less = let same : c ≡ m = grind (arith, is) in lt-ltb upper c (omega (arith, same, less))
 
@@ -54,12 +54,12 @@ module _ (step : ℕ) (windows : ℕ → Window) where
 
   next_is : (j : ℕ) → (earliest step windows (suc j) ≡ here j) ⊎ (earliest step windows (suc j) ≡ (windows j).lower)
   unfolding earliest
-  next_is j = elim (cases_Bool (is_near step windows j)) [
+  next_is j = elim (cases_Bool (is_too_near step windows j)) [
     | inl near ↦ inr (rw (near) refl)
     | inr not ↦ inl (rw (not) refl)
   ]
 
-  next_where_not : (j : ℕ) → is_near step windows j ≡ false → earliest step windows (suc j) ≡ here j
+  next_where_not : (j : ℕ) → is_too_near step windows j ≡ false → earliest step windows (suc j) ≡ here j
   unfolding earliest
   next_where_not j not = rw (not) refl
 
@@ -87,7 +87,7 @@ module _ (step : ℕ) (windows : ℕ → Window) where
   ]
 
   -- where none was told before, it is no less than each
-  no_less : (j : ℕ) → ((k : ℕ) → k < j → is_near step windows k ≡ false) → (i x : ℕ) → i ≤ j → (windows i).lower ≡ Some x
+  no_less : (j : ℕ) → ((k : ℕ) → k < j → is_too_near step windows k ≡ false) → (i x : ℕ) → i ≤ j → (windows i).lower ≡ Some x
       → (e : ℕ) × (here j ≡ Some e) × (x + (j - i) * step ≤ e)
   no_less zero none i x up bound =
       let same : i ≡ 0 = omega (arith, up) in
@@ -109,14 +109,14 @@ module _ (step : ℕ) (windows : ℕ → Window) where
         (e, is, omega (arith, low, far, more))
   ]
 
-  pub told_near : (j : ℕ) → is_near step windows j ≡ true → IsTooNear step windows j
+  pub told_near : (j : ℕ) → is_too_near step windows j ≡ true → IsTooNear step windows j
   unfolding IsOfBound
   told_near j is =
       let (e, at, less) = later_is (here j) (windows j).upper is in
       let (i, x, up, bound, steps) = of_bounds j e at in
       record { first = i; before = up; lower = x; bound = bound; no_room = omega (arith, less, steps) }
 
-  pub first_near : (j : ℕ) → ((k : ℕ) → k < j → is_near step windows k ≡ false) → (is_near step windows j ≡ true) ↔ IsTooNear step windows j
+  pub first_near : (j : ℕ) → ((k : ℕ) → k < j → is_too_near step windows k ≡ false) → (is_too_near step windows j ≡ true) ↔ IsTooNear step windows j
   first_near j none = (
     told_near j,
     λ near.
@@ -125,12 +125,12 @@ module _ (step : ℕ) (windows : ℕ → Window) where
         is_later_at (here j) (windows j).upper e at (omega (arith, low, room)),
   )
 
-  pub some_near : (n : ℕ) → ((j : ℕ) × (j < n) × (is_near step windows j ≡ true)) ↔ ((j : ℕ) × (j < n) × IsTooNear step windows j)
+  pub some_near : (n : ℕ) → ((j : ℕ) × (j < n) × (is_too_near step windows j ≡ true)) ↔ ((j : ℕ) × (j < n) × IsTooNear step windows j)
   some_near n = (
     λ told. let (j, inside, is) = told in (j, inside, told_near j is),
     λ found.
         let (j, inside, near) = found in
-        elim (first_or_none (is_near step windows) j) [
+        elim (first_or_none (is_too_near step windows) j) [
           | inl it ↦ let (k, below, is, first) = it in (k, omega (arith, below, inside), is)
           | inr none ↦ (j, inside, (first_near j none).1 near)
         ],
@@ -138,9 +138,9 @@ module _ (step : ℕ) (windows : ℕ → Window) where
 
   -- ---- who keeps the step
 
-  pub kept_steps_are_not_near : (n : ℕ) (moment : ℕ → ℕ) → AreWithin n windows moment → AreApart n step moment → (j : ℕ) → j < n
-      → is_near step windows j ≡ false
-  kept_steps_are_not_near n moment within apart j inside = elim (cases_Bool (is_near step windows j)) [
+  pub kept_steps_are_not_near : (n : ℕ) (moment : ℕ → ℕ) → AreMomentsWithin n windows moment → AreStepsApart n step moment → (j : ℕ) → j < n
+      → is_too_near step windows j ≡ false
+  kept_steps_are_not_near n moment within apart j inside = elim (cases_Bool (is_too_near step windows j)) [
     | inr not ↦ not
     | inl is ↦
         let near = told_near j is in

@@ -6,9 +6,9 @@ use Rattle.std.proofs.lemmas.List.{append-nil}
 use Rattle.j39_audit.specs.Below.{each_below}
 use Rattle.j39_audit.specs.Counting.{Key, Noted, is_same_key, key_of}
 use Rattle.j39_audit.specs.Moments.{Moments, near_noted, with_earliest}
-use Rattle.j39_audit.specs.Near.{candidate, earliest, earliest_at, earliest_next, excess, is_later}
+use Rattle.j39_audit.specs.Near.{candidate, earliest, earliest_at, earliest_next, excess, is_later_than}
 use Rattle.j39_audit.specs.Stepping.{NotesTheNear, near_at, with_messages}
-use Rattle.j39_audit.specs.declared.streams.Stream.{Stream}
+use Rattle.j39_audit.specs.declared.streams.MessageStream.{MessageStream}
 use Rattle.j39_audit.specs.declared.window.Window.{Window}
 
 -- a key is the same as itself
@@ -19,9 +19,9 @@ at_own : (k : Key) (moment : Option ℕ) (old : Key → Option ℕ) → with_ear
 at_own k moment old = ap (λ (b : Bool). cond b moment (old k)) (same_key k)
 
 -- nothing is noted exactly where a moment isn't later
-later_noted : (stream : Stream) (line : ℕ) (moment : Option ℕ) (upper : ℕ)
-    → near_noted stream line (excess moment upper) ≡ cond (is_later moment upper) (near_noted stream line (excess moment upper)) []
-unfolding is_later excess
+later_noted : (stream : MessageStream) (line : ℕ) (moment : Option ℕ) (upper : ℕ)
+    → near_noted stream line (excess moment upper) ≡ cond (is_later_than moment upper) (near_noted stream line (excess moment upper)) []
+unfolding is_later_than excess
 later_noted stream line None upper = refl
 later_noted stream line (Some e) upper = elim (nat_lt upper e) as (λ b. near_noted stream line (cond b (Some (e - upper)) None)
     ≡ cond b (near_noted stream line (cond b (Some (e - upper)) None)) []) [
@@ -29,7 +29,7 @@ later_noted stream line (Some e) upper = elim (nat_lt upper e) as (λ b. near_no
       | false ↦ refl
     ]
 
-module _ (stream : Stream) (windows : ℕ → Window) (lines : ℕ → ℕ) (m : Moments) (none : m.earliest (key_of stream.mark) ≡ None) where
+module _ (stream : MessageStream) (windows : ℕ → Window) (lines : ℕ → ℕ) (m : Moments) (none : m.earliest (key_of stream.mark) ≡ None) where
   abbrev at : Key
   at = key_of stream.mark
 

@@ -5,7 +5,7 @@ use Rattle.j39_audit.specs.Counting.{Noted}
 use Rattle.std.specs.List.{slice_get}
 use Rattle.j39_audit.specs.Below.{each_below}
 use Rattle.j39_audit.specs.SentMessages.{marked, noted_at}
-use Rattle.j39_audit.specs.Streams.{sighted_as, sighted_behind}
+use Rattle.j39_audit.specs.MessageStreams.{sighted_as, sighted_behind}
 use Rattle.j39_audit.specs.declared.mark.Word.{Word}
 use Rattle.j39_audit.specs.declared.tally.MarkTally.{MarkTally}
 use Rattle.j39_audit.specs.declared.tally.Sighting.{Sighting}

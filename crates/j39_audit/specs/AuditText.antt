@@ -179,8 +179,8 @@ unfoldable pub sending_text : Plan → ℕ → ℕ → To → List ℕ
 sending_text plan group sender to =
     codes " " ++ (group_label plan group ++ (codes " " ++ (unit_label plan sender ++ (codes " " ++ to_text plan to))))
 
-unfoldable pub flow_text : Plan → ℕ → FlowPlan → List ℕ
-flow_text plan n flow = place_field (codes " flow ") n ++ sending_text plan flow.group flow.sender flow.to
+unfoldable pub near_flow_text : Plan → ℕ → FlowPlan → List ℕ
+near_flow_text plan n flow = place_field (codes " flow ") n ++ sending_text plan flow.group flow.sender flow.to
 
 unfoldable pub request_text : Plan → ℕ → RequestPlan → List ℕ
 request_text plan n r = place_field (codes " request ") n ++ sending_text plan r.group r.sender r.to
@@ -194,7 +194,7 @@ subject_of plan Address subject group detail = unit_at_text plan subject detail
 subject_of plan Layout subject group detail = unit_and_group_text plan subject group
 subject_of plan NoFlow subject group detail = unit_and_group_text plan subject group
 subject_of plan Priority subject group detail = unit_and_group_text plan subject group
-subject_of plan NearFlow subject group detail = option_map_or (λ (flow : FlowPlan). flow_text plan subject flow) (slice_get plan.flows.items subject) []
+subject_of plan NearFlow subject group detail = option_map_or (λ (flow : FlowPlan). near_flow_text plan subject flow) (slice_get plan.flows.items subject) []
 subject_of plan NearRequest subject group detail =
     option_map_or (λ (r : RequestPlan). request_text plan subject r) (slice_get plan.requests.items subject) []
 subject_of plan _ subject group detail = unit_text plan subject
@@ -306,13 +306,13 @@ abbrev pub counts_of : AuditPast → LineCounts
 counts_of past = record { frames = past.frames; skipped = past.skipped; bad = past.bad; elsewhere = past.elsewhere }
 
 -- what is told of each mark: of those that speak of times by the times, of the others by the frames
-abbrev pub is_of_times : Word → Bool
-is_of_times NearFlow = true
-is_of_times NearRequest = true
-is_of_times _ = false
+abbrev pub is_of_moments : Word → Bool
+is_of_moments NearFlow = true
+is_of_moments NearRequest = true
+is_of_moments _ = false
 
 abbrev pub look_at : AuditPast → Look
-look_at past m = if is_of_times m.word then told_in past.moments.untimely m else told_in past.noted m
+look_at past m = if is_of_moments m.word then told_in past.moments.untimely m else told_in past.noted m
 
 abbrev pub audit_text : Settings → AuditPast → List ℕ
 audit_text s past = text_by s (counts_of past) (look_at past)

@@ -4,10 +4,10 @@ pub mod Breaks
 pub mod Claiming
 pub mod Counting
 pub mod Looking
+pub mod MessageStreams
 pub mod Moments
 pub mod Near
 pub mod SentMessages
 pub mod Settings
 pub mod Stepping
-pub mod Streams
 pub mod inside

@@ -11,8 +11,8 @@ use Rattle.j39_audit.specs.Breaks.{is_set_back}
 use Rattle.j39_audit.specs.Counting.{Key, Noted, is_same_key, key_of}
 use Rattle.j39_audit.specs.Near.{candidate, earliest_next, excess}
 use Rattle.j39_audit.specs.Settings.{Settings, logger_error}
-use Rattle.j39_audit.specs.Streams.{nothing_sighted, sighted_behind, sighted_stream}
-use Rattle.j39_audit.specs.declared.streams.Stream.{Stream}
+use Rattle.j39_audit.specs.MessageStreams.{nothing_sighted, sighted_behind, sighted_stream}
+use Rattle.j39_audit.specs.declared.streams.MessageStream.{MessageStream}
 use Rattle.j39_audit.specs.declared.tally.Sighting.{Sighting}
 use Rattle.j39_audit.specs.declared.window.Window.{Window}
 
@@ -43,8 +43,8 @@ begins_anew stamps newest None = true
 begins_anew stamps None (Some time) = false
 begins_anew stamps (Some newest) (Some time) = is_set_back stamps newest time
 
-abbrev pub begun : Bool → Moments → Moments
-begun anew m = if anew then record m { before = None; idle = None; earliest = λ key. None } else m
+abbrev pub begun_anew : Bool → Moments → Moments
+begun_anew anew m = if anew then record m { before = None; idle = None; earliest = λ key. None } else m
 
 -- ---- the idle mark
 
@@ -82,16 +82,16 @@ idle_mark s t bytes time = time + long_before - (reach_back t bytes + logger_err
 abbrev pub idle_behind : Settings → Timing → Bool → ℕ → ℕ → Option ℕ → Option ℕ → Option ℕ
 idle_behind s t broken bytes time before idle = if shows_idle s t broken bytes time before then Some (idle_mark s t bytes time) else idle
 
-abbrev pub timed : Settings → Timing → Bool → ℕ → ℕ → Moments → Moments
-timed s t broken bytes time m = record m { before = Some time; idle = idle_behind s t broken bytes time m.before m.idle }
+abbrev pub with_moment : Settings → Timing → Bool → ℕ → ℕ → Moments → Moments
+with_moment s t broken bytes time m = record m { before = Some time; idle = idle_behind s t broken bytes time m.before m.idle }
 
 -- ---- messages
 
 -- the bounds of the moment of a message of this time and jitter
-abbrev pub window_at : Settings → ℕ → ℕ → Option ℕ → Window
-window_at s jitter time idle = record { lower = option_map (λ q. q - jitter) idle; upper = time + long_before + logger_error s }
+abbrev pub moment_window : Settings → ℕ → ℕ → Option ℕ → Window
+moment_window s jitter time idle = record { lower = option_map (λ q. q - jitter) idle; upper = time + long_before + logger_error s }
 
-abbrev pub near_noted : Stream → ℕ → Option ℕ → List Noted
+abbrev pub near_noted : MessageStream → ℕ → Option ℕ → List Noted
 near_noted stream line None = []
 near_noted stream line (Some by) = record { mark = stream.mark; line = line; detail = by } ∷ []
 
@@ -99,25 +99,25 @@ abbrev pub with_earliest : Key → Option ℕ → (Key → Option ℕ) → Key �
 with_earliest key moment earliest other = if is_same_key key other then moment else earliest other
 
 -- with a message of a stream within these bounds
-abbrev pub with_message : Stream → Window → ℕ → Moments → Moments
+abbrev pub with_message : MessageStream → Window → ℕ → Moments → Moments
 with_message stream window line m = record m {
   earliest = with_earliest (key_of stream.mark) (earliest_next stream.step (m.earliest (key_of stream.mark)) window) m.earliest;
   untimely = m.untimely ++ near_noted stream line (excess (candidate stream.step (m.earliest (key_of stream.mark)) window) window.upper);
 }
 
-abbrev pub with_stream : Settings → ℕ → ℕ → Option Stream → Moments → Moments
+abbrev pub with_stream : Settings → ℕ → ℕ → Option MessageStream → Moments → Moments
 with_stream s time line None m = m
-with_stream s time line (Some stream) m = with_message stream (window_at s stream.jitter time m.idle) line m
+with_stream s time line (Some stream) m = with_message stream (moment_window s stream.jitter time m.idle) line m
 
 -- ---- a frame
 
 -- behind a frame of this time that is seen so
 abbrev pub with_time : Settings → Option Timing → Bool → Option ℕ → Frame → ℕ → Sighting → Moments → Moments
 with_time s (Some t) broken (Some time) f line w m =
-    with_stream s time line (sighted_stream s t f w.flow w.request) (timed s t broken (length f.payload.items) time m)
+    with_stream s time line (sighted_stream s t f w.flow w.request) (with_moment s t broken (length f.payload.items) time m)
 with_time s _ broken _ f line w m = m
 
 -- and of which this was noted
 unfoldable pub moments_behind : Settings → Bool → Bool → Option ℕ → Frame → ℕ → List Noted → Moments → Moments
 moments_behind s broken anew time f line noted m =
-    with_time s s.plan.timing broken time f line (sighted_behind nothing_sighted noted) (begun anew m)
+    with_time s s.plan.timing broken time f line (sighted_behind nothing_sighted noted) (begun_anew anew m)

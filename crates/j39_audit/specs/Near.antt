@@ -9,9 +9,9 @@ step_on step (Some e) None = Some (e + step)
 step_on step (Some e) (Some x) = Some (max (e + step) x)
 
 -- a moment that is there is later than this
-unfoldable pub is_later : Option ℕ → ℕ → Bool
-is_later None upper = false
-is_later (Some e) upper = nat_lt upper e
+unfoldable pub is_later_than : Option ℕ → ℕ → Bool
+is_later_than None upper = false
+is_later_than (Some e) upper = nat_lt upper e
 
 -- by how much
 unfoldable pub excess : Option ℕ → ℕ → Option ℕ
@@ -25,7 +25,7 @@ candidate step earliest window = step_on step earliest window.lower
 -- what is kept behind it: where it doesn't fit, this one begins anew
 abbrev pub earliest_next : ℕ → Option ℕ → Window → Option ℕ
 earliest_next step earliest window =
-    if is_later (candidate step earliest window) window.upper then window.lower else candidate step earliest window
+    if is_later_than (candidate step earliest window) window.upper then window.lower else candidate step earliest window
 
 -- what is kept behind the first n messages
 unfoldable pub earliest : ℕ → (ℕ → Window) → ℕ → Option ℕ
@@ -37,8 +37,8 @@ abbrev pub earliest_at : ℕ → (ℕ → Window) → ℕ → Option ℕ
 earliest_at step windows j = candidate step (earliest step windows j) (windows j)
 
 -- message j is told as too near
-abbrev pub is_near : ℕ → (ℕ → Window) → ℕ → Bool
-is_near step windows j = is_later (earliest_at step windows j) (windows j).upper
+abbrev pub is_too_near : ℕ → (ℕ → Window) → ℕ → Bool
+is_too_near step windows j = is_later_than (earliest_at step windows j) (windows j).upper
 
 -- ---- in terms of the bounds alone
 

@@ -3,7 +3,7 @@ ghost use Rattle.std.specs.Prelude.{◌≡◌, ◌≤◌, ◌<◌, ◌^◌, ◌+
 ghost use Rattle.std.specs.Option.{option_copied};
 ghost use Rattle.j39_id.specs.Lines.{Line, tells};
 ghost use Rattle.j39_log.specs.LineCounting.{AreWithin, IsLineMore};
-ghost use Rattle.j39_audit.specs.AuditText.{AuditPast, bad_line, is_of_times, passed_by, skipped_line};
+ghost use Rattle.j39_audit.specs.AuditText.{AuditPast, bad_line, is_of_moments, passed_by, skipped_line};
 ghost use Rattle.j39_audit.specs.Claiming.{HeardClaims, broken_off};
 ghost use Rattle.j39_audit.specs.Looking.{break_noted};
 ghost use Rattle.j39_audit.specs.Settings.{AreMoving, Settings};
@@ -68,8 +68,8 @@ fn has_frames(counts: &LineCounts) -> bool
 }
 
 // Whether a word speaks of times.
-fn is_of_times(word: Word) -> bool
-    ensures { result ≡ is_of_times word }
+fn is_of_moments(word: Word) -> bool
+    ensures { result ≡ is_of_moments word }
 {
     matches!(word, Word::NearFlow | Word::NearRequest)
 }
@@ -102,7 +102,7 @@ impl<'a> AuditLog<'a> {
     pub fn told(&self, mark: Mark) -> Told
         ensures { result ≡ tallied self.now mark }
     {
-        if is_of_times(mark.word) {
+        if is_of_moments(mark.word) {
             self.moments.untimely.told(mark)
         } else {
             self.tally.told(mark)

@@ -2,16 +2,16 @@
 ghost use Rattle.std.specs.Prelude.{◌≡◌, ◌<◌, ◌≤◌, ◌^◌, ◌++◌, ℕ, List, Option, IfSome, OnOk, length};
 ghost use Rattle.std.specs.Option.{option_map};
 ghost use Rattle.j39_audit.specs.Counting.{Noted};
-ghost use Rattle.j39_audit.specs.Moments.{Moments as AMoments, begun, behind_gap, moments_behind, near_noted, no_moments, timed};
-ghost use Rattle.j39_audit.specs.Moments.{window_at, with_message, with_stream, with_time};
-ghost use Rattle.j39_audit.specs.Streams.{nothing_sighted, sighted_behind, sighted_stream};
+ghost use Rattle.j39_audit.specs.Moments.{Moments as AMoments, begun_anew, behind_gap, moments_behind, near_noted, no_moments, with_moment};
+ghost use Rattle.j39_audit.specs.Moments.{moment_window, with_message, with_stream, with_time};
+ghost use Rattle.j39_audit.specs.MessageStreams.{nothing_sighted, sighted_behind, sighted_stream};
 ghost use Rattle.j39_audit.specs.inside.Recalling.{AreNear, Notes, RecallsMoments, far_ahead, settings_of};
 
 use crate::basis::Basis;
 use crate::earliest::Earliest;
 use crate::idle::{LONG_BEFORE, idle_behind};
 use crate::nearness::{candidate, excess, kept_behind};
-use crate::streams::{Stream, sighted_stream};
+use crate::streams::{MessageStream, sighted_stream};
 use crate::tally::{MarkTally, Sighting};
 use crate::window::Window;
 use j39_id::Frame;
@@ -29,9 +29,9 @@ pub(crate) struct Moments {
 }
 
 // The bounds of the moment of a message of this time and jitter, where this is the idle mark.
-fn window_at(basis: &Basis<'_>, jitter: u64, time: u64, idle: Option<u64>) -> Window
+fn moment_window(basis: &Basis<'_>, jitter: u64, time: u64, idle: Option<u64>) -> Window
     requires { time < 2 ^ 61 }
-    ensures { result ≡ window_at (settings_of basis.now) jitter time idle }
+    ensures { result ≡ moment_window (settings_of basis.now) jitter time idle }
 {
     let lower = match idle {
         Some(mark) => Some(mark.saturating_sub(jitter)),
@@ -46,7 +46,7 @@ fn window_at(basis: &Basis<'_>, jitter: u64, time: u64, idle: Option<u64>) -> Wi
 // Notes that a message is too near, where it is by so much.
 fn note_near(
     untimely: &mut MarkTally,
-    stream: Stream,
+    stream: MessageStream,
     line: u64,
     by: Option<u64>,
 ) -> Result<(), AllocError>
@@ -82,7 +82,7 @@ impl Moments {
 
     // Begins anew, where times do.
     fn begin(&mut self, anew: bool)
-        ensures moments { (m : AMoments) → RecallsMoments self.old m → RecallsMoments self.new (begun anew m) }
+        ensures moments { (m : AMoments) → RecallsMoments self.old m → RecallsMoments self.new (begun_anew anew m) }
         ensures near { AreNear self.old → AreNear self.new }
     {
         if anew {
@@ -106,14 +106,19 @@ impl Moments {
         requires near { AreNear self.old }
         ensures near { AreNear self.new }
         ensures moments { (m : AMoments) → RecallsMoments self.old m
-            → RecallsMoments self.new (timed (settings_of basis.now) timing broken bytes time m) }
+            → RecallsMoments self.new (with_moment (settings_of basis.now) timing broken bytes time m) }
     {
         self.idle = idle_behind(basis, timing, broken, bytes, time, self.before, self.idle);
         self.before = Some(time);
     }
 
     // Takes a message of a stream within these bounds.
-    fn take_message(&mut self, stream: Stream, window: Window, line: u64) -> Result<(), AllocError>
+    fn take_message(
+        &mut self,
+        stream: MessageStream,
+        window: Window,
+        line: u64,
+    ) -> Result<(), AllocError>
         requires step { stream.step < 2 ^ 27 }
         requires upper { window.upper < far_ahead }
         requires lower { IfSome window.lower (λ x. x < far_ahead) }
@@ -134,7 +139,7 @@ impl Moments {
         basis: &Basis<'_>,
         time: u64,
         line: u64,
-        stream: Option<Stream>,
+        stream: Option<MessageStream>,
     ) -> Result<(), AllocError>
         requires step { IfSome stream (λ it. it.step < 2 ^ 27) }
         requires time { time < 2 ^ 61 }
@@ -145,7 +150,7 @@ impl Moments {
     {
         match stream {
             Some(one) => {
-                let window = window_at(basis, one.jitter, time, self.idle);
+                let window = moment_window(basis, one.jitter, time, self.idle);
                 self.take_message(one, window, line)?;
                 Ok(())
             }
@@ -170,7 +175,7 @@ impl Moments {
         ensures moments { OnOk result ((m : AMoments) → RecallsMoments self.old m
             → RecallsMoments self.new (with_stream (settings_of basis.now) time line
             (sighted_stream (settings_of basis.now) timing frame.now sighting.flow sighting.request)
-            (timed (settings_of basis.now) timing broken (length frame.now.payload.items) time m))) }
+            (with_moment (settings_of basis.now) timing broken (length frame.now.payload.items) time m))) }
     {
         self.take_time(basis, timing, broken, frame.payload.len(), time);
         let stream = sighted_stream(basis, timing, frame, sighting);

@@ -1,6 +1,6 @@
 //! How near messages are to one another.
 ghost use Rattle.std.specs.Prelude.{◌≡◌, ◌<◌, ◌^◌, if◌then◌else◌, IfSome};
-ghost use Rattle.j39_audit.specs.Near.{candidate, excess, is_later, step_on};
+ghost use Rattle.j39_audit.specs.Near.{candidate, excess, is_later_than, step_on};
 ghost use Rattle.j39_audit.specs.inside.Recalling.{far_ahead};
 
 use crate::window::Window;
@@ -48,11 +48,11 @@ pub(crate) fn candidate(step: u64, earliest: Option<u64>, window: Window) -> Opt
 }
 
 /// What is kept behind it, where this is its earliest moment.
-#[tactic(auto, unfolding(crate::specs::Near::is_later))]
+#[tactic(auto, unfolding(crate::specs::Near::is_later_than))]
 pub(crate) fn kept_behind(candidate: Option<u64>, window: Window) -> Option<u64>
     requires lower { IfSome window.lower (λ x. x < far_ahead) }
     requires upper { window.upper < far_ahead }
-    ensures value { result ≡ (if is_later candidate window.upper then window.lower else candidate) }
+    ensures value { result ≡ (if is_later_than candidate window.upper then window.lower else candidate) }
     ensures near { IfSome result (λ e. e < far_ahead) }
 {
     let Some(moment) = candidate else {

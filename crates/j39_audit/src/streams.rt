@@ -3,8 +3,8 @@ ghost use Rattle.std.specs.Prelude.{◌≡◌, ◌+◌, ◌≤◌, ◌<◌, ◌*
 ghost use Rattle.std.specs.Option.{option_and_then, option_copied};
 ghost use Rattle.j39_id.specs.Ident.{pgn_of};
 ghost use Rattle.j39_audit.specs.Looking.{is_single as is_single_number};
-ghost use Rattle.j39_audit.specs.Streams.{flow_stream, is_in_stream, latest_ms, longest_us, paced_request, paced_stream, request_stream, shortest_us};
-ghost use Rattle.j39_audit.specs.Streams.{sighted_stream};
+ghost use Rattle.j39_audit.specs.MessageStreams.{flow_stream, is_in_stream, latest_ms, longest_us, paced_request, paced_stream, asked_stream, shortest_us};
+ghost use Rattle.j39_audit.specs.MessageStreams.{sighted_stream};
 ghost use Rattle.j39_audit.specs.inside.Recalling.{settings_of};
 
 use crate::basis::Basis;
@@ -25,7 +25,7 @@ const MILLION: u64 = 1_000_000;
 /// How near the moments of a stream's messages come, how long behind its moment one may be queued, both in
 /// microseconds, and by which mark it is told.
 #[derive(Clone, Copy, PartialEq, Eq)]
-pub struct Stream {
+pub struct MessageStream {
     pub mark: Mark,
     pub step: u64,
     pub jitter: u64,
@@ -77,7 +77,7 @@ fn paced_stream(
     place: usize,
     group: &GroupPlan,
     pace: Pace,
-) -> Option<Stream>
+) -> Option<MessageStream>
     ensures value { result ≡ paced_stream timing frame.now place group.now pace }
     ensures few { IfSome result (λ stream. stream.step < 2 ^ 27) }
 {
@@ -85,7 +85,7 @@ fn paced_stream(
     if !is_in_stream(group, single) {
         return None;
     }
-    Some(Stream {
+    Some(MessageStream {
         mark: make_mark(Word::NearFlow, place),
         step: shortest_us(timing, pace.period),
         jitter: longest_us(timing, latest_ms(pace, single)),
@@ -93,8 +93,13 @@ fn paced_stream(
 }
 
 // The stream of a flow with a period.
-#[tactic(auto, unfolding(crate::specs::Streams::flow_stream))]
-fn flow_stream(basis: &Basis<'_>, timing: Timing, frame: &Frame, place: usize) -> Option<Stream>
+#[tactic(auto, unfolding(crate::specs::MessageStreams::flow_stream))]
+fn flow_stream(
+    basis: &Basis<'_>,
+    timing: Timing,
+    frame: &Frame,
+    place: usize,
+) -> Option<MessageStream>
     ensures value { result ≡ flow_stream (settings_of basis.now) timing frame.now place }
     ensures few { IfSome result (λ stream. stream.step < 2 ^ 27) }
 {
@@ -105,14 +110,14 @@ fn flow_stream(basis: &Basis<'_>, timing: Timing, frame: &Frame, place: usize) -
 }
 
 // The stream of a request with this period.
-fn paced_request(timing: Timing, frame: &Frame, place: usize, period: u16) -> Option<Stream>
+fn paced_request(timing: Timing, frame: &Frame, place: usize, period: u16) -> Option<MessageStream>
     ensures value { result ≡ paced_request timing frame.now place period }
     ensures few { IfSome result (λ stream. stream.step < 2 ^ 27) }
 {
     if frame.ident.priority != REQUEST_PRIORITY {
         return None;
     }
-    Some(Stream {
+    Some(MessageStream {
         mark: make_mark(Word::NearRequest, place),
         step: shortest_us(timing, period),
         jitter: 0,
@@ -120,9 +125,14 @@ fn paced_request(timing: Timing, frame: &Frame, place: usize, period: u16) -> Op
 }
 
 // The stream of a request with a period.
-#[tactic(auto, unfolding(crate::specs::Streams::request_stream))]
-fn request_stream(basis: &Basis<'_>, timing: Timing, frame: &Frame, place: usize) -> Option<Stream>
-    ensures value { result ≡ request_stream (settings_of basis.now) timing frame.now place }
+#[tactic(auto, unfolding(crate::specs::MessageStreams::asked_stream))]
+fn asked_stream(
+    basis: &Basis<'_>,
+    timing: Timing,
+    frame: &Frame,
+    place: usize,
+) -> Option<MessageStream>
+    ensures value { result ≡ asked_stream (settings_of basis.now) timing frame.now place }
     ensures few { IfSome result (λ stream. stream.step < 2 ^ 27) }
 {
     let request = basis.plan.requests.get(place)?;
@@ -136,7 +146,7 @@ pub(crate) fn sighted_stream(
     timing: Timing,
     frame: &Frame,
     sighting: Sighting,
-) -> Option<Stream>
+) -> Option<MessageStream>
     ensures value { result ≡ sighted_stream (settings_of basis.now) timing frame.now sighting.flow sighting.request }
     ensures few { IfSome result (λ stream. stream.step < 2 ^ 27) }
 {
@@ -144,7 +154,7 @@ pub(crate) fn sighted_stream(
         return flow_stream(basis, timing, frame, place);
     }
     match sighting.request {
-        Some(place) => request_stream(basis, timing, frame, place),
+        Some(place) => asked_stream(basis, timing, frame, place),
         None => None,
     }
 }

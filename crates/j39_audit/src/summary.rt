@@ -10,7 +10,7 @@ ghost use Rattle.j39_audit.specs.AuditText.{requests_seen, sending_text, strange
 ghost use Rattle.j39_audit.specs.AuditText.{subjects, text_by, times_of, times_text, unit_and_group_text, unit_at_text, unit_frames_line};
 ghost use Rattle.j39_audit.specs.AuditText.{unit_seen, unit_text, units_seen, word_count, word_lines, word_text};
 ghost use Rattle.j39_audit.specs.inside.Recalling.{settings_of};
-ghost use Rattle.j39_audit.specs.AuditText.{flow_text, measure_text, request_text, worst_text};
+ghost use Rattle.j39_audit.specs.AuditText.{near_flow_text, measure_text, request_text, worst_text};
 ghost use Rattle.j39_audit.specs.inside.Auditing.{tallied};
 
 use crate::audit_log::AuditLog;
@@ -154,21 +154,21 @@ fn write_sending(
     write_to(text, plan, to)
 }
 
-#[tactic(auto, unfolding(crate::specs::AuditText::flow_text))]
+#[tactic(auto, unfolding(crate::specs::AuditText::near_flow_text))]
 fn write_flow_named(
     text: &mut TextBuffer,
     plan: &Plan,
     place: usize,
     flow: &FlowPlan,
 ) -> Result<(), AllocError>
-    ensures { OnOk result (text.new ≡ text.old ++ flow_text plan.now place flow.now) }
+    ensures { OnOk result (text.new ≡ text.old ++ near_flow_text plan.now place flow.now) }
 {
     text.place(" flow ", place)?;
     write_sending(text, plan, flow.group, flow.sender, flow.to)
 }
 
 fn write_flow_at(text: &mut TextBuffer, plan: &Plan, place: usize) -> Result<(), AllocError>
-    ensures { OnOk result (text.new ≡ text.old ++ option_map_or (λ (flow : AFlow). flow_text plan.now place flow) (slice_get plan.now.flows.items place) []) }
+    ensures { OnOk result (text.new ≡ text.old ++ option_map_or (λ (flow : AFlow). near_flow_text plan.now place flow) (slice_get plan.now.flows.items place) []) }
 {
     match plan.flows.get(place) {
         Some(flow) => write_flow_named(text, plan, place, flow),

@@ -1,7 +1,7 @@
 //! How often what was found, and at which line first.
 ghost use Rattle.std.specs.Prelude.{◌≡◌, ◌<◌, ◌^◌, ◌+◌, ◌∷◌, [], min, OnOk};
 ghost use Rattle.j39_audit.specs.Counting.{greater, key_of, most_times, told_by, told_more};
-ghost use Rattle.j39_audit.specs.Streams.{nothing_sighted, sighted_as};
+ghost use Rattle.j39_audit.specs.MessageStreams.{nothing_sighted, sighted_as};
 ghost use Rattle.j39_audit.specs.inside.Recalling.{AreCounted, Notes, tallied_at};
 
 use crate::mark::{Mark, Word};

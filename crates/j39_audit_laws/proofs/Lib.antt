@@ -1,8 +1,12 @@
+pub mod ExactClocks
 pub mod Frames
 pub mod Hits
+pub mod Idle
 pub mod Lines
 pub mod Listed
 pub mod Marking
+pub mod OnBus
+pub mod OnLogs
 pub mod OneAudit
 pub mod OneReading
 pub mod Own

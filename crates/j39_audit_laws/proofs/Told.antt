@@ -7,7 +7,7 @@ use Rattle.std.proofs.lemmas.List.{append_cancel_left, append-nil, length-append
 use Rattle.std.proofs.lemmas.List.Elements.{Contains-append_left, Contains-get_or, Contains-push, Contains-push_cases}
 use Rattle.std.proofs.lemmas.List.Quantifiers.{all_pairs_push}
 use Rattle.j39_id.specs.Lines.{Line}
-use Rattle.j39_audit.specs.AuditText.{AuditPast, AuditsLine, AuditsLines, is_of_times, look_at, nothing_read}
+use Rattle.j39_audit.specs.AuditText.{AuditPast, AuditsLine, AuditsLines, is_of_moments, look_at, nothing_read}
 use Rattle.j39_audit.specs.Counting.{Noted, most_times, told_at, told_in, told_of}
 use Rattle.j39_audit.specs.Settings.{Settings}
 use Rattle.j39_audit.specs.declared.mark.Mark.{Mark}
@@ -155,7 +155,7 @@ module _ (s : Settings) (log : List Line) (m : Mark) (accuses : IsAccusing m.wor
       ] refl
 
 -- what accuses so is told by the frames
-by_frames : (w : Word) → IsAccusing w → is_of_times w ≡ false
+by_frames : (w : Word) → IsAccusing w → is_of_moments w ≡ false
 by_frames Short is = refl
 by_frames Stranger is = refl
 by_frames NobodyThere is = refl

@@ -1,17 +1,25 @@
 //! Laws of the lines by which the audit command accuses.
-ghost use Rattle.std.specs.Prelude.{ℕ, List};
+ghost use Rattle.std.specs.Prelude.{◌≡◌, ◌+◌, ◌-◌, ◌*◌, ◌<◌, ◌≤◌, ℕ, Bool, false, List};
+ghost use Rattle.j39_audit.specs.Near.{is_too_near};
 ghost use Rattle.j39_audit.specs.Settings.{AreMoving, Settings};
+ghost use Rattle.j39_audit.specs.declared.window.Window.{Window as AWindow};
 ghost use Rattle.j39_audit.specs.declared.mark.Word.TheVariants.{Address, Cannot, Layout, NoFlow, Priority, Urgent};
 ghost use Rattle.j39_audit.specs.declared.mark.Word.TheVariants.{Nobody, Short, Stranger};
 ghost use Rattle.j39_audit_laws.specs.AuditedRuns.{ArePartsKept, IsNotWrittenOf};
+ghost use Rattle.j39_audit_laws.specs.ExactClocks.{ExactClocks};
 ghost use Rattle.j39_audit_laws.specs.FoundLines.{FoundAreListed, LinesAreOfLog};
+ghost use Rattle.j39_audit_laws.specs.LogBounds.{AreOfLog, Lines};
 ghost use Rattle.j39_audit_laws.specs.OneAudit.{AuditHasOneText};
 ghost use Rattle.j39_audit_laws.specs.OwnPart.{AlwaysCan, AreItsOwn, ClaimsItsOwn, IsNotNamed, LooksAsPlanned, SentBy};
 ghost use Rattle.j39_audit_laws.specs.OwnPart.{WaitsForPlanned};
+ghost use Rattle.j39_audit_laws.specs.MarkRecords.{AreFew, IsMarkOf, KeepsTime, ShowsIdle, longest_reach};
+ghost use Rattle.j39_audit_laws.specs.StreamRecords.{AreLines, AreMsApart, AreReleasedFirst, HaveJitter};
 ghost use Rattle.j39_findings.specs.Findings.{Clean};
 ghost use Rattle.j39_id.specs.Lines.{Line as ALine};
 ghost use Rattle.j39_network.specs.declared.plan.Plan.{Plan as Plans};
 ghost use Rattle.j39_network.specs.declared.steps.Step.{Step as Steps};
+ghost use Rattle.j39_timing.specs.Errors.{Damaged, IsBusWithErrors};
+ghost use Rattle.j39_timing.specs.TimedFrames.{Schedule};
 ghost use Rattle.j39_world.specs.Run.{Run};
 ghost use Rattle.j39_world.specs.World.{World, all_off};
 
@@ -78,4 +86,31 @@ pub fn runs_are_not_accused()
 pub fn runs_keep_all_parts()
     ensures { (plan : Plans) (steps : List Steps) (w : World) → Clean plan → Run plan all_off steps w
         → ArePartsKept plan w }
+{}
+
+/// Where two frames behind one another do not touch, what begins from the second one on was queued no earlier than its
+/// time, less its length, the bit before it, what damage may fill and what the line's time may differ: on each bus that
+/// is never idle while a frame waits, whoever goes first there, and on which no more than a few attempts are damaged in
+/// the time that they take (`marks`). Where clocks don't drift, that is the idle mark of an audit (`exact`).
+pub fn idle_marks_are_right()
+    ensures marks { (s : Schedule) (d : Damaged) (us few within bytes : ℕ) (clock : ℕ → ℕ) (g f before time : ℕ)
+        → us ≤ 8 → KeepsTime us clock
+        → IsBusWithErrors s d → ((p : ℕ) → p < s.count → s.bits p ≤ 160) → AreFew d few
+        → ShowsIdle s us few within bytes clock g f before time
+        → IsMarkOf s clock f (time - (longest_reach us bytes few + within)) }
+    ensures exact { ExactClocks }
+{}
+
+/// Who keeps its own stream's period and jitter is never told as too near by the idle bits that a log shows, however long
+/// its frames wait for others: on each such bus, whatever others do, by exact clocks of the unit and the bus, and one of
+/// the logger that may differ by a thousandth.
+pub fn no_stream_is_told_wrongly()
+    ensures { (s : Schedule) (d : Damaged) (log : Lines) (period jitter n : ℕ) (is_message : ℕ → Bool) (release frame : ℕ → ℕ)
+        (windows : ℕ → AWindow)
+        → log.us ≤ 8 → KeepsTime log.us log.clock
+        → IsBusWithErrors s d → ((p : ℕ) → p < s.count → s.bits p ≤ 160) → AreFew d log.few
+        → AreReleasedFirst s is_message release → HaveJitter s log.us jitter is_message release
+        → AreMsApart s log.us period is_message release
+        → AreLines s is_message n frame → AreOfLog s log jitter n frame windows
+        → (j : ℕ) → j < n → is_too_near (999 * period) windows j ≡ false }
 {}

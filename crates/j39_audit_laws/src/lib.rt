@@ -4,6 +4,7 @@
 mod laws;
 
 pub use laws::{
-    an_audit_has_one_text, lines_are_of_the_log, runs_are_not_accused, runs_keep_all_parts,
-    who_claims_by_the_plan_is_not_accused, who_sends_by_the_plan_is_not_accused,
+    an_audit_has_one_text, idle_marks_are_right, lines_are_of_the_log, no_stream_is_told_wrongly,
+    runs_are_not_accused, runs_keep_all_parts, who_claims_by_the_plan_is_not_accused,
+    who_sends_by_the_plan_is_not_accused,
 };

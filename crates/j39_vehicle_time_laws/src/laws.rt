@@ -41,8 +41,8 @@ pub fn sound_vehicles_keep_ages()
 /// Of a vehicle of whose times nothing is found, in the words of its plans: what goes on directly keeps what `load` of
 /// the next bus takes for granted of it, also where no age is told. A flow that is sent only where it is asked for comes
 /// of one that is (`answers`), and what has a deadline is queued within the jitter of its flow (`deadlines`). What
-/// has an age isn't sent only where it is asked for (`ages`), and the clock of each bus runs by its bitrate (`clocks`),
-/// in each vehicle.
+/// has an age isn't sent only where it is asked for (`ages`), and the clock of each bus without `drift` runs by its
+/// bitrate (`clocks`), in each vehicle.
 pub fn direct_forwards_have_room()
     ensures answers { (v : Vehicle) (delays : Delays) → AreTimeFindings v delays [] → AnswersStayAnswers v }
     ensures deadlines { (v : Vehicle) (delays : Delays) → AreTimeFindings v delays [] → DeadlinesHaveRoom v delays }

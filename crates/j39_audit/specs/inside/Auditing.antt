@@ -9,7 +9,7 @@ use Rattle.j39_follow.specs.inside.FollowedSoFar.{interface_of}
 use Rattle.j39_log.specs.LineCounting.{AreWithin}
 use Rattle.j39_stream.specs.declared.verdict.Verdict.{Verdict}
 use Rattle.j39_tp.specs.declared.packet.Packet.{Packet}
-use Rattle.j39_audit.specs.AuditText.{AuditPast, AuditsLines, AuditsShort, accusation_count, is_of_times, nothing_read, text_by, verdict_by, past_with_frame}
+use Rattle.j39_audit.specs.AuditText.{AuditPast, AuditsLines, AuditsShort, accusation_count, is_of_moments, nothing_read, text_by, verdict_by, past_with_frame}
 use Rattle.j39_audit.specs.Counting.{key_of}
 use Rattle.j39_audit.specs.Looking.{IsPacketOf}
 use Rattle.j39_audit.specs.Settings.{Settings}
@@ -20,7 +20,7 @@ use Rattle.j39_audit.specs.inside.Recalling.{AreCounted, AreNear, KnowsClaims, R
 
 -- what was found of a mark
 abbrev pub tallied : AuditLog → Mark → Told
-tallied log m = if is_of_times m.word then tallied_at log.moments.untimely (key_of m) else tallied_at log.tally (key_of m)
+tallied log m = if is_of_moments m.word then tallied_at log.moments.untimely (key_of m) else tallied_at log.tally (key_of m)
 
 -- the claims, what was noted, the newest time and what times tell are these
 pub record AccordsWith (log : AuditLog) (past : AuditPast) : Type 0 where

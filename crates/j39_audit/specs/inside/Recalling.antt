@@ -8,7 +8,7 @@ use Rattle.j39_audit.specs.Counting.{Key, Noted, is_same_key, key_of, never, tol
 use Rattle.j39_audit.specs.Moments.{Moments}
 use Rattle.j39_audit.specs.SentMessages.{SentMessage}
 use Rattle.j39_audit.specs.Settings.{Settings}
-use Rattle.j39_audit.specs.Streams.{sighted_behind}
+use Rattle.j39_audit.specs.MessageStreams.{sighted_behind}
 use Rattle.j39_audit.specs.declared.basis.Basis.{Basis}
 use Rattle.j39_audit.specs.declared.earliest.Earliest.{Earliest}
 use Rattle.j39_audit.specs.declared.known.Known.{Known}

@@ -10,7 +10,7 @@ use Rattle.j39_audit.specs.Claiming.{broken_off}
 use Rattle.j39_audit.specs.Counting.{Noted}
 use Rattle.j39_audit.specs.Looking.{IsPacketOf, break_noted, frame_noted}
 use Rattle.j39_audit.specs.Moments.{begins_anew, moments_behind}
-use Rattle.j39_audit.specs.Streams.{sighted_behind}
+use Rattle.j39_audit.specs.MessageStreams.{sighted_behind}
 use Rattle.j39_audit.specs.declared.tally.Sighting.{Sighting}
 use Rattle.j39_audit.specs.inside.Recalling.{AreCounted, KnowsClaims, Notes, RecallsMoments, settings_of}
 use Rattle.j39_audit.proofs.Counted.{counted_on}

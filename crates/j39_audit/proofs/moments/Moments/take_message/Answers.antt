@@ -2,7 +2,7 @@ use Rattle.std.proofs.Common.{◌≡◌, ◌<◌, ◌++◌, ℕ, Bool, true, fal
 use Rattle.std.specs.Prelude.{IfSome}
 use Rattle.j39_audit.specs.Counting.{Key, is_same_key, key_of}
 use Rattle.j39_audit.specs.Moments.{near_noted, with_earliest}
-use Rattle.j39_audit.specs.Near.{candidate, earliest_next, excess, is_later}
+use Rattle.j39_audit.specs.Near.{candidate, earliest_next, excess, is_later_than}
 use Rattle.j39_audit.specs.inside.Recalling.{AreCounted, earliest_in, far_ahead}
 use Rattle.j39_audit.proofs.moments.Moments.take_message.Goals as goal
 
@@ -30,7 +30,7 @@ returns-clause-moments c = λ m recalls.
     let moment : c.candidate-moment.result ≡ candidate stream.step (m.earliest at) window =
     c.candidate-moment.ensures ∙ ap (λ (e : Option ℕ). candidate stream.step e window) newest in
     let kept : c.kept_behind.result ≡ earliest_next stream.step (m.earliest at) window =
-    c.kept_behind.ensures.value ∙ ap (λ (d : Option ℕ). cond (is_later d window.upper) window.lower d) moment in
+    c.kept_behind.ensures.value ∙ ap (λ (d : Option ℕ). cond (is_later_than d window.upper) window.lower d) moment in
     let by : c.excess-by.result ≡ excess (candidate stream.step (m.earliest at) window) window.upper =
     c.excess-by.ensures ∙ ap (λ (d : Option ℕ). excess d window.upper) moment in
     record {

@@ -17,7 +17,7 @@ use Rattle.j39_audit.specs.Settings.{Settings}
 use Rattle.j39_audit.specs.declared.mark.Mark.{Mark}
 use Rattle.j39_audit.specs.declared.mark.Word.TheVariants.{Seen, Asked, NearFlow, NearRequest}
 use Rattle.j39_audit.specs.declared.mark.Word.{Word}
-use Rattle.j39_audit.specs.declared.streams.Stream.{Stream}
+use Rattle.j39_audit.specs.declared.streams.MessageStream.{MessageStream}
 use Rattle.j39_audit.specs.declared.tally.Sighting.{Sighting}
 
 -- ---- times of units
@@ -46,7 +46,7 @@ is_in_stream group true = nat_le group.most frame_bytes
 is_in_stream group false = nat_lt frame_bytes group.most
 
 -- the stream of a flow with a period
-abbrev pub paced_stream : Timing → Frame → ℕ → GroupPlan → Pace → Option Stream
+abbrev pub paced_stream : Timing → Frame → ℕ → GroupPlan → Pace → Option MessageStream
 paced_stream t f n group pace =
     if is_in_stream group (is_single (pgn_of f.ident))
     then Some (record {
@@ -59,12 +59,12 @@ paced_stream t f n group pace =
 abbrev pub flow_pace : Settings → ℕ → Option Pace
 flow_pace s n = option_and_then (λ (flow : FlowPlan). flow.pace) (slice_get s.plan.flows.items n)
 
-abbrev pub group_of_flow : Settings → ℕ → Option GroupPlan
-group_of_flow s n = option_and_then (λ (flow : FlowPlan). slice_get s.plan.groups.items flow.group) (slice_get s.plan.flows.items n)
+abbrev pub group_in_flow : Settings → ℕ → Option GroupPlan
+group_in_flow s n = option_and_then (λ (flow : FlowPlan). slice_get s.plan.groups.items flow.group) (slice_get s.plan.flows.items n)
 
-unfoldable pub flow_stream : Settings → Timing → Frame → ℕ → Option Stream
+unfoldable pub flow_stream : Settings → Timing → Frame → ℕ → Option MessageStream
 flow_stream s t f n =
-    option_and_then (λ (pace : Pace). option_and_then (λ (group : GroupPlan). paced_stream t f n group pace) (group_of_flow s n)) (flow_pace s n)
+    option_and_then (λ (pace : Pace). option_and_then (λ (group : GroupPlan). paced_stream t f n group pace) (group_in_flow s n)) (flow_pace s n)
 
 -- requests have this priority
 abbrev pub request_priority : ℕ
@@ -74,13 +74,13 @@ request_priority = 6
 abbrev pub request_period : Settings → ℕ → Option ℕ
 request_period s n = option_and_then (λ (r : RequestPlan). r.period) (slice_get s.plan.requests.items n)
 
-abbrev pub paced_request : Timing → Frame → ℕ → ℕ → Option Stream
+abbrev pub paced_request : Timing → Frame → ℕ → ℕ → Option MessageStream
 paced_request t f n period =
     if f.ident.priority == request_priority
     then Some (record { mark = stream_mark NearRequest n; step = shortest_us t period; jitter = 0 }) else None
 
-unfoldable pub request_stream : Settings → Timing → Frame → ℕ → Option Stream
-request_stream s t f n = option_and_then (λ (period : ℕ). paced_request t f n period) (request_period s n)
+unfoldable pub asked_stream : Settings → Timing → Frame → ℕ → Option MessageStream
+asked_stream s t f n = option_and_then (λ (period : ℕ). paced_request t f n period) (request_period s n)
 
 -- ---- a frame
 
@@ -98,7 +98,7 @@ sighted_behind w [] = w
 sighted_behind w (n ∷ rest) = sighted_behind (sighted_as n.mark.word n.mark.subject w) rest
 
 -- the stream of which a frame is a message
-abbrev pub sighted_stream : Settings → Timing → Frame → Option ℕ → Option ℕ → Option Stream
+abbrev pub sighted_stream : Settings → Timing → Frame → Option ℕ → Option ℕ → Option MessageStream
 sighted_stream s t f (Some n) asked = flow_stream s t f n
-sighted_stream s t f None (Some n) = request_stream s t f n
+sighted_stream s t f None (Some n) = asked_stream s t f n
 sighted_stream s t f None None = None
