@@ -2,7 +2,7 @@
 use Rattle.std.proofs.Common.{◌≡◌, ℕ, ◌<◌, ◌≤◌, ◌⊎◌, ◌==◌, Bool, true, false, ◌&&◌, ◌||◌, not, inl, inr, nat_lt, refl, sym, ap, ◌∙◌, arith}
 use Rattle.std.proofs.lemmas.Bool.{cases_Bool, cases_eq, cases_lt, cases_order, eq-eqb, eqb-true, false≢true, le-ltb, lt-ltb, ltb-true, ne_eqb}
 use Rattle.j39_line_findings.specs.Best.{amount_in, is_better, is_earlier_witness}
-use Rattle.j39_line_findings.specs.Boxes.{are_alike}
+use Rattle.j39_line_findings.specs.Boxes.{are_one_answer}
 use Rattle.j39_line_findings.specs.InFile.{is_below, rank_by}
 use Rattle.j39_line_findings.specs.declared.rank.Rank.{Rank}
 use Rattle.j39_line_findings.specs.declared.witnessed.Witnessed.{Witnessed}
@@ -89,7 +89,7 @@ one_rank a b one other =
 -- ---- witnesses
 
 abbrev early : Bool → Bool → ℕ → ℕ → Bool
-early b c v w = (b && not c) || (are_alike b c && nat_lt v w)
+early b c v w = (b && not c) || (are_one_answer b c && nat_lt v w)
 
 early_through : (b c d : Bool) (v w x : ℕ) → early b c v w ≡ true → early c d w x ≡ true → early b d v x ≡ true
 early_through true true true v w x one other = less_through v w x one other

@@ -6,10 +6,10 @@ use Rattle.std.proofs.lemmas.Option.{none-some, same_Some}
 use Rattle.j39_variants.specs.declared.line.ProductLine.{ProductLine}
 use Rattle.j39_variants.specs.Variants.{is_possible}
 use Rattle.j39_line_findings.specs.AllVariants.{IsOneOf, all_variants}
-use Rattle.j39_line_findings.specs.Best.{IsAmong, amount_in, is_better, rank_in}
+use Rattle.j39_line_findings.specs.Best.{IsWitnessAmong, amount_in, is_better, rank_in}
 use Rattle.j39_line_findings.specs.InFile.{amount_of, rank_of}
 use Rattle.j39_line_findings.specs.LineAnswers.{IsPossible}
-use Rattle.j39_line_findings.specs.LineFindingLaws.{AreExact, FindingsAreExact, HasThese, IsFound, IsFindingTold, IsWitnessed}
+use Rattle.j39_line_findings.specs.LineFindingLaws.{AreExactFindings, FindingsAreExact, HasThese, IsFound, IsFindingTold, IsWitnessed}
 use Rattle.j39_line_findings.specs.LineFound.{AreFindingsOf, AreLineFindings, AreVariantFindings, all_witnessed, witnessed}
 use Rattle.j39_line_findings.specs.declared.full.FullAlternatives.{FullAlternatives}
 use Rattle.j39_line_findings.specs.declared.line_finding.LineFinding.{LineFinding}
@@ -33,19 +33,19 @@ one_at (x ∷ vs) zero v is = inl (same_Some x v is)
 one_at (x ∷ vs) (suc i) v is = inr (one_at vs i v is)
 
 module _ (line : ProductLine) (full : FullAlternatives) where
-  mapped : (k : ℕ) (v : List ℕ) (fs : List LineFinding) (w : Witnessed) → IsAmong (map (witnessed line full k v) fs) w
+  mapped : (k : ℕ) (v : List ℕ) (fs : List LineFinding) (w : Witnessed) → IsWitnessAmong (map (witnessed line full k v) fs) w
       → IsFound fs w.finding × (w.variant ≡ k)
   mapped k v [] w at = absurd at
   mapped k v (f ∷ fs) w (inl same) = (inl (ap (λ (x : Witnessed). x.finding) same), sym (ap (λ (x : Witnessed). x.variant) same))
   mapped k v (f ∷ fs) w (inr more) = let rest = mapped k v fs w more in (inr rest.0, rest.1)
 
-  maps : (k : ℕ) (v : List ℕ) (fs : List LineFinding) (f : LineFinding) → IsFound fs f → IsAmong (map (witnessed line full k v) fs) (witnessed line full k v f)
+  maps : (k : ℕ) (v : List ℕ) (fs : List LineFinding) (f : LineFinding) → IsFound fs f → IsWitnessAmong (map (witnessed line full k v) fs) (witnessed line full k v f)
   maps k v [] f at = absurd at
   maps k v (g ∷ fs) f (inl same) = inl (ap (witnessed line full k v) same)
   maps k v (g ∷ fs) f (inr more) = inr (maps k v fs f more)
 
   came_from : (k : ℕ) (vs : List (List ℕ)) (each : List (List LineFinding)) → AllZip (AreFindingsOf line) vs each → (w : Witnessed)
-      → IsAmong (all_witnessed line full k vs each) w → Listed line k vs w
+      → IsWitnessAmong (all_witnessed line full k vs each) w → Listed line k vs w
   came_from k [] [] zip w at = absurd at
   came_from k [] (fs ∷ each) zip w at = absurd zip
   came_from k (v ∷ vs) [] zip w at = absurd zip
@@ -63,7 +63,7 @@ module _ (line : ProductLine) (full : FullAlternatives) where
 
   goes_to : (k : ℕ) (vs : List (List ℕ)) (each : List (List LineFinding)) → AllZip (AreFindingsOf line) vs each → (v : List ℕ) → IsOneOf vs v
       → (fs : List LineFinding) × AreFindingsOf line v fs
-      × ((f : LineFinding) → IsFound fs f → (w : Witnessed) × IsAmong (all_witnessed line full k vs each) w × (w.finding ≡ f))
+      × ((f : LineFinding) → IsFound fs f → (w : Witnessed) × IsWitnessAmong (all_witnessed line full k vs each) w × (w.finding ≡ f))
   goes_to k [] [] zip v at = absurd at
   goes_to k [] (fs ∷ each) zip v at = absurd zip
   goes_to k (x ∷ vs) [] zip v at = absurd zip

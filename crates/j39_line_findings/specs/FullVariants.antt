@@ -10,9 +10,9 @@ use Rattle.j39_network.specs.declared.plan.need_plan.NeedPlan.{NeedPlan}
 use Rattle.j39_variants.specs.declared.line.Alternative.{Alternative}
 use Rattle.j39_variants.specs.declared.line.Choice.{Choice}
 use Rattle.j39_variants.specs.declared.line.ProductLine.{ProductLine}
-use Rattle.j39_line_findings.specs.Boxes.{are_alike, do_meet, flow_lets_in, is_same, lets_in, need_lets_in, request_lets_in}
+use Rattle.j39_line_findings.specs.Boxes.{are_one_answer, do_meet, flow_lets_in, is_one_alternative, lets_in, need_lets_in, request_lets_in}
 use Rattle.j39_line_findings.specs.declared.full.FullAlternatives.{FullAlternatives}
-use Rattle.j39_line_findings.specs.declared.part.Part.TheVariants.{Flow, Need, Request}
+use Rattle.j39_line_findings.specs.declared.part.LinePart.TheVariants.{Flow, Need, Request}
 
 -- the alternatives of a choice, and of all choices, in order
 abbrev pub alternative_at : ℕ → ℕ → Alternative
@@ -44,12 +44,12 @@ does_bring need flow = meets [] need (record flow { on_request = false })
 abbrev pub agree_on_answer : ProductLine → List Alternative → ℕ → Alternative → Alternative → ℕ → FlowPlan → ℕ → Bool
 agree_on_answer line alternatives d a b f flow r = option_map_or
     (λ request. not (serves request flow) || (not (do_meet line alternatives (Need d) (Flow f) (Request r))
-    || are_alike (flow_lets_in line a f && request_lets_in line a r) (flow_lets_in line b f && request_lets_in line b r)))
+    || are_one_answer (flow_lets_in line a f && request_lets_in line a r) (flow_lets_in line b f && request_lets_in line b r)))
     (slice_get line.plan.requests.items r) true
 
 abbrev pub agree_on_sending : ProductLine → List Alternative → ℕ → Alternative → Alternative → ℕ → Bool
 agree_on_sending line alternatives d a b f =
-    not (do_meet line alternatives (Need d) (Flow f) (Flow f)) || are_alike (flow_lets_in line a f) (flow_lets_in line b f)
+    not (do_meet line alternatives (Need d) (Flow f) (Flow f)) || are_one_answer (flow_lets_in line a f) (flow_lets_in line b f)
 
 unfoldable pub agree_on_answers : ProductLine → List Alternative → ℕ → Alternative → Alternative → ℕ → FlowPlan → Bool
 agree_on_answers line alternatives d a b f flow = list_all (agree_on_answer line alternatives d a b f flow) (range_with_len 0 (length line.plan.requests.items))
@@ -77,7 +77,7 @@ is_covered_for line alternatives (Some d) a b = is_covered line a b && agree_on_
 
 -- the other one doesn't stand in the way of the first: it doesn't cover it, or it is covered by it and stands behind it
 abbrev pub does_leave : ProductLine → List Alternative → Option ℕ → Alternative → Alternative → Bool
-does_leave line alternatives need b a = not (a.choice == b.choice) || (is_same a b
+does_leave line alternatives need b a = not (a.choice == b.choice) || (is_one_alternative a b
     || (not (is_covered_for line alternatives need b a) || (is_covered_for line alternatives need a b && nat_lt b.place a.place)))
 
 -- of these alternatives each other one that covers it is covered by it, and stands behind it

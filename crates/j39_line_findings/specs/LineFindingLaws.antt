@@ -3,7 +3,7 @@ use Rattle.std.specs.Prelude.{◌≡◌, ◌≤◌, ◌⊎◌, ℕ, List, [], �
 use Rattle.std.specs.List.{slice_get}
 use Rattle.j39_variants.specs.declared.line.ProductLine.{ProductLine}
 use Rattle.j39_line_findings.specs.AllVariants.{all_variants}
-use Rattle.j39_line_findings.specs.Best.{IsAmong, amount_in, rank_in}
+use Rattle.j39_line_findings.specs.Best.{IsWitnessAmong, amount_in, rank_in}
 use Rattle.j39_line_findings.specs.InFile.{amount_of, rank_of}
 use Rattle.j39_line_findings.specs.LineAnswers.{IsPossible}
 use Rattle.j39_line_findings.specs.LineFound.{AreLineFindings, AreVariantFindings}
@@ -30,13 +30,13 @@ pub record IsWitnessed (line : ProductLine) (w : Witnessed) : Type 0 where
 
 -- a finding is told: one of its number and places, which has at least its number of addresses or bits
 abbrev pub IsFindingTold : List Witnessed → LineFinding → Type 0
-IsFindingTold told finding = (w : Witnessed) × IsAmong told w × (rank_in w ≡ rank_of finding) × (amount_of finding ≤ amount_in w)
+IsFindingTold told finding = (w : Witnessed) × IsWitnessAmong told w × (rank_in w ≡ rank_of finding) × (amount_of finding ≤ amount_in w)
 
 -- what is told is exactly what possible variants have
-pub record AreExact (line : ProductLine) (told : List Witnessed) : Type 0 where
-  pub sound : (w : Witnessed) → IsAmong told w → IsWitnessed line w
+pub record AreExactFindings (line : ProductLine) (told : List Witnessed) : Type 0 where
+  pub sound : (w : Witnessed) → IsWitnessAmong told w → IsWitnessed line w
   pub complete : (variant : List ℕ) → IsPossible line variant
       → (findings : List LineFinding) × HasThese line variant findings × ((finding : LineFinding) → IsFound findings finding → IsFindingTold told finding)
 
 abbrev pub FindingsAreExact : Type 0
-FindingsAreExact = (line : ProductLine) (told : List Witnessed) → AreLineFindings line told → AreExact line told
+FindingsAreExact = (line : ProductLine) (told : List Witnessed) → AreLineFindings line told → AreExactFindings line told

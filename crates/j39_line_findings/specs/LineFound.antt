@@ -14,7 +14,7 @@ use Rattle.j39_line_findings.specs.Best.{AreBest}
 use Rattle.j39_line_findings.specs.FullVariants.{AreFullAlternatives}
 use Rattle.j39_line_findings.specs.InFile.{findings_in_file}
 use Rattle.j39_line_findings.specs.There.{IsWhatIsThere, missed_needs}
-use Rattle.j39_line_findings.specs.Told.{is_counted}
+use Rattle.j39_line_findings.specs.Told.{counts_as_witness}
 use Rattle.j39_line_findings.specs.declared.full.FullAlternatives.{FullAlternatives}
 use Rattle.j39_line_findings.specs.declared.line_finding.LineFinding.{LineFinding}
 use Rattle.j39_line_findings.specs.declared.there.WhatIsThere.{WhatIsThere}
@@ -41,7 +41,7 @@ AreFindingsOf line variant findings = ((is_possible line.nevers.items variant �
 
 -- the finding of the variant at a place among all
 abbrev pub witnessed : ProductLine → FullAlternatives → ℕ → List ℕ → LineFinding → Witnessed
-witnessed line full k variant finding = record { finding = finding; variant = k; counted = is_counted line full variant finding }
+witnessed line full k variant finding = record { finding = finding; variant = k; counted = counts_as_witness line full variant finding }
 
 abbrev pub all_witnessed : ProductLine → FullAlternatives → ℕ → List (List ℕ) → List (List LineFinding) → List Witnessed
 all_witnessed line full k [] each = []

@@ -23,8 +23,8 @@ use Rattle.j39_line_findings.specs.FullVariants.{does_bring}
 use Rattle.j39_line_findings.specs.declared.full.FullAlternatives.{FullAlternatives}
 use Rattle.j39_line_findings.specs.declared.line_finding.LineFinding.{LineFinding}
 use Rattle.j39_line_findings.specs.declared.line_finding.LineFinding.TheVariants.{OfPlan, OfLoad}
-use Rattle.j39_line_findings.specs.declared.part.Part.{Part}
-use Rattle.j39_line_findings.specs.declared.part.Part.TheVariants as part
+use Rattle.j39_line_findings.specs.declared.part.LinePart.{LinePart}
+use Rattle.j39_line_findings.specs.declared.part.LinePart.TheVariants as part
 
 -- ---- which witness
 
@@ -49,25 +49,25 @@ is_full_for full variant d = option_map_or (λ list. is_in variant list.items) (
 
 -- a variant counts as the witness of a finding: of one that comes by what is there, where it is full; of an old need, where it is full for
 -- it; each other finding is told of any variant
-abbrev pub is_counted : ProductLine → FullAlternatives → List ℕ → LineFinding → Bool
-is_counted line full variant (OfPlan (TooFewAddresses n)) = is_in variant full.all.items
-is_counted line full variant (OfPlan (FlowContested f)) = not (has_end_in_pool line f) || is_in variant full.all.items
-is_counted line full variant (OfLoad (Overload n)) = is_in variant full.all.items
-is_counted line full variant (OfLoad (LateFlow f)) = is_in variant full.all.items
-is_counted line full variant (OfLoad (NeedTooOld d)) = is_full_for full variant d
-is_counted line full variant _ = true
+abbrev pub counts_as_witness : ProductLine → FullAlternatives → List ℕ → LineFinding → Bool
+counts_as_witness line full variant (OfPlan (TooFewAddresses n)) = is_in variant full.all.items
+counts_as_witness line full variant (OfPlan (FlowContested f)) = not (has_end_in_pool line f) || is_in variant full.all.items
+counts_as_witness line full variant (OfLoad (Overload n)) = is_in variant full.all.items
+counts_as_witness line full variant (OfLoad (LateFlow f)) = is_in variant full.all.items
+counts_as_witness line full variant (OfLoad (NeedTooOld d)) = is_full_for full variant d
+counts_as_witness line full variant _ = true
 
 -- ---- which of its alternatives: those of each choice of which one of the finding's boxes lacks an alternative
 
 module _ (line : ProductLine) (alternatives : List Alternative) (c : ℕ) where
-  abbrev pub lacks : Part → Bool
+  abbrev pub lacks : LinePart → Bool
   lacks p = does_lack line alternatives p c
 
-  abbrev pub lacks_either : Part → Part → Bool
+  abbrev pub lacks_either : LinePart → LinePart → Bool
   lacks_either p q = lacks p || lacks q
 
   -- a further box counts where it meets the first ones
-  abbrev pub lacks_beside : Part → Part → Part → Bool
+  abbrev pub lacks_beside : LinePart → LinePart → LinePart → Bool
   lacks_beside p q other = do_meet line alternatives p q other && lacks other
 
   -- of a group that no flow sends, of each flow that does

@@ -14,7 +14,7 @@ use crate::enumeration::all_variants;
 use crate::full::{FullAlternatives, alternatives_of};
 use crate::line_finding::{LineFinding, finding_in_file, load_finding_in_file};
 use crate::there::{WhatIsThere, missed_needs};
-use crate::told::is_counted;
+use crate::told::counts_as_witness;
 use crate::witnessed::{Witnessed, add};
 use j39_findings::{Finding, check};
 use j39_load::{LoadFinding, check_load};
@@ -87,7 +87,7 @@ fn witnessed_by(
     Witnessed {
         finding,
         variant: place,
-        counted: is_counted(line, full, variant, finding),
+        counted: counts_as_witness(line, full, variant, finding),
     }
 }
 

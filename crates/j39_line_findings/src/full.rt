@@ -5,12 +5,14 @@ ghost use Rattle.j39_load.specs.LineLists.{lines_of_each};
 ghost use Rattle.j39_line_findings.specs.FullVariants.{AreFullAlternatives, agree_on_answer, agree_on_answers, agree_on_flow};
 ghost use Rattle.j39_line_findings.specs.FullVariants.{agree_on_flows, agree_on_need};
 ghost use Rattle.j39_line_findings.specs.FullVariants.{agree_on_sending, alternatives_of, alternatives_of_choice};
-ghost use Rattle.j39_line_findings.specs.Boxes.{are_alike};
+ghost use Rattle.j39_line_findings.specs.Boxes.{are_one_answer};
 ghost use Rattle.j39_line_findings.specs.FullVariants.{compared, do_keep, does_bring, does_leave, does_need_let_in};
 ghost use Rattle.j39_line_findings.specs.FullVariants.{full_alternatives, full_among, full_of_need, is_covered, is_covered_for};
 ghost use Rattle.j39_line_findings.specs.FullVariants.{is_full_among};
 
-use crate::part::{Part, do_meet, flow_lets_in, is_same, lets_in, need_lets_in, request_lets_in};
+use crate::part::{
+    LinePart, do_meet, flow_lets_in, is_one_alternative, lets_in, need_lets_in, request_lets_in,
+};
 use j39_network::{FlowPlan, NeedPlan, meets, serves};
 use j39_variants::{Alternative, Choice, ProductLine};
 use std::alloc::{AllocError, Global};
@@ -73,8 +75,8 @@ pub(crate) fn does_bring(need: &NeedPlan, flow: &FlowPlan) -> bool
     meets(&[], need, &by_itself)
 }
 
-fn are_alike(one: bool, other: bool) -> bool
-    ensures { result ≡ are_alike one other }
+fn are_one_answer(one: bool, other: bool) -> bool
+    ensures { result ≡ are_one_answer one other }
 {
     if one { other } else { !other }
 }
@@ -99,11 +101,11 @@ impl Comparing<'_> {
                     || !do_meet(
                         self.line,
                         self.alternatives,
-                        Part::Need(self.need),
-                        Part::Flow(place),
-                        Part::Request(asked),
+                        LinePart::Need(self.need),
+                        LinePart::Flow(place),
+                        LinePart::Request(asked),
                     )
-                    || are_alike(
+                    || are_one_answer(
                         flow_lets_in(self.line, self.one, place)
                             && request_lets_in(self.line, self.one, asked),
                         flow_lets_in(self.line, self.other, place)
@@ -127,10 +129,10 @@ impl Comparing<'_> {
         !do_meet(
             self.line,
             self.alternatives,
-            Part::Need(self.need),
-            Part::Flow(place),
-            Part::Flow(place),
-        ) || are_alike(
+            LinePart::Need(self.need),
+            LinePart::Flow(place),
+            LinePart::Flow(place),
+        ) || are_one_answer(
             flow_lets_in(self.line, self.one, place),
             flow_lets_in(self.line, self.other, place),
         )
@@ -205,7 +207,7 @@ fn does_leave(
     ensures { result ≡ does_leave line.now alternatives.now need one.now other.now }
 {
     other.choice != one.choice
-        || is_same(other, one)
+        || is_one_alternative(other, one)
         || !is_covered_for(line, alternatives, need, one, other)
         || is_covered_for(line, alternatives, need, other, one) && one.place < other.place
 }

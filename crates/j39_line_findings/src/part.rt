@@ -1,7 +1,7 @@
 //! What stands in a plan of a line of vehicles, and the boxes of variants in which it is there.
 ghost use Rattle.std.specs.Prelude.{◌≡◌, ◌==◌, ◌&&◌};
 ghost use Rattle.std.specs.List.{list_any};
-ghost use Rattle.j39_line_findings.specs.Boxes.{do_meet, does_lack, is_choice_in_all, is_same, lets_in, lets_in_at};
+ghost use Rattle.j39_line_findings.specs.Boxes.{do_meet, does_lack, is_choice_in_all, is_one_alternative, lets_in, lets_in_at};
 ghost use Rattle.j39_line_findings.specs.Boxes.{flow_lets_in, group_lets_in, need_lets_in, part_lets_in};
 ghost use Rattle.j39_line_findings.specs.Boxes.{receiver_lets_in, request_lets_in, unit_lets_in};
 
@@ -10,7 +10,7 @@ use j39_variants::{Alternative, ProductLine};
 
 /// What stands at a place of the file.
 #[derive(Clone, Copy, PartialEq, Eq)]
-pub enum Part {
+pub enum LinePart {
     Unit(usize),
     Group(usize),
     Flow(usize),
@@ -19,16 +19,17 @@ pub enum Part {
 }
 
 /// Whether two alternatives are one.
-pub(crate) fn is_same(one: &Alternative, other: &Alternative) -> bool
-    ensures { result ≡ is_same one.now other.now }
+pub(crate) fn is_one_alternative(one: &Alternative, other: &Alternative) -> bool
+    ensures { result ≡ is_one_alternative one.now other.now }
 {
     one.choice == other.choice && one.place == other.place
 }
 
 fn names(list: &[Alternative], alternative: &Alternative) -> bool
-    ensures { result ≡ list_any (λ b. is_same b alternative.now) list.now }
+    ensures { result ≡ list_any (λ b. is_one_alternative b alternative.now) list.now }
 {
-    list.iter().any(|other| is_same(other, alternative))
+    list.iter()
+        .any(|other| is_one_alternative(other, alternative))
 }
 
 fn names_choice(list: &[Alternative], choice: usize) -> bool
@@ -114,24 +115,24 @@ pub(crate) fn need_lets_in(line: &ProductLine, alternative: &Alternative, place:
     }
 }
 
-fn part_lets_in(line: &ProductLine, alternative: &Alternative, part: Part) -> bool
+fn part_lets_in(line: &ProductLine, alternative: &Alternative, part: LinePart) -> bool
     ensures { result ≡ part_lets_in line.now alternative.now part }
 {
     match part {
-        Part::Unit(unit) => unit_lets_in(line, alternative, unit),
-        Part::Group(group) => group_lets_in(line, alternative, group),
-        Part::Flow(flow) => flow_lets_in(line, alternative, flow),
-        Part::Need(need) => need_lets_in(line, alternative, need),
-        Part::Request(request) => request_lets_in(line, alternative, request),
+        LinePart::Unit(unit) => unit_lets_in(line, alternative, unit),
+        LinePart::Group(group) => group_lets_in(line, alternative, group),
+        LinePart::Flow(flow) => flow_lets_in(line, alternative, flow),
+        LinePart::Need(need) => need_lets_in(line, alternative, need),
+        LinePart::Request(request) => request_lets_in(line, alternative, request),
     }
 }
 
 fn is_choice_in_all(
     line: &ProductLine,
     alternatives: &[Alternative],
-    one: Part,
-    other: Part,
-    third: Part,
+    one: LinePart,
+    other: LinePart,
+    third: LinePart,
     choice: usize,
 ) -> bool
     ensures { result ≡ is_choice_in_all line.now alternatives.now one other third choice }
@@ -148,9 +149,9 @@ fn is_choice_in_all(
 pub(crate) fn do_meet(
     line: &ProductLine,
     alternatives: &[Alternative],
-    one: Part,
-    other: Part,
-    third: Part,
+    one: LinePart,
+    other: LinePart,
+    third: LinePart,
 ) -> bool
     ensures { result ≡ do_meet line.now alternatives.now one other third }
 {
@@ -161,7 +162,7 @@ pub(crate) fn do_meet(
 pub(crate) fn does_lack(
     line: &ProductLine,
     alternatives: &[Alternative],
-    part: Part,
+    part: LinePart,
     choice: usize,
 ) -> bool
     ensures { result ≡ does_lack line.now alternatives.now part choice }

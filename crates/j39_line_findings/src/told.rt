@@ -1,11 +1,11 @@
 //! Which witness of a finding is told, and which of its alternatives.
 ghost use Rattle.std.specs.Prelude.{◌≡◌, ◌||◌, ◌&&◌};
-ghost use Rattle.j39_line_findings.specs.Told.{are_ends_in_pool, has_end_in_pool, has_pool_address, is_counted, is_end, is_end_in_pool, is_full_for};
+ghost use Rattle.j39_line_findings.specs.Told.{are_ends_in_pool, has_end_in_pool, has_pool_address, counts_as_witness, is_end, is_end_in_pool, is_full_for};
 ghost use Rattle.j39_line_findings.specs.Told as told;
 
 use crate::full::{FullAlternatives, does_bring};
 use crate::line_finding::LineFinding;
-use crate::part::{Part, do_meet, does_lack};
+use crate::part::{LinePart, do_meet, does_lack};
 use j39_findings::Finding;
 use j39_id::addresses::is_in_pool;
 use j39_load::LoadFinding;
@@ -60,13 +60,13 @@ fn is_full_for(full: &FullAlternatives, variant: &[usize], need: usize) -> bool
 }
 
 /// Whether a variant counts as the witness of a finding.
-pub(crate) fn is_counted(
+pub(crate) fn counts_as_witness(
     line: &ProductLine,
     full: &FullAlternatives,
     variant: &[usize],
     finding: LineFinding,
 ) -> bool
-    ensures { result ≡ is_counted line.now full.now variant.now finding }
+    ensures { result ≡ counts_as_witness line.now full.now variant.now finding }
 {
     match finding {
         LineFinding::OfPlan(Finding::TooFewAddresses(_))
@@ -91,20 +91,20 @@ pub struct Telling<'a> {
 
 impl Telling<'_> {
     // Whether a box lacks one.
-    fn lacks(&self, part: Part) -> bool
+    fn lacks(&self, part: LinePart) -> bool
         ensures { result ≡ told.lacks self.now.line.now self.now.alternatives.now self.now.choice part }
     {
         does_lack(self.line, self.alternatives, part, self.choice)
     }
 
-    fn lacks_either(&self, one: Part, other: Part) -> bool
+    fn lacks_either(&self, one: LinePart, other: LinePart) -> bool
         ensures { result ≡ told.lacks_either self.now.line.now self.now.alternatives.now self.now.choice one other }
     {
         self.lacks(one) || self.lacks(other)
     }
 
     // A further box counts where it meets the first ones.
-    fn lacks_beside(&self, one: Part, other: Part, further: Part) -> bool
+    fn lacks_beside(&self, one: LinePart, other: LinePart, further: LinePart) -> bool
         ensures { result ≡ told.lacks_beside self.now.line.now self.now.alternatives.now self.now.choice one other further }
     {
         do_meet(self.line, self.alternatives, one, other, further) && self.lacks(further)
@@ -116,7 +116,11 @@ impl Telling<'_> {
         match self.line.plan.flows.get(place) {
             Some(flow) => {
                 (flow.group == group || flow.group == other)
-                    && self.lacks_beside(Part::Group(group), Part::Group(other), Part::Flow(place))
+                    && self.lacks_beside(
+                        LinePart::Group(group),
+                        LinePart::Group(other),
+                        LinePart::Flow(place),
+                    )
             }
             None => false,
         }
@@ -141,7 +145,7 @@ impl Telling<'_> {
     fn lacks_of_groups(&self, group: usize, other: usize) -> bool
         ensures { result ≡ told.lacks_of_groups self.now.line.now self.now.alternatives.now self.now.choice group other }
     {
-        self.lacks_either(Part::Group(group), Part::Group(other))
+        self.lacks_either(LinePart::Group(group), LinePart::Group(other))
             || self.is_private(group) && self.is_private(other) && self.lacks_flow_of(group, other)
     }
 
@@ -154,11 +158,11 @@ impl Telling<'_> {
                     && do_meet(
                         self.line,
                         self.alternatives,
-                        Part::Need(need),
-                        Part::Flow(place),
-                        Part::Request(asked),
+                        LinePart::Need(need),
+                        LinePart::Flow(place),
+                        LinePart::Request(asked),
                     )
-                    && self.lacks_either(Part::Flow(place), Part::Request(asked))
+                    && self.lacks_either(LinePart::Flow(place), LinePart::Request(asked))
             }
             None => false,
         }
@@ -183,7 +187,11 @@ impl Telling<'_> {
                 } else if flow.on_request {
                     self.lacks_answer(at, place, flow)
                 } else {
-                    self.lacks_beside(Part::Need(at), Part::Need(at), Part::Flow(place))
+                    self.lacks_beside(
+                        LinePart::Need(at),
+                        LinePart::Need(at),
+                        LinePart::Flow(place),
+                    )
                 }
             }
             None => false,
@@ -213,7 +221,11 @@ impl Telling<'_> {
         match self.line.plan.flows.get(place) {
             Some(flow) => {
                 serves(request, flow)
-                    && self.lacks_beside(Part::Request(at), Part::Request(at), Part::Flow(place))
+                    && self.lacks_beside(
+                        LinePart::Request(at),
+                        LinePart::Request(at),
+                        LinePart::Flow(place),
+                    )
             }
             None => false,
         }
@@ -260,7 +272,11 @@ impl Telling<'_> {
         ensures { result ≡ told.is_lacking_unit self.now.line.now self.now.alternatives.now self.now.choice place flow.now unit }
     {
         self.is_at_end(flow, unit)
-            && self.lacks_beside(Part::Flow(place), Part::Flow(place), Part::Unit(unit))
+            && self.lacks_beside(
+                LinePart::Flow(place),
+                LinePart::Flow(place),
+                LinePart::Unit(unit),
+            )
     }
 
     #[tactic(auto, unfolding(crate::specs::Told::has_lacking_unit))]
@@ -286,7 +302,10 @@ impl Telling<'_> {
         match finding {
             Finding::SameName(i, j)
             | Finding::SameFixedAddress(i, j)
-            | Finding::SilentAddress(i, j) => self.lacks_either(Part::Unit(i), Part::Unit(j)),
+            | Finding::SilentAddress(i, j) => self.lacks_either(
+                LinePart::Unit(i),
+                LinePart::Unit(j),
+            ),
             Finding::TooFewAddresses(_) => true,
             Finding::BadPgn(g)
             | Finding::SignalWidth(g, _)
@@ -294,19 +313,22 @@ impl Telling<'_> {
             | Finding::SignalOverlap(g, _, _)
             | Finding::RecordOverlap(g, _, _)
             | Finding::TextOutside(g, _)
-            | Finding::WhenOutside(g) => self.lacks(Part::Group(g)),
+            | Finding::WhenOutside(g) => self.lacks(LinePart::Group(g)),
             Finding::SamePgn(g, h) => self.lacks_of_groups(g, h),
-            Finding::FlowToOne(f) | Finding::FlowToSelf(f) => self.lacks(Part::Flow(f)),
-            Finding::FlowRepeated(f, h) => self.lacks_either(Part::Flow(f), Part::Flow(h)),
-            Finding::KeptAddress(u) | Finding::SilentInPool(u) => self.lacks(Part::Unit(u)),
-            Finding::PrivateUnsent(g) => self.lacks(Part::Group(g)) || self.lacks_flow_of(g, g),
-            Finding::NeedUnmet(d) => self.lacks(Part::Need(d)) || self.lacks_source(d),
+            Finding::FlowToOne(f) | Finding::FlowToSelf(f) => self.lacks(LinePart::Flow(f)),
+            Finding::FlowRepeated(f, h) => self.lacks_either(LinePart::Flow(f), LinePart::Flow(h)),
+            Finding::KeptAddress(u) | Finding::SilentInPool(u) => self.lacks(LinePart::Unit(u)),
+            Finding::PrivateUnsent(g) => self.lacks(LinePart::Group(g)) || self.lacks_flow_of(g, g),
+            Finding::NeedUnmet(d) => self.lacks(LinePart::Need(d)) || self.lacks_source(d),
             Finding::RequestUnanswered(r) | Finding::RequestUnheard(r) | Finding::AnswerAstray(r) =>
-                self.lacks(Part::Request(r)) || self.lacks_server(r),
-            Finding::RequestRepeated(r, s) => self.lacks_either(Part::Request(r), Part::Request(s)),
+                self.lacks(LinePart::Request(r)) || self.lacks_server(r),
+            Finding::RequestRepeated(r, s) => self.lacks_either(
+                LinePart::Request(r),
+                LinePart::Request(s),
+            ),
             Finding::FlowContested(f) => {
                 has_end_in_pool(self.line, f)
-                    || self.lacks(Part::Flow(f))
+                    || self.lacks(LinePart::Flow(f))
                     || self.lacks_unit_at_end(f)
             }
         }
@@ -316,7 +338,7 @@ impl Telling<'_> {
         ensures { result ≡ told.is_told_of_load self.now.line.now self.now.alternatives.now self.now.choice finding }
     {
         match finding {
-            LoadFinding::NoPeriod(f) => self.lacks(Part::Flow(f)),
+            LoadFinding::NoPeriod(f) => self.lacks(LinePart::Flow(f)),
             LoadFinding::Overload(_) | LoadFinding::LateFlow(_) | LoadFinding::NeedTooOld(_) => {
                 true
             }

@@ -4,7 +4,7 @@ ghost use Rattle.std.specs.Prelude.{◌≤◌, ◌<◌, ℕ, length, slice_index
 ghost use Rattle.std.specs.List.{insert, slice_set};
 ghost use Rattle.j39_line_findings.specs.declared.witnessed.Witnessed.{Witnessed as Witnesses};
 ghost use Rattle.j39_line_findings.specs.InFile.{is_below};
-ghost use Rattle.j39_line_findings.specs.Best.{AreBest, IsAmong, is_better, is_earlier_witness, rank_in};
+ghost use Rattle.j39_line_findings.specs.Best.{AreBest, IsWitnessAmong, is_better, is_earlier_witness, rank_in};
 
 use crate::line_finding::LineFinding;
 use crate::rank::{Rank, is_below};
@@ -42,7 +42,7 @@ fn comes_before(one: &Witnessed, rank: Rank) -> bool
 // How many of those that are told come before one of a rank.
 fn place_of(told: &[Witnessed], rank: Rank) -> usize
     ensures inside { result ≤ length told.now }
-    ensures before { (w : Witnesses) → IsAmong (take result told.now) w → is_below (rank_in w) rank ≡ true }
+    ensures before { (w : Witnesses) → IsWitnessAmong (take result told.now) w → is_below (rank_in w) rank ≡ true }
     ensures behind { (d : Witnesses) → result < length told.now → is_below (rank_in (slice_index_or told.now result d)) rank ≡ false }
 {
     for (place, other) in told.iter().enumerate() {

@@ -20,11 +20,11 @@ use Rattle.j39_text.specs.Texts.{field}
 abbrev pub place_taken : List ℕ → ℕ → ℕ
 place_taken variant c = unwrap_or (slice_get variant c) 0
 
-abbrev pub label_in : Choice → ℕ → List ℕ
-label_in choice p = option_map_or (λ label. label.bytes) (slice_get choice.alternatives.items p) []
+abbrev pub label_of_alternative : Choice → ℕ → List ℕ
+label_of_alternative choice p = option_map_or (λ label. label.bytes) (slice_get choice.alternatives.items p) []
 
 abbrev pub alternative_label : ProductLine → ℕ → ℕ → List ℕ
-alternative_label line c p = option_map_or (λ choice. label_in choice p) (slice_get line.choices.items c) []
+alternative_label line c p = option_map_or (λ choice. label_of_alternative choice p) (slice_get line.choices.items c) []
 
 -- the alternative of a choice that the witness takes, where it is told
 unfoldable pub told_alternative : ProductLine → List Alternative → List ℕ → LineFinding → ℕ → List ℕ

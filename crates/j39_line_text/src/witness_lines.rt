@@ -5,7 +5,7 @@ ghost use Rattle.j39_load.specs.LineLists.{lines_of_each};
 ghost use Rattle.j39_line_findings.specs.AllVariants.{all_variants};
 ghost use Rattle.j39_line_findings.specs.FullVariants.{alternatives_of};
 ghost use Rattle.j39_line_findings.specs.Told.{is_told};
-ghost use Rattle.j39_line_text.specs.WitnessLines.{alternative_label, findings_of_line_text, is_any_told, label_in, place_taken, run_of_line};
+ghost use Rattle.j39_line_text.specs.WitnessLines.{alternative_label, findings_of_line_text, is_any_told, label_of_alternative, place_taken, run_of_line};
 ghost use Rattle.j39_line_text.specs.WitnessLines.{told_alternative, told_alternatives, variant_at, witness_line, witness_text};
 ghost use Rattle.j39_line_text.specs.WitnessLines.{line_finding_text, witness_report, witness_reports};
 
@@ -24,8 +24,8 @@ fn place_taken(variant: &[usize], choice: usize) -> usize
     }
 }
 
-fn label_in(choice: &Choice, place: usize) -> &str
-    ensures { result.now ≡ label_in choice.now place }
+fn label_of_alternative(choice: &Choice, place: usize) -> &str
+    ensures { result.now ≡ label_of_alternative choice.now place }
 {
     match choice.alternatives.get(place) {
         Some(label) => label.as_str(),
@@ -37,7 +37,7 @@ fn alternative_label(line: &ProductLine, choice: usize, place: usize) -> &str
     ensures { result.now ≡ alternative_label line.now choice place }
 {
     match line.choices.get(choice) {
-        Some(found) => label_in(found, place),
+        Some(found) => label_of_alternative(found, place),
         None => "",
     }
 }

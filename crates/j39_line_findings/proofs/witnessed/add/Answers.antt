@@ -1,6 +1,6 @@
 use Rattle.std.proofs.Common.{◌≡◌, ◌∷◌, ◌++◌, [], List, ◌<◌, length, get_or, take, true, false, sym, subst, ◌∙◌}
 use Rattle.std.proofs.lemmas.List.{get_or_default}
-use Rattle.j39_line_findings.specs.Best.{AreBest, IsAmong, is_better, rank_in}
+use Rattle.j39_line_findings.specs.Best.{AreBest, IsWitnessAmong, is_better, rank_in}
 use Rattle.j39_line_findings.specs.InFile.{is_below}
 use Rattle.j39_line_findings.specs.declared.witnessed.Witnessed.{Witnessed}
 use Rattle.j39_line_findings.proofs.Ranking.{one_rank}
@@ -9,7 +9,7 @@ use Rattle.j39_line_findings.proofs.witnessed.add.Goals as goal
 
 pub returns-then-is_next : goal.returns-then-is_next
 returns-then-is_next c all best =
-    let before : (w : Witnessed) → IsAmong (take c.place_of-place.result c.args.told.now.items) w → is_below (rank_in w) (rank_in c.args.new) ≡ true =
+    let before : (w : Witnessed) → IsWitnessAmong (take c.place_of-place.result c.args.told.now.items) w → is_below (rank_in w) (rank_in c.args.new) ≡ true =
     rw (c.deref.ensures.value, c.rank.ensures) at c.place_of-place.ensures.before in
     let next : c.place_of-place.result < length c.args.told.now.items
     → is_below (rank_in c.args.new) (rank_in (get_or c.args.told.now.items c.place_of-place.result c.args.new)) ≡ true =
