@@ -65,6 +65,14 @@ class Live(InFolder):
                 there(process.stdin).close()
                 there(process.stdout).read()
 
+    def test_who_is_no_unit(self) -> None:
+        """Told when it sends, by what `follow` says; what `audit` says at the end isn't told once more."""
+        with self.begun("--silence", "0") as process:
+            there(process.stdin).write(lines_of((0.5, HITCH), (0.6, BRAKES), (1, HSTAT.replace("80#", "77#")), (1.1, HSTAT)))
+            self.assertIn("no unit has it", there(process.stdout).readline())
+            there(process.stdin).close()
+            self.assertNotIn("no unit has it", there(process.stdout).read())
+
     def test_a_request_that_is_not_answered(self) -> None:
         """1,250 ms behind it, and not at the end alone."""
         with open(self.plan, "a", encoding="utf-8") as file:

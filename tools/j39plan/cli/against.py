@@ -20,7 +20,7 @@ from j39plan.log.checks.deviations import lines_of as lines_of_deviation
 from j39plan.log.checks.distances import SILENCE, Distances, Rule, Tolerance
 from j39plan.log.checks.feed import Feed
 from j39plan.log.checks.meter import Meter
-from j39plan.log.checks.premises import Audit, Telling
+from j39plan.log.checks.premises import FOLLOWED, Audit, Telling, kind_of
 from j39plan.log.checks.reader import Reader
 from j39plan.log.checks.requirements import Requirements, refuse_of_vehicle, requirement_options, wants_requirements
 from j39plan.log.checks.summary import requests_of, summary_tables, units_of
@@ -176,11 +176,12 @@ def compared(given: argparse.Namespace) -> int:
         found = Found(given.all, output.live if given.live else None)
         settings = Settings(given.jitter, Rule(given.silence, events_of(given.events, tables), given.table), others)
         feed, comparison = Feed(tables.timing, meter), Comparison(tables, bounds_of(known, tables), settings, found)
-        compare = compare_live if given.live and log.is_live else compare_all
+        is_coming = given.live and log.is_live
+        compare = compare_live if is_coming else compare_all
         if given.live:
             comparison.watches()
         with bare(known, tables) as (shorter, parts), Audit(shorter, given.part) as audit:
-            comparison.is_unjudged = bool(audit.findings)
+            comparison.is_unjudged = bool(audit.findings) or is_coming  # audit answers at the end of a log alone
             lines = lines_of(shorter, log, counts, lambda part: audit.pieces(feed.pieces(part)), given.live)
             compare(Reader(comparison, feed, parts, counts), comparison, lines)
             audit.end()
@@ -195,7 +196,8 @@ def compared(given: argparse.Namespace) -> int:
     comparison.ends(nanoseconds(feed.last_time), counts.frames > 0)
     if audit.findings:
         program.say(f"the plan has findings, as {audit.findings}: until they are mended audit judges nobody, and what follow says is told")
-    Telling(tables, log, comparison.of_premises, found).tell(audit.lines, comparison.hands.addresses())
+    accused = [line for line in audit.lines if not (is_coming and kind_of(line) in FOLLOWED)]
+    Telling(tables, log, comparison.of_premises, found).tell(accused, comparison.hands.addresses())
     if given.table and not given.json:
         for row in summary_tables(comparison, log.place):
             print(row)

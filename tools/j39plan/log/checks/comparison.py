@@ -77,7 +77,7 @@ class Comparison:
         self.others = OtherRequests(labels, found, self.hands.is_on)
         self._begun: dict[Pair, Begun] = {}
         self.of_premises = Beside()
-        self.is_unjudged = False  # whether the plan has findings, so that `audit` judges nobody, and what `follow` says is told
+        self.is_unjudged = False  # whether `audit` doesn't judge yet, or nobody, since the plan has findings: what `follow` says is told
         self._received: tuple[int, Pair] | None = None  # the line on which a receiver said that it has a message, and counted it
         self._pgns = {label: group.pgn for label, group in self.planned.items()}
         self._is_watched = False  # whether what is due is told as soon as it is

@@ -43,6 +43,14 @@ PREMISES = {
     "urgent": Premise("urgent", "{what} from {unit} has {priority}: by 'load' what no flow has is of {unplanned_priority} or more"),
 }
 
+# The kinds of what is told by what `follow` says where `audit` doesn't judge: of a plan with findings, and of a log that is still to come.
+FOLLOWED = ("stranger", "priority", "no-flow")
+
+
+def kind_of(line: Line) -> str:
+    """The kind of deviation that a line of `audit` is."""
+    return PREMISES[line.word("word")].kind
+
 
 class Beside:
     """What is known of a log beside `audit`, by which some of what that accuses of has another name, or is told otherwise."""
