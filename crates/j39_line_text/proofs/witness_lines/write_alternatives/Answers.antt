@@ -10,8 +10,8 @@ loop-choice-preserved c =
     let one : ℕ → Choice → List ℕ =
     λ k _. told_alternative c.args.line.now c.args.alternatives.now c.args.variant.now c.args.finding k in
     let k = c.loop-choice.choice in
-    let step = more one k c.deref-_found-items.result.now c._found-item.result c.loop-choice-test.true in
-    let before : List ℕ = lines_of_each one 0 (take k c.deref-_found-items.result.now) in
+    let step = more one k c.deref-found-items.result.now c._found-item.result c.loop-choice-test.true in
+    let before : List ℕ = lines_of_each one 0 (take k c.deref-found-items.result.now) in
     c.in_ok-write_alternative.ensures
     ∙ ap (λ (t : List ℕ). t ++ one k c._found-item.result) c.loop-choice.invariant
     ∙ append_assoc c.args.text.now before (one k c._found-item.result)

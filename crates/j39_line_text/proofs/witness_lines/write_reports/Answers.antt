@@ -1,10 +1,16 @@
-use Rattle.std.proofs.Common.{◌++◌, ◌≡◌, ℕ, List, map, take, append_assoc, sym, ap, ◌∙◌, false}
+use Rattle.std.proofs.Common.{◌++◌, ℕ, List, map, append_assoc, sym, ap, false}
+use Rattle.std.proofs.lemmas.List.{append-nil}
+use Rattle.j39_load.specs.LineLists.{lines_of_each}
 use Rattle.j39_findings.specs.declared.checking.finding.Finding.TheVariants.{SameName}
 use Rattle.j39_load.proofs.Before.{more}
 use Rattle.j39_line_findings.specs.declared.line_finding.LineFinding.TheVariants.{OfPlan}
 use Rattle.j39_line_findings.specs.declared.witnessed.Witnessed.{Witnessed}
-use Rattle.j39_line_text.specs.WitnessLines.{variant_at, witness_report, witness_reports}
+use Rattle.j39_line_text.specs.WitnessLines.{variant_at, witness_report}
 use Rattle.j39_line_text.proofs.witness_lines.write_reports.Goals as goal
+
+pub loop-witnessed-init : goal.loop-witnessed-init
+unfolding lines_of_each
+loop-witnessed-init c = sym (append-nil c.args.text.now)
 
 pub loop-witnessed-preserved : goal.loop-witnessed-preserved
 loop-witnessed-preserved c =
