@@ -1,9 +1,14 @@
 use Rattle.std.proofs.Common.{◌++◌, ℕ, List, take, append_assoc, sym, ap, ◌∙◌}
+use Rattle.std.proofs.lemmas.List.{append-nil}
 use Rattle.j39_variants.specs.declared.line.Choice.{Choice}
 use Rattle.j39_load.proofs.Before.{more}
 use Rattle.j39_load.specs.LineLists.{lines_of_each}
 use Rattle.j39_line_text.specs.WitnessLines.{told_alternative}
 use Rattle.j39_line_text.proofs.witness_lines.write_alternatives.Goals as goal
+
+pub loop-choice-init : goal.loop-choice-init
+unfolding lines_of_each
+loop-choice-init c = sym (append-nil c.args.text.now)
 
 pub loop-choice-preserved : goal.loop-choice-preserved
 loop-choice-preserved c =
