@@ -180,15 +180,16 @@ class Taken(InFolder):
         status, compared, _ = run("compare.py", line, example("truck.toml"), "--variant", "DETROIT")
         self.assertIn(f"{example('truck.toml')}:6: unit ENGINE: it was called D ({line}:24)\n", compared)
 
-    def test_the_first_vehicle_with_a_finding_is_named(self) -> None:
+    def test_findings_name_vehicles_that_have_them(self) -> None:
         text = text_of(example("line.toml"))
         self.assertIn('with = ["DETROIT"]', text)
-        for change, labels, finding in ((('with = ["DETROIT"]', ""), "CUMMINS,NO_RETARDER,ZF", "F2 SameFixedAddress C D 0"),
-                                        (("address = 15", "address = 0"), "CUMMINS,RETARDER,ZF", "F2 SameFixedAddress C R 0")):
+        for change, labels, finding in ((('with = ["DETROIT"]', ""), "CUMMINS", "F2 SameFixedAddress C D 0"),
+                                        (("address = 15", "address = 0"), "CUMMINS RETARDER", "F2 SameFixedAddress C R 0")):
             plan = self.write("faulty.toml", text.replace(*change, 1))
             status, answer, _ = run("where.py", plan)
-            self.assertEqual((status, answer), (1, f"refused plan Choices  (a vehicle has a finding, of which it is the first: --variant {labels})\n"))
-            self.assertIn(finding, run("where.py", plan, "--variant", labels)[1])
+            self.assertEqual(status, 1)
+            self.assertIn(f": {finding} in {labels}  (", answer)
+            self.assertIn(finding, run("where.py", plan, "--variant", labels.replace(" ", ","))[1])
 
     def test_its_page_has_the_choices(self) -> None:
         status, page, _ = run("report.py", example("line.toml"), "--variant", "RETARDER")

@@ -1,3 +1,7 @@
 pub mod Enumerating
 pub mod EveryVariant
+pub mod FoundLists
+pub mod Ranking
+pub mod ToldExactly
 pub mod VariantVerdicts
+pub mod Witnesses

@@ -1,3 +1,11 @@
 pub mod AllVariants
+pub mod Best
+pub mod Boxes
+pub mod FullVariants
+pub mod InFile
 pub mod LineAnswers
+pub mod LineFindingLaws
+pub mod LineFound
 pub mod MissedNeeds
+pub mod There
+pub mod Told

@@ -1,9 +1,27 @@
-//! What is found of a line of vehicles: whether some possible variant has a finding.
+//! What is found of a line of vehicles: what some possible variant has, with the variant that is its witness.
 #![tactic(auto)]
 
 mod checking;
 mod enumeration;
+mod found;
+mod full;
+mod laws;
+mod line_finding;
 mod missed_needs;
+mod part;
+mod rank;
+mod there;
+mod told;
+mod witnessed;
 
 pub use checking::{LineAnswer, check_line};
 pub use enumeration::{VARIANT_LIMIT, all_variants, combinations};
+pub use found::line_findings;
+pub use full::{FullAlternatives, alternatives_of};
+pub use laws::line_findings_are_exact;
+pub use line_finding::LineFinding;
+pub use part::LinePart;
+pub use rank::Rank;
+pub use there::WhatIsThere;
+pub use told::Telling;
+pub use witnessed::Witnessed;

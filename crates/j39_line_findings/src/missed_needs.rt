@@ -5,7 +5,7 @@ ghost use Rattle.j39_line_findings.specs.MissedNeeds.{is_sender_there, is_some_n
 
 use j39_variants::{Alternative, ProductLine, is_in};
 
-fn is_in_at(variant: &[usize], lists: &[Vec<Alternative>], place: usize) -> bool
+pub(crate) fn is_in_at(variant: &[usize], lists: &[Vec<Alternative>], place: usize) -> bool
     ensures { result ≡ is_in_at variant.now lists.now place }
 {
     match lists.get(place) {
@@ -14,19 +14,19 @@ fn is_in_at(variant: &[usize], lists: &[Vec<Alternative>], place: usize) -> bool
     }
 }
 
-fn is_unit_there(line: &ProductLine, variant: &[usize], unit: usize) -> bool
+pub(crate) fn is_unit_there(line: &ProductLine, variant: &[usize], unit: usize) -> bool
     ensures { result ≡ is_unit_there line.now variant.now unit }
 {
     is_in_at(variant, &line.lists.units, unit)
 }
 
-fn is_group_there(line: &ProductLine, variant: &[usize], group: usize) -> bool
+pub(crate) fn is_group_there(line: &ProductLine, variant: &[usize], group: usize) -> bool
     ensures { result ≡ is_group_there line.now variant.now group }
 {
     is_in_at(variant, &line.lists.groups, group)
 }
 
-fn is_need_asked_for(line: &ProductLine, variant: &[usize], place: usize) -> bool
+pub(crate) fn is_need_asked_for(line: &ProductLine, variant: &[usize], place: usize) -> bool
     ensures { result ≡ is_need_asked_for line.now variant.now place }
 {
     match line.plan.needs.get(place) {
@@ -47,7 +47,7 @@ fn is_sender_there(line: &ProductLine, variant: &[usize], from: Option<usize>) -
 }
 
 // Whether what a need is for is there.
-fn is_source_there(line: &ProductLine, variant: &[usize], place: usize) -> bool
+pub(crate) fn is_source_there(line: &ProductLine, variant: &[usize], place: usize) -> bool
     ensures { result ≡ is_source_there line.now variant.now place }
 {
     match line.plan.needs.get(place) {
@@ -58,7 +58,7 @@ fn is_source_there(line: &ProductLine, variant: &[usize], place: usize) -> bool
     }
 }
 
-fn is_need_missed(line: &ProductLine, variant: &[usize], place: usize) -> bool
+pub(crate) fn is_need_missed(line: &ProductLine, variant: &[usize], place: usize) -> bool
     ensures { result ≡ is_need_missed line.now variant.now place }
 {
     is_need_asked_for(line, variant, place) && !is_source_there(line, variant, place)

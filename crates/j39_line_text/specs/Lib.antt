@@ -1,1 +1,2 @@
 pub mod LineCheckText
+pub mod WitnessLines

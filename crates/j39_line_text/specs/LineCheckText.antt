@@ -6,12 +6,16 @@ use Rattle.j39_load.specs.LoadFindings.{AreLoadFindings}
 use Rattle.j39_network.specs.declared.plan.Plan.{Plan}
 use Rattle.j39_variants.specs.declared.line.ProductLine.{ProductLine}
 use Rattle.j39_variants.specs.VariantPlans.{IsVariantPlan}
-use Rattle.j39_line_findings.specs.AllVariants.{combinations, variant_limit}
+use Rattle.j39_line_findings.specs.AllVariants.{all_variants, combinations, variant_limit}
+use Rattle.j39_line_findings.specs.FullVariants.{alternatives_of}
 use Rattle.j39_line_findings.specs.LineAnswers.{HasFinding, IsPossible}
+use Rattle.j39_line_findings.specs.LineFound.{AreLineFindings}
 use Rattle.j39_line_findings.specs.MissedNeeds.{is_some_need_missed}
+use Rattle.j39_line_findings.specs.declared.witnessed.Witnessed.{Witnessed}
+use Rattle.j39_line_text.specs.WitnessLines.{findings_of_line_text}
 use Rattle.j39_plan_text.specs.Certified.{IsCertified}
 use Rattle.j39_plan_text.specs.CheckText.{IsReport}
-use Rattle.j39_plan_text.specs.PlanText.{IsReportedText, choices_line}
+use Rattle.j39_plan_text.specs.PlanText.{IsReportedText}
 use Rattle.j39_text.specs.Texts.{field}
 use Rattle.j39_stream.specs.declared.verdict.Verdict.{Verdict}
 use Rattle.j39_stream.specs.declared.verdict.Verdict.TheVariants.{Done, Findings, Refused, Unreadable}
@@ -45,14 +49,25 @@ pub record IsCertifiedLine (line : ProductLine) : Type 0 where
   pub some : (variant : List ℕ) × IsPossible line variant
   pub each : (variant : List ℕ) → IsPossible line variant → IsCertifiedVariant line variant
 
--- what is written for a line of vehicles, with the verdict: which findings a possible variant has isn't told yet
+-- all that some possible variant has is told, each finding once, with a variant that has it
+abbrev pub IsFindingsText : ProductLine → List ℕ → Type 0
+IsFindingsText line text = (told : List Witnessed) × AreLineFindings line told
+    × (text ≡ findings_of_line_text line (alternatives_of line) (all_variants line.choices.items) told)
+
+-- some possible variant has a finding, and all are told
+pub record IsFaultyLine (line : ProductLine) (text : List ℕ) : Type 0 where
+  pub looked_at : combinations 1 line.choices.items ≤ variant_limit
+  pub some : (variant : List ℕ) × IsPossible line variant × HasFinding line variant
+  pub text_is : IsFindingsText line text
+
+-- what is written for a line of vehicles, with the verdict
 abbrev pub IsLineReport : ProductLine → List ℕ → Verdict → Type 0
 IsLineReport line text Done = IsCertifiedLine line × (text ≡ line_ok_text line)
 IsLineReport line text Findings =
     ((variant_limit < combinations 1 line.choices.items) × (text ≡ many_variants_text (combinations 1 line.choices.items)))
-    ⊎ ((combinations 1 line.choices.items ≤ variant_limit) × ((variant : List ℕ) → ¬ IsPossible line variant) × (text ≡ no_variant_text))
-IsLineReport line text Refused = (combinations 1 line.choices.items ≤ variant_limit)
-    × ((variant : List ℕ) × IsPossible line variant × HasFinding line variant) × (text ≡ choices_line)
+    ⊎ (((combinations 1 line.choices.items ≤ variant_limit) × ((variant : List ℕ) → ¬ IsPossible line variant) × (text ≡ no_variant_text))
+    ⊎ IsFaultyLine line text)
+IsLineReport line text Refused = ⊥
 IsLineReport line text Unreadable = ⊥
 
 -- what is written for a line, of its one plan where it has no choices

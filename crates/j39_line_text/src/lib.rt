@@ -4,5 +4,6 @@
 mod certificate;
 mod check;
 mod line_report;
+mod witness_lines;
 
 pub use check::check_line_text;

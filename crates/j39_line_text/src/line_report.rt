@@ -1,13 +1,13 @@
 //! What is written for a line of vehicles.
 ghost use Rattle.std.specs.Prelude.{◌≡◌, ◌++◌, IfOk, OnOk};
 ghost use Rattle.j39_plan_text.specs.CheckText.{IsReport};
-ghost use Rattle.j39_plan_text.specs.PlanText.{choices_line};
-ghost use Rattle.j39_line_text.specs.LineCheckText.{IsLineReport, line_ok_text, many_variants_text, no_variant_text};
+ghost use Rattle.j39_line_text.specs.LineCheckText.{IsFindingsText, IsLineReport, line_ok_text, many_variants_text, no_variant_text};
 
 use crate::certificate::variants_without_findings_are_certified;
-use j39_line_findings::{LineAnswer, check_line};
+use crate::witness_lines::findings_text;
+use j39_line_findings::{LineAnswer, check_line, line_findings};
 use j39_network::Plan;
-use j39_plan_text::{PlanFindings, write_check, write_choices_refused};
+use j39_plan_text::{PlanFindings, write_check};
 use j39_stream::Verdict;
 use j39_text::TextBuffer;
 use j39_variants::ProductLine;
@@ -51,12 +51,12 @@ fn many_variants(alloc: Global, count: u64) -> Result<TextBuffer, AllocError>
     Ok(text)
 }
 
-// That it has findings, which aren't told.
-fn refused_text(alloc: Global) -> Result<TextBuffer, AllocError>
-    ensures { IfOk result (λ text. text ≡ choices_line) }
+// What is found of a line in which some possible variant has a finding.
+fn faulty_text(alloc: Global, line: &ProductLine) -> Result<TextBuffer, AllocError>
+    ensures { IfOk result (IsFindingsText line.now) }
 {
-    let mut text = TextBuffer::new(alloc);
-    write_choices_refused(&mut text)?;
+    let told = line_findings(alloc, line)?;
+    let text = findings_text(alloc, line, &told)?;
     Ok(text)
 }
 
@@ -83,8 +83,8 @@ pub(crate) fn line_report(
             Ok((text, Verdict::Done))
         }
         LineAnswer::Faulty => {
-            let text = refused_text(alloc)?;
-            Ok((text, Verdict::Refused))
+            let text = faulty_text(alloc, line)?;
+            Ok((text, Verdict::Findings))
         }
     }
 }

@@ -10,7 +10,6 @@ from j39plan.plan import code_quality
 from j39plan.plan.answer_objects import check_object
 from j39plan.plan.answer_places import Placed, placed
 from j39plan.plan.files import opened
-from j39plan.plan.first_faulty import first_faulty
 from j39plan.plan.further_faults import further_faults
 from j39plan.plan.hints import variants
 from j39plan.plan.hints.lint import Lint
@@ -146,8 +145,6 @@ def main(words: list[str] | None = None) -> int:
         if answer:
             parts = list(placed(data, answer))
             further = further_faults(data, parts)
-        if answer.strip() == program.CHOICES and (taken := first_faulty(plan)):
-            parts = [parts[0]._replace(hint=f"a vehicle has a finding, of which it is the first: --variant {','.join(taken)}")]
         if status in (0, 1):
             hints = hints_of(given, plan)
     if given.json:

@@ -1,0 +1,316 @@
+#!/usr/bin/env python3
+"""Compares what `check` writes of lines of vehicles with what it writes of each of their variants: lines.py [PLANS [SEED]]
+
+Each of so many random plans (200) has up to five choices. The plan of each possible variant is written as a file and checked by itself; the findings are
+put at their places in the line's file, each once, with the witness and the alternatives that are to stand behind ` in`, by sets of alternatives and
+none of the program's definitions. J39PLAN names the program, else ./j39plan is asked. The status is 1 where an answer differs, which is shown.
+"""
+from __future__ import annotations
+
+import itertools
+import os
+import random
+import subprocess
+import sys
+import tempfile
+from pathlib import Path
+
+TOP = Path(__file__).resolve().parent.parent
+PROGRAM = os.environ.get("J39PLAN", str(TOP / "j39plan"))
+KINDS = ("unit", "group", "flow", "need", "request")
+OF_TIMES = ("F3", "F17", "F18", "F20")
+Table = dict[str, object]
+
+
+def check(text: str) -> list[str]:
+    """The lines that `check` writes of a plan."""
+    with tempfile.NamedTemporaryFile("w", suffix=".toml", encoding="utf-8") as file:
+        file.write(text)
+        file.flush()
+        return subprocess.run([PROGRAM, "check", file.name], stdout=subprocess.PIPE, stderr=subprocess.DEVNULL, check=False, text=True).stdout.splitlines()
+
+
+def value(it: object) -> str:
+    """A value of a plan's file."""
+    if isinstance(it, bool):
+        return str(it).lower()
+    if isinstance(it, list):
+        return "[" + ", ".join(map(value, it)) + "]"
+    if isinstance(it, dict):
+        return "{ " + ", ".join(f"{key} = {value(other)}" for key, other in it.items()) + " }"
+    return f'"{it}"' if isinstance(it, str) else str(it)
+
+
+class Line:
+    """A line of vehicles: its choices, the boxes that aren't built, and its tables by their kinds."""
+
+    def __init__(self, top: str, choices: list[list[str]], nevers: list[list[str]], tables: dict[str, list[Table]]) -> None:
+        self.top, self.choices, self.nevers, self.tables = top, choices, nevers, tables
+        self.all = [label for choice in choices for label in choice]
+        self.boxes = {(kind, number): self.box(kind, number) for kind in KINDS for number in range(len(tables[kind]))}
+
+    def text(self, there: dict[str, list[int]] | None = None) -> str:
+        """The text of its plan, or of the plan of those tables."""
+        parts = [self.top]
+        if there is None:
+            parts += [f"[[choice]]\nof = {value(choice)}\n" for choice in self.choices] + [f"[[never]]\nof = {value(never)}\n" for never in self.nevers]
+        for kind in KINDS:
+            for number in range(len(self.tables[kind])) if there is None else there[kind]:
+                table = self.tables[kind][number]
+                parts.append(f"[[{kind}]]\n" + "".join(f"{key} = {value(it)}\n" for key, it in table.items() if key != "with" or there is None and it))
+        return "\n".join(parts)
+
+    def of_list(self, labels: object) -> frozenset[str]:
+        """The alternatives that the box of a list has."""
+        assert isinstance(labels, list)
+        named = [choice for choice in self.choices if not set(choice).isdisjoint(labels)]
+        return frozenset(label for choice in self.choices for label in choice if choice not in named or label in labels)
+
+    def place(self, kind: str, label: object) -> int:
+        """The place of what has a label."""
+        return next(number for number, table in enumerate(self.tables[kind]) if table["label"] == label)
+
+    def box(self, kind: str, number: int) -> frozenset[str]:
+        """The alternatives of the box in which a table is there, a need asked for."""
+        table = self.tables[kind][number]
+        found = self.of_list(table.get("with", []))
+        for key, other in (("unit", "unit"), *((("group", "group"), ("from", "unit"), ("to", "unit")) if kind in ("flow", "request") else ())):
+            if key in table and table[key] != "all":
+                found &= self.box(other, self.place(other, table[key]))
+        return found
+
+    def meet(self, *boxes: frozenset[str]) -> bool:
+        """Whether some variant, possible or not, is in each of these boxes."""
+        both = frozenset.intersection(*boxes)
+        return all(not both.isdisjoint(choice) for choice in self.choices)
+
+    def possible(self) -> list[tuple[str, ...]]:
+        """Its possible variants, in order."""
+        return [taken for taken in itertools.product(*self.choices) if not any(set(taken) <= self.of_list(never) for never in self.nevers)]
+
+    # ---- full alternatives
+
+    def serves(self, request: Table, flow: Table) -> bool:
+        """Whether a flow answers a request."""
+        return (flow["group"] == request["group"] and flow["from"] != request["from"] and request["to"] in ("all", flow["from"])
+                and flow["to"] in ("all", request["from"]))
+
+    def brings(self, need: Table, flow: Table) -> bool:
+        """Whether a flow brings what is needed, once it is asked for."""
+        return (flow["group"] == need["group"] and flow["from"] != need["unit"] and need.get("from", flow["from"]) == flow["from"]
+                and flow["to"] in ("all", need["unit"]))
+
+    def sources(self, number: int) -> list[frozenset[str]]:
+        """The boxes of what brings what a need asks for."""
+        found = []
+        for place, flow in enumerate(self.tables["flow"]):
+            if self.brings(self.tables["need"][number], flow):
+                if flow.get("on_request"):
+                    found += [self.boxes["flow", place] & self.boxes["request", asked] for asked, request in enumerate(self.tables["request"])
+                              if self.serves(request, flow)]
+                else:
+                    found.append(self.boxes["flow", place])
+        return found
+
+    def covers(self, more: str, less: str, need: int | None) -> bool:
+        """Whether an alternative covers another one, for a need where there is one."""
+        lists = [self.of_list(table.get("with", [])) for kind in KINDS if kind != "need" for table in self.tables[kind]]
+        nevers = [self.of_list(never) for never in self.nevers]
+        alike = [] if need is None else [box for box in self.sources(need) if self.meet(box, self.boxes["need", need])]
+        return (all(more in it for it in lists if less in it) and all(less in it for it in nevers if more in it)
+                and all((more in it) == (less in it) for it in alike))
+
+    def full(self, need: int | None = None) -> set[str]:
+        """The full alternatives, for a need where there is one."""
+        found = set()
+        for choice in self.choices:
+            these = [label for label in choice if need is None or label in self.boxes["need", need]]
+            found |= {label for label in these if all(self.covers(label, other, need) and these.index(other) > these.index(label)
+                                                      for other in these if other != label and self.covers(other, label, need))}
+        return found
+
+    # ---- findings
+
+    def there(self, taken: tuple[str, ...]) -> dict[str, list[int]]:
+        """The tables of the plan of a variant."""
+        found: dict[str, list[int]] = {kind: [] for kind in KINDS}
+        for (kind, number), box in self.boxes.items():
+            table = self.tables[kind][number]
+            if set(taken) <= box and (kind != "need" or set(taken) <= self.boxes["group", self.place("group", table["group"])]
+                                      & (self.boxes["unit", self.place("unit", table["from"])] if "from" in table else frozenset(self.all))):
+                found[kind].append(number)
+        return found
+
+    def in_file(self, words: list[str], there: dict[str, list[int]]) -> tuple[list[str], list[tuple[str, int]]]:
+        """The words of a finding of a variant at the places in the file, and what stands at these."""
+        kind = {"9": "flow", "10": "flow", "11": "flow", "16": "flow", "18": "flow", "28": "flow", "19": "need", "20": "need", "21": "request", "22": "request",
+                "23": "request", "25": "request", "1": "unit", "2": "unit", "12": "unit", "26": "unit", "27": "unit", "3": "", "17": ""}.get(words[0][1:], "group")
+        if kind in ("flow", "need", "request"):
+            places = [there[kind][int(word) - 1] for word in words[2:]]
+            return [*words[:2], *(str(place + 1) for place in places)], [(kind, place) for place in places]
+        count = {"1": 2, "2": 2, "5": 2, "26": 2}.get(words[0][1:], 1) if kind else 0
+        return words, [(kind, self.place(kind, word)) for word in words[2:2 + count]]
+
+    def found(self, taken: tuple[str, ...]) -> list[tuple[list[str], list[tuple[str, int]], list[str]]]:
+        """The findings of a variant: their words, what stands at their places, and the lines below them."""
+        there = self.there(taken)
+        answer: list[tuple[list[str], list[tuple[str, int]], list[str]]] = []
+        for line in check(self.text(there)):
+            if line.startswith("F"):
+                answer.append((*self.in_file(line.split(), there), []))
+            elif line.startswith(" "):
+                answer[-1][2].append(line)
+            elif not line.startswith(("ok ", "findings ")):
+                raise ValueError(line)
+        missed = [number for number in range(len(self.tables["need"])) if set(taken) <= self.boxes["need", number] and number not in there["need"]]
+        return answer + [(["F19", "NeedUnmet", str(number + 1)], [("need", number)], []) for number in missed]
+
+    def ends_in_pool(self, flow: Table) -> bool:
+        """Whether an end of a flow is planned at an address of 128..247."""
+        return any(128 <= int(str(unit["address"])) <= 247 for unit in self.tables["unit"] if unit["label"] in (flow["from"], flow["to"]))
+
+    def goes_by_full(self, words: list[str], places: list[tuple[str, int]]) -> bool:
+        """Whether the witness of a finding is a full variant."""
+        return words[0] in OF_TIMES or words[0] == "F28" and self.ends_in_pool(self.tables["flow"][places[0][1]])
+
+    def further(self, number: str, places: list[tuple[str, int]]) -> list[frozenset[str]]:
+        """The boxes beside those of what stands at the places of a finding."""
+        tables = [self.tables[kind][place] for kind, place in places]
+        flows = list(enumerate(self.tables["flow"]))
+        if number == "F13" or number == "F5" and all(table.get("private") for table in tables):
+            return [self.boxes["flow", place] for place, flow in flows if flow["group"] in [table["label"] for table in tables]]
+        if number == "F19":
+            return self.sources(places[0][1])
+        if number in ("F21", "F22", "F23"):
+            return [self.boxes["flow", place] for place, flow in flows if self.serves(tables[0], flow)]
+        if number == "F28":
+            ends = [unit["address"] for unit in self.tables["unit"] if unit["label"] in (tables[0]["from"], tables[0]["to"])]
+            return [self.boxes["unit", place] for place, unit in enumerate(self.tables["unit"]) if unit["address"] in ends]
+        return []
+
+    def behind(self, words: list[str], places: list[tuple[str, int]], taken: tuple[str, ...]) -> list[str]:
+        """What stands behind a finding of the line, by its witness."""
+        if self.goes_by_full(words, places):
+            return ["in", *taken]
+        boxes = [self.boxes[place] for place in places]
+        boxes += [box for box in self.further(words[0], places) if self.meet(*boxes, box)]
+        told = [label for label, choice in zip(taken, self.choices) if any(not set(choice) <= box for box in boxes)]
+        return ["in", *told] if told else []
+
+    def answer(self) -> list[str]:
+        """What `check` is to write of the line."""
+        variants = self.possible()
+        if not variants:
+            return ["F29 NoVariant", "findings 1"]
+        full, best = self.full(), {}
+        for order, taken in enumerate(variants):
+            for words, places, below in self.found(taken):
+                amount = int(words[2]) if words[0] in ("F3", "F17") else 0
+                fulls = self.full(places[0][1]) if words[0] == "F20" else full
+                counts = not self.goes_by_full(words, places) or set(taken) <= fulls
+                key = (int(words[0][1:]), [place for _, place in places])
+                rank = (-amount, not counts, order)
+                if str(key) not in best or rank < best[str(key)][1]:
+                    best[str(key)] = (key, rank, [" ".join([*words, *self.behind(words, places, taken)]), *below])
+        if not best:
+            return ["ok " + " ".join(f"{len(self.tables[kind])} {kind}s" for kind in KINDS[:3]) + f" {len(self.choices)} choices"]
+        lines = [line for _, _, some in sorted(best.values(), key=lambda one: one[0]) for line in some]
+        return [*lines, f"findings {len(best)}"]
+
+
+def random_line(rng: random.Random) -> Line:
+    """A random line of vehicles."""
+    choices = [[f"{letter}{number}" for number in range(rng.choice((2, 2, 2, 3)))] for letter in "ABCDE"[:rng.randint(1, 5)]]
+    if len(choices) == 5:
+        choices = [choice[:2] for choice in choices]
+
+    def labels(chance: float) -> list[str]:
+        if rng.random() > chance:
+            return []
+        some = rng.sample(choices, min(len(choices), rng.choice((1, 1, 1, 2))))
+        return [label for choice in some for label in rng.sample(choice, rng.randint(1, len(choice) - 1))]
+
+    known = [label for choice in choices for label in choice]
+    nevers = [rng.sample(known, min(len(known), rng.choice((1, 2, 2, 3)))) for _ in range(rng.choice((0, 0, 1, 2)))]
+    pool = rng.random() < 0.4
+    units: list[Table] = []
+    for number in range(rng.randint(2, 6)):
+        address = rng.choice((128, 129, 130)) if pool and rng.random() < 0.5 else rng.choice((0, 3, 7, 11, 15, 23))
+        name: Table = {"identity": number + 1} if rng.random() < 0.95 else {"identity": 1}
+        if address >= 128 and rng.random() < 0.8:
+            name["arbitrary"] = True
+        units.append({"label": f"U{number}", "address": address, "name": name, "with": labels(0.6)})
+    groups: list[Table] = []
+    for number in range(rng.randint(1, 4)):
+        pgn, length = rng.choice(((61444, 8), (65260, 18), (0, 8), (65300, 8), (65301, 8), (61184, 8), (59904, 3)))
+        one: Table = {"label": f"G{number}", "pgn": pgn, "priority": rng.choice((3, 6)), "length": length, "with": labels(0.3)}
+        if pgn in (65300, 65301, 61184) and rng.random() < 0.9:
+            one["private"] = True
+        groups.append(one)
+    timed = rng.random() < 0.6
+
+    def ends() -> Table:
+        sender, to = rng.choice(units)["label"], rng.choice(units)["label"]
+        return {"group": rng.choice(groups)["label"], "from": sender, "to": "all" if rng.random() < 0.6 else to}
+
+    flows: list[Table] = []
+    for _ in range(rng.randint(1, 8)):
+        one = {**ends(), "with": labels(0.4)}
+        if rng.random() < 0.2:
+            one["on_request"] = True
+        if rng.random() < 0.8:
+            one["period"] = rng.choice((5, 10, 20, 100))
+            if rng.random() < 0.5 and not one.get("on_request"):
+                one["pause"] = int(str(one["period"])) * 2
+            if rng.random() < 0.3:
+                one["deadline"] = rng.choice((1, 2, 5))
+        flows.append(one)
+    needs: list[Table] = []
+    for _ in range(rng.randint(0, 4)):
+        one = {"unit": rng.choice(units)["label"], "group": rng.choice(groups)["label"], "with": labels(0.4)}
+        if rng.random() < 0.3:
+            one["from"] = rng.choice(units)["label"]
+        if timed and rng.random() < 0.6:
+            one["within"] = rng.choice((5, 21, 22, 41, 42, 100))
+        needs.append(one)
+    requests: list[Table] = [{**ends(), "with": labels(0.4)} for _ in range(rng.randint(0, 3))]
+    top = "version = 4\n"
+    if pool and rng.random() < 0.7:
+        top += f"keep_free = {value(list(range(130, 248)))}\n"
+    top += rng.choice(("", "", "strangers = 1\n", "live = true\n"))
+    if timed:
+        top += f"\n[timing]\nbitrate = {rng.choice((125000, 250000, 500000))}\nunplanned = 0\n"
+    return Line(top, choices, nevers, {"unit": units, "group": groups, "flow": flows, "need": needs, "request": requests})
+
+
+def main(words: list[str]) -> int:
+    """Compares random lines."""
+    plans, seed = (int(word) for word in [*words, *("200", "1")[len(words):]])
+    rng = random.Random(seed)
+    counts: dict[str, int] = {}
+    refused = differences = 0
+    for number in range(plans):
+        line = random_line(rng)
+        written = check(line.text())
+        if not written or written[0].startswith("refused"):
+            refused += 1
+            if os.environ.get("SHOW"):
+                print(written)
+            continue
+        try:
+            wanted = line.answer()
+        except ValueError as error:
+            print(f"plan {number}: a variant is refused: {error}")
+            differences += 1
+            continue
+        for one in wanted:
+            counts[one.split()[0]] = counts.get(one.split()[0], 0) + 1
+        if wanted != written:
+            differences += 1
+            print(f"plan {number} of seed {seed} differs\n{line.text()}", "wanted", *wanted, "written", *written, sep="\n")
+    print(f"plans {plans} refused {refused} differences {differences}", *(f"{key} {count}" for key, count in sorted(counts.items()) if key))
+    return 1 if differences else 0
+
+
+if __name__ == "__main__":
+    sys.exit(main(sys.argv[1:]))

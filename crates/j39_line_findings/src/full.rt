@@ -1,0 +1,335 @@
+//! The alternatives that a fullest variant takes.
+ghost use Rattle.std.specs.Prelude.{◌≡◌, ◌∷◌, [], IfOk, length, map};
+ghost use Rattle.std.specs.List.{list_all, range_with_len};
+ghost use Rattle.j39_load.specs.LineLists.{lines_of_each};
+ghost use Rattle.j39_line_findings.specs.FullVariants.{AreFullAlternatives, agree_on_answer, agree_on_answers, agree_on_flow};
+ghost use Rattle.j39_line_findings.specs.FullVariants.{agree_on_flows, agree_on_need};
+ghost use Rattle.j39_line_findings.specs.FullVariants.{agree_on_sending, alternatives_of, alternatives_of_choice};
+ghost use Rattle.j39_line_findings.specs.Boxes.{are_one_answer};
+ghost use Rattle.j39_line_findings.specs.FullVariants.{compared, do_keep, does_bring, does_leave, does_need_let_in};
+ghost use Rattle.j39_line_findings.specs.FullVariants.{full_alternatives, full_among, full_of_need, is_covered, is_covered_for};
+ghost use Rattle.j39_line_findings.specs.FullVariants.{is_full_among};
+
+use crate::part::{
+    LinePart, do_meet, flow_lets_in, is_one_alternative, lets_in, need_lets_in, request_lets_in,
+};
+use j39_network::{FlowPlan, NeedPlan, meets, serves};
+use j39_variants::{Alternative, Choice, ProductLine};
+use std::alloc::{AllocError, Global};
+
+fn alternatives_of_choice(
+    alloc: Global,
+    choice: usize,
+    told: &Choice,
+) -> Result<Vec<Alternative>, AllocError>
+    ensures { IfOk result (λ v. v.items ≡ alternatives_of_choice choice told.now) }
+{
+    (0..told.alternatives.len())
+        .map(|place| Alternative { choice, place })
+        .collect(alloc)
+}
+
+fn alternatives_in(alloc: Global, choices: &[Choice]) -> Result<Vec<Alternative>, AllocError>
+    ensures { IfOk result (λ v. v.items ≡ lines_of_each alternatives_of_choice 0 choices.now) }
+{
+    let mut alternatives = Vec::new(alloc);
+    for (choice, told) in choices.iter().enumerate() {
+        let of_choice = alternatives_of_choice(alloc, choice, told)?;
+        alternatives.extend_from_slice(&of_choice)?;
+    }
+    Ok(alternatives)
+}
+
+/// The alternatives of a line, in order.
+pub fn alternatives_of(alloc: Global, line: &ProductLine) -> Result<Vec<Alternative>, AllocError>
+    ensures { IfOk result (λ v. v.items ≡ alternatives_of line.now) }
+{
+    let alternatives = alternatives_in(alloc, &line.choices)?;
+    Ok(alternatives)
+}
+
+fn do_keep(lists: &[Vec<Alternative>], one: &Alternative, other: &Alternative) -> bool
+    ensures { result ≡ do_keep lists.now one.now other.now }
+{
+    lists
+        .iter()
+        .all(|list| !lets_in(list, one) || lets_in(list, other))
+}
+
+fn is_covered(line: &ProductLine, one: &Alternative, other: &Alternative) -> bool
+    ensures { result ≡ is_covered line.now one.now other.now }
+{
+    do_keep(&line.lists.units, one, other)
+        && do_keep(&line.lists.groups, one, other)
+        && do_keep(&line.lists.flows, one, other)
+        && do_keep(&line.lists.requests, one, other)
+        && do_keep(&line.nevers, other, one)
+}
+
+/// Whether the flow brings what is needed, whether it is asked for or not.
+pub(crate) fn does_bring(need: &NeedPlan, flow: &FlowPlan) -> bool
+    ensures { result ≡ does_bring need.now flow.now }
+{
+    let mut by_itself = *flow;
+    by_itself.on_request = false;
+    meets(&[], need, &by_itself)
+}
+
+fn are_one_answer(one: bool, other: bool) -> bool
+    ensures { result ≡ are_one_answer one other }
+{
+    if one { other } else { !other }
+}
+
+// What two alternatives are compared for: a need, by its place in the file.
+#[derive(Clone, Copy)]
+struct Comparing<'a> {
+    line: &'a ProductLine,
+    alternatives: &'a [Alternative],
+    need: usize,
+    one: &'a Alternative,
+    other: &'a Alternative,
+}
+
+impl Comparing<'_> {
+    fn agree_on_answer(&self, place: usize, flow: &FlowPlan, asked: usize) -> bool
+        ensures { result ≡ agree_on_answer self.now.line.now self.now.alternatives.now self.now.need self.now.one.now self.now.other.now place flow.now asked }
+    {
+        match self.line.plan.requests.get(asked) {
+            Some(request) => {
+                !serves(request, flow)
+                    || !do_meet(
+                        self.line,
+                        self.alternatives,
+                        LinePart::Need(self.need),
+                        LinePart::Flow(place),
+                        LinePart::Request(asked),
+                    )
+                    || are_one_answer(
+                        flow_lets_in(self.line, self.one, place)
+                            && request_lets_in(self.line, self.one, asked),
+                        flow_lets_in(self.line, self.other, place)
+                            && request_lets_in(self.line, self.other, asked),
+                    )
+            }
+            None => true,
+        }
+    }
+
+    #[tactic(auto, unfolding(crate::specs::FullVariants::agree_on_answers))]
+    fn agree_on_answers(&self, place: usize, flow: &FlowPlan) -> bool
+        ensures { result ≡ agree_on_answers self.now.line.now self.now.alternatives.now self.now.need self.now.one.now self.now.other.now place flow.now }
+    {
+        (0..self.line.plan.requests.len()).all(|asked| self.agree_on_answer(place, flow, asked))
+    }
+
+    fn agree_on_sending(&self, place: usize) -> bool
+        ensures { result ≡ agree_on_sending self.now.line.now self.now.alternatives.now self.now.need self.now.one.now self.now.other.now place }
+    {
+        !do_meet(
+            self.line,
+            self.alternatives,
+            LinePart::Need(self.need),
+            LinePart::Flow(place),
+            LinePart::Flow(place),
+        ) || are_one_answer(
+            flow_lets_in(self.line, self.one, place),
+            flow_lets_in(self.line, self.other, place),
+        )
+    }
+
+    fn agree_on_flow(&self, need: &NeedPlan, place: usize) -> bool
+        ensures { result ≡ agree_on_flow self.now.line.now self.now.alternatives.now self.now.need self.now.one.now self.now.other.now need.now place }
+    {
+        match self.line.plan.flows.get(place) {
+            Some(flow) => {
+                if !does_bring(need, flow) {
+                    true
+                } else if flow.on_request {
+                    self.agree_on_answers(place, flow)
+                } else {
+                    self.agree_on_sending(place)
+                }
+            }
+            None => true,
+        }
+    }
+
+    #[tactic(auto, unfolding(crate::specs::FullVariants::agree_on_flows))]
+    fn agree_on_flows(&self, need: &NeedPlan) -> bool
+        ensures { result ≡ agree_on_flows self.now.line.now self.now.alternatives.now self.now.need self.now.one.now self.now.other.now need.now }
+    {
+        (0..self.line.plan.flows.len()).all(|place| self.agree_on_flow(need, place))
+    }
+
+    #[tactic(auto, unfolding(crate::specs::FullVariants::agree_on_need))]
+    fn agree(&self) -> bool
+        ensures { result ≡ agree_on_need self.now.line.now self.now.alternatives.now self.now.need self.now.one.now self.now.other.now }
+    {
+        match self.line.plan.needs.get(self.need) {
+            Some(need) => self.agree_on_flows(need),
+            None => true,
+        }
+    }
+}
+
+fn is_covered_for(
+    line: &ProductLine,
+    alternatives: &[Alternative],
+    need: Option<usize>,
+    one: &Alternative,
+    other: &Alternative,
+) -> bool
+    ensures { result ≡ is_covered_for line.now alternatives.now need one.now other.now }
+{
+    match need {
+        None => is_covered(line, one, other),
+        Some(need) => {
+            let comparing = Comparing {
+                line,
+                alternatives,
+                need,
+                one,
+                other,
+            };
+            is_covered(line, one, other) && comparing.agree()
+        }
+    }
+}
+
+fn does_leave(
+    line: &ProductLine,
+    alternatives: &[Alternative],
+    need: Option<usize>,
+    one: &Alternative,
+    other: &Alternative,
+) -> bool
+    ensures { result ≡ does_leave line.now alternatives.now need one.now other.now }
+{
+    other.choice != one.choice
+        || is_one_alternative(other, one)
+        || !is_covered_for(line, alternatives, need, one, other)
+        || is_covered_for(line, alternatives, need, other, one) && one.place < other.place
+}
+
+fn is_full_among(
+    line: &ProductLine,
+    alternatives: &[Alternative],
+    need: Option<usize>,
+    these: &[Alternative],
+    one: &Alternative,
+) -> bool
+    ensures { result ≡ is_full_among line.now alternatives.now need these.now one.now }
+{
+    these
+        .iter()
+        .all(|other| does_leave(line, alternatives, need, one, other))
+}
+
+fn does_need_let_in(line: &ProductLine, need: Option<usize>, alternative: &Alternative) -> bool
+    ensures { result ≡ does_need_let_in line.now need alternative.now }
+{
+    match need {
+        None => true,
+        Some(need) => need_lets_in(line, alternative, need),
+    }
+}
+
+fn compared(
+    alloc: Global,
+    line: &ProductLine,
+    alternatives: &[Alternative],
+    need: Option<usize>,
+) -> Result<Vec<Alternative>, AllocError>
+    ensures { IfOk result (λ v. v.items ≡ compared line.now alternatives.now need) }
+{
+    alternatives
+        .iter()
+        .copied()
+        .filter(|alternative| does_need_let_in(line, need, alternative))
+        .collect(alloc)
+}
+
+fn full_among(
+    alloc: Global,
+    line: &ProductLine,
+    alternatives: &[Alternative],
+    need: Option<usize>,
+    these: &[Alternative],
+) -> Result<Vec<Alternative>, AllocError>
+    ensures { IfOk result (λ v. v.items ≡ full_among line.now alternatives.now need these.now) }
+{
+    these
+        .iter()
+        .copied()
+        .filter(|alternative| is_full_among(line, alternatives, need, these, alternative))
+        .collect(alloc)
+}
+
+fn full_alternatives(
+    alloc: Global,
+    line: &ProductLine,
+    alternatives: &[Alternative],
+    need: Option<usize>,
+) -> Result<Vec<Alternative>, AllocError>
+    ensures { IfOk result (λ v. v.items ≡ full_alternatives line.now alternatives.now need) }
+{
+    let these = compared(alloc, line, alternatives, need)?;
+    full_among(alloc, line, alternatives, need, &these)
+}
+
+fn full_of_need(
+    alloc: Global,
+    line: &ProductLine,
+    alternatives: &[Alternative],
+    place: usize,
+    need: &NeedPlan,
+) -> Result<Vec<Alternative>, AllocError>
+    ensures { IfOk result (λ v. v.items ≡ full_of_need line.now alternatives.now place need.now) }
+{
+    if need.within.is_some() {
+        full_alternatives(alloc, line, alternatives, Some(place))
+    } else {
+        Ok(Vec::new(alloc))
+    }
+}
+
+fn full_of_needs(
+    alloc: Global,
+    line: &ProductLine,
+    alternatives: &[Alternative],
+    needs: &[NeedPlan],
+) -> Result<Vec<Vec<Alternative>>, AllocError>
+    ensures { IfOk result (λ v. map (λ list. list.items) v.items
+        ≡ lines_of_each (λ d need. full_of_need line.now alternatives.now d need ∷ []) 0 needs.now) }
+{
+    let mut full = Vec::new(alloc);
+    for (place, need) in needs.iter().enumerate() {
+        full.push(full_of_need(alloc, line, alternatives, place, need)?)?;
+    }
+    Ok(full)
+}
+
+/// The full alternatives of a line, and those that are full for each need that asks for an age.
+#[derive(Drop)]
+pub struct FullAlternatives {
+    pub all: Vec<Alternative>,
+    pub of_needs: Vec<Vec<Alternative>>,
+}
+
+impl FullAlternatives {
+    /// Those of a line, where these are its alternatives.
+    pub(crate) fn new(
+        alloc: Global,
+        line: &ProductLine,
+        alternatives: &[Alternative],
+    ) -> Result<Self, AllocError>
+        requires { alternatives.now ≡ alternatives_of line.now }
+        ensures { IfOk result (AreFullAlternatives line.now) }
+    {
+        Ok(FullAlternatives {
+            all: full_alternatives(alloc, line, alternatives, None)?,
+            of_needs: full_of_needs(alloc, line, alternatives, &line.plan.needs)?,
+        })
+    }
+}

@@ -1,0 +1,76 @@
+-- The lines of what is found of a line of vehicles, with what is told of the variants that are its witnesses.
+use Rattle.std.specs.Prelude.{ℕ, List, [], ◌∷◌, ◌++◌, Bool, codes, if◌then◌else◌, length, unwrap_or}
+use Rattle.std.specs.List.{list_any, range_with_len, slice_get}
+use Rattle.std.specs.Option.{option_map_or}
+use Rattle.j39_load.specs.LineLists.{lines_of_each}
+use Rattle.j39_variants.specs.declared.line.Alternative.{Alternative}
+use Rattle.j39_variants.specs.declared.line.Choice.{Choice}
+use Rattle.j39_variants.specs.declared.line.ProductLine.{ProductLine}
+use Rattle.j39_line_findings.specs.Told.{is_told}
+use Rattle.j39_line_findings.specs.declared.line_finding.LineFinding.{LineFinding}
+use Rattle.j39_line_findings.specs.declared.line_finding.LineFinding.TheVariants.{OfPlan, OfLoad}
+use Rattle.j39_line_findings.specs.declared.witnessed.Witnessed.{Witnessed}
+use Rattle.j39_plan_text.specs.FindingLines.{finding_text, run_lines}
+use Rattle.j39_plan_text.specs.LoadLines.{load_finding_text}
+use Rattle.j39_text.specs.Texts.{field}
+
+-- ---- the alternatives of a witness
+
+-- the place of the alternative that a variant takes of a choice
+abbrev pub place_taken : List ℕ → ℕ → ℕ
+place_taken variant c = unwrap_or (slice_get variant c) 0
+
+abbrev pub label_of_alternative : Choice → ℕ → List ℕ
+label_of_alternative choice p = option_map_or (λ label. label.bytes) (slice_get choice.alternatives.items p) []
+
+abbrev pub alternative_label : ProductLine → ℕ → ℕ → List ℕ
+alternative_label line c p = option_map_or (λ choice. label_of_alternative choice p) (slice_get line.choices.items c) []
+
+-- the alternative of a choice that the witness takes, where it is told
+unfoldable pub told_alternative : ProductLine → List Alternative → List ℕ → LineFinding → ℕ → List ℕ
+told_alternative line alternatives variant finding c =
+    if is_told line alternatives c finding then codes " " ++ alternative_label line c (place_taken variant c) else []
+
+abbrev pub told_alternatives : ProductLine → List Alternative → List ℕ → LineFinding → List ℕ
+told_alternatives line alternatives variant finding =
+    lines_of_each (λ c _. told_alternative line alternatives variant finding c) 0 line.choices.items
+
+abbrev pub is_any_told : ProductLine → List Alternative → LineFinding → Bool
+is_any_told line alternatives finding = list_any (λ c. is_told line alternatives c finding) (range_with_len 0 (length line.choices.items))
+
+-- in which variants: nothing where no alternative is told
+unfoldable pub witness_text : ProductLine → List Alternative → List ℕ → LineFinding → List ℕ
+witness_text line alternatives variant finding =
+    if is_any_told line alternatives finding then codes " in" ++ told_alternatives line alternatives variant finding else []
+
+-- ---- a finding
+
+abbrev pub line_finding_text : ProductLine → LineFinding → List ℕ
+line_finding_text line (OfPlan finding) = finding_text line.plan finding
+line_finding_text line (OfLoad finding) = load_finding_text finding
+
+-- the run that shows a conflict, and nothing for other findings
+abbrev pub run_of_line : ProductLine → LineFinding → List ℕ
+run_of_line line (OfPlan finding) = run_lines line.plan finding
+run_of_line line (OfLoad finding) = []
+
+unfoldable pub witness_line : ProductLine → List Alternative → List ℕ → LineFinding → List ℕ
+witness_line line alternatives variant finding =
+    line_finding_text line finding ++ (witness_text line alternatives variant finding ++ 10 ∷ [])
+
+unfoldable pub witness_report : ProductLine → List Alternative → List ℕ → LineFinding → List ℕ
+witness_report line alternatives variant finding = witness_line line alternatives variant finding ++ run_of_line line finding
+
+-- ---- all of them
+
+abbrev pub variant_at : List (List ℕ) → ℕ → List ℕ
+variant_at variants k = unwrap_or (slice_get variants k) []
+
+abbrev pub witness_reports : ProductLine → List Alternative → List (List ℕ) → List Witnessed → List ℕ
+witness_reports line alternatives variants =
+    lines_of_each (λ _ w. witness_report line alternatives (variant_at variants w.variant) w.finding) 0
+
+-- a line for each, and how many they are
+unfoldable pub findings_of_line_text : ProductLine → List Alternative → List (List ℕ) → List Witnessed → List ℕ
+findings_of_line_text line alternatives variants told = witness_reports line alternatives variants told
+    ++ (field (codes "findings ") (length told) ++ 10 ∷ [])

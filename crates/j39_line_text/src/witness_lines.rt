@@ -1,0 +1,235 @@
+//! The lines of what is found of a line of vehicles.
+ghost use Rattle.std.specs.Prelude.{◌≡◌, ◌++◌, IfOk, OnOk, length, map};
+ghost use Rattle.std.specs.List.{list_any, range_with_len};
+ghost use Rattle.j39_load.specs.LineLists.{lines_of_each};
+ghost use Rattle.j39_line_findings.specs.AllVariants.{all_variants};
+ghost use Rattle.j39_line_findings.specs.FullVariants.{alternatives_of};
+ghost use Rattle.j39_line_findings.specs.Told.{is_told};
+ghost use Rattle.j39_line_text.specs.WitnessLines.{alternative_label, findings_of_line_text, is_any_told, label_of_alternative, place_taken, run_of_line};
+ghost use Rattle.j39_line_text.specs.WitnessLines.{told_alternative, told_alternatives, variant_at, witness_line, witness_text};
+ghost use Rattle.j39_line_text.specs.WitnessLines.{line_finding_text, witness_report, witness_reports};
+
+use j39_line_findings::{LineFinding, Telling, Witnessed, all_variants, alternatives_of};
+use j39_plan_text::{write_finding, write_load_finding, write_run};
+use j39_text::TextBuffer;
+use j39_variants::{Alternative, Choice, ProductLine};
+use std::alloc::{AllocError, Global};
+
+fn place_taken(variant: &[usize], choice: usize) -> usize
+    ensures { result ≡ place_taken variant.now choice }
+{
+    match variant.get(choice) {
+        Some(place) => *place,
+        None => 0,
+    }
+}
+
+fn label_of_alternative(choice: &Choice, place: usize) -> &str
+    ensures { result.now ≡ label_of_alternative choice.now place }
+{
+    match choice.alternatives.get(place) {
+        Some(label) => label.as_str(),
+        None => "",
+    }
+}
+
+fn alternative_label(line: &ProductLine, choice: usize, place: usize) -> &str
+    ensures { result.now ≡ alternative_label line.now choice place }
+{
+    match line.choices.get(choice) {
+        Some(found) => label_of_alternative(found, place),
+        None => "",
+    }
+}
+
+fn is_told(
+    line: &ProductLine,
+    alternatives: &[Alternative],
+    finding: LineFinding,
+    choice: usize,
+) -> bool
+    ensures { result ≡ is_told line.now alternatives.now choice finding }
+{
+    let telling = Telling {
+        line,
+        alternatives,
+        choice,
+    };
+    telling.is_told(finding)
+}
+
+fn is_any_told(line: &ProductLine, alternatives: &[Alternative], finding: LineFinding) -> bool
+    ensures { result ≡ is_any_told line.now alternatives.now finding }
+{
+    (0..line.choices.len()).any(|choice| is_told(line, alternatives, finding, choice))
+}
+
+// Writes the alternative of a choice that the witness of a finding takes, where it is told.
+#[tactic(auto, unfolding(crate::specs::WitnessLines::told_alternative))]
+fn write_alternative(
+    text: &mut TextBuffer,
+    line: &ProductLine,
+    alternatives: &[Alternative],
+    variant: &[usize],
+    finding: LineFinding,
+    choice: usize,
+) -> Result<(), AllocError>
+    ensures { OnOk result (text.new ≡ text.old ++ told_alternative line.now alternatives.now variant.now finding choice) }
+{
+    if is_told(line, alternatives, finding, choice) {
+        text.word(" ")?;
+        text.word(alternative_label(line, choice, place_taken(variant, choice)))
+    } else {
+        Ok(())
+    }
+}
+
+fn write_alternatives(
+    text: &mut TextBuffer,
+    line: &ProductLine,
+    alternatives: &[Alternative],
+    variant: &[usize],
+    finding: LineFinding,
+) -> Result<(), AllocError>
+    ensures { OnOk result (text.new ≡ text.old ++ told_alternatives line.now alternatives.now variant.now finding) }
+{
+    for (choice, _found) in line.choices.iter().enumerate() {
+        write_alternative(text, line, alternatives, variant, finding, choice)?;
+    }
+    Ok(())
+}
+
+// Writes what is told of the witness of a finding.
+#[tactic(auto, unfolding(crate::specs::WitnessLines::witness_text))]
+fn write_witness(
+    text: &mut TextBuffer,
+    line: &ProductLine,
+    alternatives: &[Alternative],
+    variant: &[usize],
+    finding: LineFinding,
+) -> Result<(), AllocError>
+    ensures { OnOk result (text.new ≡ text.old ++ witness_text line.now alternatives.now variant.now finding) }
+{
+    if is_any_told(line, alternatives, finding) {
+        text.word(" in")?;
+        write_alternatives(text, line, alternatives, variant, finding)
+    } else {
+        Ok(())
+    }
+}
+
+fn write_line_finding(
+    text: &mut TextBuffer,
+    line: &ProductLine,
+    finding: LineFinding,
+) -> Result<(), AllocError>
+    ensures { OnOk result (text.new ≡ text.old ++ line_finding_text line.now finding) }
+{
+    match finding {
+        LineFinding::OfPlan(finding) => write_finding(text, &line.plan, finding),
+        LineFinding::OfLoad(finding) => write_load_finding(text, finding),
+    }
+}
+
+fn write_line_run(
+    alloc: Global,
+    text: &mut TextBuffer,
+    line: &ProductLine,
+    finding: LineFinding,
+) -> Result<(), AllocError>
+    ensures { OnOk result (text.new ≡ text.old ++ run_of_line line.now finding) }
+{
+    match finding {
+        LineFinding::OfPlan(finding) => write_run(alloc, text, &line.plan, &finding),
+        LineFinding::OfLoad(_) => Ok(()),
+    }
+}
+
+#[tactic(auto, unfolding(crate::specs::WitnessLines::witness_line))]
+fn write_witness_line(
+    text: &mut TextBuffer,
+    line: &ProductLine,
+    alternatives: &[Alternative],
+    variant: &[usize],
+    finding: LineFinding,
+) -> Result<(), AllocError>
+    ensures { OnOk result (text.new ≡ text.old ++ witness_line line.now alternatives.now variant.now finding) }
+{
+    write_line_finding(text, line, finding)?;
+    write_witness(text, line, alternatives, variant, finding)?;
+    text.end_line()
+}
+
+#[tactic(auto, unfolding(crate::specs::WitnessLines::witness_report))]
+fn write_report(
+    alloc: Global,
+    text: &mut TextBuffer,
+    line: &ProductLine,
+    alternatives: &[Alternative],
+    variant: &[usize],
+    finding: LineFinding,
+) -> Result<(), AllocError>
+    ensures { OnOk result (text.new ≡ text.old ++ witness_report line.now alternatives.now variant.now finding) }
+{
+    write_witness_line(text, line, alternatives, variant, finding)?;
+    write_line_run(alloc, text, line, finding)
+}
+
+// The variant at a place.
+fn variant_at(variants: &[Vec<usize>], place: usize) -> &[usize]
+    ensures { result.now ≡ variant_at (map (λ v. v.items) variants.now) place }
+{
+    match variants.get(place) {
+        Some(variant) => variant,
+        None => &[],
+    }
+}
+
+fn write_reports(
+    alloc: Global,
+    text: &mut TextBuffer,
+    line: &ProductLine,
+    alternatives: &[Alternative],
+    variants: &[Vec<usize>],
+    told: &[Witnessed],
+) -> Result<(), AllocError>
+    ensures { OnOk result (text.new ≡ text.old ++ witness_reports line.now alternatives.now (map (λ v. v.items) variants.now) told.now) }
+{
+    for witnessed in told {
+        let variant = variant_at(variants, witnessed.variant);
+        write_report(alloc, text, line, alternatives, variant, witnessed.finding)?;
+    }
+    Ok(())
+}
+
+// How many there are, behind their lines.
+#[tactic(auto, unfolding(crate::specs::WitnessLines::findings_of_line_text))]
+fn write_all(
+    alloc: Global,
+    text: &mut TextBuffer,
+    line: &ProductLine,
+    alternatives: &[Alternative],
+    variants: &[Vec<usize>],
+    told: &[Witnessed],
+) -> Result<(), AllocError>
+    ensures { OnOk result (text.new ≡ text.old ++ findings_of_line_text line.now alternatives.now (map (λ v. v.items) variants.now) told.now) }
+{
+    write_reports(alloc, text, line, alternatives, variants, told)?;
+    text.field("findings ", told.len())?;
+    text.end_line()
+}
+
+/// A line for each thing that is found of a line of vehicles, with what is told of its witness, and how many there are.
+pub(crate) fn findings_text(
+    alloc: Global,
+    line: &ProductLine,
+    told: &[Witnessed],
+) -> Result<TextBuffer, AllocError>
+    ensures { IfOk result (λ text. text ≡ findings_of_line_text line.now (alternatives_of line.now) (all_variants line.now.choices.items) told.now) }
+{
+    let alternatives = alternatives_of(alloc, line)?;
+    let variants = all_variants(alloc, &line.choices)?;
+    let mut text = TextBuffer::new(alloc);
+    write_all(alloc, &mut text, line, &alternatives, &variants, told)?;
+    Ok(text)
+}
