@@ -9,7 +9,7 @@ calls    each of these calls fails in turn, in pieces of 4,096 bytes, and for th
          part of the text written, and no call behind it but the complaint
 damage   a file of a row is cut, or a byte replaced: an answer of the command, with the status that its text tells. At each byte of the rows in
          rows/devices, else at a place of each file; with --all at each byte of each row, which takes hours
-limits   inputs of the most calls and the most bytes, and of one more
+limits   inputs of the most calls and the most bytes, and of one more, and a schedule of the most units and of the longest message
 
 The last line is 'N passed, M failed'.
 """
@@ -183,6 +183,24 @@ def limits(program: Preloaded, tally: Tally) -> None:
     for line, status, word in ((b"jump\n", 2, b"UnknownWord"), (b"rest A\n", 1, b"NotStarted")):
         output = b"refused line 1 " + word + b"\n" + off
         tried(f"a schedule refused at {line!r}", ["run", plan], line.ljust(MOST_BYTES + 1, b"\n"), MOST_BYTES, (status, output, b""))
+    large, schedule, output = largest_bus()
+    write(f"{program.room.folder}/large.toml", large)
+    tried("the largest bus", ["run", f"{program.room.folder}/large.toml"], schedule, MOST_BYTES, (0, output, b""))
+
+
+def largest_bus() -> tuple[bytes, bytes, bytes]:
+    """Returns a plan of 128 fixed units, of which the first sends the longest message to all, a schedule by which each is on and each takes it, and
+    what is written of that."""
+    units, packets, message = range(128), range(1, 256), "09" * 1785
+    plan = ["version = 1", *(f'[[unit]]\nlabel = "U{it}"\naddress = {it}\nname = {{ identity = {it} }}' for it in units)]
+    plan += ['[[group]]\nlabel = "G"\npgn = 65260\npriority = 6\nlength = 1785', '[[flow]]\ngroup = "G"\nfrom = "U0"\nto = "all"']
+    schedule = [line for it in units for line in (f"up U{it}", *(f"give U{it} U{other}" for other in range(it)))]
+    schedule += [f"begin 1 {message}", *("emit U0" for _ in packets), *(f"take U0 U{it}" for it in units[1:] for _ in range(256)), "rest U0"]
+    frames = [f"18EEFF{it:02X}#{it:02X}00000000000000" for it in units]
+    frames += ["1CECFF00#20F906FFFFECFE00", *(f"1CEBFF00#{it:02X}{'09' * 7}" for it in packets)]
+    ends = [*(f"unit U{it} address {it}" for it in units), "settled", *(f"report U{it} from U0 flow 1 bytes {message}" for it in units[1:])]
+    plan_text, schedule_text, output = ("".join(f"{it}\n" for it in lines).encode() for lines in (plan, schedule, [*frames, *ends]))
+    return plan_text, schedule_text, output
 
 
 PARTS: dict[str, Callable[[Preloaded, Try, bool], Faults]] = {"pieces": pieces, "calls": calls, "damage": damage}
