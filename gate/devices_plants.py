@@ -106,10 +106,11 @@ def main() -> int:
             status, lines = said(top, words)
             tally.count(f"{words} without a plant", status == 0 and lines[-1].endswith(" passed, 0 failed") and lines[-1][0] != "0", lines)
         for name, words, file, old, new, wanted in PLANTS:
+            before = crates.text_of(f"{top}/{file}")
             change(f"{top}/{file}", old, new)
             status, lines = said(top, words)
             tally.count(name, status == 1 and any(re.fullmatch(wanted, it) for it in lines), lines)
-            change(f"{top}/{file}", new, old)
+            write(f"{top}/{file}", before)
     return tally.end()
 
 
