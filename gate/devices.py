@@ -79,9 +79,9 @@ class Try:
 
 
 def files_of_vehicle(file: str) -> list[str]:
-    """Returns a vehicle file and the plans of its buses."""
-    plans = re.findall(r'plan *= *"([^"\n]*)"', rows.bytes_of(file).decode(errors="replace"))
-    return [file, *(os.path.join(os.path.dirname(file), it) for it in plans)]
+    """Returns a vehicle file and the plans of its buses, of whose names a letter may be escaped."""
+    plans = re.findall(rb'plan *= *"([^"\n]*)"', rows.bytes_of(file))
+    return [file, *(os.path.join(os.path.dirname(file), it.decode("unicode_escape")) for it in plans)]
 
 
 def tries(room: str) -> Iterator[Try]:
@@ -91,11 +91,12 @@ def tries(room: str) -> Iterator[Try]:
         if row.status is not None:
             continue
         command, files = row.words[0].decode(), row.files()
+        words = [it for it in row.words if f"{row.folder}/{it.decode(errors='replace')}" not in files]
         if command == "frame":
-            yield Try(row.name, command, [], [f"{row.folder}/{os.path.basename(row.name).removesuffix('.frame')}.line"], row.output, statuses[row.name])
-        else:
-            words = [it for it in row.words if f"{row.folder}/{it.decode()}" not in files]
-            yield Try(row.name, command, words, files_of_vehicle(files[0]) if command == "vehicle" else files, row.output, statuses[row.name])
+            words, files = [], [f"{row.folder}/{os.path.basename(row.name).removesuffix('.frame')}.line"]
+        elif command == "vehicle":
+            files = files_of_vehicle(files[0])
+        yield Try(row.name, command, words, files, row.output, statuses[row.name])
 
 
 def pieces(program: Preloaded, row: Try, _: bool) -> Faults:
@@ -112,10 +113,10 @@ def pieces(program: Preloaded, row: Try, _: bool) -> Faults:
 
 
 def calls(program: Preloaded, row: Try, _: bool) -> Faults:
-    """Stops each call of a row in turn."""
+    """Stops each call of a row in turn. What interrupts a call is tried on the small rows alone, in the largest pieces."""
     for piece in PIECES if row.is_small() else PIECES[-1:]:
-        whole = row.run(program, PIECE=piece).told
-        for kind, error in FAILURES if row.is_small() and piece == PIECES[-1] else [it for it in FAILURES if it[1] != errno.EINTR]:
+        whole, has_interrupts = row.run(program, PIECE=piece).told, row.is_small() and piece == PIECES[-1]
+        for kind, error in [it for it in FAILURES if has_interrupts or it[1] != errno.EINTR]:
             for number, at in enumerate([at for at, letter in enumerate(whole) if letter == kind], 1):
                 ran = row.run(program, PIECE=piece, FAIL_KIND=kind, FAIL_CALL=number, FAIL_ERROR=error)
                 is_part = row.output.startswith(ran.output) and (len(ran.output) < len(row.output) or row.status == DEVICE_STATUS)
