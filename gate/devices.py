@@ -7,6 +7,7 @@ usage: devices.py [--all] [PART..]    the parts of these names, else all:
 pieces   each row where a call moves at most 1, 2, 3 or 4,096 bytes: it writes the same, by the calls that its files ask for, and no other
 calls    each of these calls fails in turn, in pieces of 4,096 bytes, and for the rows in rows/devices also of 1, 2 and 3: a device fault, with a
          part of the text written, and no call behind it but the complaint
+puts     what each line of the input of a row in rows/devices gives is put before more is read, and closing lines at its end, in pieces of a byte
 damage   a file of a row is cut, or a byte replaced: an answer of the command, with the status that its text tells. At each byte of the rows in
          rows/devices, else at a place of each file; with --all at each byte of each row, which takes hours
 limits   inputs of the most calls and the most bytes, and of one more, and a schedule of the most units and of the longest message
@@ -124,6 +125,28 @@ def calls(program: Preloaded, row: Try, _: bool) -> Faults:
                     yield f"in pieces of {piece}, call {number} of {kind} fails by {error}: {ran}"
 
 
+def is_closing(command: str, line: bytes) -> bool:
+    """Whether a line of run, read or follow stands behind all that the lines of the input give."""
+    if command == "run":
+        return b"#" not in line
+    return line.startswith(b"frames ") if command == "read" else not line[:1].isdigit() and not line.startswith(b" ")
+
+
+def puts(program: Preloaded, row: Try, _: bool) -> Faults:
+    """Sees when a row's text is put: by then as much as the lines give that were read, which is what is written of them alone."""
+    if not row.is_small() or row.command not in ("run", "read", "follow") or len(row.files) != 2:
+        return
+    text, file = rows.bytes_of(row.files[1]), f"{program.room.folder}/begun"
+    plan, told = row.run(program, PIECE=1).told.removeprefix("o").split("o")
+    reads = [plan.count("w") + told[:at].count("w") for at, letter in enumerate(told) if letter == "r"]
+    for end in [at + 1 for at, byte in enumerate(text) if byte == ord("\n")]:
+        write(file, text[:end])
+        lines = row.run(program, [row.files[0], file]).output.splitlines(keepends=True)
+        given = sum(len(it) for it in lines if not is_closing(row.command, it))
+        if end < len(reads) and reads[end] != given:
+            yield f"behind {end} bytes of its input {reads[end]} bytes are put, and its lines give {given}"
+
+
 def damaged(text: bytes, place: int) -> Iterator[bytes]:
     """Returns the text cut at a place, and with the byte there replaced."""
     yield text[:place]
@@ -204,7 +227,7 @@ def largest_bus() -> tuple[bytes, bytes, bytes]:
     return plan_text, schedule_text, output
 
 
-PARTS: dict[str, Callable[[Preloaded, Try, bool], Faults]] = {"pieces": pieces, "calls": calls, "damage": damage}
+PARTS: dict[str, Callable[[Preloaded, Try, bool], Faults]] = {"pieces": pieces, "calls": calls, "puts": puts, "damage": damage}
 
 
 def main(words: list[str]) -> int:

@@ -17,8 +17,9 @@ import crates
 from preloaded import compiler
 from tally import PROGRAM, Tally, is_built
 
-# The rows in the copy.
-ROWS = ("cut.not_run.run", "frame.frame", "nothing.check")
+# The rows in the copy, and the plan of the schedules at the limits.
+PLAN = "two_flows.toml"
+ROWS = ("cut.not_run.run", "frame.frame", "nothing.check", "shared.conflict.run")
 WRITE = "\treturn end == GOES_ON ? __write(file, buffer, piece_of(bytes)) : end;"
 READ = "\treturn end == GOES_ON ? __read(file, buffer, piece_of(bytes)) : end;"
 # A name, the script and its part, the file, its old and its new text, and a line that the script has to write.
@@ -42,6 +43,9 @@ PLANTS = (
      r"calls of devices/nothing\.check: in pieces of 1, call 1 of w fails by 28: status 4, .* output b'\?', .*"),
     ("a call behind a failed one", "devices.py calls", "gate/fail_io.c", "\treturn FAILED;\n}", '\ttell(letter);\n\treturn FAILED;\n}',
      r"calls of devices/nothing\.check: in pieces of 1, call 1 of o fails by 13: status 4, .*, calls o2 e.*"),
+    ("a byte is put late", "devices.py puts", "gate/fail_io.c", '\tint end = stop(file == 1 ? "w" : "e");',
+     '\tstatic int late;\n\tint end = stop(file == 1 && ++late > 1 ? "w" : "e");',
+     r"puts of devices/shared\.conflict\.run: behind 5 bytes of its input 25 bytes are put, and its lines give 26; .*"),
     ("no line of the command", "devices.py damage", "gate/fail_io.c", WRITE, '\t__write(file, "?", 1);\n' + WRITE, r"damage of devices/nothing\.check: .*'no line of check: \?.*"),
     ("another status than the text's", "devices.py damage", "gate/fail_io.c", WRITE, '\t__write(file, "ok\\n", 3);\n\treturn bytes;',
      r"damage of devices/nothing\.check: .*'status 2, its text tells 0', .*"),
@@ -55,20 +59,16 @@ PLANTS = (
 
 
 def made(top: str) -> None:
-    """Copies the scripts and a few rows, and the folder of the commands, for which nothing but the help is asked."""
+    """Copies the scripts and a few rows. Of the commands, which read examples, none is tried."""
     shutil.copytree(f"{crates.TOP}/gate", f"{top}/gate", ignore=shutil.ignore_patterns("__pycache__"))
-    shutil.copytree(f"{crates.TOP}/rows/devices", f"{top}/rows/devices")
+    stems = {os.path.splitext(it)[0] for it in ROWS}
+    wanted = {PLAN, *ROWS, *(f"{it.partition('.')[0]}.toml" for it in ROWS), *(f"{it}{ending}" for it in stems for ending in (".schedule", ".line"))}
+    shutil.copytree(f"{crates.TOP}/rows/devices", f"{top}/rows/devices", ignore=lambda _, names: [it for it in names if it not in wanted])
     os.mkdir(f"{top}/examples")
     kept = {f"devices/{it}" for it in ROWS}
-    for it in os.listdir(f"{top}/rows/devices"):
-        if it.endswith((".vehicle", ".run", ".check", ".show", ".variant", ".addresses", ".load", ".read", ".follow", ".all", ".audit")) and it not in ROWS:
-            os.remove(f"{top}/rows/devices/{it}")
     with open(f"{crates.TOP}/rows/statuses", encoding="utf-8") as lines, open(f"{top}/rows/statuses", "w", encoding="utf-8") as file:
         file.writelines(it for it in lines if it.partition(" ")[0] in kept)
-    change(f"{top}/gate/tally.py", '    ["--help"],\n', "")
-    text = crates.text_of(f"{top}/gate/tally.py")
-    begin, end = text.index('    ["frame"'), text.index('    ["--version"]')
-    write(f"{top}/gate/tally.py", text[:begin] + text[end:])
+    change(f"{top}/gate/memory.py", "for words in (*COMMANDS, *WORDS)]", "for words in WORDS]")
 
 
 def write(file: str, text: str) -> None:

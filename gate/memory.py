@@ -18,6 +18,8 @@ import devices
 from preloaded import Preloaded, Ran, compiler
 from tally import COMMANDS, MEMORY, MEMORY_STATUS, PROGRAM, Tally, is_built
 
+# Other words that are tried.
+WORDS: tuple[list[str], ...] = (["--version"], ["jump"], [])
 # More allocations than any of the runs asks for.
 MOST = 20_000
 # A name, the words, and the file that is given as standard input.
@@ -45,8 +47,8 @@ def refused(program: Preloaded, asked: Asked) -> tuple[int, str]:
 
 
 def all_asked(room: str) -> list[Asked]:
-    """Returns the commands, in the folder examples/, words that are none, and the rows."""
-    commands = [(" ".join(words) or "no words", [it.encode() for it in words], "/dev/null") for words in (*COMMANDS, ["jump"])]
+    """Returns the commands, in the folder examples/, other words, and the rows."""
+    commands = [(" ".join(words) or "no words", [it.encode() for it in words], "/dev/null") for words in (*COMMANDS, *WORDS)]
     small = [it for it in devices.tries(room) if it.is_small()]
     return commands + [(it.name, it.all_words(it.files), it.stdin(it.files)) for it in small]
 

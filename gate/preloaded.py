@@ -74,4 +74,5 @@ class Preloaded:
         child = os.posix_spawn(PROGRAM, [PROGRAM, *words], environment, file_actions=actions)
         resource.prlimit(child, resource.RLIMIT_CPU, (SECONDS, SECONDS))
         status = os.waitstatus_to_exitcode(os.waitpid(child, 0)[1])
-        return Ran(status, *(os.pread(it, os.fstat(it).st_size, 0) for it in (output, complaint)), os.pread(told, os.fstat(told).st_size, 0).decode())
+        wrote = [os.pread(it, os.fstat(it).st_size, 0) for it in self.room.files]
+        return Ran(status, wrote[0], wrote[1], wrote[2].decode())

@@ -35,8 +35,6 @@ COMMANDS = (
     ["vehicle", "three_buses/truck.toml"],
     ["vehicle", "three_buses/slow_gateway.toml"],
     ["--help"],
-    ["--version"],
-    [],
 )
 
 
