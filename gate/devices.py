@@ -137,8 +137,9 @@ def puts(program: Preloaded, row: Try, _: bool) -> Faults:
     if not row.is_small() or row.command not in ("run", "read", "follow") or len(row.files) != 2:
         return
     text, file = rows.bytes_of(row.files[1]), f"{program.room.folder}/begun"
-    plan, told = row.run(program, PIECE=1).told.removeprefix("o").split("o")
-    reads = [plan.count("w") + told[:at].count("w") for at, letter in enumerate(told) if letter == "r"]
+    # of each file, its calls: of a plan that is refused there is no other one
+    told = row.run(program, PIECE=1).told.split("o")[2:]
+    reads = [told[0][:at].count("w") for at, letter in enumerate(told[0]) if letter == "r"] if told else []
     for end in [at + 1 for at, byte in enumerate(text) if byte == ord("\n")]:
         write(file, text[:end])
         lines = row.run(program, [row.files[0], file]).output.splitlines(keepends=True)
