@@ -3,12 +3,12 @@
 
 usage: rows.py [--list]    --list: prints the status of each row, as rows/statuses has them
 
-Rows: a file that a command is run on, and beside it what the command writes; standard error stays empty. `PLAN.toml` is checked, and where
-`PLAN.addresses`, `PLAN.load`, `PLAN.show` or `PLAN.variant` stands beside it also answered as to its addresses, its load, its values or those of
-its first variant; where `NAME.answer` stands beside it, `NAME.toml` is a vehicle file, and answered as one. `PLAN.NAME.schedule` is run and `PLAN.NAME.log` is read by the plan beside
-it and, where `PLAN.NAME.follow` stands there, also followed, or `PLAN.NAME.all`, all frames of it, or `PLAN.NAME.audit`, audited, or
-`PLAN.NAME.part`, as a part of a log; `NAME.line` is a frame line. `NAME.vehicle` has the files of a vehicle in one: a line `== FILE` begins each
-of them, the vehicle file first, and `== answer` what is written.
+Rows: a file that a command is run on, and beside it what the command writes; standard error stays empty, but for a device fault. `PLAN.toml` is
+checked, and where `PLAN.addresses`, `PLAN.load`, `PLAN.show` or `PLAN.variant` stands beside it also answered as to its addresses, its load, its
+values or those of its first variant; where `NAME.answer` stands beside it, `NAME.toml` is a vehicle file, and answered as one.
+`PLAN.NAME.schedule` is run and `PLAN.NAME.log` is read by the plan beside it and, where `PLAN.NAME.follow` stands there, also followed, or
+`PLAN.NAME.all`, all frames of it, or `PLAN.NAME.audit`, audited, or `PLAN.NAME.part`, as a part of a log; `NAME.line` is a frame line.
+`NAME.vehicle` has the files of a vehicle in one: a line `== FILE` begins each of them, the vehicle file first, and `== answer` what is written.
 
 Cases: a folder with `args`, a word a line, and where they are wanted `stdin`; `repeat`, how many times standard input has it; `room`, how many
 bytes standard output takes; `stdout`, `stderr`, and `status`, 0 where it is absent.
