@@ -24,7 +24,7 @@ import law_text
 from crates import text_of
 
 # Crates that are tests: nothing of the program stands on them.
-TESTS = ("library_vectors", "j39_vectors", "examples_check")
+TESTS = ("library_vectors",)
 
 # What has a case in many files: a step and a finding as examples; and how a comment at the top of a file begins, by the file's ending.
 CASES = (("Where a step has a case", "Down"), ("Where a finding has a case", "KeptAddress"))

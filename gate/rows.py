@@ -1,14 +1,14 @@
 #!/usr/bin/env python3
-"""Runs the program on the rows and cases in crates/examples_check/data, and says which aren't as shown.
+"""Runs the program on the rows and cases in rows/, and says which aren't as shown.
 
-usage: rows.py [--list]    --list: prints the status of each, as crates/examples_check/statuses has them
+usage: rows.py [--list]    --list: prints the status of each row, as rows/statuses has them
 
-Rows: a file that a command is run on, and beside it what the command writes; standard error stays empty. `PLAN.toml` is checked, and where
-`PLAN.addresses`, `PLAN.load` or `PLAN.show` stands beside it also answered as to its addresses, its load or its values; where `NAME.answer`
-stands beside it, `NAME.toml` is a vehicle file, and answered as one. `PLAN.NAME.schedule` is run and `PLAN.NAME.log` is read by the plan beside
-it and, where `PLAN.NAME.follow` stands there, also followed, or `PLAN.NAME.all`, all frames of it, or `PLAN.NAME.audit`, audited, or
-`PLAN.NAME.part`, as a part of a log; `NAME.line` is a frame line. Rows whose files come some bytes at a time, those of `NAME.vehicle` among
-them, are run by the crate itself.
+Rows: a file that a command is run on, and beside it what the command writes; standard error stays empty, but for a device fault. `PLAN.toml` is
+checked, and where `PLAN.addresses`, `PLAN.load`, `PLAN.show` or `PLAN.variant` stands beside it also answered as to its addresses, its load, its
+values or those of its first variant; where `NAME.answer` stands beside it, `NAME.toml` is a vehicle file, and answered as one.
+`PLAN.NAME.schedule` is run and `PLAN.NAME.log` is read by the plan beside it and, where `PLAN.NAME.follow` stands there, also followed, or
+`PLAN.NAME.all`, all frames of it, or `PLAN.NAME.audit`, audited, or `PLAN.NAME.part`, as a part of a log; `NAME.line` is a frame line.
+`NAME.vehicle` has the files of a vehicle in one: a line `== FILE` begins each of them, the vehicle file first, and `== answer` what is written.
 
 Cases: a folder with `args`, a word a line, and where they are wanted `stdin`; `repeat`, how many times standard input has it; `room`, how many
 bytes standard output takes; `stdout`, `stderr`, and `status`, 0 where it is absent.
@@ -32,10 +32,10 @@ sys.dont_write_bytecode = True
 import crates
 import tally
 
-DATA = f"{crates.folder('examples_check')}/data"
-STATUSES = f"{crates.folder('examples_check')}/statuses"
+DATA = f"{crates.TOP}/rows"
+STATUSES = f"{DATA}/statuses"
 # The commands of rows by the ending of what they write, and the ending of the file that they are run on beside the plan.
-OF_PLANS = {".check": "check", ".addresses": "addresses", ".load": "load", ".show": "show", ".answer": "vehicle"}
+OF_PLANS = {".check": "check", ".addresses": "addresses", ".load": "load", ".show": "show", ".variant": "variant", ".answer": "vehicle"}
 OF_INPUTS = {".run": (["run"], ".schedule"), ".read": (["read"], ".log"), ".follow": (["follow"], ".log"), ".all": (["follow", "--all"], ".log"),
              ".audit": (["audit"], ".log"), ".part": (["audit", "--part"], ".log")}
 # How long a row may run: the longest inputs take the program that isn't proved minutes.
@@ -56,6 +56,11 @@ class Row:
     status: int | None = None
     input: bytes = b""
     room: int | None = None
+
+    def files(self) -> list[str]:
+        """Returns the files that the program is told to read."""
+        named = [] if self.words[0] == b"frame" else [it.decode() for it in self.words[1:] if not it.startswith(b"-")]
+        return [f"{self.folder}/{it}" for it in named]
 
 
 def bytes_of(file: str, default: bytes = b"") -> bytes:
@@ -86,28 +91,44 @@ def words_of(folder: str, name: str, ending: str) -> list[bytes] | None:
     return [b"frame", bytes_of(f"{folder}/{name}.line")] if ending == ".frame" else None
 
 
-def rows_of(folder: str, at: str) -> Iterator[Row]:
+def vehicle(file: str, name: str, room: str) -> Row:
+    """Returns the row of a vehicle, whose files it writes into a folder of their own. There a name begins that begins with a slash."""
+    folder = f"{room}/{name}"
+    parts = [it.partition(b"\n") for it in bytes_of(file).removeprefix(b"== ").split(b"\n== ")]
+    for part, _, text in parts:
+        if part != b"answer":
+            path = f"{folder}/{part.decode()}"
+            os.makedirs(os.path.dirname(path), exist_ok=True)
+            with open(path, "wb") as opened:
+                opened.write(text.replace(b'"/', f'"{folder}/'.encode()))
+    first = parts[0][0].removeprefix(b"/")
+    return Row(name, folder, [b"vehicle", first], next(text for part, _, text in parts if part == b"answer"))
+
+
+def rows_of(folder: str, at: str, room: str) -> Iterator[Row]:
     """Returns the rows of a folder."""
     for file in sorted(os.listdir(folder)):
         name, ending = os.path.splitext(file)
         words = words_of(folder, name, ending)
         if words:
             yield Row(f"{at}/{file}", folder, words, bytes_of(f"{folder}/{file}"))
+        elif ending == ".vehicle":
+            yield vehicle(f"{folder}/{file}", f"{at}/{file}", room)
 
 
-def all_rows() -> Iterator[Row]:
-    """Returns each row and each case."""
+def all_rows(room: str) -> Iterator[Row]:
+    """Returns each row and each case. Files of vehicles are written into a folder."""
     for folder, _, names in sorted(os.walk(DATA)):
         at = os.path.relpath(folder, DATA)
         if "args" in names:
             yield case(folder, at)
         else:
-            yield from rows_of(folder, at)
+            yield from rows_of(folder, at, room)
 
 
-def unused() -> list[str]:
+def unused(rows: list[Row]) -> list[str]:
     """Returns the files of rows that no row is run on: a plan, a schedule, a log or a frame line with nothing beside it."""
-    taken = {f"{row.folder}/{word.decode()}" for row in all_rows() if row.status is None for word in row.words[1:] if b"\n" not in word}
+    taken = {it for row in rows if row.status is None for it in row.files()}
     found = []
     for folder, _, names in os.walk(DATA):
         if "args" in names or "/commands" in folder:
@@ -144,13 +165,14 @@ def listed() -> dict[str, int]:
 
 def fault(row: Row, wanted: dict[str, int]) -> str:
     """Returns how a run differs from its row, '' where it doesn't."""
+    must = wanted.get(row.name) if row.status is None else row.status
+    said = row.complaints or (tally.DEVICE if row.status is None and must == tally.DEVICE_STATUS else b"")
     try:
         status, output, complaints = run(row)
     except subprocess.TimeoutExpired:
         return f"not done after {SECONDS} s"
-    if (output, complaints) != (row.output, row.complaints):
+    if (output, complaints) != (row.output, said):
         return "other text"
-    must = wanted.get(row.name) if row.status is None else row.status
     return "" if status == must else f"status {status}, not {must}"
 
 
@@ -158,16 +180,21 @@ def main(words: list[str]) -> int:
     if not tally.is_built(tally.PROGRAM):
         print(f"{tally.PROGRAM} isn't built", file=sys.stderr)
         return 2
-    rows = list(all_rows())
+    with tempfile.TemporaryDirectory(prefix="j39plan-rows-") as room:
+        return run_all(list(all_rows(room)), words == ["--list"])
+
+
+def run_all(rows: list[Row], is_list: bool) -> int:
+    """Runs the rows, and says what isn't as shown, or the status of each. Returns the exit status."""
     with ThreadPoolExecutor(os.cpu_count()) as pool:
-        if words == ["--list"]:
+        if is_list:
             for row, (status, _, _) in zip(rows, pool.map(run, rows)):
                 print(*([] if row.status is not None else [row.name, status]), end="" if row.status is not None else "\n")
             return 0
         wanted = listed()
         faults = [(row.name, it) for row, it in zip(rows, pool.map(lambda row: fault(row, wanted), rows)) if it]
     gone = wanted.keys() - {row.name for row in rows}
-    faults += [(name, "listed, and no row") for name in sorted(gone)] + [(name, "nothing is run on it") for name in unused()]
+    faults += [(name, "listed, and no row") for name in sorted(gone)] + [(name, "nothing is run on it") for name in unused(rows)]
     for name, it in faults:
         print(f"{name}: {it}")
     print(f"{len(rows) - len(faults)} passed, {len(faults)} failed")

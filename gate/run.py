@@ -30,7 +30,9 @@ PARTS = (
     ("launcher", [sys.executable, "gate/launcher.py"], 20),
     ("tools", ["tools/test"], 45),
     ("faults", [sys.executable, "gate/faults.py"], 20),
+    ("devices", [sys.executable, "gate/devices.py"], 20),
     ("memory", [sys.executable, "gate/memory.py"], 20),
+    ("devices' plants", [sys.executable, "gate/devices_plants.py"], 10),
     ("program", [sys.executable, "gate/program.py"], 5),
 )
 COUNTS = re.compile(r"(\d+) passed, (\d+) failed")

@@ -13,6 +13,7 @@ import crates
 PROGRAM = os.path.realpath(os.environ.get("J39PLAN") or f"{crates.folder('j39plan')}/out/j39plan")
 DEVICE, MEMORY = b"j39plan: device fault\n", b"j39plan: out of memory\n"
 TOO_LONG, BAD_WORDS = b"j39plan: input too long\n", b"j39plan: bad command line\n"
+DEVICE_STATUS, MEMORY_STATUS = 4, 3
 SECONDS = 60
 # Each command once: its words, from the folder examples/.
 COMMANDS = (

@@ -12,7 +12,7 @@ from j39plan.plan import answer_grammar
 from j39plan.plan.answers import Age, Delay, load_of, stands
 from tests.support import InFolder, TOP, example, run, text_of, there
 
-CASES = os.path.join(TOP, "crates", "examples_check", "data")
+CASES = os.path.join(TOP, "rows")
 
 # A line of each form, and what it says.
 SAID = [

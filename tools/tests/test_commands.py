@@ -1,10 +1,17 @@
 """Each command of the program is tried on failing devices, damaged inputs and refused memory."""
 
 import re
+import sys
 import unittest
 
 from j39plan import program
 from tests.support import TOP, text_of
+
+sys.path.insert(0, f"{TOP}/gate")
+try:
+    import rows
+finally:
+    sys.path.pop(0)
 
 
 class Commands(unittest.TestCase):
@@ -17,8 +24,10 @@ class Commands(unittest.TestCase):
         self.assertEqual(self.commands - tried, set())
 
     def test_the_rows_have_each(self) -> None:
-        rows = re.findall(r"^    (\w+),$", text_of(f"{TOP}/crates/examples_check/src/row.rt").partition("enum Command")[2].partition("}")[0], re.MULTILINE)
-        self.assertEqual(self.commands - {row.lower() for row in rows}, set())
+        statuses = text_of(f"{TOP}/rows/statuses")
+        ended = {f".{it}" for it in re.findall(r"^devices/\S+\.(\w+) ", statuses, re.MULTILINE)}
+        run = [*rows.OF_PLANS.items(), *((ending, words[0]) for ending, (words, _) in rows.OF_INPUTS.items()), (".frame", "frame"), (".vehicle", "vehicle")]
+        self.assertEqual(self.commands - {command for ending, command in run if ending in ended}, set())
 
 
 if __name__ == "__main__":

@@ -15,7 +15,7 @@ from j39plan.plan.tables import Tables
 from tests.support import InFolder, MARKED, NEWER, TOP, example, plans, run, signal, text_of, there
 
 PLAN, FAULTY = example("tractor_and_implement.toml"), example("findings/several.toml")
-CHECKS = os.path.join(TOP, "crates", "examples_check", "data", "checks")
+CHECKS = os.path.join(TOP, "rows", "checks")
 
 # Elements without an end.
 VOID = ("meta", "br")

@@ -168,7 +168,7 @@ class Validated(InFolder):
 
     def test_it_refuses_the_cases_that_the_program_refuses(self) -> None:
         """But for what a schema can't say: two places of a plan that have to fit together, and of which primes a number is a product."""
-        plans = sorted(glob.glob(os.path.join(TOP, "crates", "examples_check", "data", "refusals", "*.toml")))
+        plans = sorted(glob.glob(os.path.join(TOP, "rows", "refusals", "*.toml")))
         self.assertGreater(len(plans), 100)
         for plan in plans:
             refused = text_of(plan[:-5] + ".check")

@@ -14,7 +14,7 @@ from j39plan.plan import answer_places
 from j39plan.plan.parts import Source
 from tests.support import InFolder, MARKED, NEWER, TOOLS, TOP, example, plans, run, shown_refusals, signal, text_of, there
 
-CASES = os.path.join(TOP, "crates", "examples_check", "data")
+CASES = os.path.join(TOP, "rows")
 
 UNIT = '[[unit]]\nlabel = "{}"\naddress = {}\nname = {{ identity = {} }}\n'
 

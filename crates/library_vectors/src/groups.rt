@@ -91,16 +91,8 @@ pub fn hours() -> [SignalRow; 2] {
     ]
 }
 
-/// Vehicle distance, PGN 65248.
-pub fn vd() -> [SignalRow; 2] {
-    [
-        measured("SPN244", 1, 32, "1/8 km", 1, 0),
-        measured("SPN245", 5, 32, "1/8 km", 1, 0),
-    ]
-}
-
-/// A group of a maker: states, numbers in two's complement, and a diagnostic trouble code.
-pub fn maker() -> [SignalRow; 4] {
+/// A group of a maker: states, and numbers in two's complement.
+pub fn maker() -> [SignalRow; 3] {
     let torque = SignalRow {
         step: 5,
         offset: 100,
@@ -110,7 +102,6 @@ pub fn maker() -> [SignalRow; 4] {
         unscaled("GEAR", 1, 1, 4, Kind::States),
         torque,
         unscaled("ANGLE", 3, 1, 12, Kind::Signed),
-        unscaled("CODE", 5, 1, 32, Kind::Dtc),
     ]
 }
 
@@ -184,12 +175,6 @@ impl Laid {
         } else {
             Err("no such place").map_err(Fail::from)
         }
-    }
-
-    /// Takes the payload from hex digits.
-    pub fn load(&mut self, alloc: Global, digits: &str) -> Result<(), Fail> {
-        self.payload = hex::decode(alloc, digits)?;
-        Ok(())
     }
 
     /// The payload in capital hex digits.

@@ -9,6 +9,8 @@ mod groups;
 #[cfg(test)]
 mod kinds;
 #[cfg(test)]
+mod packets;
+#[cfg(test)]
 mod signals;
 #[cfg(test)]
 mod transfers;

@@ -1,5 +1,5 @@
 //! Signals and layouts on worked payloads.
-use crate::groups::{Laid, SignalRow, ccvs, eec1, et1, hours, signals, vd};
+use crate::groups::{Laid, SignalRow, ccvs, eec1, et1, hours, signals};
 use j39_id::Label;
 use j39_signal::{Kind, Layout, LayoutError, Signal, State, WriteError};
 use std::alloc::Global;
@@ -21,22 +21,6 @@ pub fn writes(
     }
     assert!(rt; group.text(alloc)?.as_str() == text);
     for (label, state) in states {
-        assert!(rt; group.read(label)? == *state);
-    }
-    Ok(())
-}
-
-/// Sees what payloads show of a signal.
-pub fn shows(
-    rt: &impl Abort,
-    alloc: Global,
-    rows: &[SignalRow],
-    label: &str,
-    payloads: &[(&str, State)],
-) -> Result<(), Fail> {
-    let mut group = Laid::blank(alloc, rows)?;
-    for (digits, state) in payloads {
-        group.load(alloc, digits)?;
         assert!(rt; group.read(label)? == *state);
     }
     Ok(())
@@ -82,22 +66,6 @@ fn a_measured_byte_takes_its_range(rt: HostRuntime) -> Result<(), Fail> {
         &[],
     )?;
     writes(&rt, rt.alloc(), &et1(), &values, "7DFFFFFFFFFFFFFF", &[])
-}
-
-#[test]
-fn a_measured_signal_shows_its_state(rt: HostRuntime) -> Result<(), Fail> {
-    let bytes = [
-        ("FEFFFFFFFFFFFFFF", State::Fault(254)),
-        ("FFFFFFFFFFFFFFFF", State::Absent),
-        ("FBFFFFFFFFFFFFFF", State::Specific(251)),
-        ("FCFFFFFFFFFFFFFF", State::Reserved(252)),
-    ];
-    shows(&rt, rt.alloc(), &et1(), "SPN110", &bytes)?;
-    let words = [
-        ("FFFFFFFAFFFFFFFF", State::Value(4_211_081_215)),
-        ("000000FBFFFFFFFF", State::Specific(4_211_081_216)),
-    ];
-    shows(&rt, rt.alloc(), &vd(), "SPN244", &words)
 }
 
 #[test]
@@ -180,31 +148,6 @@ fn wide(start: u16, bits: u8, kind: Kind) -> Result<Signal, Fail> {
     let label = Label::from("SPN110").ok().ok_or("a long label")?;
     let unit = Label::from("degC").ok().ok_or("a long unit")?;
     Ok(Signal::new(label, start, bits, kind, 2, -40, unit).ok_or("no signal")?)
-}
-
-#[test]
-fn parts_are_read_as_given(rt: HostRuntime) -> Result<(), Fail> {
-    let signal = wide(8, 16, Kind::Measured)?;
-    let texts = (signal.label().as_str(), signal.unit().as_str());
-    assert!(rt; texts == ("SPN110", "degC"));
-    assert!(rt; (signal.start(), signal.bits()) == (8, 16));
-    assert!(rt; (signal.step(), signal.offset()) == (2, -40));
-    assert!(rt; signal.kind() == Kind::Measured);
-    assert!(rt; signal.width_fits() && signal.is_inside(3) && !signal.is_inside(2));
-    Ok(())
-}
-
-#[test]
-fn signals_share_a_bit_where_they_overlap(rt: HostRuntime) -> Result<(), Fail> {
-    let (low, high) = (wide(0, 4, Kind::Raw)?, wide(4, 4, Kind::Raw)?);
-    let middle = wide(3, 2, Kind::Discrete)?;
-    let shared = (
-        low.shares_bit(&high),
-        low.shares_bit(&middle),
-        middle.shares_bit(&high),
-    );
-    assert!(rt; shared == (false, true, true));
-    Ok(())
 }
 
 #[test]

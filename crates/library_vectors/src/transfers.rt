@@ -1,8 +1,8 @@
 //! Packets, senders and receivers on a worked message.
 use j39_id::Pgn;
 use j39_tp::{
-    Dest, Heard, Message, Outcome, Packet, PacketError, Phase, Reaction, Receiver, Sender, Size,
-    from_cm, from_dt, sent_packets_read_back, to_data,
+    Dest, Heard, Message, Outcome, Packet, PacketError, Phase, Reaction, Receiver, Sender, from_cm,
+    from_dt, sent_packets_read_back, to_data,
 };
 use std::process::Abort;
 use std::test::Fail;
@@ -40,22 +40,6 @@ fn message() -> Result<Message, Fail> {
 }
 
 #[test]
-fn packets_are_refused_by_their_first_fault(rt: HostRuntime) {
-    for (bytes, error) in [
-        ([0x10, 0x11, 0, 4, 0xFF, 0xEC, 0xFE, 0], PacketError::Count),
-        ([0x20, 8, 0, 2, 0xFF, 0xEC, 0xFE, 0], PacketError::Size),
-        (
-            [0x14, 0x11, 0, 3, 0xFF, 0xEC, 0xFE, 0],
-            PacketError::Control,
-        ),
-        ([0x11, 3, 0, 0xFF, 0xFF, 0xEC, 0xFE, 0], PacketError::Number),
-        ([0x20, 0x11, 0, 3, 0xFF, 1, 0xEE, 0], PacketError::Group),
-    ] {
-        assert!(rt; from_cm(&bytes) == Err(error), "at {bytes:?}");
-    }
-}
-
-#[test]
 fn packets_are_read_and_sent_again(rt: HostRuntime) -> Result<(), Fail> {
     sent_packets_read_back();
     for (bytes, sent) in [
@@ -67,20 +51,6 @@ fn packets_are_read_and_sent_again(rt: HostRuntime) -> Result<(), Fail> {
         assert!(rt; to_data(&packet_of(&bytes)?) == sent);
     }
     Ok(())
-}
-
-#[test]
-fn sizes_and_their_packets(rt: HostRuntime) {
-    for (bytes, packets) in [
-        (8, None),
-        (9, Some(2)),
-        (14, Some(2)),
-        (15, Some(3)),
-        (1785, Some(255)),
-        (1786, None),
-    ] {
-        assert!(rt; Size::new(bytes).map(|size| size.packets()) == packets);
-    }
 }
 
 #[test]
