@@ -22,7 +22,7 @@ from j39plan import program
 from j39plan.fleet.signals import Code, Signals, Spread
 from j39plan.log.clock import DAY, SECOND, nanoseconds
 from j39plan.log.files import OneInterface, is_packed, whole
-from j39plan.log.reports import Lines, Writer, as_it_comes, identity_of, who_of
+from j39plan.log.reports import Writer, as_it_comes, below_of, identity_of, who_of
 from j39plan.log.serial_numbers import by_kind
 from j39plan.plan.tables import Tables
 
@@ -181,7 +181,7 @@ class Followed:
     """What `follow` says of a log, taken together."""
 
     def __init__(self, tables: Tables) -> None:
-        self._flows, self._below = len(tables.flows), Lines(tables).below
+        self._flows, self._below = len(tables.flows), below_of(tables)
         self._signals, self._silences = Signals(tables), Silences()
         self._numbers = {unit.label: unit.identity for unit in tables.units}
         self._claims: dict[str, Claimed] = {}
@@ -211,7 +211,7 @@ class Followed:
             at_line = int(number)
             if flow:
                 self._silences.sent(flow, at_line)
-            for signal in islice(lines, below(group, len(data) - 1)):
+            for signal in islice(lines, below[group][len(data) - 1]):
                 counted = known.get(signal)
                 if counted is not None:
                     counted[0] += 1

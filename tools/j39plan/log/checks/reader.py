@@ -11,7 +11,7 @@ from j39plan.j1939 import FRAME_BYTES
 from j39plan.log.checks.comparison import Comparison
 from j39plan.log.checks.feed import Feed
 from j39plan.log.checks.distances import Track
-from j39plan.log.reports import GROUP, KIND, Claim, Counts, Frame, Lines, Message, Who, report_of
+from j39plan.log.reports import GROUP, KIND, Claim, Counts, Frame, Message, Who, below_of, report_of
 from j39plan.plan.tables import Tables
 
 # So many digits, and the end of the line, has the data of a frame at most; and so many meanings are kept.
@@ -37,7 +37,7 @@ class Reader:
 
     def __init__(self, comparison: Comparison, feed: Feed, tables: Tables, counts: Counts) -> None:
         self._comparison, self._feed, self._counts = comparison, feed, counts
-        self._below = Lines(tables).below
+        self._below = below_of(tables)
         self._unheard, self._beside = feed.noted
         self._plain: dict[str, Plain] = {}
         self._frames: dict[str, Frame] = {}  # the last frame of no planned group, by its line without time and data
@@ -84,7 +84,7 @@ class Reader:
         """A report."""
         words, below = line.split(), []
         if words[KIND] == "group":
-            below = list(islice(lines, self._below(words[GROUP], len(words[-1]))))
+            below = list(islice(lines, self._below[words[GROUP]][len(words[-1])]))
         report = report_of(words, below)
         for noted in self._feed.unheard(report.line):
             self._comparison.unheard(noted)
