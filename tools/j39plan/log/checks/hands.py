@@ -2,7 +2,7 @@
 
 from typing import NamedTuple
 
-from j39plan.j1939 import POOL, identity_in
+from j39plan.j1939 import CONTESTED, POOL, RESPONSE, WAIT, identity_in
 from j39plan.log.checks.deviations import Found
 from j39plan.log.checks.ignition import Again, Ignition
 from j39plan.log.clock import MILLISECOND, SECOND, milliseconds
@@ -10,16 +10,16 @@ from j39plan.log.reports import Who
 from j39plan.plan.tables import Tables, Unit
 
 # So long who claims one of the addresses that may be chosen waits before it sends, and so long its claim may be contested.
-CONTEST = 250 * MILLISECOND
+CONTEST = CONTESTED * MILLISECOND
 
 # So long who was asked for its claim may take to answer.
-ANSWER = 1250 * MILLISECOND
+ANSWER = WAIT * MILLISECOND
 
 # Who sent something within this time is on, or within so many of its shortest periods.
 HEARD, PERIODS = SECOND, 2
 
-# So long others may hold a session with who went off: they answer within 200 ms, wait 1,250 ms (T2) and send an Abort within 200 ms.
-HELD = 1650 * MILLISECOND
+# So long others may hold a session with who went off: they answer, wait, and send an Abort as promptly as they answer.
+HELD = (RESPONSE + WAIT + RESPONSE) * MILLISECOND
 
 # An address that changes hands this often is told.
 HANDS = 3
@@ -326,7 +326,7 @@ class Hands:
         """Somebody begins a message of more than 8 bytes. On a live bus that waits, from its going off on, until nobody holds a session with it."""
         restart = self._restarts.pop(key_of(who), None)
         if restart is not None and at is not None and 0 <= at - restart.before < HELD:
-            text = f"{named(who)} announces a long message {{}} ms after it restarted: others may hold a session with it for 1650 ms after it went off"
+            text = f"{named(who)} announces a long message {{}} ms after it restarted: others may hold a session with it for {milliseconds(HELD)} ms after it went off"
             self._found.tell("early-message", text, line, at, at - restart.at, unit=who.label)
 
     def _is_displaced(self, box: Box, who: Who) -> None:
@@ -420,7 +420,7 @@ class Hands:
             return
         if key_of(claimed.who) == key_of(who):
             del self.fresh[claimed.who.address or 0]
-            text = f"{who.spelled} sends before 250 ms have passed after its claim of address {who.address}"
+            text = f"{who.spelled} sends before {milliseconds(CONTEST)} ms have passed after its claim of address {who.address}"
             self._found.tell("too-early", text, line, at, unit=who.label)
 
     def _pass(self, at: int) -> None:
