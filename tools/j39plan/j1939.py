@@ -34,6 +34,9 @@ OTHER_SERVICES = frozenset((19712, 19968, 37632, 50944, 51200, 51456, 51712))
 # Proprietary groups: A, A2, and the two ranges of B.
 PROPRIETARY = frozenset((61184, 126720, *range(65280, 65536), *range(130816, 131072)))
 
+# In ms, within which time an answer begins (J1939-21, Tr), how long who wants one waits for it (T2, T3), and how long a claim may be contested (J1939-81).
+RESPONSE, WAIT, CONTESTED = 200, 1250, 250
+
 # How many identifiers of 29 bits there are, and from which PDU format on a frame goes to all (J1939-21).
 IDENTIFIERS, PDU2 = 1 << 29, 240
 

@@ -42,7 +42,7 @@ class Told(WithLog):
         tables = tables_of(PLAN)
         timeline = Timeline(tables.units)
         with Log([log]) as file:
-            wanted = Wanted(Choice(tables, names), lambda reading: reading)
+            wanted = Wanted(Choice(tables, names), lambda _, label, reading: (label, reading))
             curves = curves_of(timeline.passed(follow(PLAN, file, tables, Counts())), wanted, timeline.clock)
         return {(curve.group, curve.signal, curve.sender): curve for curve in curves}, timeline.held()
 
@@ -88,7 +88,7 @@ class Told(WithLog):
         tables = tables_of(PLAN)
         timeline = Timeline(tables.units)
         with Log([first, second]) as log:
-            wanted = Wanted(Choice(tables, ["SPN110"]), lambda reading: reading)
+            wanted = Wanted(Choice(tables, ["SPN110"]), lambda _, label, reading: (label, reading))
             curves = curves_of(timeline.passed(follow(PLAN, log, tables, Counts())), wanted, timeline.clock)
             self.assertEqual(ends_of(log), (100_000_000_000, 110_000_000_000))
             self.assertEqual([log.place(line) for line in (1, 4, 5, 11)], [(first, 1), (first, 4), (second, 1), (second, 7)])

@@ -1,6 +1,7 @@
 """The plan of one variant of a line of vehicles, as a file."""
 
 import json
+import os
 import unittest
 
 import j39plan
@@ -11,7 +12,10 @@ from j39plan.plan.hints.lint import Lint
 from j39plan.plan.hints.variants import nowhere
 from j39plan.plan.parts import Source
 from j39plan.plan.variants import Line, line_of, variant_text
-from tests.support import InFolder, example, run, text_of
+from tests.support import TOP, InFolder, example, run, text_of
+
+# Where plans stand with what check answers.
+CHECKS = os.path.join(TOP, "crates", "examples_check", "data", "checks")
 
 # Claims of D at 0 and of R at 15, a frame of D, and another one 3 s later.
 DETROIT = (
@@ -157,6 +161,23 @@ class Lines(InFolder):
         found = check_object("line.toml", 1, parts)["findings"]
         self.assertEqual([one.get("variant") for one in found], [["CUMMINS"], ["DETROIT", "RETARDER"], None])
         self.assertEqual((found[0]["steps"], found[0]["with"][0], found[2]["variants"]), (["up D"], "with CUMMINS: unit C at line 21", 2048))
+
+
+class Found(unittest.TestCase):
+    def test_which_vehicles_have_a_finding(self) -> None:
+        """In the program's own answers: behind the finding as text, for GitHub and as JSON, with the lists by which it goes, also those of flows that meet a need."""
+        for name, labels, told in (
+            ("line_contested", ["DETROIT"], "with DETROIT: unit D at line 19"),
+            ("line_private_groups", ["CUMMINS", "RETARDER"], "with CUMMINS: group P at line 21"),
+            ("line_older_without_an_option", ["NO_RETARDER"], "with RETARDER: unit R at line 15"),
+        ):
+            plan = os.path.join(CHECKS, f"{name}.toml")
+            for option in ([], ["--github"]):
+                status, answer, _ = run("where.py", *option, plan)
+                self.assertEqual(status, 1)
+                self.assertIn(f" in {' '.join(labels)}  (", answer)
+            first = json.loads(run("where.py", "--json", plan)[1])["findings"][0]
+            self.assertEqual((first["variant"], first["with"][0]), (labels, told))
 
 
 class Taken(InFolder):

@@ -5,11 +5,11 @@ from collections.abc import Callable
 from dataclasses import dataclass, field
 
 from j39plan.bench.agenda import Agenda
-from j39plan.j1939 import CONNECTION_MANAGEMENT, DATA_TRANSFER, GLOBAL_ADDRESS, PACKET_BYTES, identifier_of
+from j39plan.j1939 import CONNECTION_MANAGEMENT, DATA_TRANSFER, GLOBAL_ADDRESS, PACKET_BYTES, WAIT, identifier_of
 from j39plan.log.checks.transfers import ABORT, BAM, CLEAR, RTS, SIZES, WHOLE
 
 # How long who sends waits for a CTS (T3), for more after a CTS of none (T4), and who receives for a packet (T1) and behind a CTS (T2), in seconds.
-WAITS_CLEAR, WAITS_HELD, WAITS_PACKET, WAITS_FIRST = 1.25, 1.05, 0.75, 1.25
+WAITS_CLEAR, WAITS_HELD, WAITS_PACKET, WAITS_FIRST = WAIT / 1000, 1.05, 0.75, WAIT / 1000
 
 # How far apart the packets of a session are, and how soon an answer comes.
 APART, PROMPT = 0.002, 0.002

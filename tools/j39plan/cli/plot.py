@@ -31,7 +31,7 @@ MOST = 24
 def drawn(log: Log, plan: str, tables: Tables, choice: Choice) -> tuple[dict[Column, list[Curve]], Timeline]:
     """The curves of each chosen signal, those of each sender apart, and what tells who held which address."""
     counts, timeline = Counts(), Timeline(tables.units)
-    wanted = Wanted(choice, lambda reading: reading)
+    wanted = Wanted(choice, lambda _, label, reading: (label, reading))
     curves = curves_of(timeline.passed(follow(plan, log, tables, counts)), wanted, timeline.clock)
     counts.refuse_without_frames(log)
     counts.say(log)

@@ -10,21 +10,23 @@ import json
 import re
 import sys
 import tempfile
-from collections.abc import Callable, Iterable, Iterator, Sequence
+from collections import deque
+from collections.abc import Iterable, Iterator, Sequence
 from functools import lru_cache
 from itertools import chain, islice
-from typing import Any, Generic
+from typing import Any, Generic, NamedTuple
 
 from j39plan import program
 from j39plan.j1939 import GLOBAL_ADDRESS
 from j39plan.log.clock import Clock
 from j39plan.log.data_frames import WRITERS, data_frame, ending_of
 from j39plan.log.files import Log, drive_words, interface_option
-from j39plan.log.readings import CODE, Choice, Column, Made, Reading, Told, Wanted, parted
-from j39plan.log.reports import FROM, GROUP, LINE, TIME, TO, Counts, Said, Who, said_of, tables_of, who_of
+from j39plan.log.readings import CODE, Choice, Column, Known, Made, Reading, Wanted, parted
+from j39plan.log.reports import Below, Counts, Who, below_of, lines_of, tables_of, who_of
 from j39plan.log.serial_numbers import by_kind, say_numbers
 from j39plan.plan.cut import cut
 from j39plan.plan.files import opened
+from j39plan.plan.tables import Tables
 
 ENDS = ("from", "source", "to", "destination")
 HEADS = ("time", "line", *ENDS, "group", "signal", "state", "value", "unit", "detail")
@@ -97,7 +99,6 @@ class Form(Generic[Made]):
     has the name of its own."""
 
     heads: Sequence[str] = ()
-    made: Callable[[Reading], Made]
 
     def __init__(self, log: Log, _: Choice) -> None:
         self._place = log.place if len(log.names) > 1 else None
@@ -106,44 +107,61 @@ class Form(Generic[Made]):
         """The line of the heads."""
         return row_of(["log"] * bool(self._place) + [*self.heads]) if self.heads else ""
 
-    def spelled(self, words: list[str], readings: Told[Made]) -> str:
-        """The signals of a message of these words."""
+    def made(self, column: Column, label: str, reading: Reading) -> Made:
+        """What a reading is in a row."""
         raise NotImplementedError
 
-    def _cells(self, words: list[str]) -> str:
-        """What stands in front of the readings of a message: times, numbers and labels, which need no quotes."""
-        log, line = "", words[LINE]
+    def ends(self, sender: str, to: str, group: str) -> str:
+        """Who sent a message to whom, and its group: labels need no quotes."""
+        return f",{end_cells_of(sender, to)},{group}"
+
+    def begin(self, number: str, time: str, ends: str) -> str:
+        """What stands in front of the readings of a message."""
         if self._place:
-            name, number = self._place(int(line))
-            log, line = f"{quoted(name)},", str(number)
-        return f"{log}{words[TIME].strip('()-')},{line},{end_cells_of(words[FROM], words[TO])},{words[GROUP]}"
+            name, line = self._place(int(number))
+            return f"{quoted(name)},{time.strip('()-')},{line}{ends}"
+        return f"{time.strip('()-')},{number}{ends}"
+
+    def rows(self, begin: str, group: str, readings: Iterator[Made]) -> str:
+        """The rows of a message; none where it has no readings."""
+        raise NotImplementedError
 
 
 class Plain(Form[str]):
     """A row a signal, with commas between its columns."""
 
-    heads = HEADS
-    made = staticmethod(row_of)
+    heads: Sequence[str] = HEADS
 
-    def spelled(self, words: list[str], readings: Told[str]) -> str:
-        """The signals of a message."""
-        head = self._cells(words)
-        return "".join([f"{head},{label},{cells}" for label, cells in readings])
+    def made(self, column: Column, label: str, reading: Reading) -> str:
+        """A reading as the end of a row."""
+        return f",{label},{row_of(reading)}"
+
+    def rows(self, begin: str, group: str, readings: Iterator[str]) -> str:
+        """The rows of a message."""
+        rows = begin.join(readings)
+        return begin + rows if rows else ""
 
 
-class Lines(Form[str]):
+class Lines(Plain):
     """A JSON object a signal, each on a line."""
 
-    made = staticmethod(members_of)
+    heads = ()
 
-    def spelled(self, words: list[str], readings: Told[str]) -> str:
-        """The signals of a message."""
-        name, line = self._place(int(words[LINE])) if self._place else ("", words[LINE])
-        time = words[TIME].strip("()-")
+    def made(self, column: Column, label: str, reading: Reading) -> str:
+        """A reading as the end of an object."""
+        return f", {name_members_of(label)}, {members_of(reading)}}}\n"
+
+    def ends(self, sender: str, to: str, group: str) -> str:
+        """Who sent a message to whom, and its group."""
+        return f'{end_members_of(sender, to)}, "group": "{group}"'
+
+    def begin(self, number: str, time: str, ends: str) -> str:
+        """What stands in front of the readings of a message."""
+        name, line = self._place(int(number)) if self._place else ("", number)
+        time = time.strip("()-")
         log = f'"log": {json.dumps(name)}, ' if name else ""
         at = f'"time": {time if NUMBER.fullmatch(time) else json.dumps(time)}, ' if time else ""
-        head = f'{{{log}{at}"line": {line}, {end_members_of(words[FROM], words[TO])}, "group": "{words[GROUP]}"'
-        return "".join([f"{head}, {name_members_of(label)}, {members}}}\n" for label, members in readings])
+        return f'{{{log}{at}"line": {line}, {ends}'
 
 
 @lru_cache(maxsize=WRITTEN)
@@ -154,7 +172,21 @@ def quoted(text: str) -> str:
     return row.getvalue()[:-1]
 
 
-def cells_in_wide(reading: Reading) -> tuple[str, str, str]:
+class Cells(NamedTuple):
+    """The cells of a signal in a row: the place of the signal in its group, how they are spelled, each behind a comma, and, where a signal has
+    several records, their texts."""
+
+    place: int
+    spelled: str
+    texts: list[str] = []
+
+
+def spelled_cells(texts: Iterable[str]) -> str:
+    """Cells, each behind a comma."""
+    return "".join([f",{quoted(text)}" for text in texts])
+
+
+def texts_in_wide(reading: Reading) -> tuple[str, str, str]:
     """What stands in the columns of a signal: its value, the state that it has instead of one, and the name of the value."""
     if reading.state == "value":
         return reading.value, "", reading.detail
@@ -163,60 +195,123 @@ def cells_in_wide(reading: Reading) -> tuple[str, str, str]:
     return "", f"{reading.state} {reading.detail}".rstrip(), ""
 
 
-class Wide(Form[tuple[str, str, str]]):
+def merged(readings: Iterable[Cells]) -> Iterator[Cells]:
+    """The readings of a message, where those of several records of a signal stand in one cell."""
+    told: dict[int, list[list[str]]] = {}
+    for reading in readings:
+        told.setdefault(reading.place, []).append(reading.texts)
+    for place, several in told.items():
+        yield Cells(place, spelled_cells("; ".join(filter(None, texts)) for texts in zip(*several)))
+
+
+def wide_heads_of(column: Column, choice: Choice) -> list[str]:
+    """The heads of the columns of a signal in a row a message."""
+    name, unit = ".".join(column), choice.columns[column]
+    heads = [name + (f" [{unit}]" if unit else "")]
+    if column not in choice.texts:
+        heads.append(f"{name} state")
+    if column in choice.named:
+        heads.append(f"{name} name")
+    return heads
+
+
+class Part(NamedTuple):
+    """The columns of a group in a row a message: commas for those before them, for each of its signals, and for those behind, which end the row."""
+
+    before: str
+    empty: list[str]
+    behind: str
+
+
+class Wide(Form[Cells]):
     """A row a message, with two columns for each signal: its value, which is empty where it has none, and the word for what it has instead;
     and a third one for the names of its values, where the plan has some. What isn't a number anyway has one column, a text itself, and a
     code by its parts."""
 
-    made = staticmethod(cells_in_wide)
-
     def __init__(self, log: Log, choice: Choice) -> None:
         super().__init__(log, choice)
-        self._columns: dict[Column, int] = {}
-        heads = list(HEADS[:7])
-        before = len(heads) - 1
-        for column, unit in choice.columns.items():
-            self._columns[column] = len(heads) - before
-            name = ".".join(column)
-            heads.append(name + (f" [{unit}]" if unit else ""))
-            if column not in choice.texts:
-                heads.append(f"{name} state")
-            if column in choice.named:
-                heads.append(f"{name} name")
-        self._count = len(heads) - before - 1
-        self.heads = heads
+        heads = {column: wide_heads_of(column, choice) for column in choice.columns}
+        self.heads = [*HEADS[:7], *chain.from_iterable(heads.values())]
+        groups: dict[str, list[int]] = {}
+        self._places: dict[Column, tuple[int, int]] = {}  # of a signal its place in its group, and how many columns it has
+        for column, own in heads.items():
+            counts = groups.setdefault(column[0], [])
+            self._places[column] = len(counts), len(own)
+            counts.append(len(own))
+        self._repeated, self._parts = choice.repeated, dict[str, Part]()
+        before, behind = 0, len(self.heads) - 7
+        for group, counts in groups.items():
+            behind -= sum(counts)
+            self._parts[group] = Part("," * before, ["," * count for count in counts], "," * behind + "\n")
+            before += sum(counts)
 
-    def spelled(self, words: list[str], readings: Told[tuple[str, str, str]]) -> str:
-        """The signals of a message. Most columns are those of other groups, so that a row is mostly commas."""
-        cells: dict[int, str] = {}
-        for label, texts in readings:
-            column = self._columns[words[GROUP], label.partition("[")[0]]
-            for at, text in enumerate(texts, column):
-                if text:
-                    cells[at] = f"{cells[at]}; {text}" if at in cells else text  # of a signal of several records
-        parts, last = [self._cells(words)], 0
-        for at, text in sorted(cells.items()):
-            parts.append("," * (at - last) + quoted(text))
-            last = at
-        parts.append("," * (self._count - last) + "\n")
-        return "".join(parts)
+    def made(self, column: Column, label: str, reading: Reading) -> Cells:
+        """A reading as the cells of its signal."""
+        place, count = self._places[column]
+        texts = [*texts_in_wide(reading)[:count]]
+        return Cells(place, spelled_cells(texts), texts if column[0] in self._repeated else [])
 
-
-def with_frames(said: Iterable[Said], log: Log, counts: Counts) -> Iterator[Said]:
-    """What is said of a log. One that is none is refused at its end."""
-    yield from said
-    counts.refuse_without_frames(log)
+    def rows(self, begin: str, group: str, readings: Iterator[Cells]) -> str:
+        """The row of a message. Most columns are those of other groups, so that it is mostly commas."""
+        told, part = [*(merged(readings) if group in self._repeated else readings)], self._parts[group]
+        if not told:
+            return ""
+        cells = part.empty.copy()
+        for place, spelled, _ in told:
+            cells[place] = spelled
+        return f"{begin}{part.before}{''.join(cells)}{part.behind}"
 
 
-def lines_of(said: Iterable[Said], wanted: Wanted[Made], form: Form[Made], clock: Clock) -> Iterator[str]:
-    """The lines of a table, of each message at once. A clock sees the times of all reports."""
-    for words, signals in said:
-        if not clock.goes_on(words[TIME]):
-            clock.see(int(words[LINE]), words[TIME])
-        if signals:
-            readings = wanted.of(words[GROUP], signals)
-            if readings:
-                yield form.spelled(words, readings)
+class Way(NamedTuple, Generic[Made]):
+    """What messages of one kind have alike, by their line without number, time and data: their group, how many lines are below those of so many bytes,
+    what is made of these, and who sends the messages to whom."""
+
+    group: str
+    below: Below
+    known: Known[Made] | None
+    ends: str
+
+
+class Table(Generic[Made]):
+    """Makes a table of what `follow` writes of a log."""
+
+    def __init__(self, tables: Tables, wanted: Wanted[Made], form: Form[Made], clock: Clock) -> None:
+        self._below, self._wanted, self._form, self._clock = below_of(tables), wanted, form, clock
+        self._ways: dict[str, Way[Made]] = {}
+
+    def rows(self, lines: Iterator[str], log: Log, counts: Counts) -> Iterator[str]:
+        """The rows of each message at once. A clock sees the times of all reports. A log that is none is refused at its end."""
+        way_of, goes_on, begin_of, rows_of = self._ways.get, self._clock.goes_on, self._form.begin, self._form.rows
+        for line in lines:
+            words = line.split(" ", 2)
+            head, _, data = words[-1].rpartition(" ")
+            way = way_of(head)
+            if way is None and not line[0].isdigit():
+                counts.take(line)
+                continue
+            number, time, _ = words
+            if not goes_on(time):
+                self._clock.see(int(number), time)
+            if way is None and (way := self._way(head)) is None:
+                continue
+            group, below, known, ends = way
+            told = islice(lines, below[len(data) - 1])
+            if known is None:
+                deque(told, 0)
+            elif rows := rows_of(begin_of(number, time, ends), group, filter(None, map(known.__getitem__, told))):
+                yield rows
+        counts.refuse_without_frames(log)
+
+    def _way(self, head: str) -> Way[Made] | None:
+        """What the words of a message mean; None of another report."""
+        words = head.split()
+        if words[:1] != ["group"]:
+            return None
+        _, group, _, sender, _, to, *_ = words
+        if len(self._ways) >= WRITTEN:
+            self._ways.clear()
+        way = self._ways[head] = Way(group, self._below[group], self._wanted.known(group), self._form.ends(sender, to, group))
+        return way
 
 
 def put_all(head: str, lines: Iterator[str], is_live: bool) -> None:
@@ -278,8 +373,8 @@ def main(words: list[str] | None = None) -> int:
         with Log(logs, given.interface) as log, by_kind(plan, tables, log.still, given.interface) as (known, other, numbers), \
                 cut(known, other, choice) as (shorter, parts):
             form: Form[Any] = given.form(log, choice)
-            said = with_frames(said_of(shorter, log, parts, counts), log, counts)
-            put_all(form.head(), lines_of(said, Wanted(choice, form.made), form, clock), log.is_live)
+            table = Table(parts, Wanted(choice, form.made), form, clock)
+            put_all(form.head(), table.rows(lines_of(shorter, log, counts), log, counts), log.is_live)
     say_numbers(numbers)
     counts.say(log)
     clock.say(log)

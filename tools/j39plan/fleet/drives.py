@@ -22,7 +22,7 @@ from j39plan import program
 from j39plan.fleet.signals import Code, Signals, Spread
 from j39plan.log.clock import DAY, SECOND, nanoseconds
 from j39plan.log.files import OneInterface, is_packed, whole
-from j39plan.log.reports import Lines, Writer, as_it_comes, identity_of, who_of
+from j39plan.log.reports import KIND, Below, Writer, as_it_comes, below_of, identity_of, who_of
 from j39plan.log.serial_numbers import by_kind
 from j39plan.plan.tables import Tables
 
@@ -134,46 +134,57 @@ def deviation_of(row: dict[str, Any]) -> Deviation:
     return Deviation(row.get("line"), row["text"], row["times"], row["kind"], row["what"], row.get("flow"), row.get("unit"), row.get("value"), row.get("time"))
 
 
+class Sent:
+    """When a flow was sent last, in nanoseconds, and its longest silence so far, with the line of the message at its end."""
+
+    __slots__ = ("last", "longest", "line")
+
+    def __init__(self) -> None:
+        self.last: int | None = None
+        self.longest, self.line = -1, 0
+
+    def silent(self, silence: int, line: int) -> None:
+        """A silence is over at a line; that of the log's end is 0."""
+        if silence > self.longest:
+            self.longest, self.line = silence, line
+
+
 class Silences:
     """The longest silence of each flow, from the first message or claim of a log to the last."""
 
     def __init__(self) -> None:
-        self._last: dict[int, int] = {}
-        self._longest: dict[int, tuple[int, int | None]] = {}
-        self._first: int | None = None
+        self._sent: dict[int, Sent] = {}
+        self.first: int | None = None
         self._now = 0
 
-    def see(self, at: int) -> None:
-        """A time of the log. Where a clock was set, by a day or more, silences begin anew."""
-        if self._first is None:
-            self._first = at
-        elif not 0 <= at - self._now < DAY:
-            self._first = at
-            self._last = dict.fromkeys(self._last, at)
-        self._now = at
+    def of(self, flow: int) -> Sent:
+        """What is known of a flow."""
+        return self._sent.setdefault(flow, Sent())
 
-    def sent(self, flow: int, line: int | None) -> None:
-        """A message of a flow at the time that was seen last, or the log's end."""
-        if self._first is not None:
-            silence = self._now - self._last.get(flow, self._first)
-            if silence > self._longest.get(flow, (-1, None))[0]:
-                self._longest[flow] = silence, line
-            self._last[flow] = self._now
+    def begins(self, at: int) -> None:
+        """The first time of the log comes. Where a clock was set, by a day or more, silences begin anew."""
+        self.first = at
+        for sent in self._sent.values():
+            sent.last = None
 
-    def found(self, flows: int) -> dict[int, Silence]:
-        """The silences; of a flow that was never sent the whole log is one. In a log without times there are none."""
+    def found(self, flows: int, now: int) -> dict[int, Silence]:
+        """The silences, where this is the last time; of a flow that was never sent the whole log is one. In a log without times there are none."""
+        if self.first is None:
+            return {}
         for flow in range(1, flows + 1):
-            self.sent(flow, None)
-        return {flow: Silence(longest / SECOND, line) for flow, (longest, line) in sorted(self._longest.items())}
+            sent = self.of(flow)
+            sent.silent(now - (self.first if sent.last is None else sent.last), 0)
+        return {flow: Silence(sent.longest / SECOND, sent.line or None) for flow, sent in sorted(self._sent.items())}
 
 
 class Plain(NamedTuple):
-    """A message by its line without number, time and data: its group, who sends it, the number of its flow, 0 where it has none; and the lines that
-    came below such messages, with how often each came."""
+    """A message by its line without number, time and data: its group, and how many lines are below it; who sends it; its flow, None where it has none;
+    and the lines that came below such messages, with how often each came."""
 
     group: str
+    below: Below
     sender: str
-    flow: int
+    flow: Sent | None
     known: dict[bytes, list[int]]
 
 
@@ -181,37 +192,39 @@ class Followed:
     """What `follow` says of a log, taken together."""
 
     def __init__(self, tables: Tables) -> None:
-        self._flows, self._below = len(tables.flows), Lines(tables).below
+        self._flows, self._below = len(tables.flows), below_of(tables)
         self._signals, self._silences = Signals(tables), Silences()
         self._numbers = {unit.label: unit.identity for unit in tables.units}
         self._claims: dict[str, Claimed] = {}
         self._plain: dict[bytes, Plain] = {}
         self._head, self._base = b"?", 0  # what a time begins with up to its microseconds, and what that is in nanoseconds
+        self._now = 0  # the time that was seen last
         self.counts: dict[str, int] = {}
         self.sent: dict[int, int] = {}
 
     def take(self, lines: Iterator[bytes]) -> None:
         """Takes the lines of `follow`."""
-        count, below, get = self._signals.count, self._below, self._plain.get
+        count, get, silences = self._signals.count, self._plain.get, self._silences
         for line in lines:
-            if not line[:1].isdigit():
+            words = line.split(b" ", 2)
+            head, _, data = words[-1].rpartition(b" ")
+            plain = get(head)
+            if plain is None and not line[:1].isdigit():
                 self._end(line.decode().split())
                 continue
-            number, time, rest = line.split(b" ", 2)
+            number, time, _ = words
             at = self._time(time)
-            head, _, data = rest.rpartition(b" ")
-            plain = get(head)
-            if plain is None:
-                if not rest.startswith(b"group "):
-                    if rest.startswith((b"claim ", b"cannot ")):
-                        self._claim(line.decode().split())
-                    continue
-                plain = self._keep(head)
-            group, sender, flow, known = plain
+            if plain is None and (plain := self._message(head, line)) is None:
+                continue
+            group, below, sender, flow, known = plain
             at_line = int(number)
-            if flow:
-                self._silences.sent(flow, at_line)
-            for signal in islice(lines, below(group, len(data) - 1)):
+            if flow is not None and silences.first is not None:
+                last = flow.last
+                silence = self._now - (silences.first if last is None else last)
+                if silence > flow.longest:
+                    flow.longest, flow.line = silence, at_line
+                flow.last = self._now
+            for signal in islice(lines, below[len(data) - 1]):
                 counted = known.get(signal)
                 if counted is not None:
                     counted[0] += 1
@@ -229,14 +242,25 @@ class Followed:
             at = told
             if time[-8:-7] == b".":
                 self._head, self._base = time[:-7], at - int(time[-7:-1]) * 1000
-        self._silences.see(at)
+        if not 0 <= at - self._now < DAY or self._silences.first is None:
+            self._silences.begins(at)
+        self._now = at
         return at
+
+    def _message(self, head: bytes, line: bytes) -> Plain | None:
+        """What the words of a message mean; of another report nothing, but that a claim is counted."""
+        if head.startswith(b"group "):
+            return self._keep(head)
+        words = line.decode().split()
+        if words[KIND] in ("claim", "cannot"):
+            self._claim(words)
+        return None
 
     def _keep(self, head: bytes) -> Plain:
         """What the words of a message mean."""
         _, group, _, sender, _, _, is_flow, number, *_ = head.decode().split(" ")
-        flow = int(number) if is_flow == "flow" else 0
-        plain = Plain(group, who_of(sender).shown, flow, self._signals.sent(bool(flow), group))
+        flow = self._silences.of(int(number)) if is_flow == "flow" else None
+        plain = Plain(group, self._below[group], who_of(sender).shown, flow, self._signals.sent(flow is not None, group))
         if len(self._plain) < KEPT:
             self._plain[head] = plain
         return plain
@@ -258,7 +282,7 @@ class Followed:
     def put(self, drive: Drive) -> None:
         """Puts what was found into a log's table."""
         drive["counts"], drive["sent"] = self.counts, self.sent
-        drive["silences"] = self._silences.found(self._flows)
+        drive["silences"] = self._silences.found(self._flows, self._now)
         drive["claims"] = {name.removeprefix("#"): claimed for name, claimed in self._claims.items()}
         drive["signals"], drive["others"] = self._signals.found()
         drive["codes"] = self._signals.codes()

@@ -6,7 +6,7 @@ import re
 from typing import NamedTuple
 
 from j39plan.log.clock import SECOND
-from j39plan.log.readings import reading_of
+from j39plan.log.readings import divided
 from j39plan.plan.measures import measure_of
 from j39plan.plan.tables import Tables
 
@@ -30,6 +30,24 @@ class Spread(NamedTuple):
     states: dict[str, int]
 
 
+class Seen:
+    """The same as it is found, and into how many parts of its unit the values of the plan are."""
+
+    __slots__ = ("parts", "least", "least_line", "most", "most_line", "states")
+
+    def __init__(self, parts: int) -> None:
+        self.parts = parts
+        self.least: float | None = None
+        self.most: float | None = None
+        self.least_line: int | None = None
+        self.most_line: int | None = None
+        self.states: dict[str, int] = {}
+
+    def spread(self) -> Spread:
+        """What was found."""
+        return Spread(self.least, self.least_line, self.most, self.most_line, self.states)
+
+
 class Code(NamedTuple):
     """A trouble code: its SPN and FMI, the group and the unit (else the NAME or the address) that it is of, how often it came, and where and when
     first and last, in seconds, None in a log without times."""
@@ -50,7 +68,8 @@ class Signals:
         self._scales = {(group.label, signal.label): measure_of(signal.unit) for group in tables.groups for signal in group.signals}
         self._counts: dict[tuple[bool, str], dict[bytes, list[int]]] = {}
         self._kept = 0
-        self._found: dict[bool, dict[str, Spread]] = {True: {}, False: {}}
+        self._found: dict[bool, dict[str, Seen]] = {True: {}, False: {}}
+        self._seen: dict[tuple[bool, str, str], Seen] = {}  # the same by whether a flow has the message, its group, and the label
         self._codes: dict[tuple[int, int, str, str], Code] = {}
 
     def sent(self, is_planned: bool, group: str) -> dict[bytes, list[int]]:
@@ -87,7 +106,8 @@ class Signals:
     def found(self) -> tuple[dict[str, Spread], dict[str, Spread]]:
         """What was counted, by group and signal: of messages of flows, and of others."""
         self._look()
-        return self._found[True], self._found[False]
+        planned, others = ({name: seen.spread() for name, seen in self._found[is_planned].items()} for is_planned in (True, False))
+        return planned, others
 
     def _look(self) -> None:
         """Takes what was counted apart."""
@@ -97,23 +117,22 @@ class Signals:
             lines.clear()
         self._kept = 0
 
-    def _take(self, found: dict[str, Spread], group: str, line: bytes, times: int, number: int) -> None:
+    def _take(self, found: dict[str, Seen], group: str, line: bytes, times: int, number: int) -> None:
         """Takes a line that came so often."""
-        label, _, said = line.decode().strip().partition(" ")
-        signal = label.partition("[")[0]  # of a record its place stands behind the label
-        scale = self._scales.get((group, signal))
-        if scale is not None:
-            reading = reading_of(said, scale)
-            self._see(found, f"{group}.{signal}", reading.state, reading.value, times, number)
-
-    @staticmethod
-    def _see(found: dict[str, Spread], name: str, state: str, value: str, times: int, line: int) -> None:
-        least, least_line, most, most_line, states = found.get(name, Spread(None, None, None, None, {}))
-        states[state] = states.get(state, 0) + times
+        _, _, label, said = line[:-1].decode().split(" ", 3)
+        seen = self._seen.get((found is self._found[True], group, label))
+        if seen is None:
+            signal = label.partition("[")[0]  # of a record its place stands behind the label
+            scale = self._scales.get((group, signal))
+            if scale is None:
+                return
+            seen = found.setdefault(f"{group}.{signal}", Seen(scale.parts))
+            self._seen[found is self._found[True], group, label] = seen
+        state, _, behind = said.partition(" ")
+        seen.states[state] = seen.states.get(state, 0) + times
         if state == "value":
-            number = float(value)
-            if least is None or number < least:
-                least, least_line = number, line
-            if most is None or number > most:
-                most, most_line = number, line
-        found[name] = Spread(least, least_line, most, most_line, states)
+            value = float(divided(behind.partition(" ")[0], seen.parts))
+            if seen.least is None or value < seen.least:
+                seen.least, seen.least_line = value, number
+            if seen.most is None or value > seen.most:
+                seen.most, seen.most_line = value, number

@@ -36,7 +36,7 @@ class Curve:
             self.states.setdefault(state, array("d")).append(time)
 
 
-def curves_of(reports: Iterable[Report], wanted: Wanted[Reading], clock: Clock) -> list[Curve]:
+def curves_of(reports: Iterable[Report], wanted: Wanted[tuple[str, Reading]], clock: Clock) -> list[Curve]:
     """The curves of a log, by their first points; the clock has seen each report, and none behind it."""
     curves: dict[tuple[str, str, str], Curve] = {}
     for message in reports:

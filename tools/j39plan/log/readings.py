@@ -3,7 +3,7 @@
 import difflib
 import os
 import re
-from collections.abc import Callable, Iterable
+from collections.abc import Callable, Iterable, Iterator
 from decimal import Context, Decimal
 from typing import Generic, NamedTuple, TypeVar
 
@@ -16,7 +16,7 @@ EXACT = Context(prec=80)
 # A trouble code, or how it is spelled in older ways, and what else is said of it.
 CODE = re.compile(r"(?:spn (\d+) fmi (\d+)|raw (\d+)) count (\d+)(?: (.*))?")
 
-# How many readings are kept of all scales.
+# How many lines with readings are kept.
 KEPT = 1 << 16
 
 # Group and signal.
@@ -33,9 +33,8 @@ class Reading(NamedTuple):
     detail: str
 
 
-# What is made of a reading; and of the readings of a message, each behind the label of its signal.
+# What is made of a reading.
 Made = TypeVar("Made")
-Told = list[tuple[str, Made]]
 
 
 def divided(spelled: str, parts: int) -> str:
@@ -83,6 +82,7 @@ class Choice:
             self.scales.update(((group.label, text.label), measure_of("")) for text in group.texts)
         self.texts = {(group.label, text.label) for group in tables.groups for text in group.texts}
         self.named = {(group.label, signal.label) for group in tables.groups for signal in group.signals if signal.values}
+        self.repeated = {group.label for group in tables.groups if any(signal.repeated for signal in group.signals)}
         wanted = set(names)
         self.columns = {
             column: scale.unit for column, scale in self.scales.items()
@@ -95,52 +95,45 @@ class Choice:
             raise program.Refused(program.UNREADABLE, f"no group, signal or log is called {name}{hint}")
 
 
-class Readings(dict[str, Made]):
-    """What is made of what lines of `follow` say behind the label of a signal of this scale, with the line feed. So much is kept, since signals
-    repeat themselves."""
+class Known(dict[str, Made | None]):
+    """What is made of lines that `follow` writes below messages of a group, `  LABEL SAID`, None of a signal that isn't wanted. They are kept, since
+    signals repeat themselves."""
 
-    def __init__(self, scale: Measure, make: Callable[[Reading], Made], most: int) -> None:
+    def __init__(self, group: str, choice: Choice, make: Callable[[Column, str, Reading], Made], kept: Callable[[], None]) -> None:
         super().__init__()
-        self._scale, self._make, self._most = scale, make, most
+        self._group, self._choice, self._make, self._kept = group, choice, make, kept
 
-    def __missing__(self, said: str) -> Made:
-        if len(self) >= self._most:
-            self.clear()
-        made = self[said] = self._make(reading_of(said[:-1], self._scale))
-        return made
-
-
-class Known(dict[str, Readings[Made] | None]):
-    """Of a group the readings of each label that `follow` writes, None where they aren't wanted."""
-
-    def __init__(self, group: str, choice: Choice, readings: dict[Measure, Readings[Made]]) -> None:
-        super().__init__()
-        self._group, self._choice, self._readings = group, choice, readings
-
-    def __missing__(self, label: str) -> Readings[Made] | None:
+    def __missing__(self, line: str) -> Made | None:
+        self._kept()
+        _, _, label, said = line.split(" ", 3)
         column = self._group, label.partition("[")[0]  # of a record its place stands behind the label
-        self[label] = told = self._readings[self._choice.scales[column]] if column in self._choice.columns else None
-        return told
+        made = None
+        if column in self._choice.columns:
+            made = self._make(column, label, reading_of(said[:-1], self._choice.scales[column]))
+        self[line] = made
+        return made
 
 
 class Wanted(Generic[Made]):
     """What is made of the readings that are wanted."""
 
-    def __init__(self, choice: Choice, make: Callable[[Reading], Made]) -> None:
-        scales = {choice.scales[column] for column in choice.columns}
-        readings = {scale: Readings(scale, make, KEPT // len(scales)) for scale in scales}
-        self._known = {group: Known(group, choice, readings) for group, _ in choice.columns}
+    def __init__(self, choice: Choice, make: Callable[[Column, str, Reading], Made]) -> None:
+        self._known = {group: Known(group, choice, make, self._keep) for group, _ in choice.columns}
+        self._count = 0
 
-    def of(self, group: str, lines: Iterable[str]) -> Told[Made]:
-        """What is made of the lines below that of a message of a group, `  LABEL SAID`, each behind the label; nothing of those that aren't
-        wanted."""
-        told: Told[Made] = []
+    def of(self, group: str, lines: Iterable[str]) -> Iterator[Made]:
+        """What is made of the lines below that of a message of a group; nothing of those that aren't wanted."""
         known = self._known.get(group)
-        if known is None:
-            return told
-        for line in lines:
-            _, _, label, said = line.split(" ", 3)
-            readings = known[label]
-            if readings is not None:
-                told.append((label, readings[said]))
-        return told
+        return iter(()) if known is None else filter(None, map(known.__getitem__, lines))
+
+    def known(self, group: str) -> Known[Made] | None:
+        """What is made of lines below messages of a group, None where nothing of it is wanted."""
+        return self._known.get(group)
+
+    def _keep(self) -> None:
+        """Another line is kept. Where these are too many all others are given up."""
+        self._count += 1
+        if self._count > KEPT:
+            self._count = 1
+            for known in self._known.values():
+                known.clear()

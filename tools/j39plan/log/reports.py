@@ -13,7 +13,7 @@ from typing import IO, Any, NamedTuple
 from j39plan import program
 from j39plan.j1939 import GLOBAL_ADDRESS, identifier_of
 from j39plan.log.files import Log, OneInterface
-from j39plan.plan.tables import Tables
+from j39plan.plan.tables import Group, Tables
 
 
 class Who(NamedTuple):
@@ -229,29 +229,32 @@ def report_of(words: list[str], signals: list[str]) -> Report:
     return Claim(int(words[LINE]), words[TIME], who_of(words[3]), identity_of(words))
 
 
-class Lines:
-    """The lines that `follow` writes below those of messages, of which the tables say how many there are."""
+class Below(dict[int, int]):
+    """How many lines `follow` writes below those of messages of a group, by how many digits their data has."""
 
-    def __init__(self, tables: Tables) -> None:
-        self._groups, self._known = {group.label: group for group in tables.groups}, dict[tuple[str, int], int]()
+    def __init__(self, group: Group) -> None:
+        super().__init__()
+        self._group = group
 
-    def below(self, label: str, digits: int) -> int:
-        """How many are below a message of a group, of data of so many digits."""
-        known = self._known.get((label, digits))
-        if known is None:
-            known = self._known[label, digits] = self._groups[label].lines(digits // 2)
-        return known
+    def __missing__(self, digits: int) -> int:
+        count = self[digits] = self._group.lines(digits // 2)
+        return count
+
+
+def below_of(tables: Tables) -> dict[str, Below]:
+    """The same of all groups, by their labels."""
+    return {group.label: Below(group) for group in tables.groups}
 
 
 def said_in(lines: Iterator[str], tables: Tables, counts: Counts) -> Iterator[Said]:
     """What `follow` writes, report by report, each as soon as its last line is there."""
-    below = Lines(tables).below
+    below = below_of(tables)
     for line in lines:
         words = line.split()
         if not line[0].isdigit():
             counts.take(line)
         elif words[KIND] == "group":
-            yield words, list(islice(lines, below(words[GROUP], len(words[-1]))))
+            yield words, list(islice(lines, below[words[GROUP]][len(words[-1])]))
         else:
             yield words, []
 

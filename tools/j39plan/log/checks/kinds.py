@@ -1,5 +1,7 @@
 """What each kind of a deviation is, in the words of docs/reference/OPTIONS.md."""
 
+from j39plan.j1939 import WAIT
+
 MEANINGS = {
     "stranger": "an address or a NAME that no unit has, and which planned groups it sends",
     "absent": "a unit that neither claimed an address nor sent anything",
@@ -7,11 +9,11 @@ MEANINGS = {
     "exchanged": "a second box of one unit",
     "address": "a single-address unit that claims another address than planned; a unit that could not claim any",
     "displaced": "an unplanned NAME takes a unit's address, and what the unit does then",
-    "commanded": "a unit is commanded to another address (PGN 65240), by whom, and whether it claims that within 1,250 ms",
+    "commanded": f"a unit is commanded to another address (PGN 65240), by whom, and whether it claims that within {WAIT:,} ms",
     "claim-to-one": "a claim that goes to one address, where it has to go to all",
     "unclaimed": "a unit sends and never claims, in a log in which most units, and two at least before it, begin with their claims",
-    "claims-unanswered": "a unit that is on doesn't answer a request for claims within 1,250 ms",
-    "restart": "a unit claims the address that it holds without a request for claims in the 1,250 ms before",
+    "claims-unanswered": f"a unit that is on doesn't answer a request for claims within {WAIT:,} ms",
+    "restart": f"a unit claims the address that it holds without a request for claims in the {WAIT:,} ms before",
     "early-message": "of a live plan: how soon a unit announces a long message after a restart, where it was heard less than 1,650 ms before; so long "
                      "others may hold a session with a unit that went off",
     "two-boxes": "an address that a unit left 250 ms ago or longer goes on to send",
@@ -31,13 +33,13 @@ MEANINGS = {
     "not-whole": "a long message that was announced and not completed, and why",
     "given-up": "a long message that was aborted, by whom and why; a refusal for lack of a session is none where the message is carried whole within 5 s",
     "wrong-answer": "a clear to send for more packets than the announcement allows; an acknowledgement of another size",
-    "not-acknowledged": "a complete long message that its receiver didn't acknowledge within 1,250 ms",
+    "not-acknowledged": f"a complete long message that its receiver didn't acknowledge within {WAIT:,} ms",
     "near": "messages nearer than their flow's period",
     "silent": "the longest silence of a flow",
     "stopped": "a flow that ended",
     "never-sent": "a flow that was never sent",
     "unmet": "a need that nothing met: none of its flows was sent, or the plan has none",
-    "unanswered": "a request without an answer within 1,250 ms (in a log without times: at all), of one to all also of a unit whose flow serves it and "
+    "unanswered": f"a request without an answer within {WAIT:,} ms (in a log without times: at all), of one to all also of a unit whose flow serves it and "
                   "that is on",
     "refused": "a request that is refused",
     "refused-to-all": "a unit refuses a request that goes to all, which SAE J1939-21 forbids",

@@ -6,6 +6,7 @@ from collections import deque
 from collections.abc import Callable
 from typing import NamedTuple
 
+from j39plan.j1939 import RESPONSE, WAIT
 from j39plan.log.checks.deviations import Found
 from j39plan.log.checks.distances import Tolerance
 from j39plan.log.clock import MILLISECOND, milliseconds
@@ -13,8 +14,8 @@ from j39plan.log.reports import REFUSALS, Acknowledgement, Who
 from j39plan.log.reports import Request as Asking
 from j39plan.plan.tables import Tables, serves
 
-# Within this time an answer is to begin, and so long who asks waits for one (SAE J1939-21: Tr, and T3 as T2).
-PROMPT, WAITED = 200 * MILLISECOND, 1250 * MILLISECOND
+# Within this time an answer is to begin, and so long who asks waits for one.
+PROMPT, WAITED = RESPONSE * MILLISECOND, WAIT * MILLISECOND
 
 # What is done by who answers with an acknowledgement that says no.
 DONE_TO_ALL = "refuses it, though it is to all"

@@ -3,7 +3,7 @@
 from dataclasses import dataclass
 from typing import NamedTuple
 
-from j39plan.j1939 import CONNECTION_MANAGEMENT, DATA_TRANSFER, FRAME_BYTES, PACKET_BYTES, pgn_in
+from j39plan.j1939 import CONNECTION_MANAGEMENT, DATA_TRANSFER, FRAME_BYTES, PACKET_BYTES, RESPONSE, WAIT, pgn_in
 from j39plan.log.checks.deviations import Found
 from j39plan.log.clock import MILLISECOND, SECOND
 from j39plan.log.reports import Frame, Who
@@ -14,8 +14,8 @@ from j39plan.plan.tables import Timing
 RTS, BAM, CLEAR, WHOLE, ABORT = 16, 32, 17, 19, 255
 SIZES = range(9, 1786)
 
-# So long an answer may take (Tr), and so long who sends waits for one (T3).
-ANSWER, WAITED = 200 * MILLISECOND, 1250 * MILLISECOND
+# So long an answer may take, and so long who sends waits for one.
+ANSWER, WAITED = RESPONSE * MILLISECOND, WAIT * MILLISECOND
 
 # So long after it was refused since its receiver has too many sessions a message may be tried again.
 TRIED, TOO_MANY = 5 * SECOND, 1
@@ -235,7 +235,7 @@ class Transfers:
     def _late(self, line: int, at: int, duration: int, transfer: Transfer, unit: str | None) -> None:
         """An answer that was waited for so long, by whom it is."""
         if duration > ANSWER:
-            self._found.tell("late-answer", f"{transfer.route.text}: an answer after {{}} ms, by the standard within 200", line, at, duration, unit=unit)
+            self._found.tell("late-answer", f"{transfer.route.text}: an answer after {{}} ms, by the standard within {RESPONSE}", line, at, duration, unit=unit)
 
     def _abort(self, line: int, at: int | None, frame: Frame) -> None:
         """An Abort: of a message that goes either way between the two."""

@@ -7,7 +7,7 @@ from dataclasses import dataclass
 from typing import Any
 
 from j39plan import program
-from j39plan.j1939 import ADDRESS_CLAIMED
+from j39plan.j1939 import ADDRESS_CLAIMED, WAIT
 from j39plan.left_out import Notes, some_of
 from j39plan.log.checks.feed import Feed
 from j39plan.log.checks.other_requests import Asked
@@ -61,7 +61,7 @@ class Flow:
         table = self.head()
         if self.is_asked:
             table.keys["on_request"] = True
-            table.beside["on_request"] = f"{self.sent.asked} of {self.sent.count} came within 1250 ms of a request"
+            table.beside["on_request"] = f"{self.sent.asked} of {self.sent.count} came within {WAIT} ms of a request"
         else:
             table.keys |= self.times.keys
             asked = f"; {self.sent.asked} were asked for" if self.sent.asked else ""

@@ -23,6 +23,9 @@ def of_finding(plan: Source, line: Line) -> list[Table]:
         found += [(kind, number) for number, part in enumerate(plan[kind], 1) if part.label in labels]
     for kind in NUMBERED:
         found += [(kind, line.number(part)) for part in (kind, "other") if part in line.parts] if kind in line.parts else []
+    if line.word("finding") == "F20":  # which flows a vehicle has tells how old what it needs is
+        need = plan.tables.needs[line.number("need") - 1]
+        found += [("flow", flow.number) for flow in plan.tables.flows if need.is_met_by(flow)]
     return found
 
 
