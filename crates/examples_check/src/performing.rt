@@ -1,7 +1,7 @@
 //! Commands, by what they read.
 use crate::row::Command;
 use j39_app::{
-    Fault, Sink, Source, Verdict, addresses_text, audit_planned, bus_plan, check_line_text,
+    Fault, Sink, Source, Verdict, addresses_line_text, audit_planned, bus_plan, check_line_text,
     follow_text, input_text, line_text, load_text, read_text, refuse_choices, run_planned,
     show_text, variant_text, vehicle_file, vehicle_text,
 };
@@ -56,7 +56,7 @@ pub fn perform<P: Source, S: Source, W: Sink>(
         Command::Check => return check_line_text(alloc, plan, sink),
         Command::Show => return show_text(alloc, plan, sink),
         Command::Variant => return variant_text(alloc, &[], plan, sink),
-        Command::Addresses => return addresses_text(alloc, plan, sink),
+        Command::Addresses => return addresses_line_text(alloc, plan, sink),
         Command::Load => return load_text(alloc, plan, sink),
         Command::Vehicle => return perform_vehicle(alloc, plan, input, sink),
         Command::Run | Command::Read | Command::Follow => {}
