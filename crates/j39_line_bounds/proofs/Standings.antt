@@ -52,21 +52,21 @@ module _ (line : ProductLine) (v : List ℕ) (plan : Plan) (stays : UnitPlan →
   decided p has = decides p unit (same_unit line v u plan p is has ∙ at)
 
   stays_there : stays unit ≡ true → StaysIn line v u
-  stays_there yes other p of_other has =
+  stays_there told other p of_other has =
       let here : StaysBeside plan.strangers (units_of plan) p =
-      subst (λ b. MatchBool b (StaysBeside plan.strangers (units_of plan) p) (¬ StaysBeside plan.strangers (units_of plan) p)) yes (decided p has) in
+      subst (λ b. MatchBool b (StaysBeside plan.strangers (units_of plan) p) (¬ StaysBeside plan.strangers (units_of plan) p)) told (decided p has) in
       let strangers = same_strangers line v plan other is of_other in
       let units = same_units line v plan other is of_other in
       subst (λ n. StaysBeside n (units_of other) p) strangers (subst (λ us. StaysBeside plan.strangers us p) units here)
 
   moves_there : stays unit ≡ false → HasUnit line v u → MayMoveIn line v u
-  moves_there no has = record {
+  moves_there may has = record {
     place = has.0;
     has_place = has.1;
     plan = plan;
     is_plan = is;
     moves =
-        subst (λ b. MatchBool b (StaysBeside plan.strangers (units_of plan) has.0) (¬ StaysBeside plan.strangers (units_of plan) has.0)) no
+        subst (λ b. MatchBool b (StaysBeside plan.strangers (units_of plan) has.0) (¬ StaysBeside plan.strangers (units_of plan) has.0)) may
         (decided has.0 has.1);
   }
 

@@ -9,6 +9,6 @@ pub returns : goal.returns
 returns c =
     let line = c.args.line.now in
     let all : map (λ v. v.items) c.deref-2.result.now ≡ all_variants c.args.line.now.choices.items =
-    rw (c.deref-2.ensures.value, c.deref.ensures.value) c.in_ok-variants.ensures in
+    rw c.deref-2.ensures.value (rw c.deref.ensures.value at c.in_ok-variants.ensures) in
     of_line line c.in_ok-standings.standings.items
     (subst (λ vs. AreStandingsAmong (IsPossibleOf c.args.line.now vs) c.args.line.now c.in_ok-standings.standings.items) all c.in_ok-standings.ensures)

@@ -13,7 +13,7 @@ returns-then-not-is_possible c vs are =
     let v = c.args.variant.now in
     let never : is_possible c.args.line.now.nevers.items c.args.variant.now ≡ false =
     rw c.deref.ensures.value at (sym c.is_possible.ensures ∙ c.if-not-is_possible.true) in
-    subst (AreStandingsAmong (IsPossibleOf c.args.line.now (vs ++ c.args.variant.now ∷ [])) c.args.line.now) (sym c.in_ok-same.ensures)
+    subst (AreStandingsAmong (IsPossibleOf c.args.line.now (vs ++ c.args.variant.now ∷ [])) c.args.line.now) (sym (c.in_ok-same.ensures.items_if_clones_equal (λ x y is. is)))
     (passed line vs v c.args.so_far.now never are)
 
 pub returns : goal.returns
