@@ -21,7 +21,8 @@ fn stays_text(alloc: Global, line: &ProductLine) -> Result<TextBuffer, AllocErro
     ensures { IfOk result (IsStandingText line.now) }
 {
     let standings = line_standings(alloc, line)?;
-    standings_text(alloc, &standings, &line.plan.units)
+    let text = standings_text(alloc, &standings, &line.plan.units)?;
+    Ok(text)
 }
 
 // What is written of the addresses of a line of vehicles, with the verdict.

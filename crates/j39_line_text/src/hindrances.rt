@@ -5,11 +5,18 @@ ghost use Rattle.j39_variants.specs.Variants.{is_possible};
 ghost use Rattle.j39_line_text.specs.Hindrances.{IsHidingAnswer, TellsWhetherAnyIsHidden, TellsWhetherHidden};
 ghost use Rattle.j39_plan_text.specs.AddressesText.{is_of_addresses};
 
-use j39_findings::check;
+use j39_findings::{Finding, check};
 use j39_line_findings::{LineAnswer, VARIANT_LIMIT, all_variants, combinations};
 use j39_plan_text::is_of_addresses;
 use j39_variants::{ProductLine, is_possible, plan_of};
 use std::alloc::{AllocError, Global};
+
+// Whether one of these findings is on NAMEs or addresses.
+fn is_any_of_addresses(findings: &[Finding]) -> bool
+    ensures { result ≡ list_any is_of_addresses findings.now }
+{
+    findings.iter().any(|finding| is_of_addresses(finding))
+}
 
 // Whether a variant is possible, and its plan has a finding on NAMEs or addresses.
 fn is_hidden(alloc: Global, line: &ProductLine, variant: &[usize]) -> Result<bool, AllocError>
@@ -20,7 +27,7 @@ fn is_hidden(alloc: Global, line: &ProductLine, variant: &[usize]) -> Result<boo
     }
     let plan = plan_of(alloc, line, variant)?;
     let findings = check(alloc, &plan)?;
-    Ok(findings.iter().any(is_of_addresses))
+    Ok(is_any_of_addresses(&findings))
 }
 
 fn is_any_possible(line: &ProductLine, variants: &[Vec<usize>]) -> bool

@@ -15,4 +15,4 @@ returns c =
     let possible : is_possible c.args.line.now.nevers.items c.args.variant.now ≡ true =
     rw c.deref.ensures.value at (sym c.is_possible.ensures ∙ c.if-not-is_possible.false) in
     tell_hidden is_of_addresses c.args.line.now c.args.variant.now c.in_ok-plan.plan c.in_ok-findings.findings.items _ possible c.in_ok-plan.ensures
-    c.in_ok-findings.ensures.exact ?
+    c.in_ok-findings.ensures.exact (rw c.deref-2.ensures.value at c.is_any_of_addresses.ensures)
