@@ -7,12 +7,25 @@ ghost use Rattle.j39_plan_text.specs.AddressesText.{is_of_addresses};
 
 use j39_findings::{Finding, check};
 use j39_line_findings::{LineAnswer, VARIANT_LIMIT, all_variants, combinations};
-use j39_plan_text::is_of_addresses;
 use j39_variants::{ProductLine, is_possible, plan_of};
 use std::alloc::{AllocError, Global};
 
-// Whether one of these findings is on NAMEs or addresses.
-fn is_any_of_addresses(findings: &[Finding]) -> bool
+fn is_of_addresses(finding: &Finding) -> bool
+    ensures { result ≡ is_of_addresses finding.now }
+{
+    matches!(
+        finding,
+        Finding::SameName(..)
+            | Finding::SameFixedAddress(..)
+            | Finding::TooFewAddresses(..)
+            | Finding::KeptAddress(..)
+            | Finding::SilentAddress(..)
+            | Finding::SilentInPool(..)
+    )
+}
+
+/// Whether one of these findings is on NAMEs or addresses.
+pub(crate) fn is_any_of_addresses(findings: &[Finding]) -> bool
     ensures { result ≡ list_any is_of_addresses findings.now }
 {
     findings.iter().any(|finding| is_of_addresses(finding))

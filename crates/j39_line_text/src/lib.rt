@@ -7,6 +7,7 @@ mod check;
 mod hindrances;
 mod line_report;
 mod standing_lines;
+mod stays_lines;
 mod witness_lines;
 
 pub use addresses::addresses_line_text;

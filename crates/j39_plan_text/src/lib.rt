@@ -12,13 +12,14 @@ mod load_report;
 mod plan_file;
 mod plan_findings;
 mod plan_report;
-mod reporting;
+mod report_text;
 mod show;
 mod show_lines;
 mod stays_lines;
+mod stays_report;
 mod variant;
 
-pub use addresses::{is_of_addresses, stays_report};
+pub use addresses::addresses_text;
 pub use certificate::clean_plans_are_certified;
 pub use finding_lines::{write_finding, write_run};
 pub use laws::{
@@ -32,6 +33,5 @@ pub use load_lines::{write_load, write_load_finding};
 pub use plan_file::{line_text, refuse_choices, write_choices_refused, write_refusal};
 pub use plan_findings::PlanFindings;
 pub use plan_report::write_check;
-pub use reporting::{LineReport, report_text};
 pub use show::show_text;
 pub use variant::variant_text;

@@ -5,7 +5,7 @@ ghost use Rattle.j39_stream.specs.Streams.{plan_limits};
 
 use crate::load_report::load_report;
 use crate::plan_file::choices_refused;
-use crate::reporting::{LineReport, report_text};
+use crate::report_text::{LineReport, report_text};
 use j39_stream::{Fault, Sink, Source, Verdict};
 use j39_text::TextBuffer;
 use j39_variants::ProductLine;
