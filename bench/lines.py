@@ -1,9 +1,10 @@
 #!/usr/bin/env python3
-"""Compares what `check` writes of lines of vehicles with what it writes of each of their variants: lines.py [PLANS [SEED]]
+"""Compares what `check` and `addresses` write of lines of vehicles with what they write of each of their variants: lines.py [PLANS [SEED]]
 
-Each of so many random plans (200) has up to five choices. The plan of each possible variant is written as a file and checked by itself; the findings are
-put at their places in the line's file, each once, with the witness and the alternatives that are to stand behind ` in`, by sets of alternatives and
-none of the program's definitions. J39PLAN names the program, else ./j39plan is asked. The status is 1 where an answer differs, which is shown.
+Each of so many random plans (200) has up to five choices. The plan of each possible variant is written as a file and asked about by itself; the findings
+are put at their places in the line's file, each once, with the witness and the alternatives that are to stand behind ` in`, by sets of alternatives and
+none of the program's definitions; so is who stays. J39PLAN names the program, else ./j39plan is asked. The status is 1 where an answer differs, which is
+shown.
 """
 from __future__ import annotations
 
@@ -19,15 +20,17 @@ TOP = Path(__file__).resolve().parent.parent
 PROGRAM = os.environ.get("J39PLAN", str(TOP / "j39plan"))
 KINDS = ("unit", "group", "flow", "need", "request")
 OF_TIMES = ("F3", "F17", "F18", "F20")
+OF_ADDRESSES = ("F1", "F2", "F3", "F12", "F26", "F27")
 Table = dict[str, object]
+Found = tuple[list[str], list[tuple[str, int]], list[str]]
 
 
-def check(text: str) -> list[str]:
-    """The lines that `check` writes of a plan."""
+def ask(command: str, text: str) -> list[str]:
+    """The lines that a command writes of a plan."""
     with tempfile.NamedTemporaryFile("w", suffix=".toml", encoding="utf-8") as file:
         file.write(text)
         file.flush()
-        return subprocess.run([PROGRAM, "check", file.name], stdout=subprocess.PIPE, stderr=subprocess.DEVNULL, check=False, text=True).stdout.splitlines()
+        return subprocess.run([PROGRAM, command, file.name], stdout=subprocess.PIPE, stderr=subprocess.DEVNULL, check=False, text=True).stdout.splitlines()
 
 
 def value(it: object) -> str:
@@ -48,6 +51,7 @@ class Line:
         self.top, self.choices, self.nevers, self.tables = top, choices, nevers, tables
         self.all = [label for choice in choices for label in choice]
         self.boxes = {(kind, number): self.box(kind, number) for kind in KINDS for number in range(len(tables[kind]))}
+        self.known: dict[tuple[str, ...], list[Found]] = {}
 
     def text(self, there: dict[str, list[int]] | None = None) -> str:
         """The text of its plan, or of the plan of those tables."""
@@ -151,11 +155,17 @@ class Line:
         count = {"1": 2, "2": 2, "5": 2, "26": 2}.get(words[0][1:], 1) if kind else 0
         return words, [(kind, self.place(kind, word)) for word in words[2:2 + count]]
 
-    def found(self, taken: tuple[str, ...]) -> list[tuple[list[str], list[tuple[str, int]], list[str]]]:
+    def found(self, taken: tuple[str, ...]) -> list[Found]:
         """The findings of a variant: their words, what stands at their places, and the lines below them."""
+        if taken not in self.known:
+            self.known[taken] = self.looked_for(taken)
+        return self.known[taken]
+
+    def looked_for(self, taken: tuple[str, ...]) -> list[Found]:
+        """The findings of a variant, by what `check` writes of its plan."""
         there = self.there(taken)
-        answer: list[tuple[list[str], list[tuple[str, int]], list[str]]] = []
-        for line in check(self.text(there)):
+        answer: list[Found] = []
+        for line in ask("check", self.text(there)):
             if line.startswith("F"):
                 answer.append((*self.in_file(line.split(), there), []))
             elif line.startswith(" "):
@@ -216,6 +226,19 @@ class Line:
             return ["ok " + " ".join(f"{len(self.tables[kind])} {kind}s" for kind in KINDS[:3]) + f" {len(self.choices)} choices"]
         lines = [line for _, _, some in sorted(best.values(), key=lambda one: one[0]) for line in some]
         return [*lines, f"findings {len(best)}"]
+
+
+    def addresses(self) -> list[str]:
+        """What `addresses` is to write of the line."""
+        variants = self.possible()
+        if not variants or any(words[0] in OF_ADDRESSES for taken in variants for words, _, _ in self.found(taken)):
+            return self.answer()
+        told = [line for taken in variants for line in ask("addresses", self.text(self.there(taken))) if line.startswith("unit ")]
+        lines = []
+        for unit in self.tables["unit"]:
+            these = [line for line in told if line.split()[1] == unit["label"]]
+            lines.append(min(these, key=lambda line: " stays " in line, default=f"unit {unit['label']} no variant"))
+        return [*lines, f"stay {sum(' stays ' in line for line in lines)} of {len(lines)}"]
 
 
 def random_line(rng: random.Random) -> Line:
@@ -291,23 +314,25 @@ def main(words: list[str]) -> int:
     refused = differences = 0
     for number in range(plans):
         line = random_line(rng)
-        written = check(line.text())
+        written = ask("check", line.text())
         if not written or written[0].startswith("refused"):
             refused += 1
             if os.environ.get("SHOW"):
                 print(written)
             continue
         try:
-            wanted = line.answer()
+            wanted = {"check": line.answer(), "addresses": line.addresses()}
         except ValueError as error:
             print(f"plan {number}: a variant is refused: {error}")
             differences += 1
             continue
-        for one in wanted:
+        for one in wanted["check"]:
             counts[one.split()[0]] = counts.get(one.split()[0], 0) + 1
-        if wanted != written:
-            differences += 1
-            print(f"plan {number} of seed {seed} differs\n{line.text()}", "wanted", *wanted, "written", *written, sep="\n")
+        for command, lines in wanted.items():
+            answer = written if command == "check" else ask(command, line.text())
+            if lines != answer:
+                differences += 1
+                print(f"{command} of plan {number} of seed {seed} differs\n{line.text()}", "wanted", *lines, "written", *answer, sep="\n")
     print(f"plans {plans} refused {refused} differences {differences}", *(f"{key} {count}" for key, count in sorted(counts.items()) if key))
     return 1 if differences else 0
 

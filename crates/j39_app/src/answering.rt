@@ -3,8 +3,8 @@ ghost use Rattle.std.specs.Prelude.{◌≡◌, IsErrOf, OnOk, map, string_bytes}
 ghost use Rattle.j39_app.specs.Answers.{IsAnswer, IsFrontAnswer, IsOfBytes, IsOfSome};
 ghost use Rattle.j39_app.specs.Faults.{AsksForMemory, Ends, EndsByFile, HasFileFailed, IsOfRead, PutsAtOnce};
 ghost use Rattle.j39_app.specs.Known.{MayBeTooLong};
-ghost use Rattle.j39_plan_text.specs.AddressesText.{IsAddressesText};
 ghost use Rattle.j39_plan_text.specs.LoadText.{IsLoadText};
+ghost use Rattle.j39_line_text.specs.LineAddressesText.{IsLineAddressesText};
 ghost use Rattle.j39_line_text.specs.LineCheckText.{IsLineCheckText};
 ghost use Rattle.j39_plan_text.specs.ShownLines.{IsShowText};
 ghost use Rattle.j39_plan_text.specs.VariantText.{IsVariantText};
@@ -16,7 +16,7 @@ use crate::answering_vehicles::vehicle_files;
 use crate::auditing::AuditCommand;
 use crate::by_plan::{FollowCommand, ReadCommand, RunCommand, by_two};
 use crate::{
-    Fault, Folder, Order, Sink, Source, Verdict, addresses_text, check_line_text, frame_text,
+    Fault, Folder, Order, Sink, Source, Verdict, addresses_line_text, check_line_text, frame_text,
     input_text, load_text, put_all, show_text, variant_text,
 };
 use std::alloc::Global;
@@ -82,10 +82,10 @@ fn addresses_file<F: Folder, W: Sink>(
     plan: &str,
     sink: &mut W,
 ) -> Result<Verdict, Fault>
-    ensures { EndsByFile (IsOfBytes IsAddressesText) (λ known. IsOfSome (IsOfBytes IsAddressesText known)) (Unit {0}) plan_limits
+    ensures { EndsByFile (IsOfBytes IsLineAddressesText) (λ known. IsOfSome (IsOfBytes IsLineAddressesText known)) (Unit {0}) plan_limits
         (F.stays_shut files.now) (F.bytes_of files.now) F.File.state plan.now W.state sink.old sink.new result }
 {
-    addresses_text(alloc, &mut files.open(plan)?, sink)
+    addresses_line_text(alloc, &mut files.open(plan)?, sink)
 }
 
 #[inline(never)]

@@ -1,1 +1,2 @@
 pub mod CertifiedVariants
+pub mod HiddenLines

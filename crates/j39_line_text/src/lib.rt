@@ -1,9 +1,14 @@
 //! What is written of the plan of a line of vehicles.
 #![tactic(auto)]
 
+mod addresses;
 mod certificate;
 mod check;
+mod hindrances;
 mod line_report;
+mod standing_lines;
+mod stays_lines;
 mod witness_lines;
 
+pub use addresses::addresses_line_text;
 pub use check::check_line_text;

@@ -27,7 +27,7 @@ fn ok_text(alloc: Global, line: &ProductLine) -> Result<TextBuffer, AllocError>
 }
 
 #[tactic(auto, unfolding(crate::specs::LineCheckText::no_variant_text))]
-fn no_variant_text(alloc: Global) -> Result<TextBuffer, AllocError>
+pub(crate) fn no_variant_text(alloc: Global) -> Result<TextBuffer, AllocError>
     ensures { IfOk result (λ text. text ≡ no_variant_text) }
 {
     let mut text = TextBuffer::new(alloc);
@@ -43,7 +43,7 @@ fn write_many_variants(text: &mut TextBuffer, count: u64) -> Result<(), AllocErr
     text.word("\nfindings 1\n")
 }
 
-fn many_variants(alloc: Global, count: u64) -> Result<TextBuffer, AllocError>
+pub(crate) fn many_variants(alloc: Global, count: u64) -> Result<TextBuffer, AllocError>
     ensures { IfOk result (λ text. text ≡ many_variants_text count) }
 {
     let mut text = TextBuffer::new(alloc);
@@ -52,7 +52,7 @@ fn many_variants(alloc: Global, count: u64) -> Result<TextBuffer, AllocError>
 }
 
 // What is found of a line in which some possible variant has a finding.
-fn faulty_text(alloc: Global, line: &ProductLine) -> Result<TextBuffer, AllocError>
+pub(crate) fn faulty_text(alloc: Global, line: &ProductLine) -> Result<TextBuffer, AllocError>
     ensures { IfOk result (IsFindingsText line.now) }
 {
     let told = line_findings(alloc, line)?;

@@ -1,0 +1,226 @@
+-- What is told of units, with one variant more.
+use Rattle.std.proofs.Common.{◌≡◌, ℕ, zero, suc, ◌+◌, ◌<◌, ◌⊎◌, List, [], ◌∷◌, ◌++◌, Bool, true, false, Option, Some, None, inl, inr, get_or, length, map, take, refl, sym, ap, ◌∙◌, arith, subst}
+use Rattle.std.specs.Bool.{MatchBool}
+use Rattle.std.specs.Prelude.{if◌then◌else◌}
+use Rattle.std.specs.List.{range_with_len, slice_get}
+use Rattle.std.proofs.lemmas.Bool.{cases_Bool, false≢true, true≢false}
+use Rattle.std.proofs.lemmas.List.{length-map, map-append, take_more}
+use Rattle.std.proofs.lemmas.List.FromFn.{get_or-map-range_with_len, length-map-range_with_len}
+use Rattle.j39_findings.specs.Standing.{DecidesWhoStays}
+use Rattle.j39_network.specs.PlannedUnits.{units_of}
+use Rattle.j39_network.specs.Staying.{StaysBeside}
+use Rattle.j39_network.specs.declared.plan.Plan.{Plan}
+use Rattle.j39_network.specs.declared.plan.unit_plan.UnitPlan.{UnitPlan}
+use Rattle.j39_variants.specs.VariantPlans.{IsVariantPlan}
+use Rattle.j39_variants.specs.Variants.{is_possible}
+use Rattle.j39_variants.specs.declared.line.ProductLine.{ProductLine}
+use Rattle.j39_line_findings.proofs.EveryVariant.{every_variant, one_cases}
+use Rattle.j39_line_findings.specs.AllVariants.{IsOneOf, all_variants}
+use Rattle.j39_line_findings.specs.LineAnswers.{IsPossible}
+use Rattle.j39_line_findings.specs.MissedNeeds.{is_unit_there}
+use Rattle.j39_line_bounds.specs.LineStandings.{AreLineStandings, AreStandingsAmong, HasOneStanding, HasPlace, HasUnit, IsLineStanding, IsStandingAmong, LacksUnit, MayMoveIn, StandingsAreExact, StaysIn}
+use Rattle.j39_line_bounds.specs.declared.standing.LineStanding.{LineStanding}
+use Rattle.j39_line_bounds.specs.declared.standing.LineStanding.TheVariants.{NoVariant, Stays, MayMove}
+use Rattle.j39_line_bounds.specs.inside.StandingSteps.{IsPossibleOf, standing_at, standing_with, stays_in, with_variant}
+use Rattle.j39_line_bounds.proofs.UnitPlaces.{is_lacking, is_there, not_both, same_strangers, same_unit, same_units}
+
+-- ---- of the same variants the same is told
+
+module _ (line : ProductLine) (P Q : List ℕ → Type 0) (to : (v : List ℕ) → P v → Q v) (back : (v : List ℕ) → Q v → P v) where
+  standing_same : (u : ℕ) (s : LineStanding) → IsStandingAmong P line u s → IsStandingAmong Q line u s
+  standing_same u NoVariant is = λ v these. is v (back v these)
+  standing_same u Stays is = ((is.0.0, to is.0.0 is.0.1, is.0.2), λ v these. is.1 v (back v these))
+  standing_same u MayMove is = (is.0, to is.0 is.1, is.2)
+
+  pub standings_same : (standings : List LineStanding) → AreStandingsAmong P line standings → AreStandingsAmong Q line standings
+  standings_same standings are = record {
+    count = are.count;
+    each = λ u below. standing_same u (get_or standings u NoVariant) (are.each u below);
+  }
+
+-- ---- what is here
+
+abbrev Here : ProductLine → List ℕ → ℕ → Option Bool → Type 0
+Here line v u None = LacksUnit line v u
+Here line v u (Some true) = HasUnit line v u × StaysIn line v u
+Here line v u (Some false) = MayMoveIn line v u
+
+module _ (line : ProductLine) (v : List ℕ) (plan : Plan) (stays : UnitPlan → Bool) (is : IsVariantPlan line v plan) (decides : DecidesWhoStays plan stays) (u : ℕ)
+    (unit : UnitPlan) (at : slice_get line.plan.units.items u ≡ Some unit) where
+  decided : (p : ℕ) → HasPlace line v u p
+      → MatchBool (stays unit) (StaysBeside plan.strangers (units_of plan) p) (¬ StaysBeside plan.strangers (units_of plan) p)
+  decided p has = decides p unit (same_unit line v u plan p is has ∙ at)
+
+  stays_there : stays unit ≡ true → StaysIn line v u
+  stays_there told other p of_other has =
+      let here : StaysBeside plan.strangers (units_of plan) p =
+      subst (λ b. MatchBool b (StaysBeside plan.strangers (units_of plan) p) (¬ StaysBeside plan.strangers (units_of plan) p)) told (decided p has) in
+      let strangers = same_strangers line v plan other is of_other in
+      let units = same_units line v plan other is of_other in
+      subst (λ n. StaysBeside n (units_of other) p) strangers (subst (λ us. StaysBeside plan.strangers us p) units here)
+
+  moves_there : stays unit ≡ false → HasUnit line v u → MayMoveIn line v u
+  moves_there may has = record {
+    place = has.0;
+    has_place = has.1;
+    plan = plan;
+    is_plan = is;
+    moves =
+        subst (λ b. MatchBool b (StaysBeside plan.strangers (units_of plan) has.0) (¬ StaysBeside plan.strangers (units_of plan) has.0)) may
+        (decided has.0 has.1);
+  }
+
+  here_of : (there told : Bool) → is_unit_there line v u ≡ there → stays unit ≡ told → Here line v u (if there then Some told else None)
+  here_of false told there_is told_is = is_lacking line v u there_is
+  here_of true true there_is told_is = (is_there line v u there_is, stays_there told_is)
+  here_of true false there_is told_is = moves_there told_is (is_there line v u there_is)
+
+  pub what_is_here : Here line v u (stays_in line v stays u)
+  what_is_here =
+      let is_this : stays_in line v stays u ≡ (if is_unit_there line v u then Some (stays unit) else None) = rw at refl in
+      subst (Here line v u) (sym is_this) (here_of (is_unit_there line v u) (stays unit) refl refl)
+
+-- ---- one variant more
+
+one_left : (xs ys : List (List ℕ)) (v : List ℕ) → IsOneOf xs v → IsOneOf (xs ++ ys) v
+one_left [] ys v is = absurd is
+one_left (x ∷ xs) ys v (inl is) = inl is
+one_left (x ∷ xs) ys v (inr is) = inr (one_left xs ys v is)
+
+one_last : (xs : List (List ℕ)) (v : List ℕ) → IsOneOf (xs ++ v ∷ []) v
+one_last [] v = inl refl
+one_last (x ∷ xs) v = inr (one_last xs v)
+
+module _ (line : ProductLine) (vs : List (List ℕ)) (v : List ℕ) where
+  more : (w : List ℕ) → IsPossibleOf line vs w → IsPossibleOf line (vs ++ v ∷ []) w
+  more w these = (one_left vs (v ∷ []) w these.0, these.1)
+
+  last : is_possible line.nevers.items v ≡ true → IsPossibleOf line (vs ++ v ∷ []) v
+  last possible = (one_last vs v, possible)
+
+  each_more : (P : List ℕ → Type 0) → ((w : List ℕ) → IsPossibleOf line vs w → P w) → (is_possible line.nevers.items v ≡ true → P v) → (w : List ℕ)
+      → IsPossibleOf line (vs ++ v ∷ []) w → P w
+  each_more P so_far here w these = elim (one_cases vs (v ∷ []) w these.0) [
+    | inl old ↦ so_far w (old, these.1)
+    | inr (inl same) ↦ subst P same (here (subst (λ x. is_possible line.nevers.items x ≡ true) (sym same) these.1))
+    | inr (inr none) ↦ absurd none
+  ]
+
+  -- one that isn't possible changes nothing
+  pub passed : (standings : List LineStanding) → is_possible line.nevers.items v ≡ false → AreStandingsAmong (IsPossibleOf line vs) line standings
+      → AreStandingsAmong (IsPossibleOf line (vs ++ v ∷ [])) line standings
+  passed standings never are =
+      standings_same line (IsPossibleOf line vs) (IsPossibleOf line (vs ++ v ∷ [])) more
+      (each_more (IsPossibleOf line vs) (λ w these. these) (λ possible. absurd (false≢true (sym never ∙ possible)))) standings are
+
+  module _ (possible : is_possible line.nevers.items v ≡ true) (u : ℕ) where
+    lacks_stays : LacksUnit line v u → StaysIn line v u
+    lacks_stays lacks plan p is has = not_both line v u (StaysBeside plan.strangers (units_of plan) p) lacks p has
+
+    none_stays : ((w : List ℕ) → IsPossibleOf line vs w → LacksUnit line w u) → (w : List ℕ) → IsPossibleOf line vs w → StaysIn line w u
+    none_stays none w these plan p is has = not_both line w u (StaysBeside plan.strangers (units_of plan) p) (none w these) p has
+
+    pub one_more : (s : LineStanding) (h : Option Bool) → IsStandingAmong (IsPossibleOf line vs) line u s → Here line v u h
+        → IsStandingAmong (IsPossibleOf line (vs ++ v ∷ [])) line u (with_variant s h)
+    one_more NoVariant None so_far here = each_more (λ w. LacksUnit line w u) so_far (λ _. here)
+    one_more Stays None so_far here = (
+      (so_far.0.0, more so_far.0.0 so_far.0.1, so_far.0.2),
+      each_more (λ w. StaysIn line w u) so_far.1 (λ _. lacks_stays here),
+    )
+    one_more MayMove None so_far here = (so_far.0, more so_far.0 so_far.1, so_far.2)
+    one_more NoVariant (Some true) so_far here = (
+      (v, last possible, here.0),
+      each_more (λ w. StaysIn line w u) (none_stays so_far) (λ _. here.1),
+    )
+    one_more Stays (Some true) so_far here = (
+      (so_far.0.0, more so_far.0.0 so_far.0.1, so_far.0.2),
+      each_more (λ w. StaysIn line w u) so_far.1 (λ _. here.1),
+    )
+    one_more MayMove (Some true) so_far here = (so_far.0, more so_far.0 so_far.1, so_far.2)
+    one_more NoVariant (Some false) so_far here = (v, last possible, here)
+    one_more Stays (Some false) so_far here = (v, last possible, here)
+    one_more MayMove (Some false) so_far here = (so_far.0, more so_far.0 so_far.1, so_far.2)
+
+-- a unit of the file
+some_unit : (units : List UnitPlan) (u : ℕ) → u < length units → (unit : UnitPlan) × (slice_get units u ≡ Some unit)
+some_unit [] u below = absurd (omega (arith, below))
+some_unit (unit ∷ units) zero below = (unit, refl)
+some_unit (unit ∷ units) (suc u) below = some_unit units u (omega (arith, below))
+
+-- of each unit
+pub all_more : (line : ProductLine) (vs : List (List ℕ)) (v : List ℕ) (plan : Plan) (stays : UnitPlan → Bool) (so_far : List LineStanding)
+    → is_possible line.nevers.items v ≡ true → IsVariantPlan line v plan → DecidesWhoStays plan stays → AreStandingsAmong (IsPossibleOf line vs) line so_far
+    → AreStandingsAmong (IsPossibleOf line (vs ++ v ∷ [])) line (map (standing_with line v stays so_far) (range_with_len 0 (length so_far)))
+all_more line vs v plan stays so_far possible is decides are =
+    let with_it = standing_with line v stays so_far in
+    let n = length so_far in
+    let count : length (map with_it (range_with_len 0 n)) ≡ length so_far = length-map-range_with_len with_it 0 n in
+    let units = are.count in record {
+      count = count ∙ units;
+      each = λ u below.
+          let inside : u < length so_far = subst (λ m. u < m) count below in
+          let in_file : u < length line.plan.units.items = subst (λ m. u < m) units inside in
+          let first : 0 + u ≡ u = omega arith in
+          let told : get_or (map with_it (range_with_len 0 n)) u NoVariant ≡ with_it u = get_or-map-range_with_len with_it 0 n u u NoVariant inside first in
+          let unit = some_unit line.plan.units.items u in_file in
+          subst (IsStandingAmong (IsPossibleOf line (vs ++ v ∷ [])) line u) (sym told)
+          (one_more line vs v possible u (standing_at so_far u) (stays_in line v stays u) (are.each u inside)
+          (what_is_here line v plan stays is decides u unit.0 unit.1));
+    }
+
+-- ---- no variant yet
+
+told_nothing : {X : Type 0} (xs : List X) (u : ℕ) → get_or (map (λ _. NoVariant) xs) u NoVariant ≡ NoVariant
+told_nothing [] u = refl
+told_nothing (x ∷ xs) zero = refl
+told_nothing (x ∷ xs) (suc u) = told_nothing xs u
+
+pub none_yet : (line : ProductLine) → AreStandingsAmong (IsPossibleOf line []) line (map (λ _. NoVariant) line.plan.units.items)
+none_yet line = record {
+  count = length-map line.plan.units.items (λ _. NoVariant);
+  each = λ u below. subst (IsStandingAmong (IsPossibleOf line []) line u) (sym (told_nothing line.plan.units.items u)) (λ v these. absurd these.0);
+}
+
+-- the next one of them
+pub next_one : {V : Type 0} (line : ProductLine) (f : V → List ℕ) (vs : List V) (k : ℕ) (d : V) (v : List ℕ) (old new : List LineStanding) → k < length vs
+    → d ≡ get_or vs k d → v ≡ f d → AreStandingsAmong (IsPossibleOf line (map f (take k vs))) line old
+    → ((ws : List (List ℕ)) → AreStandingsAmong (IsPossibleOf line ws) line old → AreStandingsAmong (IsPossibleOf line (ws ++ v ∷ [])) line new)
+    → AreStandingsAmong (IsPossibleOf line (map f (take (k + 1) vs))) line new
+next_one line f vs k d v old new below is same so_far add =
+    let longer : map f (take (k + 1) vs) ≡ map f (take k vs) ++ f (get_or vs k d) ∷ [] =
+    ap (map f) (take_more vs k d below) ∙ map-append f (take k vs) (get_or vs k d ∷ []) in
+    let here : v ≡ f (get_or vs k d) = same ∙ ap f is in
+    let all : map f (take (k + 1) vs) ≡ map f (take k vs) ++ v ∷ [] = longer ∙ ap (λ w. map f (take k vs) ++ w ∷ []) (sym here) in
+    subst (λ ws. AreStandingsAmong (IsPossibleOf line ws) line new) (sym all) (add (map f (take k vs)) so_far)
+
+-- of all variants those of the line
+pub of_line : (line : ProductLine) (standings : List LineStanding) → AreStandingsAmong (IsPossibleOf line (all_variants line.choices.items)) line standings
+    → AreLineStandings line standings
+of_line line standings are =
+    let all = every_variant line.choices.items in
+    standings_same line (IsPossibleOf line (all_variants line.choices.items)) (IsPossible line)
+    (λ v these. record { is_variant = all.sound v these.0; possible = these.1 }) (λ v possible. (all.complete v possible.is_variant, possible.possible))
+    standings are
+
+-- ---- laws
+
+module _ (line : ProductLine) (u : ℕ) where
+  pub one_standing : HasOneStanding line u
+  one_standing NoVariant NoVariant is other = refl
+  one_standing Stays Stays is other = refl
+  one_standing MayMove MayMove is other = refl
+  one_standing NoVariant Stays is other =
+      not_both line other.0.0 u (NoVariant ≡ Stays) (is other.0.0 other.0.1) other.0.2.0 other.0.2.1
+  one_standing Stays NoVariant is other = not_both line is.0.0 u (Stays ≡ NoVariant) (other is.0.0 is.0.1) is.0.2.0 is.0.2.1
+  one_standing NoVariant MayMove is other =
+      not_both line other.0 u (NoVariant ≡ MayMove) (is other.0 other.1) other.2.place other.2.has_place
+  one_standing MayMove NoVariant is other = not_both line is.0 u (MayMove ≡ NoVariant) (other is.0 is.1) is.2.place is.2.has_place
+  one_standing Stays MayMove is other =
+      absurd (other.2.moves (is.1 other.0 other.1 other.2.plan other.2.place other.2.is_plan other.2.has_place))
+  one_standing MayMove Stays is other = absurd (is.2.moves (other.1 is.0 is.1 is.2.plan is.2.place is.2.is_plan is.2.has_place))
+
+pub exact : StandingsAreExact
+exact line standings are = record {
+  sound = λ u below told. subst (IsLineStanding line u) told (are.each u below);
+  complete = λ u below stays. one_standing line u (get_or standings u NoVariant) Stays (are.each u below) stays;
+}

@@ -1,0 +1,2 @@
+pub mod LineStandings
+pub mod inside

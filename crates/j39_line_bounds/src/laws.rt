@@ -1,0 +1,14 @@
+//! Laws of what holds in each possible variant of a line of vehicles.
+ghost use Rattle.std.specs.Prelude.{ℕ};
+ghost use Rattle.j39_variants.specs.declared.line.ProductLine.{ProductLine};
+ghost use Rattle.j39_line_bounds.specs.LineStandings.{HasOneStanding, StandingsAreExact};
+
+/// A unit that is told to stay does in each possible variant that has it, and each unit that does is told so.
+pub fn standings_are_exact()
+    ensures { StandingsAreExact }
+{}
+
+/// One thing is told of a unit.
+pub fn units_have_one_standing()
+    ensures { (line : ProductLine) (u : ℕ) → HasOneStanding line u }
+{}

@@ -1,0 +1,161 @@
+//! Which units of a line of vehicles stay, in each possible variant that has them.
+ghost use Rattle.std.specs.Prelude.{◌≡◌, ◌∷◌, ◌++◌, [], ℕ, List, IfOk, length, map};
+ghost use Rattle.std.specs.List.{range_with_len};
+ghost use Rattle.j39_findings.specs.Standing.{stays_of};
+ghost use Rattle.j39_line_findings.specs.MissedNeeds.{is_unit_there};
+ghost use Rattle.j39_line_bounds.specs.LineStandings.{AreLineStandings, AreStandingsAmong};
+ghost use Rattle.j39_line_bounds.specs.declared.standing.LineStanding.TheVariants.{NoVariant};
+ghost use Rattle.j39_line_bounds.specs.inside.StandingSteps.{IsPossibleOf, standing_at, standing_with, stays_in, with_variant};
+
+use j39_findings::Standing;
+use j39_line_findings::all_variants;
+use j39_network::UnitPlan;
+use j39_variants::{ProductLine, is_in, is_possible, plan_of};
+use std::alloc::{AllocError, Global};
+
+/// What is told of a unit of a line.
+#[derive(Clone, Copy, PartialEq, Eq)]
+pub enum LineStanding {
+    /// No possible variant has it.
+    NoVariant,
+    /// It stays in each possible variant that has it.
+    Stays,
+    /// In a possible variant that has it it may move.
+    MayMove,
+}
+
+fn is_unit_there(line: &ProductLine, variant: &[usize], place: usize) -> bool
+    ensures { result ≡ is_unit_there line.now variant.now place }
+{
+    match line.lists.units.get(place) {
+        Some(list) => is_in(variant, list),
+        None => false,
+    }
+}
+
+// Whether a unit stays in a variant in whose plan these do; none where it isn't there.
+fn stays_in(
+    line: &ProductLine,
+    variant: &[usize],
+    standing: &Standing,
+    place: usize,
+) -> Option<bool>
+    ensures { result ≡ stays_in line.now variant.now (stays_of standing.now) place }
+{
+    match line.plan.units.get(place) {
+        Some(unit) => {
+            if is_unit_there(line, variant, place) {
+                Some(standing.stays(unit))
+            } else {
+                None
+            }
+        }
+        None => None,
+    }
+}
+
+// What is told of a unit, with one variant more.
+fn with_variant(so_far: LineStanding, here: Option<bool>) -> LineStanding
+    ensures { result ≡ with_variant so_far here }
+{
+    match here {
+        None => so_far,
+        Some(false) => LineStanding::MayMove,
+        Some(true) => match so_far {
+            LineStanding::NoVariant | LineStanding::Stays => LineStanding::Stays,
+            LineStanding::MayMove => LineStanding::MayMove,
+        },
+    }
+}
+
+fn standing_at(standings: &[LineStanding], place: usize) -> LineStanding
+    ensures { result ≡ standing_at standings.now place }
+{
+    match standings.get(place) {
+        Some(standing) => *standing,
+        None => LineStanding::NoVariant,
+    }
+}
+
+fn standing_with(
+    line: &ProductLine,
+    variant: &[usize],
+    standing: &Standing,
+    so_far: &[LineStanding],
+    place: usize,
+) -> LineStanding
+    ensures { result ≡ standing_with line.now variant.now (stays_of standing.now) so_far.now place }
+{
+    with_variant(
+        standing_at(so_far, place),
+        stays_in(line, variant, standing, place),
+    )
+}
+
+fn each_with(
+    alloc: Global,
+    line: &ProductLine,
+    variant: &[usize],
+    standing: &Standing,
+    so_far: &[LineStanding],
+) -> Result<Vec<LineStanding>, AllocError>
+    ensures { IfOk result (λ v. v.items ≡ map (standing_with line.now variant.now (stays_of standing.now) so_far.now) (range_with_len 0 (length so_far.now))) }
+{
+    (0..so_far.len())
+        .map(|place| standing_with(line, variant, standing, so_far, place))
+        .collect(alloc)
+}
+
+// What is told of each unit, with one variant more, which counts where it is possible.
+fn standings_with(
+    alloc: Global,
+    line: &ProductLine,
+    variant: &[usize],
+    so_far: &[LineStanding],
+) -> Result<Vec<LineStanding>, AllocError>
+    ensures { IfOk result (λ v. (variants : List (List ℕ)) → AreStandingsAmong (IsPossibleOf line.now variants) line.now so_far.now
+        → AreStandingsAmong (IsPossibleOf line.now (variants ++ variant.now ∷ [])) line.now v.items) }
+{
+    if !is_possible(&line.nevers, variant) {
+        let same = so_far.to_vec(alloc)?;
+        return Ok(same);
+    }
+    let plan = plan_of(alloc, line, variant)?;
+    let standing = Standing::new(&plan);
+    let standings = each_with(alloc, line, variant, &standing, so_far)?;
+    Ok(standings)
+}
+
+// What is told of each unit, in no variant.
+fn no_standings(alloc: Global, units: &[UnitPlan]) -> Result<Vec<LineStanding>, AllocError>
+    ensures { IfOk result (λ v. v.items ≡ map (λ _. NoVariant) units.now) }
+{
+    units
+        .iter()
+        .map(|_unit| LineStanding::NoVariant)
+        .collect(alloc)
+}
+
+// What is told of each unit, in these variants.
+fn standings_in(
+    alloc: Global,
+    line: &ProductLine,
+    variants: &[Vec<usize>],
+) -> Result<Vec<LineStanding>, AllocError>
+    ensures { IfOk result (λ v. AreStandingsAmong (IsPossibleOf line.now (map (λ v. v.items) variants.now)) line.now v.items) }
+{
+    let mut standings = no_standings(alloc, &line.plan.units)?;
+    for variant in variants {
+        standings = standings_with(alloc, line, variant, &standings)?;
+    }
+    Ok(standings)
+}
+
+/// What is told of each unit of a line, in order.
+pub fn line_standings(alloc: Global, line: &ProductLine) -> Result<Vec<LineStanding>, AllocError>
+    ensures { IfOk result (λ v. AreLineStandings line.now v.items) }
+{
+    let variants = all_variants(alloc, &line.choices)?;
+    let standings = standings_in(alloc, line, &variants)?;
+    Ok(standings)
+}

@@ -1,0 +1,103 @@
+//! The lines that say which units of a line of vehicles stay.
+ghost use Rattle.std.specs.Prelude.{◌≡◌, ◌++◌, IfOk, OnOk};
+ghost use Rattle.j39_load.specs.LineLists.{lines_of_each};
+ghost use Rattle.j39_line_text.specs.StandingLines.{is_staying, line_unit_at, line_unit_text, standing_text, standings_text};
+
+use j39_line_bounds::LineStanding;
+use j39_network::UnitPlan;
+use j39_text::TextBuffer;
+use std::alloc::{AllocError, Global};
+
+#[tactic(auto, unfolding(crate::specs::StandingLines::standing_text))]
+fn write_standing(
+    text: &mut TextBuffer,
+    standing: LineStanding,
+    address: u8,
+) -> Result<(), AllocError>
+    ensures { OnOk result (text.new ≡ text.old ++ standing_text standing address) }
+{
+    match standing {
+        LineStanding::NoVariant => text.word(" no variant"),
+        LineStanding::Stays => text.field(" stays ", address),
+        LineStanding::MayMove => text.field(" may move from ", address),
+    }
+}
+
+#[tactic(auto, unfolding(crate::specs::StandingLines::line_unit_text))]
+fn write_unit(
+    text: &mut TextBuffer,
+    standing: LineStanding,
+    unit: &UnitPlan,
+) -> Result<(), AllocError>
+    ensures { OnOk result (text.new ≡ text.old ++ line_unit_text standing unit.now) }
+{
+    text.word("unit ")?;
+    text.word(unit.label.as_str())?;
+    write_standing(text, standing, unit.address.number())?;
+    text.end_line()
+}
+
+// The unit at a place.
+fn write_unit_at(
+    text: &mut TextBuffer,
+    standings: &[LineStanding],
+    place: usize,
+    unit: &UnitPlan,
+) -> Result<(), AllocError>
+    ensures { OnOk result (text.new ≡ text.old ++ line_unit_at standings.now place unit.now) }
+{
+    match standings.get(place) {
+        Some(standing) => write_unit(text, *standing, unit),
+        None => write_unit(text, LineStanding::NoVariant, unit),
+    }
+}
+
+fn write_units(
+    text: &mut TextBuffer,
+    standings: &[LineStanding],
+    units: &[UnitPlan],
+) -> Result<(), AllocError>
+    ensures { OnOk result (text.new ≡ text.old ++ lines_of_each (line_unit_at standings.now) 0 units.now) }
+{
+    for (place, unit) in units.iter().enumerate() {
+        write_unit_at(text, standings, place, unit)?;
+    }
+    Ok(())
+}
+
+fn is_staying(standing: LineStanding) -> bool
+    ensures { result ≡ is_staying standing }
+{
+    matches!(standing, LineStanding::Stays)
+}
+
+#[tactic(auto, unfolding(crate::specs::StandingLines::standings_text))]
+fn write_standings(
+    text: &mut TextBuffer,
+    standings: &[LineStanding],
+    units: &[UnitPlan],
+) -> Result<(), AllocError>
+    ensures { OnOk result (text.new ≡ text.old ++ standings_text standings.now units.now) }
+{
+    write_units(text, standings, units)?;
+    let staying = standings
+        .iter()
+        .filter(|standing| is_staying(**standing))
+        .count();
+    text.field("stay ", staying)?;
+    text.field(" of ", units.len())?;
+    text.end_line()
+}
+
+/// A line for each unit of a line of vehicles, in order, of which this is told, and how many of them stay.
+pub(crate) fn standings_text(
+    alloc: Global,
+    standings: &[LineStanding],
+    units: &[UnitPlan],
+) -> Result<TextBuffer, AllocError>
+    ensures { IfOk result (λ text. text ≡ standings_text standings.now units.now) }
+{
+    let mut text = TextBuffer::new(alloc);
+    write_standings(&mut text, standings, units)?;
+    Ok(text)
+}
