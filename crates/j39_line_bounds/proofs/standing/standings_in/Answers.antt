@@ -1,4 +1,4 @@
-use Rattle.std.proofs.Common.{List, ℕ, [], map, sym, subst}
+use Rattle.std.proofs.Common.{[], map, sym, subst}
 use Rattle.std.proofs.lemmas.List.{take_all}
 use Rattle.j39_line_bounds.specs.LineStandings.{AreStandingsAmong}
 use Rattle.j39_line_bounds.specs.inside.StandingSteps.{IsPossibleOf}
@@ -17,8 +17,8 @@ loop-variant-preserved c =
     c.loop-variant.standings.items c.in_ok-standings-2.standings.items c.loop-variant-test.true c.variant-item.is c.deref-in-loop-variant.ensures.value
     c.loop-variant.invariant
     (λ ws are.
-        c.in_ok-standings-2.ensures ws
-        (subst (AreStandingsAmong (IsPossibleOf c.args.line.now ws) c.args.line.now) (sym c.deref-in-loop-variant-2.ensures.value) are))
+    c.in_ok-standings-2.ensures ws
+    (subst (AreStandingsAmong (IsPossibleOf c.args.line.now ws) c.args.line.now) (sym c.deref-in-loop-variant-2.ensures.value) are))
 
 pub returns : goal.returns
 returns c =

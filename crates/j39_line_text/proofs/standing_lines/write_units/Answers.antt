@@ -18,5 +18,5 @@ loop-place-preserved c =
     c.in_ok-write_unit_at.ensures
     ∙ ap (λ (t : List ℕ). t ++ one k unit) c.loop-place.invariant
     ∙ append_assoc c.args.text.now before (one k unit)
-    ∙ ap (λ (t : List ℕ). c.args.text.now ++ t) 
+    ∙ ap (λ (t : List ℕ). c.args.text.now ++ t)
     (ap (λ u. before ++ one k u) c.index-units-place.is ∙ sym (more one k c.args.units.now unit c.loop-place-test.true))
