@@ -1,5 +1,5 @@
 -- Which units of a line of vehicles stay, in each possible variant that has them.
-use Rattle.std.specs.Prelude.{◌≡◌, ℕ, ◌<◌, List, Bool, true, length, slice_index_or, Option, Some, None}
+use Rattle.std.specs.Prelude.{◌≡◌, ℕ, ◌<◌, List, length, slice_index_or, Some, None}
 use Rattle.j39_network.specs.PlannedUnits.{units_of}
 use Rattle.j39_network.specs.Staying.{StaysBeside}
 use Rattle.j39_network.specs.declared.plan.Plan.{Plan}

@@ -1,4 +1,4 @@
-use Rattle.std.proofs.Common.{◌≡◌, map, subst, ◌∙◌}
+use Rattle.std.proofs.Common.{◌≡◌, map, subst}
 use Rattle.j39_line_findings.specs.AllVariants.{all_variants}
 use Rattle.j39_line_bounds.specs.LineStandings.{AreStandingsAmong}
 use Rattle.j39_line_bounds.specs.inside.StandingSteps.{IsPossibleOf}

@@ -1,4 +1,4 @@
-use Rattle.std.proofs.Common.{List, ℕ, [], map, sym, subst}
+use Rattle.std.proofs.Common.{[], map, sym, subst}
 use Rattle.std.proofs.lemmas.List.{take_all}
 use Rattle.j39_line_bounds.specs.LineStandings.{AreStandingsAmong}
 use Rattle.j39_line_bounds.specs.inside.StandingSteps.{IsPossibleOf}

@@ -1,9 +1,8 @@
-use Rattle.std.proofs.Common.{◌≡◌, ◌∷◌, [], ◌++◌, false, true, length, map, sym, subst, ◌∙◌}
-use Rattle.std.specs.List.{range_with_len}
+use Rattle.std.proofs.Common.{◌≡◌, ◌∷◌, [], ◌++◌, false, true, sym, subst, ◌∙◌}
 use Rattle.j39_findings.specs.Standing.{stays_of}
 use Rattle.j39_variants.specs.Variants.{is_possible}
 use Rattle.j39_line_bounds.specs.LineStandings.{AreStandingsAmong}
-use Rattle.j39_line_bounds.specs.inside.StandingSteps.{IsPossibleOf, standing_with}
+use Rattle.j39_line_bounds.specs.inside.StandingSteps.{IsPossibleOf}
 use Rattle.j39_line_bounds.proofs.Standings.{all_more, passed}
 use Rattle.j39_line_bounds.proofs.standing.standings_with.Goals as goal
 

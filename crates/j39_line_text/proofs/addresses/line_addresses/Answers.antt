@@ -1,4 +1,4 @@
-use Rattle.std.proofs.Common.{◌≡◌, inl, inr, ap, ◌∙◌}
+use Rattle.std.proofs.Common.{inl, inr, ap, ◌∙◌}
 use Rattle.j39_line_findings.specs.declared.checking.LineAnswer.TheVariants.{Clean, Faulty, ManyVariants, NoVariant}
 use Rattle.j39_plan_text.specs.AddressesText.{is_of_addresses}
 use Rattle.j39_line_text.specs.Hindrances.{IsHidingAnswer}

@@ -1,4 +1,4 @@
-use Rattle.std.proofs.Common.{◌≡◌, List, ℕ, true, false, sym, subst, ◌∙◌}
+use Rattle.std.proofs.Common.{◌≡◌, true, false, sym, subst, ◌∙◌}
 use Rattle.std.specs.List.{list_any}
 use Rattle.j39_findings.specs.Standing.{stays_of}
 use Rattle.j39_plan_text.specs.AddressesText.{is_of_addresses, stays_text}
