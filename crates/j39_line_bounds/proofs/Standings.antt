@@ -18,10 +18,10 @@ use Rattle.j39_line_findings.proofs.EveryVariant.{every_variant, one_cases}
 use Rattle.j39_line_findings.specs.AllVariants.{IsOneOf, all_variants}
 use Rattle.j39_line_findings.specs.LineAnswers.{IsPossible}
 use Rattle.j39_line_findings.specs.MissedNeeds.{is_unit_there}
-use Rattle.j39_line_bounds.specs.LineStandings.{AreLineStandings, AreStandingsAmong, HasOneStanding, HasPlace, HasUnit, IsLineStanding, IsStandingAmong, LacksUnit, MayMoveIn, StandingsAreExact, StaysIn}
+use Rattle.j39_line_bounds.specs.LineStandings.{AreLineStandings, AreStandingsAmong, HasOneStanding, HasPlace, HasLineUnit, IsLineStanding, IsStandingAmong, LacksUnit, MayMoveIn, StandingsAreExact, StaysIn}
 use Rattle.j39_line_bounds.specs.declared.standing.LineStanding.{LineStanding}
 use Rattle.j39_line_bounds.specs.declared.standing.LineStanding.TheVariants.{NoVariant, Stays, MayMove}
-use Rattle.j39_line_bounds.specs.inside.StandingSteps.{IsPossibleOf, standing_at, standing_with, stays_in, with_variant}
+use Rattle.j39_line_bounds.specs.inside.StandingSteps.{IsPossibleOf, standing_at, standing_with, stays_in_variant, with_variant}
 use Rattle.j39_line_bounds.proofs.UnitPlaces.{is_lacking, is_there, not_both, same_strangers, same_unit, same_units}
 
 -- ---- of the same variants the same is told
@@ -42,7 +42,7 @@ module _ (line : ProductLine) (P Q : List ℕ → Type 0) (to : (v : List ℕ) �
 
 abbrev Here : ProductLine → List ℕ → ℕ → Option Bool → Type 0
 Here line v u None = LacksUnit line v u
-Here line v u (Some true) = HasUnit line v u × StaysIn line v u
+Here line v u (Some true) = HasLineUnit line v u × StaysIn line v u
 Here line v u (Some false) = MayMoveIn line v u
 
 module _ (line : ProductLine) (v : List ℕ) (plan : Plan) (stays : UnitPlan → Bool) (is : IsVariantPlan line v plan) (decides : DecidesWhoStays plan stays) (u : ℕ)
@@ -59,7 +59,7 @@ module _ (line : ProductLine) (v : List ℕ) (plan : Plan) (stays : UnitPlan →
       let units = same_units line v plan other is of_other in
       subst (λ n. StaysBeside n (units_of other) p) strangers (subst (λ us. StaysBeside plan.strangers us p) units here)
 
-  moves_there : stays unit ≡ false → HasUnit line v u → MayMoveIn line v u
+  moves_there : stays unit ≡ false → HasLineUnit line v u → MayMoveIn line v u
   moves_there may has = record {
     place = has.0;
     has_place = has.1;
@@ -75,9 +75,9 @@ module _ (line : ProductLine) (v : List ℕ) (plan : Plan) (stays : UnitPlan →
   here_of true true there_is told_is = (is_there line v u there_is, stays_there told_is)
   here_of true false there_is told_is = moves_there told_is (is_there line v u there_is)
 
-  pub what_is_here : Here line v u (stays_in line v stays u)
+  pub what_is_here : Here line v u (stays_in_variant line v stays u)
   what_is_here =
-      let is_this : stays_in line v stays u ≡ (if is_unit_there line v u then Some (stays unit) else None) = rw at refl in
+      let is_this : stays_in_variant line v stays u ≡ (if is_unit_there line v u then Some (stays unit) else None) = rw at refl in
       subst (Here line v u) (sym is_this) (here_of (is_unit_there line v u) (stays unit) refl refl)
 
 -- ---- one variant more
@@ -164,7 +164,7 @@ all_more line vs v plan stays so_far possible is decides are =
           let told : get_or (map with_it (range_with_len 0 n)) u NoVariant ≡ with_it u = get_or-map-range_with_len with_it 0 n u u NoVariant inside first in
           let unit = some_unit line.plan.units.items u in_file in
           subst (IsStandingAmong (IsPossibleOf line (vs ++ v ∷ [])) line u) (sym told)
-          (one_more line vs v possible u (standing_at so_far u) (stays_in line v stays u) (are.each u inside)
+          (one_more line vs v possible u (standing_at so_far u) (stays_in_variant line v stays u) (are.each u inside)
           (what_is_here line v plan stays is decides u unit.0 unit.1));
     }
 

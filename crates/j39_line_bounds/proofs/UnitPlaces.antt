@@ -15,7 +15,7 @@ use Rattle.j39_variants.specs.Variants.{is_in}
 use Rattle.j39_variants.specs.declared.line.Alternative.{Alternative}
 use Rattle.j39_variants.specs.declared.line.ProductLine.{ProductLine}
 use Rattle.j39_line_findings.specs.MissedNeeds.{is_in_at, is_unit_there}
-use Rattle.j39_line_bounds.specs.LineStandings.{HasPlace, HasUnit, LacksUnit}
+use Rattle.j39_line_bounds.specs.LineStandings.{HasPlace, HasLineUnit, LacksUnit}
 
 -- ---- by flags
 
@@ -41,7 +41,7 @@ flagged v (list ∷ lists) (suc u) = flagged v lists u
 -- ---- of a line's units
 
 module _ (line : ProductLine) (v : List ℕ) (u : ℕ) where
-  pub is_there : is_unit_there line v u ≡ true → HasUnit line v u
+  pub is_there : is_unit_there line v u ≡ true → HasLineUnit line v u
   is_there is = placed (flags v line.lists.units.items) 0 u (flagged v line.lists.units.items u ∙ is)
 
   pub is_lacking : is_unit_there line v u ≡ false → LacksUnit line v u

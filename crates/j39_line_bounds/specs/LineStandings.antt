@@ -16,8 +16,8 @@ abbrev pub HasPlace : ProductLine → List ℕ → ℕ → ℕ → Type 0
 HasPlace line variant u place = place_at (unit_places line variant) u ≡ Some place
 
 -- the variant has it, or hasn't
-abbrev pub HasUnit : ProductLine → List ℕ → ℕ → Type 0
-HasUnit line variant u = (place : ℕ) × HasPlace line variant u place
+abbrev pub HasLineUnit : ProductLine → List ℕ → ℕ → Type 0
+HasLineUnit line variant u = (place : ℕ) × HasPlace line variant u place
 
 abbrev pub LacksUnit : ProductLine → List ℕ → ℕ → Type 0
 LacksUnit line variant u = place_at (unit_places line variant) u ≡ None
@@ -40,7 +40,7 @@ pub record MayMoveIn (line : ProductLine) (variant : List ℕ) (u : ℕ) : Type 
 -- what is told of it: none of these variants has it; some do, and it stays in each of them; or in one of them it may move
 abbrev pub IsStandingAmong : (List ℕ → Type 0) → ProductLine → ℕ → LineStanding → Type 0
 IsStandingAmong These line u NoVariant = (variant : List ℕ) → These variant → LacksUnit line variant u
-IsStandingAmong These line u Stays = ((variant : List ℕ) × These variant × HasUnit line variant u)
+IsStandingAmong These line u Stays = ((variant : List ℕ) × These variant × HasLineUnit line variant u)
     × ((variant : List ℕ) → These variant → StaysIn line variant u)
 IsStandingAmong These line u MayMove = (variant : List ℕ) × These variant × MayMoveIn line variant u
 
@@ -60,7 +60,7 @@ AreLineStandings line = AreStandingsAmong (IsPossible line) line
 
 -- some possible variant has a unit, and it stays in each that has it
 abbrev pub StaysInEach : ProductLine → ℕ → Type 0
-StaysInEach line u = ((variant : List ℕ) × IsPossible line variant × HasUnit line variant u)
+StaysInEach line u = ((variant : List ℕ) × IsPossible line variant × HasLineUnit line variant u)
     × ((variant : List ℕ) → IsPossible line variant → StaysIn line variant u)
 
 -- one that is told to stay does, and each that does is told so

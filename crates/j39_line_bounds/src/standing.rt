@@ -5,7 +5,7 @@ ghost use Rattle.j39_findings.specs.Standing.{stays_of};
 ghost use Rattle.j39_line_findings.specs.MissedNeeds.{is_unit_there};
 ghost use Rattle.j39_line_bounds.specs.LineStandings.{AreLineStandings, AreStandingsAmong};
 ghost use Rattle.j39_line_bounds.specs.declared.standing.LineStanding.TheVariants.{NoVariant};
-ghost use Rattle.j39_line_bounds.specs.inside.StandingSteps.{IsPossibleOf, standing_at, standing_with, stays_in, with_variant};
+ghost use Rattle.j39_line_bounds.specs.inside.StandingSteps.{IsPossibleOf, standing_at, standing_with, stays_in_variant, with_variant};
 
 use j39_findings::Standing;
 use j39_line_findings::all_variants;
@@ -34,13 +34,13 @@ fn is_unit_there(line: &ProductLine, variant: &[usize], place: usize) -> bool
 }
 
 // Whether a unit stays in a variant in whose plan these do; none where it isn't there.
-fn stays_in(
+fn stays_in_variant(
     line: &ProductLine,
     variant: &[usize],
     standing: &Standing,
     place: usize,
 ) -> Option<bool>
-    ensures { result ≡ stays_in line.now variant.now (stays_of standing.now) place }
+    ensures { result ≡ stays_in_variant line.now variant.now (stays_of standing.now) place }
 {
     match line.plan.units.get(place) {
         Some(unit) => {
@@ -88,7 +88,7 @@ fn standing_with(
 {
     with_variant(
         standing_at(so_far, place),
-        stays_in(line, variant, standing, place),
+        stays_in_variant(line, variant, standing, place),
     )
 }
 

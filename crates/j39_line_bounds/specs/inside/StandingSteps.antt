@@ -15,8 +15,8 @@ abbrev pub IsPossibleOf : ProductLine → List (List ℕ) → List ℕ → Type 
 IsPossibleOf line variants v = IsOneOf variants v × (is_possible line.nevers.items v ≡ true)
 
 -- whether a unit stays in a variant in whose plan these do; none where it isn't there
-abbrev pub stays_in : ProductLine → List ℕ → (UnitPlan → Bool) → ℕ → Option Bool
-stays_in line variant stays u =
+abbrev pub stays_in_variant : ProductLine → List ℕ → (UnitPlan → Bool) → ℕ → Option Bool
+stays_in_variant line variant stays u =
     option_and_then (λ unit. if is_unit_there line variant u then Some (stays unit) else None) (slice_get line.plan.units.items u)
 
 -- what is told of it, with this variant
@@ -33,4 +33,4 @@ abbrev pub standing_at : List LineStanding → ℕ → LineStanding
 standing_at standings u = slice_index_or standings u NoVariant
 
 abbrev pub standing_with : ProductLine → List ℕ → (UnitPlan → Bool) → List LineStanding → ℕ → LineStanding
-standing_with line variant stays so_far u = with_variant (standing_at so_far u) (stays_in line variant stays u)
+standing_with line variant stays so_far u = with_variant (standing_at so_far u) (stays_in_variant line variant stays u)
