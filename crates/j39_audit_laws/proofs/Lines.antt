@@ -70,7 +70,7 @@ IsTaken s past line next =
     × (IsQuiet past next ⊎ ((l : List ℕ) × (line ≡ ShortLine l) × (IsSkipped (with_next_number past) l next ⊎ IsFramed s (with_next_number past) l next)))
 
 passed : (s : Settings) (past : AuditPast) (line part : List ℕ) (named : Option (List ℕ)) → IsReadHere past line part named → (e : LineError)
-    → HasLineFault part e → (next : AuditPast) → next ≡ passed_by e past → IsOneOf s past line next
+    → HasLineFault part e → (next : AuditPast) → next ≡ passed_by s e past → IsOneOf s past line next
 passed s past line part named reads ShortIdent fault next e = inr (inl (record {
   part = part;
   named = named;
