@@ -193,10 +193,13 @@ with_ending s t (OfUnit u) m = unit_pauses_ended s t u m
 with_ending s t OfAll m = all_pauses_ended s m
 
 -- a frame that counts for a unit
+abbrev pub with_frame_of : ℕ → ℕ → Moments → Moments
+with_frame_of u line m = record m { last = with_last_frame u (Some (record { line = line; idle = m.idle })) m.last }
+
 abbrev pub with_counted : Settings → Option ℕ → ℕ → Moments → Moments
 with_counted s None line m = m
 with_counted s (Some u) line m =
-    if nat_lt u (units_planned s) then record m { last = with_last_frame u (Some (record { line = line; idle = m.idle })) m.last } else m
+    if nat_lt u (units_planned s) then with_frame_of u line m else m
 
 -- ---- gaps
 

@@ -3,7 +3,7 @@ ghost use Rattle.std.specs.Prelude.{◌≡◌, ◌<◌, ◌≤◌, ◌^◌, ◌+
 ghost use Rattle.std.specs.Option.{option_map};
 ghost use Rattle.j39_audit.specs.Counting.{Noted};
 ghost use Rattle.j39_audit.specs.Moments.{Moments as AMoments, begun_anew, behind_bad, behind_gap, moments_behind, near_noted, no_moments, with_moment};
-ghost use Rattle.j39_audit.specs.Moments.{listed_pauses_ended, moment_window, with_counted, with_ending, with_message, with_stream, with_time};
+ghost use Rattle.j39_audit.specs.Moments.{listed_pauses_ended, moment_window, with_counted, with_ending, with_frame_of, with_message, with_stream, with_time};
 ghost use Rattle.j39_audit.specs.MessageStreams.{nothing_sighted, sighted_behind, sighted_stream};
 ghost use Rattle.j39_audit.specs.Pauses.{unclear_behind};
 ghost use Rattle.j39_audit.specs.inside.Recalling.{AreNear, Notes, RecallsMoments, far_ahead, settings_of};
@@ -192,6 +192,17 @@ impl Moments {
         }
     }
 
+    // Keeps a frame that counts for a unit.
+    fn keep_last(&mut self, unit: usize, line: u64)
+        requires unit { unit < 128 }
+        requires near { AreNear self.old }
+        ensures near { AreNear self.new }
+        ensures moments { (m : AMoments) → RecallsMoments self.old m → RecallsMoments self.new (with_frame_of unit line m) }
+    {
+        let idle = self.idle;
+        self.pauses.set_last(unit, LastFrame { line, idle });
+    }
+
     // Keeps a frame that counts for a unit, if there is one.
     fn take_counted(&mut self, basis: &Basis<'_>, unit: Option<usize>, line: u64)
         requires near { AreNear self.old }
@@ -201,8 +212,7 @@ impl Moments {
     {
         if let Some(unit) = unit {
             if unit < basis.plan.units.len() {
-                let idle = self.idle;
-                self.pauses.set_last(unit, LastFrame { line, idle });
+                self.keep_last(unit, line);
             }
         }
     }
