@@ -72,10 +72,7 @@ fn has_frames(counts: &LineCounts) -> bool
 fn is_of_moments(word: Word) -> bool
     ensures { result ≡ is_of_moments word }
 {
-    matches!(
-        word,
-        Word::NearFlow | Word::NearRequest | Word::SilentFlow
-    )
+    matches!(word, Word::NearFlow | Word::NearRequest | Word::SilentFlow)
 }
 
 impl<'a> AuditLog<'a> {

@@ -218,7 +218,12 @@ impl Moments {
     }
 
     // Ends the pauses that end at a frame.
-    fn end_pauses(&mut self, basis: &Basis<'_>, timing: Timing, seen: Seen<'_>) -> Result<(), AllocError>
+    fn end_pauses(
+        &mut self,
+        basis: &Basis<'_>,
+        timing: Timing,
+        seen: Seen<'_>,
+    ) -> Result<(), AllocError>
         requires near { AreNear self.old }
         ensures near { OnOk result (AreNear self.new) }
         ensures moments { OnOk result ((m : AMoments) → RecallsMoments self.old m

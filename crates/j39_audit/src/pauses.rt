@@ -13,6 +13,7 @@ use std::alloc::{AllocError, Global};
 
 // A plan has no more flows, and no more units.
 const FLOWS: usize = 512;
+
 const UNITS: usize = 128;
 
 /// Of a flow with a pause: the latest moment of its newest message, and its line.

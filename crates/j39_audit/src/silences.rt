@@ -142,7 +142,12 @@ impl Moments {
     }
 
     // Ends the pause of the flow at a place.
-    fn end_pause(&mut self, basis: &Basis<'_>, timing: Timing, place: usize) -> Result<(), AllocError>
+    fn end_pause(
+        &mut self,
+        basis: &Basis<'_>,
+        timing: Timing,
+        place: usize,
+    ) -> Result<(), AllocError>
         requires near { AreNear self.old }
         ensures near { OnOk result (AreNear self.new) }
         ensures moments { OnOk result ((m : AMoments) → RecallsMoments self.old m
@@ -176,7 +181,12 @@ impl Moments {
     }
 
     // Ends those of all flows, or of those with a unit.
-    fn end_flows(&mut self, basis: &Basis<'_>, timing: Timing, unit: Option<usize>) -> Result<(), AllocError>
+    fn end_flows(
+        &mut self,
+        basis: &Basis<'_>,
+        timing: Timing,
+        unit: Option<usize>,
+    ) -> Result<(), AllocError>
         requires near { AreNear self.old }
         ensures near { OnOk result (AreNear self.new) }
         ensures moments { OnOk result ((m : AMoments) → RecallsMoments self.old m → RecallsMoments self.new
@@ -189,7 +199,12 @@ impl Moments {
     }
 
     /// Ends those of the flows of a list.
-    pub fn end_listed(&mut self, basis: &Basis<'_>, timing: Timing, places: &[usize]) -> Result<(), AllocError>
+    pub fn end_listed(
+        &mut self,
+        basis: &Basis<'_>,
+        timing: Timing,
+        places: &[usize],
+    ) -> Result<(), AllocError>
         requires near { AreNear self.old }
         ensures near { OnOk result (AreNear self.new) }
         ensures moments { OnOk result ((m : AMoments) → RecallsMoments self.old m → RecallsMoments self.new
@@ -243,7 +258,12 @@ impl Moments {
     }
 
     /// Ends those that end at a claim.
-    pub fn end_at(&mut self, basis: &Basis<'_>, timing: Timing, ending: Ending) -> Result<(), AllocError>
+    pub fn end_at(
+        &mut self,
+        basis: &Basis<'_>,
+        timing: Timing,
+        ending: Ending,
+    ) -> Result<(), AllocError>
         requires near { AreNear self.old }
         ensures near { OnOk result (AreNear self.new) }
         ensures moments { OnOk result ((m : AMoments) → RecallsMoments self.old m

@@ -94,6 +94,12 @@ looked : (p : FlowPause) (newest : Newest) (last : LastFrame) → newest.line < 
     → silent_by p newest (Some last) ≡ lag p.pause (Some newest.moment) (option_map (λ q. q - p.jitter) last.idle)
 looked p newest last less = rw (lt-ltb newest.line last.line less) refl
 
+at_end : (pause k : ℕ) (windows : ℕ → Window) (lines : ℕ → ℕ) (i : ℕ) (lower : Option ℕ)
+    → silence_noted k (lines i) (lag pause (Some (latest_next pause (latest pause windows i) (windows i))) lower)
+    ≡ silent_there pause k windows lines (suc i) lower
+unfolding latest
+at_end pause k windows lines i lower = behind_noted pause k (lines i) (Some (latest_next pause (latest pause windows i) (windows i))) lower
+
 pub notes_the_silent_end : NotesTheSilentEnd
 notes_the_silent_end s t p n windows lines j m last paused none there behind_it =
     let e = with_paused p.pause n windows lines (suc j) m in
@@ -111,9 +117,3 @@ notes_the_silent_end s t p n windows lines j m last paused none there behind_it 
     ∙ ap (λ (b : Option ℕ). silent_noted n (Some newest) b) by
     ∙ noted_at_line n moment (lines j) (lag p.pause (Some moment) lower)
     ∙ at_end p.pause n windows lines j lower)
-  where
-    at_end : (pause k : ℕ) (windows : ℕ → Window) (lines : ℕ → ℕ) (i : ℕ) (lower : Option ℕ)
-        → silence_noted k (lines i) (lag pause (Some (latest_next pause (latest pause windows i) (windows i))) lower)
-        ≡ silent_there pause k windows lines (suc i) lower
-    unfolding latest
-    at_end pause k windows lines i lower = behind_noted pause k (lines i) (Some (latest_next pause (latest pause windows i) (windows i))) lower

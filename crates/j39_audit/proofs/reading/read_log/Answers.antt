@@ -1,4 +1,4 @@
-use Rattle.std.proofs.Common.{rules, ◌≡◌, ◌<◌, ◌≤◌, ◌++◌, [], ℕ, List, length, take, refl, sym, ap, subst, ◌∙◌, arith}
+use Rattle.std.proofs.Common.{rules, ◌≡◌, ◌<◌, ◌≤◌, ◌+◌, ◌++◌, [], ℕ, List, length, take, refl, sym, ap, subst, ◌∙◌, arith}
 use Rattle.std.proofs.lemmas.List.{length-append}
 use Rattle.j39_id.specs.Lines.{Line, Pending, at_start, behind_all, lines, told}
 use Rattle.j39_id.proofs.CutLines.{behind_all-append, told-append}
@@ -31,6 +31,11 @@ loop-count-init g c =
       count = c.requires.within;
       calm = refl;
     }
+
+pub end-requires : goal.end-requires
+end-requires g c =
+    let before = c.loop-count.invariant in
+    record { near = (c.in_ok-read.ensures.count (length before.seen) (length before.seen + 1) before.count (omega arith)).near }
 
 pub returns-in_err-count-clause-long : goal.returns-in_err-count-clause-long
 returns-in_err-count-clause-long g c = λ e.

@@ -45,7 +45,7 @@ returns-clause-frame c = λ past named accords number.
     let anew : c.begins_anew-anew.result ≡ begins_anew s.stamps past.newest time =
     c.begins_anew-anew.ensures ∙ ap (λ (n : Option ℕ). begins_anew s.stamps n time) accords.newest_is in
     let sights = both.sights ∙ ap (λ (w : Sighting). sighted_behind w (lines number_now)) c.look_at_next.ensures.nothing in
-    let unclear = both.unclear ∙ ap (λ (ns : List ℕ). unclear_behind ns (lines number_now)) c.look_at_next.ensures.clear in
+    let unclear = c.as_slice.ensures.value ∙ both.unclear ∙ ap (λ (ns : List ℕ). unclear_behind ns (lines number_now)) c.look_at_next.ensures.clear in
     let looked = c.in_ok-look.ensures.moments past.moments (lines number_now) accords.moments sights unclear in
     let ends : Ending = ending_of s (knowledge s before) f in
     let ending : c.ending_of-ending.result ≡ ends = c.ending_of-ending.ensures

@@ -23,9 +23,8 @@ loop-at-preserved c =
 pub returns : goal.returns
 returns c =
     let before = c.loop-at.invariant in
-    let count = c.len-at-end.ensures in
     let done = c.loop-at-test.false in
-    let end : c.loop-at.at ≡ length c.args.places.now = omega (arith, count, done) in
+    let end : c.loop-at.at ≡ length c.args.places.now = omega (arith, done) in
     record {
       near = before.near;
       moments = λ m recalls. subst (λ (n : ℕ). RecallsMoments c.loop-at.self (listed_pauses_ended (settings_of c.args.basis.now) c.args.timing c.args.places.now n m)) end

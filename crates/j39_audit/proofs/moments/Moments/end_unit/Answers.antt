@@ -1,4 +1,4 @@
-use Rattle.std.proofs.Common.{◌≡◌, ◌<◌, ◌==◌, ℕ, Option, None, Vec, Global, length, slice_index_or, sym, ap, subst, ◌∙◌, tt}
+use Rattle.std.proofs.Common.{◌≡◌, ◌<◌, ◌==◌, ℕ, Option, None, Vec, Global, length, slice_index_or, sym, ap, subst, ◌∙◌}
 use Rattle.std.specs.Prelude.{IfSome}
 use Rattle.j39_audit.specs.Moments.{with_last_frame}
 use Rattle.j39_audit.specs.declared.pauses.LastFrame.{LastFrame}
