@@ -92,12 +92,12 @@ flow_pause s t n = option_and_then (λ (flow : FlowPlan). option_and_then (λ (p
     option_and_then (λ (group : GroupPlan). flow_pause_of s t flow group pace pause) (slice_get s.plan.groups.items flow.group))
     flow.pace) flow.pause) (slice_get s.plan.flows.items n)
 
-unfoldable pub pause_of : Settings → Timing → ℕ → Option ℕ
-pause_of s t n = option_map (λ (p : FlowPause). p.pause) (flow_pause s t n)
+unfoldable pub stream_pause : Settings → Timing → ℕ → Option ℕ
+stream_pause s t n = option_map (λ (p : FlowPause). p.pause) (flow_pause s t n)
 
 unfoldable pub flow_stream : Settings → Timing → Frame → ℕ → Option MessageStream
 flow_stream s t f n =
-    option_and_then (λ (pace : Pace). option_and_then (λ (group : GroupPlan). paced_stream t f n group pace (pause_of s t n)) (group_in_flow s n)) (flow_pace s n)
+    option_and_then (λ (pace : Pace). option_and_then (λ (group : GroupPlan). paced_stream t f n group pace (stream_pause s t n)) (group_in_flow s n)) (flow_pace s n)
 
 -- requests have this priority
 abbrev pub request_priority : ℕ

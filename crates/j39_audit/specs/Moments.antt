@@ -123,8 +123,8 @@ with_newest n one newest other = if n == other then one else newest other
 abbrev pub with_last_frame : ℕ → Option LastFrame → (ℕ → Option LastFrame) → ℕ → Option LastFrame
 with_last_frame u one last other = if u == other then one else last other
 
-abbrev pub moment_of : Option Newest → Option ℕ
-moment_of newest = option_map (λ (x : Newest). x.moment) newest
+abbrev pub newest_moment : Option Newest → Option ℕ
+newest_moment newest = option_map (λ (x : Newest). x.moment) newest
 
 -- a flow is silent behind its newest message
 abbrev pub silent_noted : ℕ → Option Newest → Option ℕ → List Noted
@@ -135,8 +135,8 @@ silent_noted n _ _ = []
 abbrev pub with_pause : Option ℕ → ℕ → Window → ℕ → Moments → Moments
 with_pause None n window line m = m
 with_pause (Some pause) n window line m = record m {
-  newest = with_newest n (Some (record { moment = latest_next pause (moment_of (m.newest n)) window; line = line })) m.newest;
-  untimely = m.untimely ++ silent_noted n (m.newest n) (lag pause (moment_of (m.newest n)) window.lower);
+  newest = with_newest n (Some (record { moment = latest_next pause (newest_moment (m.newest n)) window; line = line })) m.newest;
+  untimely = m.untimely ++ silent_noted n (m.newest n) (lag pause (newest_moment (m.newest n)) window.lower);
 }
 
 -- by how much a flow is silent where its pause ends: by the last frame behind its newest message, up to which all ends of the flow were there

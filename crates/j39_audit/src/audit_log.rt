@@ -7,7 +7,7 @@ ghost use Rattle.j39_audit.specs.AuditText.{AuditPast, bad_line, is_of_moments, 
 ghost use Rattle.j39_audit.specs.Claiming.{HeardClaims, broken_off};
 ghost use Rattle.j39_audit.specs.Looking.{break_noted};
 ghost use Rattle.j39_audit.specs.Settings.{AreMoving, Settings};
-ghost use Rattle.j39_audit.specs.inside.Auditing.{AccordsWith, HasAudited, HasEnded, IsWithinLines, RecallsAudit, TakesFrame, TakesFrameLine, TakesLine};
+ghost use Rattle.j39_audit.specs.inside.Auditing.{AccordsWith, HasAudited, HasAuditedWhole, IsWithinLines, RecallsAudit, TakesFrame, TakesFrameLine, TakesLine};
 ghost use Rattle.j39_audit.specs.inside.Auditing.{tallied};
 ghost use Rattle.j39_audit.specs.inside.Recalling.{AreNear, KnowsClaims, Notes, settings_of};
 
@@ -288,7 +288,7 @@ impl<'a> AuditLog<'a> {
     /// Ends what is open when the log has ended.
     pub fn end(&mut self) -> Result<(), AllocError>
         requires near { AreNear self.old.moments }
-        ensures { OnOk result ((s : Settings) (ls : List Line) → HasAudited s self.old ls → HasEnded s self.new ls) }
+        ensures { OnOk result ((s : Settings) (ls : List Line) → HasAudited s self.old ls → HasAuditedWhole s self.new ls) }
     {
         self.moments.end_all(&self.basis)
     }

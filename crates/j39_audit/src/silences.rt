@@ -1,6 +1,6 @@
 //! Silences of flows: where the next message comes too late, or where none came while all were there.
 ghost use Rattle.std.specs.Prelude.{◌≡◌, ◌<◌, IfSome, OnOk, Some, None, if◌then◌else◌, length};
-ghost use Rattle.j39_audit.specs.Moments.{Moments as AMoments, all_pauses_ended, ends_with, last_of_flow, listed_pauses_ended, moment_of, pause_ended, pauses_dropped};
+ghost use Rattle.j39_audit.specs.Moments.{Moments as AMoments, all_pauses_ended, ends_with, last_of_flow, listed_pauses_ended, newest_moment, pause_ended, pauses_dropped};
 ghost use Rattle.j39_audit.specs.Moments.{pauses_ended, silence_behind, silent_by, silent_noted, unit_pauses_ended, with_ending, with_pause};
 ghost use Rattle.j39_audit.specs.inside.Recalling.{AreNear, Notes, RecallsMoments, far_ahead, last_in_pauses, settings_of};
 
@@ -16,8 +16,8 @@ use j39_network::Timing;
 use std::alloc::AllocError;
 
 // The latest moment of a newest message.
-fn moment_of(newest: Option<Newest>) -> Option<u64>
-    ensures { result ≡ moment_of newest }
+fn newest_moment(newest: Option<Newest>) -> Option<u64>
+    ensures { result ≡ newest_moment newest }
 {
     match newest {
         Some(newest) => Some(newest.moment),
@@ -111,7 +111,7 @@ impl Moments {
             → RecallsMoments self.new (with_pause (Some pause) place window line m)) }
     {
         let newest = self.pauses.newest(place);
-        let latest = moment_of(newest);
+        let latest = newest_moment(newest);
         let by = lag(pause, latest, window.lower);
         note_silent(&mut self.untimely, place, newest, by)?;
         let moment = latest_next(pause, latest, window);

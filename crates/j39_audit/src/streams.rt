@@ -4,7 +4,7 @@ ghost use Rattle.std.specs.Option.{option_and_then, option_copied, option_map};
 ghost use Rattle.j39_id.specs.Ident.{pgn_of};
 ghost use Rattle.j39_audit.specs.Looking.{is_single as is_single_number};
 ghost use Rattle.j39_audit.specs.MessageStreams.{flow_stream, is_in_stream, latest_ms, longest_us, paced_request, paced_stream, asked_stream, shortest_us};
-ghost use Rattle.j39_audit.specs.MessageStreams.{are_of_one_sort, flow_pause, flow_pause_of, is_claiming_there, pause_of, shows_silence, sighted_stream};
+ghost use Rattle.j39_audit.specs.MessageStreams.{are_of_one_sort, flow_pause, flow_pause_of, is_claiming_there, stream_pause, shows_silence, sighted_stream};
 ghost use Rattle.j39_audit.specs.inside.Recalling.{settings_of};
 
 use crate::basis::Basis;
@@ -143,9 +143,9 @@ pub(crate) fn flow_pause(basis: &Basis<'_>, timing: Timing, place: usize) -> Opt
 }
 
 // Only how long it is.
-#[tactic(auto, unfolding(crate::specs::MessageStreams::pause_of))]
-fn pause_of(basis: &Basis<'_>, timing: Timing, place: usize) -> Option<u64>
-    ensures value { result ≡ pause_of (settings_of basis.now) timing place }
+#[tactic(auto, unfolding(crate::specs::MessageStreams::stream_pause))]
+fn stream_pause(basis: &Basis<'_>, timing: Timing, place: usize) -> Option<u64>
+    ensures value { result ≡ stream_pause (settings_of basis.now) timing place }
     ensures few { IfSome result (λ pause. pause < 2 ^ 40) }
 {
     match flow_pause(basis, timing, place) {
@@ -197,7 +197,7 @@ fn flow_stream(
     let flow = basis.plan.flows.get(place)?;
     let pace = flow.pace?;
     let group = basis.plan.groups.get(flow.group)?;
-    let pause = pause_of(basis, timing, place);
+    let pause = stream_pause(basis, timing, place);
     paced_stream(timing, frame, place, group, pace, pause)
 }
 

@@ -8,7 +8,7 @@ use Rattle.j39_network.specs.declared.plan.timing.Timing.{Timing}
 use Rattle.j39_audit.specs.Below.{each_below}
 use Rattle.j39_audit.specs.Counting.{Noted}
 use Rattle.j39_audit.specs.MessageStreams.{flow_pause}
-use Rattle.j39_audit.specs.Moments.{Moments, last_of_flow, moment_of, silence_behind, silent_by, silent_noted, with_newest}
+use Rattle.j39_audit.specs.Moments.{Moments, last_of_flow, newest_moment, silence_behind, silent_by, silent_noted, with_newest}
 use Rattle.j39_audit.specs.Settings.{Settings}
 use Rattle.j39_audit.specs.Silence.{is_silent, lag, latest, latest_next, lies_behind}
 use Rattle.j39_audit.specs.declared.pauses.LastFrame.{LastFrame}
@@ -51,11 +51,11 @@ module _ (pause n : ℕ) (windows : ℕ → Window) (lines : ℕ → ℕ) (m : M
   abbrev there : ℕ → Option ℕ → List Noted
   there j lower = silent_there pause n windows lines j lower
 
-  kept : (j : ℕ) → moment_of ((behind j).newest n) ≡ latest pause windows j
+  kept : (j : ℕ) → newest_moment ((behind j).newest n) ≡ latest pause windows j
   unfolding with_paused latest
-  kept zero = ap (λ (x : Option Newest). moment_of x) none
+  kept zero = ap (λ (x : Option Newest). newest_moment x) none
   kept (suc j) =
-      ap (λ (x : Option Newest). moment_of x) (at_own n _ (behind j).newest)
+      ap (λ (x : Option Newest). newest_moment x) (at_own n _ (behind j).newest)
       ∙ ap (λ (l : Option ℕ). Some (latest_next pause l (windows j))) (kept j)
 
   pub newest_is : (j : ℕ) → (behind (suc j)).newest n ≡ newest_of (latest_next pause (latest pause windows j) (windows j)) (lines j)
@@ -68,12 +68,12 @@ module _ (pause n : ℕ) (windows : ℕ → Window) (lines : ℕ → ℕ) (m : M
   last_is (suc j) = last_is j
 
   -- by any lower bound
-  one_noted : (j : ℕ) (lower : Option ℕ) → silent_noted n ((behind j).newest n) (lag pause (moment_of ((behind j).newest n)) lower) ≡ there j lower
+  one_noted : (j : ℕ) (lower : Option ℕ) → silent_noted n ((behind j).newest n) (lag pause (newest_moment ((behind j).newest n)) lower) ≡ there j lower
   unfolding with_paused latest
   one_noted zero lower =
-      ap (λ (x : Option Newest). silent_noted n x (lag pause (moment_of x) lower)) none ∙ none_noted pause n (lines 0) lower
+      ap (λ (x : Option Newest). silent_noted n x (lag pause (newest_moment x) lower)) none ∙ none_noted pause n (lines 0) lower
   one_noted (suc j) lower =
-      ap (λ (x : Option Newest). silent_noted n x (lag pause (moment_of x) lower)) (newest_is j)
+      ap (λ (x : Option Newest). silent_noted n x (lag pause (newest_moment x) lower)) (newest_is j)
       ∙ noted_at_line n _ (lines j) _
       ∙ behind_noted pause n (lines j) (latest pause windows (suc j)) lower
 

@@ -67,7 +67,7 @@ pub record HasAudited (s : Settings) (log : AuditLog) (ls : List Line) : Type 0 
   pub settings_are : settings_of log.basis ≡ s
 
 -- and there are no more
-pub record HasEnded (s : Settings) (log : AuditLog) (ls : List Line) : Type 0 where
+pub record HasAuditedWhole (s : Settings) (log : AuditLog) (ls : List Line) : Type 0 where
   pub past : AuditPast
   pub read : AuditsLines s nothing_read ls past
   pub recalls : RecallsAudit log (log_ended s past)
@@ -84,7 +84,7 @@ pub record HasReadLog (s : Settings) (log : AuditLog) (old new : Option (List �
   pub input : List ℕ
   pub consumed : Consumes old new input
   pub end : IsAtEnd new
-  pub ended : HasEnded s log (lines input)
+  pub ended : HasAuditedWhole s log (lines input)
 
 -- what is written of the log that was read, with the verdict
 pub record IsAuditReport (log : AuditLog) (text : List ℕ) (verdict : Verdict) : Type 0 where

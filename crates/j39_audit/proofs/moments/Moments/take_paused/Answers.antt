@@ -1,7 +1,7 @@
 use Rattle.std.proofs.Common.{◌≡◌, ◌<◌, ◌++◌, ℕ, Option, Some, None, Vec, Global, length, slice_index_or, sym, ap, subst, ◌∙◌, arith}
 use Rattle.std.specs.Prelude.{IfSome}
 use Rattle.std.proofs.lemmas.Bool.{true≢false}
-use Rattle.j39_audit.specs.Moments.{moment_of, silent_noted, with_newest}
+use Rattle.j39_audit.specs.Moments.{newest_moment, silent_noted, with_newest}
 use Rattle.j39_audit.specs.Silence.{lag, latest_next}
 use Rattle.j39_audit.specs.declared.pauses.LastFrame.{LastFrame}
 use Rattle.j39_audit.specs.declared.pauses.Newest.{Newest}
@@ -41,9 +41,9 @@ returns-clause-moments c = λ m recalls.
     let old = c.args.self.now.pauses in
     let found : Option Newest = m.newest place in
     let newest : c.newest-newest.result ≡ found = c.newest-newest.ensures ∙ recalls.pauses.newest place in
-    let latest : c.moment_of-latest.result ≡ moment_of found = c.moment_of-latest.ensures ∙ ap (λ (x : Option Newest). moment_of x) newest in
-    let by : c.lag-by.result ≡ lag pause (moment_of found) window.lower = c.lag-by.ensures ∙ ap (λ (l : Option ℕ). lag pause l window.lower) latest in
-    let moment : c.latest_next-moment.result ≡ latest_next pause (moment_of found) window =
+    let latest : c.newest_moment-latest.result ≡ newest_moment found = c.newest_moment-latest.ensures ∙ ap (λ (x : Option Newest). newest_moment x) newest in
+    let by : c.lag-by.result ≡ lag pause (newest_moment found) window.lower = c.lag-by.ensures ∙ ap (λ (l : Option ℕ). lag pause l window.lower) latest in
+    let moment : c.latest_next-moment.result ≡ latest_next pause (newest_moment found) window =
     c.latest_next-moment.ensures.value ∙ ap (λ (l : Option ℕ). latest_next pause l window) latest in
     let set = c.set_newest.ensures in
     let make : ℕ → Option Newest = λ k. Some (record { moment = k; line = c.args.line }) in
@@ -52,12 +52,12 @@ returns-clause-moments c = λ m recalls.
       before = recalls.before;
       idle = recalls.idle;
       earliest = recalls.earliest;
-      counted = subst (λ (x : Option Newest). AreCounted c.note_silent.new.untimely (m.untimely ++ silent_noted place x (lag pause (moment_of found) window.lower))) newest
+      counted = subst (λ (x : Option Newest). AreCounted c.note_silent.new.untimely (m.untimely ++ silent_noted place x (lag pause (newest_moment found) window.lower))) newest
           (subst (λ (b : Option ℕ). AreCounted c.note_silent.new.untimely (m.untimely ++ silent_noted place c.newest-newest.result b)) by
           (c.in_ok-note_silent.ensures.counts m.untimely recalls.counted));
       pauses = record {
         newest = λ n. placed place _ _ (newest_in old) set.others set.here n ∙ ap (λ (k : ℕ). with_newest place (make k) (newest_in old) n) moment
-            ∙ ap (λ (f : ℕ → Option Newest). with_newest place (make (latest_next pause (moment_of found) window)) f n) table;
+            ∙ ap (λ (f : ℕ → Option Newest). with_newest place (make (latest_next pause (newest_moment found) window)) f n) table;
         last = λ u. ap (λ (t : Vec (Option LastFrame) Global). slice_index_or t.items u None) set.last ∙ recalls.pauses.last u;
         closed = λ e. absurd (true≢false (sym set.open ∙ e));
       };
