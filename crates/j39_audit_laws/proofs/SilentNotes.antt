@@ -20,6 +20,9 @@ use Rattle.j39_audit_laws.specs.Pausing.{NotesTheSilent, NotesTheSilentEnd, sile
 at_own : (n : ℕ) (one : Option Newest) (old : ℕ → Option Newest) → with_newest n one old n ≡ one
 at_own n one old = ap (λ (b : Bool). cond b one (old n)) (eq-eqb n n refl)
 
+one_less : (j : ℕ) → suc j - 1 ≡ j
+one_less j = omega arith
+
 -- nothing is noted exactly where no bound lies more than a pause behind
 behind_noted : (pause n line : ℕ) (l x : Option ℕ) → silence_noted n line (lag pause l x)
     ≡ cond (lies_behind pause l x) (silence_noted n line (lag pause l x)) []
@@ -76,6 +79,8 @@ module _ (pause n : ℕ) (windows : ℕ → Window) (lines : ℕ → ℕ) (m : M
       ap (λ (x : Option Newest). silent_noted n x (lag pause (newest_moment x) lower)) (newest_is j)
       ∙ noted_at_line n _ (lines j) _
       ∙ behind_noted pause n (lines j) (latest pause windows (suc j)) lower
+      ∙ ap (λ (k : ℕ). cond (lies_behind pause (latest pause windows (suc j)) lower)
+      (silence_noted n (lines k) (lag pause (latest pause windows (suc j)) lower)) []) (sym (one_less j))
 
   pub noted : (j : ℕ) → (behind j).untimely ≡ m.untimely ++ each_below (λ k. there k (windows k).lower) j
   unfolding with_paused each_below
@@ -98,7 +103,10 @@ at_end : (pause k : ℕ) (windows : ℕ → Window) (lines : ℕ → ℕ) (i : �
     → silence_noted k (lines i) (lag pause (Some (latest_next pause (latest pause windows i) (windows i))) lower)
     ≡ silent_there pause k windows lines (suc i) lower
 unfolding latest
-at_end pause k windows lines i lower = behind_noted pause k (lines i) (Some (latest_next pause (latest pause windows i) (windows i))) lower
+at_end pause k windows lines i lower =
+    behind_noted pause k (lines i) (Some (latest_next pause (latest pause windows i) (windows i))) lower
+    ∙ ap (λ (l : ℕ). cond (lies_behind pause (Some (latest_next pause (latest pause windows i) (windows i))) lower)
+    (silence_noted k (lines l) (lag pause (Some (latest_next pause (latest pause windows i) (windows i))) lower)) []) (sym (one_less i))
 
 pub notes_the_silent_end : NotesTheSilentEnd
 notes_the_silent_end s t p n windows lines j m last paused none there behind_it =
