@@ -77,7 +77,7 @@ module _ (pause n : ℕ) (windows : ℕ → Window) (lines : ℕ → ℕ) (m : M
       ap (λ (x : Option Newest). silent_noted n x (lag pause (newest_moment x) lower)) none ∙ none_noted pause n (lines 0) lower
   one_noted (suc j) lower =
       ap (λ (x : Option Newest). silent_noted n x (lag pause (newest_moment x) lower)) (newest_is j)
-      ∙ noted_at_line n _ (lines j) _
+      ∙ noted_at_line n (latest_next pause (latest pause windows j) (windows j)) (lines j) (lag pause (latest pause windows (suc j)) lower)
       ∙ behind_noted pause n (lines j) (latest pause windows (suc j)) lower
       ∙ ap (λ (k : ℕ). cond (lies_behind pause (latest pause windows (suc j)) lower)
       (silence_noted n (lines k) (lag pause (latest pause windows (suc j)) lower)) []) (sym (one_less j))
