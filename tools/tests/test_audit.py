@@ -31,6 +31,8 @@ SAID = [
      {"word": "near", "flow": 3, "group": "EEC1", "from": "ENGINE", "to": "all", "times": 12, "first": 120, "worst": 388, "by": 2310}),
     ("near request 2 VI TOOL ENGINE times 1 first 2 worst 2 by 8 us", "accused",
      {"word": "near", "request": 2, "group": "VI", "from": "TOOL", "to": "ENGINE", "times": 1, "first": 2, "worst": 2, "by": 8}),
+    ("silent flow 1 EEC1 A all times 4 first 1 worst 6 by 2334 us", "accused",
+     {"word": "silent", "flow": 1, "group": "EEC1", "from": "A", "to": "all", "times": 4, "first": 1, "worst": 6, "by": 2334}),
     ("silent packets ENGINE times 1 first 61 worst 61 by 20000 us", "accused", {"word": "silent", "unit": "ENGINE", "times": 1, "first": 61, "worst": 61, "by": 20000}),
     ("flow 3 EEC1 ENGINE all seen 4 unclear 1", "flow", {"flow": 3, "group": "EEC1", "from": "ENGINE", "to": "all", "seen": 4, "unclear": 1}),
     ("request 2 VI TOOL ENGINE seen 5", "request", {"request": 2, "group": "VI", "from": "TOOL", "to": "ENGINE", "seen": 5}),

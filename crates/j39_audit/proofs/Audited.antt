@@ -4,12 +4,12 @@ use Rattle.j39_id.specs.Lines.{lines}
 use Rattle.j39_log.specs.declared.line_counts.LineCounts.{LineCounts}
 use Rattle.j39_network.specs.declared.plan.Plan.{Plan}
 use Rattle.j39_stream.specs.declared.verdict.Verdict.{Verdict}
-use Rattle.j39_audit.specs.AuditText.{IsAudit, IsAuditedLog, Look, AuditPast, accusation_count, counts_of, is_of_moments, look_at, text_by, verdict_by}
+use Rattle.j39_audit.specs.AuditText.{IsAudit, IsAuditedLog, Look, AuditPast, accusation_count, counts_of, is_of_moments, log_ended, look_at, text_by, verdict_by}
 use Rattle.j39_audit.specs.Counting.{key_of}
 use Rattle.j39_audit.specs.Settings.{AreMoving, Settings}
 use Rattle.j39_audit.specs.declared.audit_log.AuditLog.{AuditLog}
 use Rattle.j39_audit.specs.declared.mark.Mark.{Mark}
-use Rattle.j39_audit.specs.inside.Auditing.{HasAudited, IsAuditReport, RecallsAudit, tallied}
+use Rattle.j39_audit.specs.inside.Auditing.{HasAuditedWhole, IsAuditReport, RecallsAudit, tallied}
 use Rattle.j39_audit.specs.inside.Recalling.{settings_of}
 
 both : {X : Type 0} {a b c d : X} (test : Bool) → a ≡ b → c ≡ d → cond test a c ≡ cond test b d
@@ -27,13 +27,13 @@ counts log past recalls =
     ∙ ap (λ (b : ℕ). make past.frames past.skipped b log.counts.elsewhere) recalls.bad_are
     ∙ ap (λ (e : ℕ). make past.frames past.skipped past.bad e) recalls.elsewhere_are
 
-audited : (s : Settings) (log : AuditLog) (input text : List ℕ) (verdict : Verdict) → HasAudited s log (lines input) → IsAuditReport log text verdict
+audited : (s : Settings) (log : AuditLog) (input text : List ℕ) (verdict : Verdict) → HasAuditedWhole s log (lines input) → IsAuditReport log text verdict
     → IsAuditedLog s input text verdict
 audited s log input text verdict has is =
-    let past = has.past in
+    let past = log_ended s has.past in
     let look = looks log past has.recalls in
     record {
-      past = past;
+      past = has.past;
       read = has.read;
       text_is = is.text_is ∙ ap (λ (t : Settings). text_by t log.counts (tallied log)) has.settings_are
           ∙ ap (λ (k : LineCounts). text_by s k (tallied log)) (counts log past has.recalls)
@@ -42,13 +42,13 @@ audited s log input text verdict has is =
           ∙ ap (λ (l : Look). verdict_by (accusation_count s l)) look;
     }
 
-pub is_audit : (s : Settings) (log : AuditLog) (input text : List ℕ) (verdict : Verdict) → HasAudited s log (lines input)
+pub is_audit : (s : Settings) (log : AuditLog) (input text : List ℕ) (verdict : Verdict) → HasAuditedWhole s log (lines input)
     → AreMoving s.plan s.moving → IsAuditReport log text verdict → IsAudit s.plan s.part s.stamps input text verdict
 is_audit s log input text verdict has moving is = record { moving = s.moving; moving_are = moving; audited = audited s log input text verdict has is }
 
 -- by these settings
 pub is_audit_of : (plan : Plan) (part : Bool) (stamps : ℕ) (s : Settings) (log : AuditLog) (input text : List ℕ) (verdict : Verdict) → s.plan ≡ plan
-    → s.part ≡ part → s.stamps ≡ stamps → AreMoving plan s.moving → HasAudited s log (lines input) → IsAuditReport log text verdict
+    → s.part ≡ part → s.stamps ≡ stamps → AreMoving plan s.moving → HasAuditedWhole s log (lines input) → IsAuditReport log text verdict
     → IsAudit plan part stamps input text verdict
 is_audit_of plan part stamps s log input text verdict same_plan same_part same_stamps moving has is =
     subst (λ (n : ℕ). IsAudit plan part n input text verdict) same_stamps

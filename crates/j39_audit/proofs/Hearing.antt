@@ -17,13 +17,13 @@ use Rattle.j39_audit.specs.AuditText.{AuditPast, AuditsLine, AuditsLines, passed
 use Rattle.j39_audit.specs.Settings.{Settings}
 
 -- none of these is a line of its own
-pub as_many_lines : (e : LineError) (past : AuditPast) → (passed_by e past).number ≡ past.number
-as_many_lines Empty past = refl
-as_many_lines NoHash past = refl
-as_many_lines ShortIdent past = refl
-as_many_lines BadIdent past = refl
-as_many_lines TooLong past = refl
-as_many_lines BadData past = refl
+pub as_many_lines : (s : Settings) (e : LineError) (past : AuditPast) → (passed_by s e past).number ≡ past.number
+as_many_lines s Empty past = refl
+as_many_lines s NoHash past = refl
+as_many_lines s ShortIdent past = refl
+as_many_lines s BadIdent past = refl
+as_many_lines s TooLong past = refl
+as_many_lines s BadData past = refl
 
 pub frame_number : (s : Settings) (past : AuditPast) (time : Option ℕ) (named : Option (List ℕ)) (f : Frame) (packet : Option Packet)
     → (past_with_frame s past time named f packet).number ≡ past.number

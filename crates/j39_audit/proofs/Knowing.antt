@@ -4,11 +4,18 @@ use Rattle.std.specs.Prelude.{is_none}
 use Rattle.std.specs.List.{list_any}
 use Rattle.std.proofs.lemmas.Bool.{cases_lt, le-ltb, lt-ltb, ne_eqb}
 use Rattle.j39_id.specs.Addresses.{is_address}
-use Rattle.j39_audit.specs.Claiming.{Heard, newest_of}
+use Rattle.j39_audit.specs.Claiming.{Heard, HeardClaims, knowledge, newest_of}
+use Rattle.j39_audit.specs.Settings.{Settings}
+use Rattle.j39_audit.specs.declared.known.Known.{Known}
+use Rattle.j39_audit.specs.inside.Recalling.{KnowsClaims, known_by}
 
 and_false : (b : Bool) → (b && false) ≡ false
 and_false true = refl
 and_false false = refl
+
+-- what is known is what the claims tell
+pub known_knowledge : (s : Settings) (known : Known) (claims : HeardClaims) → KnowsClaims s known claims → known_by known ≡ knowledge s claims
+known_knowledge s known claims knows = λ i. record { last = λ u. knows.last u i; taken = λ a. knows.taken a i }
 
 -- ---- a break
 

@@ -3,9 +3,6 @@ pub mod Below
 pub mod Counted
 pub mod Hearing
 pub mod Knowing
-pub mod Near
-pub mod NearNotes
 pub mod Noting
-pub mod Spread
-pub mod Steps
+pub mod Pausing
 pub mod Writing

@@ -6,6 +6,7 @@ use Rattle.std.specs.List.{slice_get}
 use Rattle.j39_audit.specs.Below.{each_below}
 use Rattle.j39_audit.specs.SentMessages.{marked, noted_at}
 use Rattle.j39_audit.specs.MessageStreams.{sighted_as, sighted_behind}
+use Rattle.j39_audit.specs.Pauses.{unclear_as, unclear_behind}
 use Rattle.j39_audit.specs.declared.mark.Word.{Word}
 use Rattle.j39_audit.specs.declared.tally.MarkTally.{MarkTally}
 use Rattle.j39_audit.specs.declared.tally.Sighting.{Sighting}
@@ -17,6 +18,14 @@ sighted_both : (w : Sighting) (xs ys : List Noted) → sighted_behind w (xs ++ y
 sighted_both w [] ys = refl
 sighted_both w (n ∷ xs) ys = sighted_both (sighted_as n.mark.word n.mark.subject w) xs ys
 
+-- and what is unclear
+unclear_both : (ns : List ℕ) (xs ys : List Noted) → unclear_behind ns (xs ++ ys) ≡ unclear_behind (unclear_behind ns xs) ys
+unclear_both ns [] ys = refl
+unclear_both ns (n ∷ xs) ys = unclear_both (unclear_as n.mark.word n.mark.subject ns) xs ys
+
+unclear_none : (ns : List ℕ) → ns ≡ unclear_behind ns []
+unclear_none ns = refl
+
 -- nothing
 sighted_none : (w : Sighting) → w ≡ sighted_behind w []
 sighted_none w = refl
@@ -25,6 +34,7 @@ pub notes_none : (tally : MarkTally) → Notes tally tally []
 notes_none tally = record {
   counts = λ noted counted. subst (AreCounted tally) (sym (append-nil noted)) counted;
   sights = sighted_none tally.sighting;
+  unclear = unclear_none tally.unclear.items;
 }
 
 -- two lists
@@ -32,6 +42,7 @@ pub notes_both : {a b c : MarkTally} {xs ys : List Noted} → Notes a b xs → N
 notes_both {a = a} {b = b} {c = c} {xs = xs} {ys = ys} first second = record {
   counts = λ noted counted. subst (AreCounted c) (append_assoc noted xs ys) (second.counts (noted ++ xs) (first.counts noted counted));
   sights = second.sights ∙ ap (λ (w : Sighting). sighted_behind w ys) first.sights ∙ sym (sighted_both a.sighting xs ys);
+  unclear = second.unclear ∙ ap (λ (ns : List ℕ). unclear_behind ns ys) first.unclear ∙ sym (unclear_both a.unclear.items xs ys);
 }
 
 -- those of the places below a number: of none, with one more, and with one more of which nothing is noted

@@ -23,15 +23,16 @@ use Rattle.j39_stream.specs.declared.verdict.Verdict.{Verdict}
 use Rattle.j39_stream.specs.declared.verdict.Verdict.TheVariants.{Done, Findings, Refused, Unreadable}
 use Rattle.j39_audit.specs.Below.{each_below, sum_below}
 use Rattle.j39_audit.specs.Breaks.{breaks, line_time, newest_behind}
-use Rattle.j39_audit.specs.Claiming.{HeardClaims, broken_off, no_claims}
+use Rattle.j39_audit.specs.Claiming.{HeardClaims, broken_off, knowledge, no_claims}
 use Rattle.j39_audit.specs.Counting.{Noted, told_in}
 use Rattle.j39_audit.specs.Looking.{IsPacketOf, break_noted, claims_behind, frame_noted, noted_if}
-use Rattle.j39_audit.specs.Moments.{Moments, begins_anew, behind_gap, moments_behind, no_moments}
+use Rattle.j39_audit.specs.Moments.{Moments, all_pauses_ended, begins_anew, behind_bad, behind_gap, moments_behind, no_moments}
+use Rattle.j39_audit.specs.Pauses.{ending_of}
 use Rattle.j39_audit.specs.SentMessages.{noted_at}
 use Rattle.j39_audit.specs.Settings.{AreMoving, Settings, units_planned}
 use Rattle.j39_audit.specs.declared.mark.Mark.{Mark}
 use Rattle.j39_audit.specs.declared.mark.Word.{Word}
-use Rattle.j39_audit.specs.declared.mark.Word.TheVariants.{Short, Stranger, Nobody, Address, Cannot, Layout, NoFlow, Priority, Urgent, Seen, Unclear, Asked, Counted, Unsure, Break, NearFlow, NearRequest}
+use Rattle.j39_audit.specs.declared.mark.Word.TheVariants.{Short, Stranger, Nobody, Address, Cannot, Layout, NoFlow, Priority, Urgent, Seen, Unclear, Asked, Counted, Unsure, Break, NearFlow, NearRequest, SilentFlow}
 use Rattle.j39_audit.specs.declared.tally.Told.{Told}
 
 -- ---- a log
@@ -64,8 +65,8 @@ nothing_read = record {
   elsewhere = 0;
 }
 
-abbrev pub bad_line : AuditPast → AuditPast
-bad_line past = record past { bad = past.bad + 1; moments = behind_gap past.moments }
+abbrev pub bad_line : Settings → AuditPast → AuditPast
+bad_line s past = record past { bad = past.bad + 1; moments = behind_bad s past.moments }
 
 -- a line of an 11-bit identifier is skipped, which is told of behind the first frame; one without a word isn't counted
 abbrev pub skipped_line : AuditPast → AuditPast
@@ -75,10 +76,10 @@ skipped_line past = record past {
   moments = behind_gap past.moments;
 }
 
-abbrev pub passed_by : LineError → AuditPast → AuditPast
-passed_by Empty past = past
-passed_by ShortIdent past = skipped_line past
-passed_by _ past = bad_line past
+abbrev pub passed_by : Settings → LineError → AuditPast → AuditPast
+passed_by s Empty past = past
+passed_by s ShortIdent past = skipped_line past
+passed_by s _ past = bad_line s past
 
 -- the claims just before a frame of this time
 abbrev pub claims_before : Settings → AuditPast → Option ℕ → HeardClaims
@@ -93,7 +94,8 @@ past_with_frame s past time named f packet = record past {
   noted = past.noted ++ (break_noted past.number (breaks s.stamps past.newest time)
       ++ frame_noted s (claims_before s past time) f packet past.number);
   moments = moments_behind s (breaks s.stamps past.newest time) (begins_anew s.stamps past.newest time) time f past.number
-      (break_noted past.number (breaks s.stamps past.newest time) ++ frame_noted s (claims_before s past time) f packet past.number) past.moments;
+      (break_noted past.number (breaks s.stamps past.newest time) ++ frame_noted s (claims_before s past time) f packet past.number)
+      (ending_of s (knowledge s (claims_before s past time)) f) past.moments;
   frames = past.frames + 1;
 }
 
@@ -105,7 +107,7 @@ AuditsFrame s past time named f next =
 abbrev pub AuditsPart : Settings → AuditPast → List ℕ → List ℕ → Option (List ℕ) → AuditPast → Type 0
 AuditsPart s past line part named next =
     ((f : Frame) × (time : List ℕ) × Spells part f × IsTimeText line time × AuditsFrame s past time named f next)
-    ⊎ ((e : LineError) × HasLineFault part e × (next ≡ passed_by e past))
+    ⊎ ((e : LineError) × HasLineFault part e × (next ≡ passed_by s e past))
 
 abbrev pub AuditsShort : Settings → AuditPast → List ℕ → AuditPast → Type 0
 AuditsShort s past line next =
@@ -118,18 +120,22 @@ with_next_number past = record past { number = past.number + 1 }
 
 abbrev pub AuditsLine : Settings → AuditPast → Line → AuditPast → Type 0
 AuditsLine s past (ShortLine line) next = AuditsShort s (with_next_number past) line next
-AuditsLine s past Long next = next ≡ bad_line (with_next_number past)
+AuditsLine s past Long next = next ≡ bad_line s (with_next_number past)
 
 -- so do all lines, one after another
 abbrev pub AuditsLines : Settings → AuditPast → List Line → AuditPast → Type 0
 AuditsLines s past [] end = end ≡ past
 AuditsLines s past (line ∷ rest) end = (next : AuditPast) × AuditsLine s past line next × AuditsLines s next rest end
 
+-- behind the last line all pauses end
+abbrev pub log_ended : Settings → AuditPast → AuditPast
+log_ended s past = record past { moments = all_pauses_ended s past.moments }
+
 -- ---- what accuses
 
 -- the words that accuse, in the order in which they are written
 abbrev pub accusing : List Word
-accusing = Short ∷ Stranger ∷ Nobody ∷ Address ∷ Cannot ∷ Layout ∷ NoFlow ∷ Priority ∷ Urgent ∷ NearFlow ∷ NearRequest ∷ []
+accusing = Short ∷ Stranger ∷ Nobody ∷ Address ∷ Cannot ∷ Layout ∷ NoFlow ∷ Priority ∷ Urgent ∷ NearFlow ∷ NearRequest ∷ SilentFlow ∷ []
 
 abbrev pub accusing_at : ℕ → Word
 accusing_at n = slice_index_or accusing n Urgent
@@ -141,6 +147,7 @@ subjects s Stranger = 256
 subjects s Nobody = 256
 subjects s NearFlow = length s.plan.flows.items
 subjects s NearRequest = length s.plan.requests.items
+subjects s SilentFlow = length s.plan.flows.items
 subjects s _ = units_planned s
 
 -- and of how many groups of each
@@ -161,6 +168,7 @@ word_text NoFlow = codes "no_flow"
 word_text Priority = codes "priority"
 word_text NearFlow = codes "near"
 word_text NearRequest = codes "near"
+word_text SilentFlow = codes "silent"
 word_text _ = codes "urgent"
 
 unfoldable pub unit_text : Plan → ℕ → List ℕ
@@ -179,8 +187,8 @@ unfoldable pub sending_text : Plan → ℕ → ℕ → To → List ℕ
 sending_text plan group sender to =
     codes " " ++ (group_label plan group ++ (codes " " ++ (unit_label plan sender ++ (codes " " ++ to_text plan to))))
 
-unfoldable pub near_flow_text : Plan → ℕ → FlowPlan → List ℕ
-near_flow_text plan n flow = place_field (codes " flow ") n ++ sending_text plan flow.group flow.sender flow.to
+unfoldable pub named_flow_text : Plan → ℕ → FlowPlan → List ℕ
+named_flow_text plan n flow = place_field (codes " flow ") n ++ sending_text plan flow.group flow.sender flow.to
 
 unfoldable pub request_text : Plan → ℕ → RequestPlan → List ℕ
 request_text plan n r = place_field (codes " request ") n ++ sending_text plan r.group r.sender r.to
@@ -194,9 +202,12 @@ subject_of plan Address subject group detail = unit_at_text plan subject detail
 subject_of plan Layout subject group detail = unit_and_group_text plan subject group
 subject_of plan NoFlow subject group detail = unit_and_group_text plan subject group
 subject_of plan Priority subject group detail = unit_and_group_text plan subject group
-subject_of plan NearFlow subject group detail = option_map_or (λ (flow : FlowPlan). near_flow_text plan subject flow) (slice_get plan.flows.items subject) []
+subject_of plan NearFlow subject group detail =
+    option_map_or (λ (flow : FlowPlan). named_flow_text plan subject flow) (slice_get plan.flows.items subject) []
 subject_of plan NearRequest subject group detail =
     option_map_or (λ (r : RequestPlan). request_text plan subject r) (slice_get plan.requests.items subject) []
+subject_of plan SilentFlow subject group detail =
+    option_map_or (λ (flow : FlowPlan). named_flow_text plan subject flow) (slice_get plan.flows.items subject) []
 subject_of plan _ subject group detail = unit_text plan subject
 
 -- by how much at most, and the first line at which it was so much
@@ -206,6 +217,7 @@ worst_text t = field (codes " worst ") t.worst_at ++ (field (codes " by ") t.wor
 abbrev pub measure_text : Word → Told → List ℕ
 measure_text NearFlow t = worst_text t
 measure_text NearRequest t = worst_text t
+measure_text SilentFlow t = worst_text t
 measure_text _ t = []
 
 -- how often, and the first line
@@ -243,10 +255,10 @@ unfoldable pub word_count : Settings → Look → Word → ℕ
 word_count s look word = sum_below (subject_count s look word) (subjects s word)
 
 unfoldable pub accusations : Settings → Look → List ℕ
-accusations s look = each_below (λ n. word_lines s look (accusing_at n)) 11
+accusations s look = each_below (λ n. word_lines s look (accusing_at n)) 12
 
 unfoldable pub accusation_count : Settings → Look → ℕ
-accusation_count s look = sum_below (λ n. word_count s look (accusing_at n)) 11
+accusation_count s look = sum_below (λ n. word_count s look (accusing_at n)) 12
 
 -- ---- what was seen
 
@@ -309,6 +321,7 @@ counts_of past = record { frames = past.frames; skipped = past.skipped; bad = pa
 abbrev pub is_of_moments : Word → Bool
 is_of_moments NearFlow = true
 is_of_moments NearRequest = true
+is_of_moments SilentFlow = true
 is_of_moments _ = false
 
 abbrev pub look_at : AuditPast → Look
@@ -327,8 +340,8 @@ audit_verdict s past = verdict_by (accusation_count s (look_at past))
 pub record IsAuditedLog (s : Settings) (log text : List ℕ) (verdict : Verdict) : Type 0 where
   pub past : AuditPast
   pub read : AuditsLines s nothing_read (lines log) past
-  pub text_is : text ≡ audit_text s past
-  pub verdict_is : verdict ≡ audit_verdict s past
+  pub text_is : text ≡ audit_text s (log_ended s past)
+  pub verdict_is : verdict ≡ audit_verdict s (log_ended s past)
 
 -- by a plan in which no addresses and no identifiers are wrong, of a whole log or a part of one, by a logger of this error
 pub record IsAudit (plan : Plan) (part : Bool) (stamps : ℕ) (log text : List ℕ) (verdict : Verdict) : Type 0 where

@@ -7,7 +7,8 @@ pub mod Looking
 pub mod MessageStreams
 pub mod Moments
 pub mod Near
+pub mod Pauses
 pub mod SentMessages
 pub mod Settings
-pub mod Stepping
+pub mod Silence
 pub mod inside

@@ -1,22 +1,25 @@
 -- Streams: messages whose moments are a step apart at least, and how long behind its moment one may be queued.
-use Rattle.std.specs.Prelude.{ℕ, ◌+◌, ◌-◌, ◌*◌, ◌/◌, nat_le, nat_lt, ◌==◌, Bool, true, false, if◌then◌else◌, List, [], ◌∷◌, Option, Some, None}
+use Rattle.std.specs.Prelude.{ℕ, ◌+◌, ◌-◌, ◌*◌, ◌/◌, nat_le, nat_lt, ◌==◌, ◌||◌, ◌&&◌, not, Bool, true, false, if◌then◌else◌, List, [], ◌∷◌, Option, Some, None}
 use Rattle.std.specs.Int.{div_ceil}
 use Rattle.std.specs.List.{slice_get}
-use Rattle.std.specs.Option.{option_and_then}
+use Rattle.std.specs.Option.{option_and_then, option_map}
 use Rattle.j39_id.specs.Ident.{pgn_of}
 use Rattle.j39_id.specs.Limits.{frame_bytes}
 use Rattle.j39_id.specs.declared.frame.Frame.{Frame}
 use Rattle.j39_network.specs.declared.plan.flow_plan.FlowPlan.{FlowPlan}
 use Rattle.j39_network.specs.declared.plan.group_plan.GroupPlan.{GroupPlan}
 use Rattle.j39_network.specs.declared.plan.pace.Pace.{Pace}
+use Rattle.j39_network.specs.declared.plan.to.To.{To}
+use Rattle.j39_network.specs.declared.plan.to.To.TheVariants.{All as ToAll, One as ToOne}
 use Rattle.j39_network.specs.declared.plan.request_plan.RequestPlan.{RequestPlan}
 use Rattle.j39_network.specs.declared.plan.timing.Timing.{Timing}
 use Rattle.j39_audit.specs.Counting.{Noted}
-use Rattle.j39_audit.specs.Looking.{is_single}
+use Rattle.j39_audit.specs.Looking.{is_claiming, is_single}
 use Rattle.j39_audit.specs.Settings.{Settings}
 use Rattle.j39_audit.specs.declared.mark.Mark.{Mark}
-use Rattle.j39_audit.specs.declared.mark.Word.TheVariants.{Seen, Asked, NearFlow, NearRequest}
+use Rattle.j39_audit.specs.declared.mark.Word.TheVariants.{Seen, Asked, Counted, NearFlow, NearRequest}
 use Rattle.j39_audit.specs.declared.mark.Word.{Word}
+use Rattle.j39_audit.specs.declared.streams.FlowPause.{FlowPause}
 use Rattle.j39_audit.specs.declared.streams.MessageStream.{MessageStream}
 use Rattle.j39_audit.specs.declared.tally.Sighting.{Sighting}
 
@@ -46,13 +49,14 @@ is_in_stream group true = nat_le group.most frame_bytes
 is_in_stream group false = nat_lt frame_bytes group.most
 
 -- the stream of a flow with a period
-abbrev pub paced_stream : Timing → Frame → ℕ → GroupPlan → Pace → Option MessageStream
-paced_stream t f n group pace =
+abbrev pub paced_stream : Timing → Frame → ℕ → GroupPlan → Pace → Option ℕ → Option MessageStream
+paced_stream t f n group pace pause =
     if is_in_stream group (is_single (pgn_of f.ident))
     then Some (record {
       mark = stream_mark NearFlow n;
       step = shortest_us t pace.period;
       jitter = longest_us t (latest_ms pace (is_single (pgn_of f.ident)));
+      pause = pause;
     })
     else None
 
@@ -62,9 +66,38 @@ flow_pace s n = option_and_then (λ (flow : FlowPlan). flow.pace) (slice_get s.p
 abbrev pub group_in_flow : Settings → ℕ → Option GroupPlan
 group_in_flow s n = option_and_then (λ (flow : FlowPlan). slice_get s.plan.groups.items flow.group) (slice_get s.plan.flows.items n)
 
+-- the messages of a group are single frames, or none is
+abbrev pub are_of_one_sort : GroupPlan → Bool
+are_of_one_sort group = nat_le group.most frame_bytes || nat_lt frame_bytes group.length
+
+-- its one receiver, where it has one, claims
+abbrev pub is_claiming_there : Settings → To → Bool
+is_claiming_there s ToAll = true
+is_claiming_there s (ToOne v) = is_claiming s v
+
+-- the silence of a flow is seen: no frame is missing, its messages aren't answers, all are of one sort, and who claims is there
+abbrev pub shows_silence : Settings → FlowPlan → GroupPlan → Bool
+shows_silence s flow group =
+    not s.part && (not flow.on_request && (are_of_one_sort group && (is_claiming s flow.sender && is_claiming_there s flow.to)))
+
+-- by that time behind a message's moment, in microseconds, the next one has its own, and within the jitter each one is queued
+abbrev pub flow_pause_of : Settings → Timing → FlowPlan → GroupPlan → Pace → ℕ → Option FlowPause
+flow_pause_of s t flow group pace pause =
+    if shows_silence s flow group
+    then Some (record { pause = longest_us t pause; jitter = longest_us t (latest_ms pace (nat_le group.most frame_bytes)) })
+    else None
+
+unfoldable pub flow_pause : Settings → Timing → ℕ → Option FlowPause
+flow_pause s t n = option_and_then (λ (flow : FlowPlan). option_and_then (λ (pause : ℕ). option_and_then (λ (pace : Pace).
+    option_and_then (λ (group : GroupPlan). flow_pause_of s t flow group pace pause) (slice_get s.plan.groups.items flow.group))
+    flow.pace) flow.pause) (slice_get s.plan.flows.items n)
+
+unfoldable pub stream_pause : Settings → Timing → ℕ → Option ℕ
+stream_pause s t n = option_map (λ (p : FlowPause). p.pause) (flow_pause s t n)
+
 unfoldable pub flow_stream : Settings → Timing → Frame → ℕ → Option MessageStream
 flow_stream s t f n =
-    option_and_then (λ (pace : Pace). option_and_then (λ (group : GroupPlan). paced_stream t f n group pace) (group_in_flow s n)) (flow_pace s n)
+    option_and_then (λ (pace : Pace). option_and_then (λ (group : GroupPlan). paced_stream t f n group pace (stream_pause s t n)) (group_in_flow s n)) (flow_pace s n)
 
 -- requests have this priority
 abbrev pub request_priority : ℕ
@@ -77,20 +110,21 @@ request_period s n = option_and_then (λ (r : RequestPlan). r.period) (slice_get
 abbrev pub paced_request : Timing → Frame → ℕ → ℕ → Option MessageStream
 paced_request t f n period =
     if f.ident.priority == request_priority
-    then Some (record { mark = stream_mark NearRequest n; step = shortest_us t period; jitter = 0 }) else None
+    then Some (record { mark = stream_mark NearRequest n; step = shortest_us t period; jitter = 0; pause = None }) else None
 
 unfoldable pub asked_stream : Settings → Timing → Frame → ℕ → Option MessageStream
 asked_stream s t f n = option_and_then (λ (period : ℕ). paced_request t f n period) (request_period s n)
 
 -- ---- a frame
 
--- of which flow and of which request a frame is seen, by what was noted of it
+-- of which flow and of which request a frame is seen, and for which unit it counts, by what was noted of it
 abbrev pub nothing_sighted : Sighting
-nothing_sighted = record { flow = None; request = None }
+nothing_sighted = record { flow = None; request = None; unit = None }
 
 abbrev pub sighted_as : Word → ℕ → Sighting → Sighting
 sighted_as Seen n w = record w { flow = Some n }
 sighted_as Asked n w = record w { request = Some n }
+sighted_as Counted n w = record w { unit = Some n }
 sighted_as _ n w = w
 
 abbrev pub sighted_behind : Sighting → List Noted → Sighting

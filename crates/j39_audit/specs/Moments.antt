@@ -1,8 +1,10 @@
 -- The moments at which messages were ready to be sent, as far as the times of a log tell.
-use Rattle.std.specs.Prelude.{ℕ, ◌+◌, ◌-◌, ◌*◌, ◌^◌, nat_le, nat_lt, ◌&&◌, not, Bool, true, false, if◌then◌else◌, List, [], ◌∷◌, ◌++◌, length, Option, Some, None, is_some}
+use Rattle.std.specs.Prelude.{ℕ, zero, suc, ◌+◌, ◌-◌, ◌*◌, ◌^◌, nat_le, nat_lt, ◌==◌, ◌&&◌, not, Bool, true, false, if◌then◌else◌, List, [], ◌∷◌, ◌++◌, length, slice_index_or, Option, Some, None, is_some}
 use Rattle.std.specs.Int.{div_ceil}
-use Rattle.std.specs.Option.{option_map, option_map_or}
+use Rattle.std.specs.List.{slice_get}
+use Rattle.std.specs.Option.{option_and_then, option_map, option_map_or}
 use Rattle.j39_id.specs.declared.frame.Frame.{Frame}
+use Rattle.j39_network.specs.declared.plan.flow_plan.FlowPlan.{FlowPlan}
 use Rattle.j39_network.specs.declared.plan.timing.Bitrate.{Bitrate}
 use Rattle.j39_network.specs.declared.plan.timing.Bitrate.TheVariants.{Kbit125, Kbit250, Kbit500, Mbit1}
 use Rattle.j39_network.specs.declared.plan.timing.ErrorRate.{ErrorRate}
@@ -10,25 +12,36 @@ use Rattle.j39_network.specs.declared.plan.timing.Timing.{Timing}
 use Rattle.j39_audit.specs.Breaks.{is_set_back}
 use Rattle.j39_audit.specs.Counting.{Key, Noted, is_same_key, key_of}
 use Rattle.j39_audit.specs.Near.{candidate, earliest_next, excess}
-use Rattle.j39_audit.specs.Settings.{Settings, logger_error}
-use Rattle.j39_audit.specs.MessageStreams.{nothing_sighted, sighted_behind, sighted_stream}
+use Rattle.j39_audit.specs.MessageStreams.{flow_pause, nothing_sighted, sighted_behind, sighted_stream, stream_mark}
+use Rattle.j39_audit.specs.Pauses.{is_with_unit, last_of_ends, unclear_behind}
+use Rattle.j39_audit.specs.Settings.{Settings, logger_error, units_planned}
+use Rattle.j39_audit.specs.Silence.{lag, latest_next}
+use Rattle.j39_audit.specs.declared.mark.Word.TheVariants.{SilentFlow}
+use Rattle.j39_audit.specs.declared.pauses.Ending.{Ending}
+use Rattle.j39_audit.specs.declared.pauses.Ending.TheVariants.{Nothing, OfUnit, OfAll}
+use Rattle.j39_audit.specs.declared.pauses.LastFrame.{LastFrame}
+use Rattle.j39_audit.specs.declared.pauses.Newest.{Newest}
+use Rattle.j39_audit.specs.declared.streams.FlowPause.{FlowPause}
 use Rattle.j39_audit.specs.declared.streams.MessageStream.{MessageStream}
 use Rattle.j39_audit.specs.declared.tally.Sighting.{Sighting}
 use Rattle.j39_audit.specs.declared.window.Window.{Window}
 
 -- what the times so far tell: the time of the line before, where it is a frame that has one; the idle mark, behind which all was ready that
--- begins from there on; of each stream the earliest moment of the newest message; and what was found. Moments are counted in microseconds from
--- 2^33 before the zero of the log's times, so that no bound lies before it
+-- begins from there on; of each stream the earliest moment of the newest message; and what was found; of each flow with a pause that hasn't
+-- ended the newest message, and of each unit the last frame since its last claim. Moments are counted in microseconds from 2^33 before the zero
+-- of the log's times, so that no bound lies before it
 pub record Moments : Type 0 where
   pub before : Option ℕ
   pub idle : Option ℕ
   pub earliest : Key → Option ℕ
   pub untimely : List Noted
+  pub newest : ℕ → Option Newest
+  pub last : ℕ → Option LastFrame
 
 abbrev pub no_moments : Moments
-no_moments = record { before = None; idle = None; earliest = λ key. None; untimely = [] }
+no_moments = record { before = None; idle = None; earliest = λ key. None; untimely = []; newest = λ n. None; last = λ u. None }
 
--- a line that is skipped or bad: a frame may be missing
+-- a line that is skipped or bad shows no idle bit
 abbrev pub behind_gap : Moments → Moments
 behind_gap m = record m { before = None; idle = None }
 
@@ -42,9 +55,6 @@ abbrev pub begins_anew : ℕ → Option ℕ → Option ℕ → Bool
 begins_anew stamps newest None = true
 begins_anew stamps None (Some time) = false
 begins_anew stamps (Some newest) (Some time) = is_set_back stamps newest time
-
-abbrev pub begun_anew : Bool → Moments → Moments
-begun_anew anew m = if anew then record m { before = None; idle = None; earliest = λ key. None } else m
 
 -- ---- the idle mark
 
@@ -105,19 +115,121 @@ with_message stream window line m = record m {
   untimely = m.untimely ++ near_noted stream line (excess (candidate stream.step (m.earliest (key_of stream.mark)) window) window.upper);
 }
 
-abbrev pub with_stream : Settings → ℕ → ℕ → Option MessageStream → Moments → Moments
-with_stream s time line None m = m
-with_stream s time line (Some stream) m = with_message stream (moment_window s stream.jitter time m.idle) line m
+-- ---- pauses
+
+abbrev pub with_newest : ℕ → Option Newest → (ℕ → Option Newest) → ℕ → Option Newest
+with_newest n one newest other = if n == other then one else newest other
+
+abbrev pub with_last_frame : ℕ → Option LastFrame → (ℕ → Option LastFrame) → ℕ → Option LastFrame
+with_last_frame u one last other = if u == other then one else last other
+
+abbrev pub newest_moment : Option Newest → Option ℕ
+newest_moment newest = option_map (λ (x : Newest). x.moment) newest
+
+-- a flow is silent behind its newest message
+abbrev pub silent_noted : ℕ → Option Newest → Option ℕ → List Noted
+silent_noted n (Some newest) (Some by) = record { mark = stream_mark SilentFlow n; line = newest.line; detail = by } ∷ []
+silent_noted n _ _ = []
+
+-- with a message of a flow of this pause
+abbrev pub with_pause : Option ℕ → ℕ → Window → ℕ → Moments → Moments
+with_pause None n window line m = m
+with_pause (Some pause) n window line m = record m {
+  newest = with_newest n (Some (record { moment = latest_next pause (newest_moment (m.newest n)) window; line = line })) m.newest;
+  untimely = m.untimely ++ silent_noted n (m.newest n) (lag pause (newest_moment (m.newest n)) window.lower);
+}
+
+-- by how much a flow is silent where its pause ends: by the last frame behind its newest message, up to which all ends of the flow were there
+abbrev pub silent_by : FlowPause → Newest → Option LastFrame → Option ℕ
+silent_by p newest None = None
+silent_by p newest (Some last) =
+    if nat_lt newest.line last.line then lag p.pause (Some newest.moment) (option_map (λ q. q - p.jitter) last.idle) else None
+
+abbrev pub last_of_flow : Settings → (ℕ → Option LastFrame) → ℕ → Option LastFrame
+last_of_flow s last n = option_and_then (λ (flow : FlowPlan). last_of_ends last flow.sender flow.to) (slice_get s.plan.flows.items n)
+
+abbrev pub silence_behind : Settings → Timing → ℕ → Option Newest → (ℕ → Option LastFrame) → Option ℕ
+silence_behind s t n None last = None
+silence_behind s t n (Some newest) last = option_and_then (λ (p : FlowPause). silent_by p newest (last_of_flow s last n)) (flow_pause s t n)
+
+-- the pause of a flow ends, behind a look at who is there
+abbrev pub pause_ended : Settings → Timing → ℕ → Moments → Moments
+pause_ended s t n m = record m {
+  newest = with_newest n None m.newest;
+  untimely = m.untimely ++ silent_noted n (m.newest n) (silence_behind s t n (m.newest n) m.last);
+}
+
+-- so do those of the first n flows, of all or of those with a unit; and those of the first k of a list
+abbrev pub ends_with : Settings → Option ℕ → ℕ → Bool
+ends_with s None n = true
+ends_with s (Some u) n = is_with_unit s u n
+
+unfoldable pub pauses_ended : Settings → Timing → Option ℕ → ℕ → Moments → Moments
+pauses_ended s t unit zero m = m
+pauses_ended s t unit (suc n) m = if ends_with s unit n then pause_ended s t n (pauses_ended s t unit n m) else pauses_ended s t unit n m
+
+unfoldable pub listed_pauses_ended : Settings → Timing → List ℕ → ℕ → Moments → Moments
+listed_pauses_ended s t ns zero m = m
+listed_pauses_ended s t ns (suc k) m = pause_ended s t (slice_index_or ns k 0) (listed_pauses_ended s t ns k m)
+
+-- all end, without a look, and behind one
+abbrev pub pauses_dropped : Moments → Moments
+pauses_dropped m = record m { newest = λ n. None; last = λ u. None }
+
+unfoldable pub all_pauses_ended : Settings → Moments → Moments
+all_pauses_ended s m = option_map_or
+    (λ (t : Timing). pauses_dropped (pauses_ended s t None (length s.plan.flows.items) m)) s.plan.timing m
+
+-- those of a unit's flows end, and what it sent before its claim says no more that it is there
+abbrev pub without_last_frame : ℕ → Moments → Moments
+without_last_frame u m = record m { last = with_last_frame u None m.last }
+
+abbrev pub unit_pauses_ended : Settings → Timing → ℕ → Moments → Moments
+unit_pauses_ended s t u m = without_last_frame u (pauses_ended s t (Some u) (length s.plan.flows.items) m)
+
+abbrev pub with_ending : Settings → Timing → Ending → Moments → Moments
+with_ending s t Nothing m = m
+with_ending s t (OfUnit u) m = unit_pauses_ended s t u m
+with_ending s t OfAll m = all_pauses_ended s m
+
+-- a frame that counts for a unit
+abbrev pub with_frame_of : ℕ → ℕ → Moments → Moments
+with_frame_of u line m = record m { last = with_last_frame u (Some (record { line = line; idle = m.idle })) m.last }
+
+abbrev pub with_counted : Settings → Option ℕ → ℕ → Moments → Moments
+with_counted s None line m = m
+with_counted s (Some u) line m =
+    if nat_lt u (units_planned s) then with_frame_of u line m else m
+
+-- ---- gaps
+
+-- a line that is bad: a frame may be missing
+abbrev pub behind_bad : Settings → Moments → Moments
+behind_bad s m = behind_gap (all_pauses_ended s m)
+
+-- just before a frame where times begin anew, or where the log breaks off
+abbrev pub begun_anew : Settings → Bool → Bool → Moments → Moments
+begun_anew s anew broken m =
+    if anew then record (all_pauses_ended s m) { before = None; idle = None; earliest = λ key. None }
+    else if broken then pauses_dropped m else m
 
 -- ---- a frame
 
--- behind a frame of this time that is seen so
-abbrev pub with_time : Settings → Option Timing → Bool → Option ℕ → Frame → ℕ → Sighting → Moments → Moments
-with_time s (Some t) broken (Some time) f line w m =
-    with_stream s time line (sighted_stream s t f w.flow w.request) (with_moment s t broken (length f.payload.items) time m)
-with_time s _ broken _ f line w m = m
+-- with a message of a stream, if the frame is one
+abbrev pub with_stream : Settings → ℕ → ℕ → Option MessageStream → Moments → Moments
+with_stream s time line None m = m
+with_stream s time line (Some stream) m =
+    with_pause stream.pause stream.mark.subject (moment_window s stream.jitter time m.idle) line
+    (with_message stream (moment_window s stream.jitter time m.idle) line m)
+
+-- behind a frame of this time that is seen so, may be a message of each of several flows, and ends these pauses
+abbrev pub with_time : Settings → Option Timing → Bool → Option ℕ → Frame → ℕ → Sighting → List ℕ → Ending → Moments → Moments
+with_time s (Some t) broken (Some time) f line w unclear ending m =
+    with_counted s w.unit line (with_stream s time line (sighted_stream s t f w.flow w.request)
+    (listed_pauses_ended s t unclear (length unclear) (with_ending s t ending (with_moment s t broken (length f.payload.items) time m))))
+with_time s _ broken _ f line w unclear ending m = m
 
 -- and of which this was noted
-unfoldable pub moments_behind : Settings → Bool → Bool → Option ℕ → Frame → ℕ → List Noted → Moments → Moments
-moments_behind s broken anew time f line noted m =
-    with_time s s.plan.timing broken time f line (sighted_behind nothing_sighted noted) (begun_anew anew m)
+unfoldable pub moments_behind : Settings → Bool → Bool → Option ℕ → Frame → ℕ → List Noted → Ending → Moments → Moments
+moments_behind s broken anew time f line noted ending m =
+    with_time s s.plan.timing broken time f line (sighted_behind nothing_sighted noted) (unclear_behind [] noted) ending (begun_anew s anew broken m)

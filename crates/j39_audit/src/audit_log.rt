@@ -7,7 +7,7 @@ ghost use Rattle.j39_audit.specs.AuditText.{AuditPast, bad_line, is_of_moments, 
 ghost use Rattle.j39_audit.specs.Claiming.{HeardClaims, broken_off};
 ghost use Rattle.j39_audit.specs.Looking.{break_noted};
 ghost use Rattle.j39_audit.specs.Settings.{AreMoving, Settings};
-ghost use Rattle.j39_audit.specs.inside.Auditing.{AccordsWith, HasAudited, IsWithinLines, RecallsAudit, TakesFrame, TakesFrameLine, TakesLine};
+ghost use Rattle.j39_audit.specs.inside.Auditing.{AccordsWith, HasAudited, HasAuditedWhole, IsWithinLines, RecallsAudit, TakesFrame, TakesFrameLine, TakesLine};
 ghost use Rattle.j39_audit.specs.inside.Auditing.{tallied};
 ghost use Rattle.j39_audit.specs.inside.Recalling.{AreNear, KnowsClaims, Notes, settings_of};
 
@@ -15,7 +15,8 @@ use crate::basis::Basis;
 use crate::frame_marks::{note_if, take_frame};
 use crate::known::Known;
 use crate::mark::{Mark, Word, make_mark};
-use crate::moments::Moments;
+use crate::moments::{Moments, Seen};
+use crate::pauses::ending_of;
 use crate::tally::{MarkTally, Told};
 use crate::times::{begins_anew, breaks, line_time, newest_behind};
 use j39_follow::{interface, is_elsewhere, keep_interface, kept_interface, read_part, time_text};
@@ -71,7 +72,7 @@ fn has_frames(counts: &LineCounts) -> bool
 fn is_of_moments(word: Word) -> bool
     ensures { result ≡ is_of_moments word }
 {
-    matches!(word, Word::NearFlow | Word::NearRequest)
+    matches!(word, Word::NearFlow | Word::NearRequest | Word::SilentFlow)
 }
 
 impl<'a> AuditLog<'a> {
@@ -85,6 +86,7 @@ impl<'a> AuditLog<'a> {
     {
         let basis = Basis::new(alloc, plan, part, stamps)?;
         let known = Known::new(alloc, &basis)?;
+        let moments = Moments::new(alloc)?;
         Ok(AuditLog {
             alloc,
             basis,
@@ -93,7 +95,7 @@ impl<'a> AuditLog<'a> {
             newest: None,
             known,
             tally: MarkTally::new(alloc),
-            moments: Moments::new(alloc),
+            moments,
             counts: LineCounts::new(),
         })
     }
@@ -132,6 +134,7 @@ impl<'a> AuditLog<'a> {
             self.number,
             broken,
         )?;
+        let ending = ending_of(&self.basis, &self.known, frame);
         take_frame(
             &mut self.tally,
             &self.basis,
@@ -146,7 +149,11 @@ impl<'a> AuditLog<'a> {
             anew,
             time,
             frame,
-            self.tally.sighting,
+            Seen {
+                sighting: self.tally.sighting,
+                unclear: self.tally.unclear.as_slice(),
+                ending,
+            },
             self.number,
         )?;
         Ok(())
@@ -175,17 +182,18 @@ impl<'a> AuditLog<'a> {
     }
 
     // Takes a line that has a word and spells no frame.
-    fn take_bad(&mut self)
+    fn take_bad(&mut self) -> Result<(), AllocError>
         requires within { AreWithin self.old.counts (2 ^ 62) }
         requires near { AreNear self.old.moments }
-        ensures near { AreNear self.new.moments }
+        ensures near { OnOk result (AreNear self.new.moments) }
         ensures basis { self.new.basis ≡ self.old.basis }
         ensures number { self.new.number ≡ self.old.number }
         ensures counted { IsLineMore self.old.counts self.new.counts }
-        ensures fault { (past : AuditPast) → RecallsAudit self.old past → RecallsAudit self.new (bad_line past) }
+        ensures fault { OnOk result ((past : AuditPast) → RecallsAudit self.old past
+            → RecallsAudit self.new (bad_line (settings_of self.new.basis) past)) }
     {
-        self.moments.pass_over();
         self.counts.bad += 1;
+        self.moments.pass_bad(&self.basis)
     }
 
     // Takes a line that spells no frame.
@@ -194,29 +202,17 @@ impl<'a> AuditLog<'a> {
         requires near { AreNear self.old.moments }
         ensures near { OnOk result (AreNear self.new.moments) }
         ensures basis { self.new.basis ≡ self.old.basis }
-        ensures fault { OnOk result ((past : AuditPast) → RecallsAudit self.old past → RecallsAudit self.new (passed_by error past)) }
+        ensures fault { OnOk result ((past : AuditPast) → RecallsAudit self.old past → RecallsAudit self.new (passed_by (settings_of self.new.basis) error past)) }
         ensures number { self.new.number ≡ self.old.number }
         ensures counted { IsLineMore self.old.counts self.new.counts }
     {
         match error {
             LineError::Empty => Ok(()),
             LineError::ShortIdent => self.take_short(),
-            LineError::NoHash => {
-                self.take_bad();
-                Ok(())
-            }
-            LineError::BadIdent => {
-                self.take_bad();
-                Ok(())
-            }
-            LineError::TooLong => {
-                self.take_bad();
-                Ok(())
-            }
-            LineError::BadData => {
-                self.take_bad();
-                Ok(())
-            }
+            LineError::NoHash => self.take_bad(),
+            LineError::BadIdent => self.take_bad(),
+            LineError::TooLong => self.take_bad(),
+            LineError::BadData => self.take_bad(),
         }
     }
 
@@ -284,10 +280,16 @@ impl<'a> AuditLog<'a> {
             }
             Cut::Long => {
                 self.number += 1;
-                self.counts.bad += 1;
-                self.moments.pass_over();
-                Ok(())
+                self.take_bad()
             }
         }
+    }
+
+    /// Ends what is open when the log has ended.
+    pub fn end(&mut self) -> Result<(), AllocError>
+        requires near { AreNear self.old.moments }
+        ensures { OnOk result ((s : Settings) (ls : List Line) → HasAudited s self.old ls → HasAuditedWhole s self.new ls) }
+    {
+        self.moments.end_all(&self.basis)
     }
 }

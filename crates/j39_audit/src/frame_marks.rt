@@ -70,8 +70,8 @@ pub(crate) fn note_if(
     Ok(())
 }
 
-// Whether a unit claims addresses at all.
-fn is_claiming(basis: &Basis<'_>, unit: usize) -> bool
+/// Whether a unit claims addresses at all.
+pub(crate) fn is_claiming(basis: &Basis<'_>, unit: usize) -> bool
     ensures { result ≡ claims_addresses (settings_of basis.now) unit }
 {
     match basis.plan.units.get(unit) {

@@ -1,6 +1,7 @@
 //! The audit command: which premises of a plan a log of its bus refutes.
 #![tactic(auto)]
 
+mod accusing;
 mod answer;
 mod audit_log;
 mod basis;
@@ -9,13 +10,15 @@ mod flow_marks;
 mod frame_marks;
 mod idle;
 mod known;
-mod laws;
 mod mark;
 mod messages;
 mod moments;
 mod nearness;
+mod pauses;
 mod reading;
 mod senders;
+mod silence;
+mod silences;
 mod streams;
 mod summary;
 mod tally;
@@ -23,4 +26,3 @@ mod times;
 mod window;
 
 pub use answer::audit_text;
-pub use laws::{near_is_exact, the_near_are_noted, who_keeps_a_step_is_not_near};

@@ -1,7 +1,7 @@
 //! What is counted of a log.
 ghost use Rattle.std.specs.Prelude.{◌≡◌};
 
-/// What is said of a line or a frame. The first nine accuse, and the last two.
+/// What is said of a line or a frame. The first nine accuse, and the last three.
 #[derive(Clone, Copy, PartialEq, Eq)]
 pub enum Word {
     /// A line of an 11-bit identifier.
@@ -38,6 +38,8 @@ pub enum Word {
     NearFlow,
     /// A request too soon behind others.
     NearRequest,
+    /// A message of a flow of which the next one comes too late.
+    SilentFlow,
 }
 
 impl Word {
@@ -66,6 +68,7 @@ impl Word {
             Word::Break => 14,
             Word::NearFlow => 15,
             Word::NearRequest => 16,
+            Word::SilentFlow => 17,
         }
     }
 }

@@ -1,16 +1,18 @@
 //! What the times of a log tell of the moments of messages.
-ghost use Rattle.std.specs.Prelude.{◌≡◌, ◌<◌, ◌≤◌, ◌^◌, ◌++◌, ℕ, List, Option, IfSome, OnOk, length};
+ghost use Rattle.std.specs.Prelude.{◌≡◌, ◌<◌, ◌≤◌, ◌^◌, ◌++◌, [], ℕ, List, Option, IfOk, IfSome, OnOk, Some, length};
 ghost use Rattle.std.specs.Option.{option_map};
 ghost use Rattle.j39_audit.specs.Counting.{Noted};
-ghost use Rattle.j39_audit.specs.Moments.{Moments as AMoments, begun_anew, behind_gap, moments_behind, near_noted, no_moments, with_moment};
-ghost use Rattle.j39_audit.specs.Moments.{moment_window, with_message, with_stream, with_time};
+ghost use Rattle.j39_audit.specs.Moments.{Moments as AMoments, begun_anew, behind_bad, behind_gap, moments_behind, near_noted, no_moments, with_moment};
+ghost use Rattle.j39_audit.specs.Moments.{listed_pauses_ended, moment_window, with_counted, with_ending, with_frame_of, with_message, with_stream, with_time};
 ghost use Rattle.j39_audit.specs.MessageStreams.{nothing_sighted, sighted_behind, sighted_stream};
+ghost use Rattle.j39_audit.specs.Pauses.{unclear_behind};
 ghost use Rattle.j39_audit.specs.inside.Recalling.{AreNear, Notes, RecallsMoments, far_ahead, settings_of};
 
 use crate::basis::Basis;
 use crate::earliest::Earliest;
 use crate::idle::{LONG_BEFORE, idle_behind};
 use crate::nearness::{candidate, excess, kept_behind};
+use crate::pauses::{Ending, LastFrame, Pauses};
 use crate::streams::{MessageStream, sighted_stream};
 use crate::tally::{MarkTally, Sighting};
 use crate::window::Window;
@@ -19,13 +21,23 @@ use j39_network::Timing;
 use std::alloc::{AllocError, Global};
 
 /// What the times of a log tell so far: the time of the line before, where it is a frame that has one, the idle mark, of
-/// each stream the earliest moment of its newest message, and what was found.
+/// each stream the earliest moment of its newest message, of flows with a pause what is kept of these, and what was found.
 #[derive(Drop)]
 pub(crate) struct Moments {
     pub before: Option<u64>,
     pub idle: Option<u64>,
     pub earliest: Earliest,
     pub untimely: MarkTally,
+    pub pauses: Pauses,
+}
+
+/// What there is to a frame: of which flow or request it is seen, of which flows it may be, for whom it counts, and whose
+/// pauses end at it.
+#[derive(Clone, Copy)]
+pub(crate) struct Seen<'a> {
+    pub sighting: Sighting,
+    pub unclear: &'a [usize],
+    pub ending: Ending,
 }
 
 // The bounds of the moment of a message of this time and jitter, where this is the idle mark.
@@ -59,19 +71,21 @@ fn note_near(
 }
 
 impl Moments {
-    pub fn new(alloc: Global) -> Self
-        ensures moments { RecallsMoments result no_moments }
-        ensures near { AreNear result }
+    pub fn new(alloc: Global) -> Result<Self, AllocError>
+        ensures moments { IfOk result (λ new. RecallsMoments new no_moments) }
+        ensures near { IfOk result AreNear }
     {
-        Moments {
+        let pauses = Pauses::new(alloc)?;
+        Ok(Moments {
             before: None,
             idle: None,
             earliest: Earliest::new(alloc),
             untimely: MarkTally::new(alloc),
-        }
+            pauses,
+        })
     }
 
-    /// Passes over a line at which a frame may be missing.
+    /// Passes over a line that is skipped.
     pub fn pass_over(&mut self)
         ensures moments { (m : AMoments) → RecallsMoments self.old m → RecallsMoments self.new (behind_gap m) }
         ensures near { AreNear self.old → AreNear self.new }
@@ -80,16 +94,34 @@ impl Moments {
         self.idle = None;
     }
 
-    // Begins anew, where times do.
-    fn begin(&mut self, anew: bool)
-        ensures moments { (m : AMoments) → RecallsMoments self.old m → RecallsMoments self.new (begun_anew anew m) }
-        ensures near { AreNear self.old → AreNear self.new }
+    /// Passes over a line that is bad, at which a frame may be missing.
+    pub fn pass_bad(&mut self, basis: &Basis<'_>) -> Result<(), AllocError>
+        requires near { AreNear self.old }
+        ensures near { OnOk result (AreNear self.new) }
+        ensures moments { OnOk result ((m : AMoments) → RecallsMoments self.old m
+            → RecallsMoments self.new (behind_bad (settings_of basis.now) m)) }
+    {
+        self.end_all(basis)?;
+        self.pass_over();
+        Ok(())
+    }
+
+    // Begins anew, where times do, and drops pauses, where the log breaks off.
+    fn begin(&mut self, basis: &Basis<'_>, anew: bool, broken: bool) -> Result<(), AllocError>
+        requires near { AreNear self.old }
+        ensures near { OnOk result (AreNear self.new) }
+        ensures moments { OnOk result ((m : AMoments) → RecallsMoments self.old m
+            → RecallsMoments self.new (begun_anew (settings_of basis.now) anew broken m)) }
     {
         if anew {
+            self.end_all(basis)?;
             self.before = None;
             self.idle = None;
             self.earliest.forget();
+        } else if broken {
+            self.pauses.forget();
         }
+        Ok(())
     }
 
     // Takes the time of a frame of so many bytes.
@@ -142,6 +174,8 @@ impl Moments {
         stream: Option<MessageStream>,
     ) -> Result<(), AllocError>
         requires step { IfSome stream (λ it. it.step < 2 ^ 27) }
+        requires pause { IfSome stream (λ it. IfSome it.pause (λ p. p < 2 ^ 40)) }
+        requires place { IfSome stream (λ it. it.mark.subject < 512) }
         requires time { time < 2 ^ 61 }
         requires near { AreNear self.old }
         ensures near { OnOk result (AreNear self.new) }
@@ -152,10 +186,52 @@ impl Moments {
             Some(one) => {
                 let window = moment_window(basis, one.jitter, time, self.idle);
                 self.take_message(one, window, line)?;
-                Ok(())
+                self.take_pause(one.mark.subject, one.pause, window, line)
             }
             None => Ok(()),
         }
+    }
+
+    // Keeps a frame that counts for a unit.
+    fn keep_last(&mut self, unit: usize, line: u64)
+        requires unit { unit < 128 }
+        requires near { AreNear self.old }
+        ensures near { AreNear self.new }
+        ensures moments { (m : AMoments) → RecallsMoments self.old m → RecallsMoments self.new (with_frame_of unit line m) }
+    {
+        let idle = self.idle;
+        self.pauses.set_last(unit, LastFrame { line, idle });
+    }
+
+    // Keeps a frame that counts for a unit, if there is one.
+    fn take_counted(&mut self, basis: &Basis<'_>, unit: Option<usize>, line: u64)
+        requires near { AreNear self.old }
+        ensures near { AreNear self.new }
+        ensures moments { (m : AMoments) → RecallsMoments self.old m
+            → RecallsMoments self.new (with_counted (settings_of basis.now) unit line m) }
+    {
+        if let Some(unit) = unit {
+            if unit < basis.plan.units.len() {
+                self.keep_last(unit, line);
+            }
+        }
+    }
+
+    // Ends the pauses that end at a frame.
+    fn end_pauses(
+        &mut self,
+        basis: &Basis<'_>,
+        timing: Timing,
+        seen: Seen<'_>,
+    ) -> Result<(), AllocError>
+        requires near { AreNear self.old }
+        ensures near { OnOk result (AreNear self.new) }
+        ensures moments { OnOk result ((m : AMoments) → RecallsMoments self.old m
+            → RecallsMoments self.new (listed_pauses_ended (settings_of basis.now) timing seen.entry.unclear.now (length seen.entry.unclear.now)
+            (with_ending (settings_of basis.now) timing seen.entry.ending m))) }
+    {
+        self.end_at(basis, timing, seen.ending)?;
+        self.end_listed(basis, timing, seen.unclear)
     }
 
     // Takes a frame of this time that is seen so, of a bus of which this is known.
@@ -167,19 +243,19 @@ impl Moments {
         time: u64,
         frame: &Frame,
         line: u64,
-        sighting: Sighting,
+        seen: Seen<'_>,
     ) -> Result<(), AllocError>
         requires time { time < 2 ^ 61 }
         requires near { AreNear self.old }
         ensures near { OnOk result (AreNear self.new) }
-        ensures moments { OnOk result ((m : AMoments) → RecallsMoments self.old m
-            → RecallsMoments self.new (with_stream (settings_of basis.now) time line
-            (sighted_stream (settings_of basis.now) timing frame.now sighting.flow sighting.request)
-            (with_moment (settings_of basis.now) timing broken (length frame.now.payload.items) time m))) }
+        ensures moments { OnOk result ((m : AMoments) → RecallsMoments self.old m → RecallsMoments self.new
+            (with_time (settings_of basis.now) (Some timing) broken (Some time) frame.now line seen.entry.sighting seen.entry.unclear.now seen.entry.ending m)) }
     {
         self.take_time(basis, timing, broken, frame.payload.len(), time);
-        let stream = sighted_stream(basis, timing, frame, sighting);
+        self.end_pauses(basis, timing, seen)?;
+        let stream = sighted_stream(basis, timing, frame, seen.sighting);
         self.take_stream(basis, time, line, stream)?;
+        self.take_counted(basis, seen.sighting.unit, line);
         Ok(())
     }
 
@@ -191,13 +267,13 @@ impl Moments {
         time: Option<u64>,
         frame: &Frame,
         line: u64,
-        sighting: Sighting,
+        seen: Seen<'_>,
     ) -> Result<(), AllocError>
         requires time { IfSome time (λ t. t < 2 ^ 61) }
         requires near { AreNear self.old }
         ensures near { OnOk result (AreNear self.new) }
-        ensures moments { OnOk result ((m : AMoments) → RecallsMoments self.old m
-            → RecallsMoments self.new (with_time (settings_of basis.now) basis.now.plan.now.timing broken time frame.now line sighting m)) }
+        ensures moments { OnOk result ((m : AMoments) → RecallsMoments self.old m → RecallsMoments self.new
+            (with_time (settings_of basis.now) basis.now.plan.now.timing broken time frame.now line seen.entry.sighting seen.entry.unclear.now seen.entry.ending m)) }
     {
         let Some(timing) = basis.plan.timing else {
             return Ok(());
@@ -205,7 +281,7 @@ impl Moments {
         let Some(time) = time else {
             return Ok(());
         };
-        self.take_known(basis, timing, broken, time, frame, line, sighting)
+        self.take_known(basis, timing, broken, time, frame, line, seen)
     }
 
     /// Looks at a frame of this time, just before which the log breaks off and times begin anew, or they don't, and of which
@@ -217,18 +293,18 @@ impl Moments {
         anew: bool,
         time: Option<u64>,
         frame: &Frame,
-        sighting: Sighting,
+        seen: Seen<'_>,
         line: u64,
     ) -> Result<(), AllocError>
         requires time { IfSome time (λ t. t < 2 ^ 61) }
         requires near { AreNear self.old }
         ensures near { OnOk result (AreNear self.new) }
         ensures moments { OnOk result ((m : AMoments) (noted : List Noted) → RecallsMoments self.old m
-            → sighting ≡ sighted_behind nothing_sighted noted
-            → RecallsMoments self.new (moments_behind (settings_of basis.now) broken anew time frame.now line noted m)) }
+            → seen.entry.sighting ≡ sighted_behind nothing_sighted noted → seen.entry.unclear.now ≡ unclear_behind [] noted
+            → RecallsMoments self.new (moments_behind (settings_of basis.now) broken anew time frame.now line noted seen.entry.ending m)) }
     {
-        self.begin(anew);
-        self.take_at(basis, broken, time, frame, line, sighting)?;
+        self.begin(basis, anew, broken)?;
+        self.take_at(basis, broken, time, frame, line, seen)?;
         Ok(())
     }
 }

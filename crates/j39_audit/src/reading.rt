@@ -47,6 +47,7 @@ pub(crate) fn read_log<S: Source>(log: &mut AuditLog<'_>, source: &mut S) -> Res
         if count == 0 {
             let cut = cutter.end();
             log.read(cut, cutter.line())?;
+            log.end()?;
             return Ok(());
         }
         read_piece(log, &mut cutter, &piece[..count])?;

@@ -1,18 +1,18 @@
 //! Streams: messages that come a step apart at least.
-ghost use Rattle.std.specs.Prelude.{◌≡◌, ◌+◌, ◌≤◌, ◌<◌, ◌*◌, ◌^◌, IfSome, Some};
-ghost use Rattle.std.specs.Option.{option_and_then, option_copied};
+ghost use Rattle.std.specs.Prelude.{◌≡◌, ◌+◌, ◌≤◌, ◌<◌, ◌*◌, ◌^◌, IfSome, Some, None};
+ghost use Rattle.std.specs.Option.{option_and_then, option_copied, option_map};
 ghost use Rattle.j39_id.specs.Ident.{pgn_of};
 ghost use Rattle.j39_audit.specs.Looking.{is_single as is_single_number};
 ghost use Rattle.j39_audit.specs.MessageStreams.{flow_stream, is_in_stream, latest_ms, longest_us, paced_request, paced_stream, asked_stream, shortest_us};
-ghost use Rattle.j39_audit.specs.MessageStreams.{sighted_stream};
+ghost use Rattle.j39_audit.specs.MessageStreams.{are_of_one_sort, flow_pause, flow_pause_of, is_claiming_there, stream_pause, shows_silence, sighted_stream};
 ghost use Rattle.j39_audit.specs.inside.Recalling.{settings_of};
 
 use crate::basis::Basis;
-use crate::frame_marks::is_single;
+use crate::frame_marks::{is_claiming, is_single};
 use crate::mark::{Mark, Word, make_mark};
 use crate::tally::Sighting;
 use j39_id::Frame;
-use j39_network::{GroupPlan, Pace, Timing};
+use j39_network::{FlowPlan, GroupPlan, Pace, Timing, To};
 
 // The most bytes of a frame.
 const FRAME_BYTES: u16 = 8;
@@ -22,12 +22,21 @@ const REQUEST_PRIORITY: u8 = 6;
 
 const MILLION: u64 = 1_000_000;
 
-/// How near the moments of a stream's messages come, how long behind its moment one may be queued, both in
-/// microseconds, and by which mark it is told.
+/// How near the moments of a stream's messages come, how long behind its moment one may be queued, how long behind one
+/// another's moments they come at most, where that is seen, all in microseconds, and by which mark it is told.
 #[derive(Clone, Copy, PartialEq, Eq)]
 pub struct MessageStream {
     pub mark: Mark,
     pub step: u64,
+    pub jitter: u64,
+    pub pause: Option<u64>,
+}
+
+/// By what time behind a message's moment the next one of a flow has its own, and how long behind its moment one may be
+/// queued, in microseconds.
+#[derive(Clone, Copy, PartialEq, Eq)]
+pub struct FlowPause {
+    pub pause: u64,
     pub jitter: u64,
 }
 
@@ -43,6 +52,7 @@ fn shortest_us(timing: Timing, ms: u16) -> u64
 fn longest_us(timing: Timing, ms: u32) -> u64
     requires { ms < 2 ^ 17 }
     ensures value { result ≡ longest_us timing ms }
+    ensures few { result < 2 ^ 40 }
 {
     (1_001 * u64::from(ms) * (MILLION + u64::from(timing.drift))).div_ceil(MILLION)
 }
@@ -70,6 +80,80 @@ fn is_in_stream(group: &GroupPlan, single: bool) -> bool
     }
 }
 
+// Whether the messages of a group are single frames, or none is.
+fn are_of_one_sort(group: &GroupPlan) -> bool
+    ensures { result ≡ are_of_one_sort group.now }
+{
+    group.most <= FRAME_BYTES || group.length > FRAME_BYTES
+}
+
+// Whether the one receiver, where there is one, claims.
+fn is_claiming_there(basis: &Basis<'_>, to: To) -> bool
+    ensures { result ≡ is_claiming_there (settings_of basis.now) to }
+{
+    match to {
+        To::All => true,
+        To::One(receiver) => is_claiming(basis, receiver),
+    }
+}
+
+// Whether the silence of a flow of this group is seen.
+fn shows_silence(basis: &Basis<'_>, flow: &FlowPlan, group: &GroupPlan) -> bool
+    ensures { result ≡ shows_silence (settings_of basis.now) flow.now group.now }
+{
+    !basis.part
+        && !flow.on_request
+        && are_of_one_sort(group)
+        && is_claiming(basis, flow.sender)
+        && is_claiming_there(basis, flow.to)
+}
+
+// The pause of a flow of this group and pace.
+fn flow_pause_of(
+    basis: &Basis<'_>,
+    timing: Timing,
+    flow: &FlowPlan,
+    group: &GroupPlan,
+    pace: Pace,
+    pause: u16,
+) -> Option<FlowPause>
+    ensures value { result ≡ flow_pause_of (settings_of basis.now) timing flow.now group.now pace pause }
+    ensures few { IfSome result (λ it. it.pause < 2 ^ 40) }
+{
+    if !shows_silence(basis, flow, group) {
+        return None;
+    }
+    Some(FlowPause {
+        pause: longest_us(timing, u32::from(pause)),
+        jitter: longest_us(timing, latest_ms(pace, group.most <= FRAME_BYTES)),
+    })
+}
+
+/// The pause of the flow at a place, where its silence is seen.
+#[tactic(auto, unfolding(crate::specs::MessageStreams::flow_pause))]
+pub(crate) fn flow_pause(basis: &Basis<'_>, timing: Timing, place: usize) -> Option<FlowPause>
+    ensures value { result ≡ flow_pause (settings_of basis.now) timing place }
+    ensures few { IfSome result (λ it. it.pause < 2 ^ 40) }
+{
+    let flow = basis.plan.flows.get(place)?;
+    let pause = flow.pause?;
+    let pace = flow.pace?;
+    let group = basis.plan.groups.get(flow.group)?;
+    flow_pause_of(basis, timing, flow, group, pace, pause)
+}
+
+// Only how long it is.
+#[tactic(auto, unfolding(crate::specs::MessageStreams::stream_pause))]
+fn stream_pause(basis: &Basis<'_>, timing: Timing, place: usize) -> Option<u64>
+    ensures value { result ≡ stream_pause (settings_of basis.now) timing place }
+    ensures few { IfSome result (λ pause. pause < 2 ^ 40) }
+{
+    match flow_pause(basis, timing, place) {
+        Some(it) => Some(it.pause),
+        None => None,
+    }
+}
+
 // The stream of a flow of this pace.
 fn paced_stream(
     timing: Timing,
@@ -77,8 +161,12 @@ fn paced_stream(
     place: usize,
     group: &GroupPlan,
     pace: Pace,
+    pause: Option<u64>,
 ) -> Option<MessageStream>
-    ensures value { result ≡ paced_stream timing frame.now place group.now pace }
+    requires { IfSome pause (λ it. it < 2 ^ 40) }
+    ensures value { result ≡ paced_stream timing frame.now place group.now pace pause }
+    ensures pause { IfSome result (λ stream. IfSome stream.pause (λ it. it < 2 ^ 40)) }
+    ensures place { IfSome result (λ stream. stream.mark.subject ≡ place) }
     ensures few { IfSome result (λ stream. stream.step < 2 ^ 27) }
 {
     let single = is_single(frame);
@@ -89,6 +177,7 @@ fn paced_stream(
         mark: make_mark(Word::NearFlow, place),
         step: shortest_us(timing, pace.period),
         jitter: longest_us(timing, latest_ms(pace, single)),
+        pause,
     })
 }
 
@@ -101,17 +190,22 @@ fn flow_stream(
     place: usize,
 ) -> Option<MessageStream>
     ensures value { result ≡ flow_stream (settings_of basis.now) timing frame.now place }
+    ensures pause { IfSome result (λ stream. IfSome stream.pause (λ it. it < 2 ^ 40)) }
+    ensures place { IfSome result (λ stream. stream.mark.subject < 512) }
     ensures few { IfSome result (λ stream. stream.step < 2 ^ 27) }
 {
     let flow = basis.plan.flows.get(place)?;
     let pace = flow.pace?;
     let group = basis.plan.groups.get(flow.group)?;
-    paced_stream(timing, frame, place, group, pace)
+    let pause = stream_pause(basis, timing, place);
+    paced_stream(timing, frame, place, group, pace, pause)
 }
 
 // The stream of a request with this period.
 fn paced_request(timing: Timing, frame: &Frame, place: usize, period: u16) -> Option<MessageStream>
     ensures value { result ≡ paced_request timing frame.now place period }
+    ensures pause { IfSome result (λ stream. stream.pause ≡ None) }
+    ensures place { IfSome result (λ stream. stream.mark.subject ≡ place) }
     ensures few { IfSome result (λ stream. stream.step < 2 ^ 27) }
 {
     if frame.ident.priority != REQUEST_PRIORITY {
@@ -121,6 +215,7 @@ fn paced_request(timing: Timing, frame: &Frame, place: usize, period: u16) -> Op
         mark: make_mark(Word::NearRequest, place),
         step: shortest_us(timing, period),
         jitter: 0,
+        pause: None,
     })
 }
 
@@ -133,6 +228,8 @@ fn asked_stream(
     place: usize,
 ) -> Option<MessageStream>
     ensures value { result ≡ asked_stream (settings_of basis.now) timing frame.now place }
+    ensures pause { IfSome result (λ stream. stream.pause ≡ None) }
+    ensures place { IfSome result (λ stream. stream.mark.subject < 512) }
     ensures few { IfSome result (λ stream. stream.step < 2 ^ 27) }
 {
     let request = basis.plan.requests.get(place)?;
@@ -148,6 +245,8 @@ pub(crate) fn sighted_stream(
     sighting: Sighting,
 ) -> Option<MessageStream>
     ensures value { result ≡ sighted_stream (settings_of basis.now) timing frame.now sighting.flow sighting.request }
+    ensures pause { IfSome result (λ stream. IfSome stream.pause (λ it. it < 2 ^ 40)) }
+    ensures place { IfSome result (λ stream. stream.mark.subject < 512) }
     ensures few { IfSome result (λ stream. stream.step < 2 ^ 27) }
 {
     if let Some(place) = sighting.flow {

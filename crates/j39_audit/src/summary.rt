@@ -1,29 +1,23 @@
 //! What is written of a log that was read.
-ghost use Rattle.std.specs.Prelude.{◌≡◌, ◌≤◌, ◌<◌, ◌++◌, [], length, IfOk, OnOk};
-ghost use Rattle.std.specs.List.{slice_get};
-ghost use Rattle.std.specs.Option.{option_map_or};
-ghost use Rattle.j39_network.specs.declared.plan.flow_plan.FlowPlan.{FlowPlan as AFlow};
-ghost use Rattle.j39_network.specs.declared.plan.request_plan.RequestPlan.{RequestPlan as ARequest};
-ghost use Rattle.j39_audit.specs.AuditText.{accusation_count, accusations, accusing_at, accusing_line, sorts_text, deviations_line, flow_seen_line};
-ghost use Rattle.j39_audit.specs.AuditText.{flow_seen, flows_seen, groups_named, line_of_mark, lines_told, request_seen_line, request_seen};
-ghost use Rattle.j39_audit.specs.AuditText.{requests_seen, sending_text, stranger_text, subject_count, subject_lines, subject_of};
-ghost use Rattle.j39_audit.specs.AuditText.{subjects, text_by, times_of, times_text, unit_and_group_text, unit_at_text, unit_frames_line};
-ghost use Rattle.j39_audit.specs.AuditText.{unit_seen, unit_text, units_seen, word_count, word_lines, word_text};
-ghost use Rattle.j39_audit.specs.inside.Recalling.{settings_of};
-ghost use Rattle.j39_audit.specs.AuditText.{near_flow_text, measure_text, request_text, worst_text};
+ghost use Rattle.std.specs.Prelude.{◌≡◌, ◌≤◌, ◌<◌, ◌++◌, length, IfOk, OnOk};
+ghost use Rattle.j39_audit.specs.AuditText.{accusation_count, accusations, accusing_at, deviations_line, flow_seen};
+ghost use Rattle.j39_audit.specs.AuditText.{flow_seen_line, flows_seen, groups_named, line_of_mark, lines_told};
+ghost use Rattle.j39_audit.specs.AuditText.{request_seen, request_seen_line, requests_seen, sorts_text, subject_count};
+ghost use Rattle.j39_audit.specs.AuditText.{subject_lines, subjects, text_by, times_of, unit_frames_line, unit_seen};
+ghost use Rattle.j39_audit.specs.AuditText.{units_seen, word_count, word_lines};
 ghost use Rattle.j39_audit.specs.inside.Auditing.{tallied};
+ghost use Rattle.j39_audit.specs.inside.Recalling.{settings_of};
 
+use crate::accusing::{write_accusing, write_sending};
 use crate::audit_log::AuditLog;
 use crate::basis::Basis;
 use crate::mark::{Mark, Word, make_mark};
-use crate::tally::Told;
-use j39_follow::{write_name, write_to};
-use j39_network::{FlowPlan, Plan, RequestPlan, To};
-use j39_text::{TextBuffer, group_label, unit_label};
+use j39_network::{FlowPlan, Plan, RequestPlan};
+use j39_text::{TextBuffer, unit_label};
 use std::alloc::AllocError;
 
 // The words that accuse, in the order in which they are written.
-const ACCUSING: [Word; 11] = [
+const ACCUSING: [Word; 12] = [
     Word::Short,
     Word::Stranger,
     Word::Nobody,
@@ -35,6 +29,7 @@ const ACCUSING: [Word; 11] = [
     Word::Urgent,
     Word::NearFlow,
     Word::NearRequest,
+    Word::SilentFlow,
 ];
 
 const ADDRESSES: usize = 256;
@@ -58,7 +53,7 @@ fn subjects(basis: &Basis<'_>, word: Word) -> usize
     match word {
         Word::Short => 1,
         Word::Stranger | Word::Nobody => ADDRESSES,
-        Word::NearFlow => basis.plan.flows.len(),
+        Word::NearFlow | Word::SilentFlow => basis.plan.flows.len(),
         Word::NearRequest => basis.plan.requests.len(),
         _ => basis.plan.units.len(),
     }
@@ -73,195 +68,6 @@ fn groups_named(basis: &Basis<'_>, word: Word) -> usize
         Word::Layout | Word::NoFlow | Word::Priority => basis.plan.groups.len(),
         _ => 1,
     }
-}
-
-fn word_text(word: Word) -> &'static str
-    ensures { result.now ≡ word_text word }
-{
-    match word {
-        Word::Short => "short",
-        Word::Stranger => "stranger",
-        Word::Nobody => "nobody",
-        Word::Address => "address",
-        Word::Cannot => "cannot",
-        Word::Layout => "layout",
-        Word::NoFlow => "no_flow",
-        Word::Priority => "priority",
-        Word::NearFlow | Word::NearRequest => "near",
-        _ => "urgent",
-    }
-}
-
-#[tactic(auto, unfolding(crate::specs::AuditText::unit_text))]
-fn write_unit(text: &mut TextBuffer, plan: &Plan, unit: usize) -> Result<(), AllocError>
-    ensures { OnOk result (text.new ≡ text.old ++ unit_text plan.now unit) }
-{
-    text.word(" unit ")?;
-    text.word(unit_label(plan, unit))
-}
-
-#[tactic(auto, unfolding(crate::specs::AuditText::unit_and_group_text))]
-fn write_unit_and_group(
-    text: &mut TextBuffer,
-    plan: &Plan,
-    unit: usize,
-    group: usize,
-) -> Result<(), AllocError>
-    ensures { OnOk result (text.new ≡ text.old ++ unit_and_group_text plan.now unit group) }
-{
-    write_unit(text, plan, unit)?;
-    text.word(" group ")?;
-    text.word(group_label(plan, group))
-}
-
-#[tactic(auto, unfolding(crate::specs::AuditText::stranger_text))]
-fn write_stranger(text: &mut TextBuffer, address: usize, name: u64) -> Result<(), AllocError>
-    ensures { OnOk result (text.new ≡ text.old ++ stranger_text address name) }
-{
-    text.field(" address ", address)?;
-    text.word(" ")?;
-    write_name(text, name)
-}
-
-#[tactic(auto, unfolding(crate::specs::AuditText::unit_at_text))]
-fn write_unit_at(
-    text: &mut TextBuffer,
-    plan: &Plan,
-    unit: usize,
-    address: u64,
-) -> Result<(), AllocError>
-    ensures { OnOk result (text.new ≡ text.old ++ unit_at_text plan.now unit address) }
-{
-    write_unit(text, plan, unit)?;
-    text.field(" at ", address)
-}
-
-#[tactic(auto, unfolding(crate::specs::AuditText::sending_text))]
-fn write_sending(
-    text: &mut TextBuffer,
-    plan: &Plan,
-    group: usize,
-    sender: usize,
-    to: To,
-) -> Result<(), AllocError>
-    ensures { OnOk result (text.new ≡ text.old ++ sending_text plan.now group sender to) }
-{
-    text.word(" ")?;
-    text.word(group_label(plan, group))?;
-    text.word(" ")?;
-    text.word(unit_label(plan, sender))?;
-    text.word(" ")?;
-    write_to(text, plan, to)
-}
-
-#[tactic(auto, unfolding(crate::specs::AuditText::near_flow_text))]
-fn write_flow_named(
-    text: &mut TextBuffer,
-    plan: &Plan,
-    place: usize,
-    flow: &FlowPlan,
-) -> Result<(), AllocError>
-    ensures { OnOk result (text.new ≡ text.old ++ near_flow_text plan.now place flow.now) }
-{
-    text.place(" flow ", place)?;
-    write_sending(text, plan, flow.group, flow.sender, flow.to)
-}
-
-fn write_flow_at(text: &mut TextBuffer, plan: &Plan, place: usize) -> Result<(), AllocError>
-    ensures { OnOk result (text.new ≡ text.old ++ option_map_or (λ (flow : AFlow). near_flow_text plan.now place flow) (slice_get plan.now.flows.items place) []) }
-{
-    match plan.flows.get(place) {
-        Some(flow) => write_flow_named(text, plan, place, flow),
-        None => Ok(()),
-    }
-}
-
-#[tactic(auto, unfolding(crate::specs::AuditText::request_text))]
-fn write_request_named(
-    text: &mut TextBuffer,
-    plan: &Plan,
-    place: usize,
-    request: &RequestPlan,
-) -> Result<(), AllocError>
-    ensures { OnOk result (text.new ≡ text.old ++ request_text plan.now place request.now) }
-{
-    text.place(" request ", place)?;
-    write_sending(text, plan, request.group, request.sender, request.to)
-}
-
-fn write_request_at(text: &mut TextBuffer, plan: &Plan, place: usize) -> Result<(), AllocError>
-    ensures { OnOk result (text.new ≡ text.old ++ option_map_or (λ (r : ARequest). request_text plan.now place r) (slice_get plan.now.requests.items place) []) }
-{
-    match plan.requests.get(place) {
-        Some(request) => write_request_named(text, plan, place, request),
-        None => Ok(()),
-    }
-}
-
-// Writes whom or what a word speaks of, and what belongs to the first line.
-fn write_subject(
-    text: &mut TextBuffer,
-    plan: &Plan,
-    mark: Mark,
-    detail: u64,
-) -> Result<(), AllocError>
-    ensures { OnOk result (text.new ≡ text.old ++ subject_of plan.now mark.word mark.subject mark.group detail) }
-{
-    match mark.word {
-        Word::Short => Ok(()),
-        Word::Stranger => write_stranger(text, mark.subject, detail),
-        Word::Nobody => text.field(" address ", mark.subject),
-        Word::Address => write_unit_at(text, plan, mark.subject, detail),
-        Word::Layout | Word::NoFlow | Word::Priority => {
-            write_unit_and_group(text, plan, mark.subject, mark.group)
-        }
-        Word::NearFlow => write_flow_at(text, plan, mark.subject),
-        Word::NearRequest => write_request_at(text, plan, mark.subject),
-        _ => write_unit(text, plan, mark.subject),
-    }
-}
-
-#[tactic(auto, unfolding(crate::specs::AuditText::worst_text))]
-fn write_worst(text: &mut TextBuffer, told: Told) -> Result<(), AllocError>
-    ensures { OnOk result (text.new ≡ text.old ++ worst_text told) }
-{
-    text.field(" worst ", told.worst_at)?;
-    text.field(" by ", told.worst)?;
-    text.word(" us")
-}
-
-// Writes by how much at most, where a word has a measure.
-fn write_measure(text: &mut TextBuffer, word: Word, told: Told) -> Result<(), AllocError>
-    ensures { OnOk result (text.new ≡ text.old ++ measure_text word told) }
-{
-    match word {
-        Word::NearFlow | Word::NearRequest => write_worst(text, told),
-        _ => Ok(()),
-    }
-}
-
-#[tactic(auto, unfolding(crate::specs::AuditText::times_text))]
-fn write_times(text: &mut TextBuffer, word: Word, told: Told) -> Result<(), AllocError>
-    ensures { OnOk result (text.new ≡ text.old ++ times_text word told) }
-{
-    text.field(" times ", told.times)?;
-    text.field(" first ", told.first)?;
-    write_measure(text, word, told)?;
-    text.end_line()
-}
-
-#[tactic(auto, unfolding(crate::specs::AuditText::accusing_line))]
-fn write_accusing(
-    text: &mut TextBuffer,
-    plan: &Plan,
-    mark: Mark,
-    told: Told,
-) -> Result<(), AllocError>
-    ensures { OnOk result (text.new ≡ text.old ++ accusing_line plan.now mark told) }
-{
-    text.word(word_text(mark.word))?;
-    write_subject(text, plan, mark, told.detail)?;
-    write_times(text, mark.word, told)
 }
 
 // Writes the line of a mark where it was found, and answers how many lines that is.

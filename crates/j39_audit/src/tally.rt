@@ -2,6 +2,7 @@
 ghost use Rattle.std.specs.Prelude.{◌≡◌, ◌<◌, ◌^◌, ◌+◌, ◌∷◌, [], min, OnOk};
 ghost use Rattle.j39_audit.specs.Counting.{greater, key_of, most_times, told_by, told_more};
 ghost use Rattle.j39_audit.specs.MessageStreams.{nothing_sighted, sighted_as};
+ghost use Rattle.j39_audit.specs.Pauses.{unclear_as};
 ghost use Rattle.j39_audit.specs.inside.Recalling.{AreCounted, Notes, tallied_at};
 
 use crate::mark::{Mark, Word};
@@ -27,16 +28,18 @@ const NEVER: Told = Told {
     worst_at: 0,
 };
 
-/// Of which flow and of which request a frame is seen, by their places from 0.
+/// Of which flow and of which request a frame is seen, and for which unit it counts, by their places from 0.
 #[derive(Clone, Copy, PartialEq, Eq)]
 pub struct Sighting {
     pub flow: Option<usize>,
     pub request: Option<usize>,
+    pub unit: Option<usize>,
 }
 
 const NOTHING: Sighting = Sighting {
     flow: None,
     request: None,
+    unit: None,
 };
 
 // With a mark more.
@@ -46,13 +49,30 @@ fn sighted(old: Sighting, mark: Mark) -> Sighting
     match mark.word {
         Word::Seen => Sighting {
             flow: Some(mark.subject),
-            request: old.request,
+            ..old
         },
         Word::Asked => Sighting {
-            flow: old.flow,
             request: Some(mark.subject),
+            ..old
+        },
+        Word::Counted => Sighting {
+            unit: Some(mark.subject),
+            ..old
         },
         _ => old,
+    }
+}
+
+// Keeps the place of a flow of which a frame may be a message.
+fn note_unclear(unclear: &mut Vec<usize>, mark: Mark) -> Result<(), AllocError>
+    ensures { OnOk result (unclear.new.items ≡ unclear_as mark.word mark.subject unclear.old.items) }
+{
+    match mark.word {
+        Word::Unclear => {
+            unclear.push(mark.subject)?;
+            Ok(())
+        }
+        _ => Ok(()),
     }
 }
 
@@ -94,8 +114,10 @@ fn one_more(old: Told, line: u64, detail: u64) -> Told
 #[derive(Drop)]
 pub(crate) struct MarkTally {
     pub found: HashMap<(u8, usize, usize), Told>,
-    /// Of which flow and request the frame at hand is seen.
+    /// Of which flow and request the frame at hand is seen, and for which unit it counts.
     pub sighting: Sighting,
+    /// Of which flows it may be a message, where they are several.
+    pub unclear: Vec<usize>,
 }
 
 impl MarkTally {
@@ -105,6 +127,7 @@ impl MarkTally {
         MarkTally {
             found: HashMap::new(alloc),
             sighting: NOTHING,
+            unclear: Vec::new(alloc),
         }
     }
 
@@ -112,8 +135,10 @@ impl MarkTally {
     pub fn look_at_next(&mut self)
         ensures found { self.new.found ≡ self.old.found }
         ensures nothing { self.new.sighting ≡ nothing_sighted }
+        ensures clear { self.new.unclear.items ≡ [] }
     {
         self.sighting = NOTHING;
+        self.unclear.clear();
     }
 
     /// What was found of a mark.
@@ -136,6 +161,7 @@ impl MarkTally {
         let new = one_more(self.told(mark), line, detail);
         let key = (mark.word.number(), mark.subject, mark.group);
         self.sighting = sighted(self.sighting, mark);
+        note_unclear(&mut self.unclear, mark)?;
         match self.found.insert(key, new) {
             Ok(_) => Ok(()),
             Err(_) => Err(AllocError),

@@ -2,9 +2,12 @@ pub mod ExactClocks
 pub mod Frames
 pub mod Hits
 pub mod Idle
+pub mod KeptPauses
 pub mod Lines
 pub mod Listed
 pub mod Marking
+pub mod Near
+pub mod NearNotes
 pub mod OnBus
 pub mod OnLogs
 pub mod OneAudit
@@ -19,5 +22,9 @@ pub mod RunMessages
 pub mod RunSound
 pub mod RunSteps
 pub mod Runs
+pub mod Silent
+pub mod SilentNotes
+pub mod Spread
+pub mod Steps
 pub mod Sure
 pub mod Told

@@ -70,7 +70,7 @@ IsTaken s past line next =
     × (IsQuiet past next ⊎ ((l : List ℕ) × (line ≡ ShortLine l) × (IsSkipped (with_next_number past) l next ⊎ IsFramed s (with_next_number past) l next)))
 
 passed : (s : Settings) (past : AuditPast) (line part : List ℕ) (named : Option (List ℕ)) → IsReadHere past line part named → (e : LineError)
-    → HasLineFault part e → (next : AuditPast) → next ≡ passed_by e past → IsOneOf s past line next
+    → HasLineFault part e → (next : AuditPast) → next ≡ passed_by s e past → IsOneOf s past line next
 passed s past line part named reads ShortIdent fault next e = inr (inl (record {
   part = part;
   named = named;
@@ -111,7 +111,7 @@ taken s past (ShortLine l) next (part, named, part_is, named_is, inr (here, inl 
 taken s past (ShortLine l) next (part, named, part_is, named_is, inr (here, inr (fault, has, e))) =
     let begun : AuditPast = with_next_number past in
     let reads : IsReadHere begun l part named = record { part_is = part_is; named_is = named_is; here = here } in (
-      ap (λ (p : AuditPast). p.number) e ∙ as_many_lines fault begun,
+      ap (λ (p : AuditPast). p.number) e ∙ as_many_lines s fault begun,
       elim (passed s begun l part named reads fault has next e) [
         | inl quiet ↦ inl (record { noted_is = quiet.noted_is })
         | inr more ↦ inr (l, refl, more)

@@ -1,4 +1,4 @@
--- Streams on a bus that keep their period are not told.
+-- Streams on a bus that keep their period, or their pause, are not told.
 use Rattle.std.proofs.Common.{◌≡◌, ◌≢◌, ℕ, zero, suc, ◌+◌, ◌-◌, ◌*◌, ◌<◌, ◌≤◌, ◌⊎◌, Bool, false, ◌&&◌, ltb, refl, subst, sym, ap, ◌∙◌, arith, inl, inr, Option, Some}
 use Rattle.std.proofs.Math.Nat.{mul-le-mul_left}
 use Rattle.std.proofs.lemmas.Bool.{and_from, and_parts, cases_eq, cases_lt, lt-ltb, ltb-true}
@@ -6,11 +6,14 @@ use Rattle.j39_timing.specs.Messages.{frame_end}
 use Rattle.j39_timing.specs.TimedFrames.{Schedule}
 use Rattle.j39_audit.specs.declared.window.Window.{Window}
 use Rattle.j39_audit.specs.Near.{is_too_near}
-use Rattle.j39_audit.specs.Stepping.{AreStepsApart, AreMomentsWithin}
+use Rattle.j39_audit.specs.Silence.{is_silent}
+use Rattle.j39_audit_laws.specs.Stepping.{AreStepsApart, AreMomentsWithin}
 use Rattle.j39_audit_laws.specs.MarkRecords.{IsMarkOf, KeepsTime}
 use Rattle.j39_audit_laws.specs.StreamRecords.{AreBounds, AreLines, AreMsApart, AreReleasedFirst, HaveJitter}
-use Rattle.j39_audit_laws.specs.StreamRecords.{IsBoundFrom, IsOneAtATime}
-use Rattle.j39_audit.proofs.Near.{kept_steps_are_not_near}
+use Rattle.j39_audit_laws.specs.StreamRecords.{IsBoundByFrame, IsBoundFrom, IsOneAtATime, KeepsMs}
+use Rattle.j39_audit_laws.specs.Pausing.{ComesInTime}
+use Rattle.j39_audit_laws.proofs.KeptPauses.{kept_pauses_are_not_silent}
+use Rattle.j39_audit_laws.proofs.Near.{kept_steps_are_not_near}
 
 -- ---- times of bits
 
@@ -121,3 +124,105 @@ kept_periods s us period n clock is_message release frame windows one keeps firs
       | inr behind ↦ elim (steps (release (frame j)) (release (frame i)) behind) [ inl far ↦ inr far | inr far ↦ inl far ]
     ] in
     kept_steps_are_not_near (999 * period) windows n (λ k. clock (release (frame k))) within apart_by_clock
+
+-- ---- silent
+
+-- the last bit from one to another at which the clock isn't later than a time
+bit_at : (clock : ℕ → ℕ) (from n t : ℕ) → clock from ≤ t
+    → (b : ℕ) × (from ≤ b) × (b ≤ from + n) × (clock b ≤ t) × ((b ≡ from + n) ⊎ (t < clock (suc b)))
+bit_at clock from zero t begun = (from, omega arith, omega arith, begun, inl (omega arith))
+bit_at clock from (suc n) t begun =
+    let (b, since, until, not_late, last) = bit_at clock from n t begun in
+    elim last [
+      | inr less ↦ (b, since, omega (arith, until), not_late, inr less)
+      | inl end ↦ elim (cases_lt t (clock (from + suc n))) [
+        | inl less ↦
+            let next : suc b ≡ from + suc n = omega (arith, end) in
+            (b, since, omega (arith, until), not_late, inr (subst (λ (k : ℕ). t < clock k) (sym next) less))
+        | inr up ↦ (from + suc n, omega arith, omega arith, up, inl refl)
+      ]
+    ]
+
+-- a stretch of bits that is shorter than so many whole milliseconds is so by a bit
+whole_bits : (us bits_of_ms m pause : ℕ) → us * bits_of_ms ≡ 1000 → us * m < 1000 * pause → us * suc m ≤ 1000 * pause
+whole_bits us bits_of_ms m pause parts less =
+    let together : (us * bits_of_ms) * pause ≡ 1000 * pause = ap (λ (k : ℕ). k * pause) parts in
+    let regrouped : us * (bits_of_ms * pause) ≡ (us * bits_of_ms) * pause = omega arith in
+    elim (cases_lt m (bits_of_ms * pause)) [
+      | inl inside ↦ let up : us * suc m ≤ us * (bits_of_ms * pause) = mul-le-mul_left us inside in omega (arith, up, together, regrouped)
+      | inr beyond ↦ let up : us * (bits_of_ms * pause) ≤ us * m = mul-le-mul_left us beyond in absurd (omega (arith, up, together, regrouped, less))
+    ]
+
+coming : (s : Schedule) (us bits_of_ms pause from to : ℕ) (clock : ℕ → ℕ) (is_message : ℕ → Bool) (release : ℕ → ℕ) → us * bits_of_ms ≡ 1000
+    → KeepsTime us clock → KeepsMs s us pause is_message release from to → from ≤ to
+    → ComesInTime (λ p. ltb p s.count && is_message p) (1001 * pause) (λ p. clock (release p)) (clock from) (clock to)
+coming s us bits_of_ms pause from to clock is_message release parts keeps comes order t since until =
+    let (b, low, high, not_late, last) = bit_at clock from (to - from) t since in
+    let (p, in_p, message, before, near) = comes b low (omega (arith, high, order)) in
+    let rise = rises us clock keeps (release p) b before in
+    let whole = difference us (release p) b before in
+    let short : us * (b - release p) < 1000 * pause = omega (arith, whole, near) in
+    let bit : us * suc (b - release p) ≤ 1000 * pause = whole_bits us bits_of_ms (b - release p) pause parts short in
+    let within : t < clock (release p) + 1000 * (1001 * pause) = elim last [
+      | inl end ↦
+          let at : clock b ≡ clock to = ap clock (omega (arith, end, order)) in
+          let quick = (keeps (release p) b before).1 in
+          omega (arith, until, at, quick, short)
+      | inr less ↦
+          let quick = (keeps (release p) (suc b) (omega (arith, before))).1 in
+          let bits : suc b - release p ≡ suc (b - release p) = omega (arith, before) in
+          let same : us * (suc b - release p) ≡ us * suc (b - release p) = ap (λ (k : ℕ). us * k) bits in
+          omega (arith, less, quick, same, bit)
+    ] in
+    (p, and_from (ltb p s.count) (is_message p) (lt-ltb p s.count in_p) message, omega (arith, rise, not_late), within)
+
+pub kept_coming : (s : Schedule) (us bits_of_ms pause from to n : ℕ) (clock : ℕ → ℕ) (is_message : ℕ → Bool) (release frame : ℕ → ℕ)
+    (windows : ℕ → Window) → IsOneAtATime s → us * bits_of_ms ≡ 1000 → KeepsTime us clock → AreReleasedFirst s is_message release
+    → KeepsMs s us pause is_message release from to → from ≤ to
+    → AreLines s is_message n frame → AreBounds s clock is_message release n frame windows → from ≤ frame_end s (frame 0)
+    → (j : ℕ) → j ≤ n → (lower : Option ℕ)
+    → ((x : ℕ) → lower ≡ Some x → IsBoundByFrame s clock is_message release frame to j x)
+    → is_silent (1001 * pause) windows j lower ≡ false
+kept_coming s us bits_of_ms pause from to n clock is_message release frame windows one parts keeps first comes order lines bounds begun j inside lower is =
+    let moment : ℕ → ℕ = λ p. clock (release p) in
+    let ends = in_order s n is_message frame lines in
+    kept_pauses_are_not_silent (λ p. ltb p s.count && is_message p) (1001 * pause) (clock from) (clock to) frame moment windows
+    (coming s us bits_of_ms pause from to clock is_message release parts keeps comes order) j
+    (λ i before.
+    let in_i : i < n = omega (arith, before, inside) in
+    let since = ends 0 i (omega arith) in_i in
+    let rise = rises us clock keeps from (frame_end s (frame i)) (omega (arith, begun, since)) in
+    let most = bounds.upper i in_i in
+    omega (arith, rise, most)) lower
+    (λ x at.
+    let bound = is x at in (
+      bound.until,
+      λ i p before message.
+          let (known, its) = and_parts (ltb p s.count) (is_message p) message in
+          let in_p = ltb-true p s.count known in
+          let in_i : i < n = omega (arith, before, inside) in
+          elim (cases_lt (frame_end s (frame i)) (frame_end s p)) [
+            | inr early ↦
+                let released = first p in_p its in
+                let queued = one.queued_first p in_p in
+                let rise = rises us clock keeps (release p) (frame_end s (frame i)) (omega (arith, released, queued, early)) in
+                let most = bounds.upper i in_i in
+                inl (omega (arith, rise, most))
+            | inl later ↦ elim (cases_lt (frame_end s p) (frame_end s bound.of)) [
+              | inr behind ↦ inr (inl (bound.is p in_p its behind))
+              | inl ahead ↦
+                  let since = ends 0 i (omega arith) in_i in
+                  let (k, inside_k, same) = bound.all_before p in_p its (omega (arith, since, later)) ahead in
+                  let at_k = ap (frame_end s) same in
+                  inr (inr (
+                    k,
+                    elim (cases_lt i k) [
+                      | inl less ↦ less
+                      | inr up ↦ let back = ends k i up in_i in absurd (omega (arith, back, at_k, later))
+                    ],
+                    inside_k,
+                    same,
+                  ))
+            ]
+          ],
+    ))

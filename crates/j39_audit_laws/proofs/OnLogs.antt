@@ -6,10 +6,11 @@ use Rattle.j39_timing.specs.TimedFrames.{Schedule}
 use Rattle.j39_audit.specs.declared.window.Window.{Window}
 use Rattle.j39_audit_laws.specs.LogBounds.{AreOfLog, IsMarkedBound, Lines}
 use Rattle.j39_audit.specs.Near.{is_too_near}
+use Rattle.j39_audit.specs.Silence.{is_silent}
 use Rattle.j39_audit_laws.specs.MarkRecords.{AreFew, KeepsTime, longest_reach}
-use Rattle.j39_audit_laws.specs.StreamRecords.{AreBounds, AreLines, AreMsApart, AreReleasedFirst, HaveJitter, IsBoundFrom, IsOneAtATime}
+use Rattle.j39_audit_laws.specs.StreamRecords.{AreAllBefore, AreBounds, AreLines, AreMsApart, AreReleasedFirst, HaveJitter, IsBoundFrom, IsOneAtATime, KeepsMs}
 use Rattle.j39_audit_laws.proofs.Idle.{mark_with_errors}
-use Rattle.j39_audit_laws.proofs.OnBus.{bound_by_mark, kept_periods}
+use Rattle.j39_audit_laws.proofs.OnBus.{bound_by_mark, kept_coming, kept_periods}
 
 module _ (s : Schedule) (d : Damaged) (log : Lines) (fast : log.us ≤ 8) (keeps : KeepsTime log.us log.clock) (bus : IsBusWithErrors s d)
     (short : (p : ℕ) → p < s.count → s.bits p ≤ 160) (seldom : AreFew d log.few) where
@@ -47,3 +48,26 @@ pub not_near : (s : Schedule) (d : Damaged) (log : Lines) (period jitter n : ℕ
 not_near s d log period jitter n is_message release frame windows fast keeps bus short seldom first late apart lines told =
     kept_periods s log.us period n log.clock is_message release frame windows (one_at_a_time s d log fast keeps bus short seldom) keeps first apart lines
     (bounds s d log fast keeps bus short seldom jitter n is_message release frame windows first late told)
+
+pub not_silent : (s : Schedule) (d : Damaged) (log : Lines) (bits_of_ms pause jitter from to n : ℕ) (is_message : ℕ → Bool)
+    (release frame : ℕ → ℕ) (windows : ℕ → Window)
+    → log.us ≤ 8 → log.us * bits_of_ms ≡ 1000 → KeepsTime log.us log.clock
+    → IsBusWithErrors s d → ((p : ℕ) → p < s.count → s.bits p ≤ 160) → AreFew d log.few
+    → AreReleasedFirst s is_message release → HaveJitter s log.us jitter is_message release
+    → KeepsMs s log.us pause is_message release from to → from ≤ to
+    → AreLines s is_message n frame → AreOfLog s log jitter n frame windows → from ≤ frame_end s (frame 0)
+    → (j : ℕ) → j ≤ n → (lower : Option ℕ) → (of : ℕ) → AreAllBefore s is_message frame j of
+    → ((x : ℕ) → lower ≡ Some x → IsMarkedBound s log jitter of x × (1000 * x ≤ log.clock to))
+    → is_silent (1001 * pause) windows j lower ≡ false
+not_silent s d log bits_of_ms pause jitter from to n is_message release frame windows fast parts keeps bus short seldom first late comes order lines told begun
+    j inside lower of all bound =
+    kept_coming s log.us bits_of_ms pause from to n log.clock is_message release frame windows (one_at_a_time s d log fast keeps bus short seldom) parts keeps
+    first comes order lines (bounds s d log fast keeps bus short seldom jitter n is_message release frame windows first late told) begun j inside lower
+    (λ x is.
+    let (marked_by, until) = bound x is in
+    record {
+      of = of;
+      is = marked s d log fast keeps bus short seldom jitter n is_message release frame windows first late of x marked_by;
+      all_before = all;
+      until = until;
+    })

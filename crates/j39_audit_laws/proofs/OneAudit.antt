@@ -7,7 +7,7 @@ use Rattle.j39_id.specs.Name.{is_arbitrary}
 use Rattle.j39_network.specs.declared.plan.Plan.{Plan}
 use Rattle.j39_network.specs.declared.plan.unit_plan.UnitPlan.{UnitPlan}
 use Rattle.j39_stream.specs.declared.verdict.Verdict.{Verdict}
-use Rattle.j39_audit.specs.AuditText.{IsAuditedLog, audit_text, audit_verdict, nothing_read}
+use Rattle.j39_audit.specs.AuditText.{AuditPast, IsAuditedLog, audit_text, audit_verdict, log_ended, nothing_read}
 use Rattle.j39_audit.specs.Settings.{AreMoving, Settings}
 use Rattle.j39_audit_laws.specs.OneAudit.{AuditHasOneText}
 use Rattle.j39_audit_laws.proofs.OneReading.{one_log_read}
@@ -53,8 +53,8 @@ one_audited : (s : Settings) (log text other : List ℕ) (verdict outcome : Verd
     → (text ≡ other) × (verdict ≡ outcome)
 one_audited s log text other verdict outcome a b =
     let past : a.past ≡ b.past = one_log_read s nothing_read (lines log) a.past b.past a.read b.read in (
-      a.text_is ∙ ap (audit_text s) past ∙ sym b.text_is,
-      a.verdict_is ∙ ap (audit_verdict s) past ∙ sym b.verdict_is,
+      a.text_is ∙ ap (λ (p : AuditPast). audit_text s (log_ended s p)) past ∙ sym b.text_is,
+      a.verdict_is ∙ ap (λ (p : AuditPast). audit_verdict s (log_ended s p)) past ∙ sym b.verdict_is,
     )
 
 pub one_audit : AuditHasOneText

@@ -64,7 +64,7 @@ one_part_read s past line part named next other (inl a) (inl b) =
 one_part_read s past line part named next other (inl a) (inr b) = absurd (not_both part a.0 b.0 a.2 b.1)
 one_part_read s past line part named next other (inr a) (inl b) = absurd (not_both part b.0 a.0 b.2 a.1)
 one_part_read s past line part named next other (inr a) (inr b) =
-    a.2 ∙ ap (λ (e : LineError). passed_by e past) (one_fault part a.0 b.0 a.1 b.1) ∙ sym b.2
+    a.2 ∙ ap (λ (e : LineError). passed_by s e past) (one_fault part a.0 b.0 a.1 b.1) ∙ sym b.2
 
 abbrev ReadsRest : Settings → AuditPast → List ℕ → List ℕ → Option (List ℕ) → AuditPast → Type 0
 ReadsRest s past line part named next =

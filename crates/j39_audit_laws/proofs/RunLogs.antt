@@ -112,13 +112,13 @@ same_read s past next rest frames r more claims interface reads = record {
   reads = subst (λ (i : Option (List ℕ)). AreReadAs i more r.left) (sym interface) reads;
 }
 
-passed_claims : (e : LineError) (past : AuditPast) → ((passed_by e past).claims ≡ past.claims) × ((passed_by e past).interface ≡ past.interface)
-passed_claims Empty past = (refl, refl)
-passed_claims NoHash past = (refl, refl)
-passed_claims ShortIdent past = (refl, refl)
-passed_claims BadIdent past = (refl, refl)
-passed_claims TooLong past = (refl, refl)
-passed_claims BadData past = (refl, refl)
+passed_claims : (s : Settings) (e : LineError) (past : AuditPast) → ((passed_by s e past).claims ≡ past.claims) × ((passed_by s e past).interface ≡ past.interface)
+passed_claims s Empty past = (refl, refl)
+passed_claims s NoHash past = (refl, refl)
+passed_claims s ShortIdent past = (refl, refl)
+passed_claims s BadIdent past = (refl, refl)
+passed_claims s TooLong past = (refl, refl)
+passed_claims s BadData past = (refl, refl)
 
 frame_claims : (s : Settings) (past : AuditPast) (time : Option ℕ) (named : Option (List ℕ)) (f : Frame) (packet : Option Packet)
     → ((past_with_frame s past time named f packet).claims ≡ claims_behind s f (claims_before s past time))
@@ -134,7 +134,7 @@ read_more s past (ShortLine l) next more frames (part, named, part_is, named_is,
     same_read s past next (ShortLine l ∷ more) frames r more (ap (λ (p : AuditPast). p.claims) e) (ap (λ (p : AuditPast). p.interface) e)
     (elsewhere_on past.interface part named more r.left there (reads_on past.interface l part named more r.left part_is named_is r.reads))
 read_more s past (ShortLine l) next more frames (part, named, part_is, named_is, inr (here, inr (fault, has, e))) r =
-    let same = passed_claims fault (with_next_number past) in
+    let same = passed_claims s fault (with_next_number past) in
     same_read s past next (ShortLine l ∷ more) frames r more (ap (λ (p : AuditPast). p.claims) e ∙ same.0) (ap (λ (p : AuditPast). p.interface) e ∙ same.1)
     (passed_on past.interface part named more r.left fault here has (reads_on past.interface l part named more r.left part_is named_is r.reads))
 read_more s past (ShortLine l) next more frames (part, named, part_is, named_is, inr (here, inl (f, time, spelled, text, (packet, packet_is, e)))) r =

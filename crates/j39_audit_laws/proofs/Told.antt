@@ -12,7 +12,7 @@ use Rattle.j39_audit.specs.Counting.{Noted, most_times, told_at, told_in, told_o
 use Rattle.j39_audit.specs.Settings.{Settings}
 use Rattle.j39_audit.specs.declared.mark.Mark.{Mark}
 use Rattle.j39_audit.specs.declared.mark.Word.{Word}
-use Rattle.j39_audit.specs.declared.mark.Word.TheVariants.{Short, Stranger, Nobody as NobodyThere, Address, Cannot, Layout, NoFlow, Priority, Urgent, Seen, Unclear, Asked, Counted, Unsure, Break, NearFlow, NearRequest}
+use Rattle.j39_audit.specs.declared.mark.Word.TheVariants.{Short, Stranger, Nobody as NobodyThere, Address, Cannot, Layout, NoFlow, Priority, Urgent, Seen, Unclear, Asked, Counted, Unsure, Break, NearFlow, NearRequest, SilentFlow}
 use Rattle.j39_audit.proofs.Hearing.{line_more}
 use Rattle.j39_audit_laws.specs.FoundLines.{IsAccusing, IsFoundAt, IsLineOf, LinesAreOfLog, IsToldAt}
 use Rattle.j39_audit_laws.proofs.Hits.{hits}
@@ -173,6 +173,7 @@ by_frames Unsure is = absurd is
 by_frames Break is = absurd is
 by_frames NearFlow is = absurd is
 by_frames NearRequest is = absurd is
+by_frames SilentFlow is = absurd is
 
 looked : (end : AuditPast) (m : Mark) → IsAccusing m.word → told_in end.noted m ≡ look_at end m
 looked end m is = sym (ap (λ (b : Bool). cond b (told_in end.moments.untimely m) (told_in end.noted m)) (by_frames m.word is))

@@ -5,4 +5,6 @@ pub mod LogBounds
 pub mod MarkRecords
 pub mod OneAudit
 pub mod OwnPart
+pub mod Pausing
+pub mod Stepping
 pub mod StreamRecords

@@ -38,3 +38,20 @@ HaveJitter s us jitter is_message release = (p : ℕ) → p < s.count → is_mes
 abbrev pub AreMsApart : Schedule → ℕ → ℕ → (ℕ → Bool) → (ℕ → ℕ) → Type 0
 AreMsApart s us period is_message release = (p q : ℕ) → p < s.count → q < s.count → p ≢ q → is_message p ≡ true → is_message q ≡ true
     → (release p * us + 1000 * period ≤ release q * us) ⊎ (release q * us + 1000 * period ≤ release p * us)
+
+-- at each bit from one to another a message of it has had its release in the last so many milliseconds
+abbrev pub KeepsMs : Schedule → ℕ → ℕ → (ℕ → Bool) → (ℕ → ℕ) → ℕ → ℕ → Type 0
+KeepsMs s us pause is_message release from to = (t : ℕ) → from ≤ t → t ≤ to
+    → (p : ℕ) × (p < s.count) × (is_message p ≡ true) × (release p ≤ t) × (t * us < release p * us + 1000 * pause)
+
+-- the lines before place j are all messages that end behind the first of them and before a frame
+abbrev pub AreAllBefore : Schedule → (ℕ → Bool) → (ℕ → ℕ) → ℕ → ℕ → Type 0
+AreAllBefore s is_message frame j f = (p : ℕ) → p < s.count → is_message p ≡ true → frame_end s (frame 0) < frame_end s p → frame_end s p < frame_end s f
+    → (k : ℕ) × (k < j) × (p ≡ frame k)
+
+-- a bound at place j, by a frame before which all messages are told
+pub record IsBoundByFrame (s : Schedule) (clock : ℕ → ℕ) (is_message : ℕ → Bool) (release : ℕ → ℕ) (frame : ℕ → ℕ) (to j bound : ℕ) : Type 0 where
+  pub of : ℕ
+  pub is : IsBoundFrom s clock is_message release of bound
+  pub all_before : AreAllBefore s is_message frame j of
+  pub until : 1000 * bound ≤ clock to

@@ -1,6 +1,7 @@
 //! Laws of the lines by which the audit command accuses.
-ghost use Rattle.std.specs.Prelude.{◌≡◌, ◌+◌, ◌-◌, ◌*◌, ◌<◌, ◌≤◌, ℕ, Bool, false, List};
-ghost use Rattle.j39_audit.specs.Near.{is_too_near};
+ghost use Rattle.std.specs.Prelude.{◌≡◌, ◌↔◌, ◌+◌, ◌-◌, ◌*◌, ◌<◌, ◌≤◌, ℕ, Bool, true, false, List, Option, Some};
+ghost use Rattle.j39_audit.specs.Near.{IsTooNear, is_too_near};
+ghost use Rattle.j39_audit.specs.Silence.{IsTooFar, is_silent};
 ghost use Rattle.j39_audit.specs.Settings.{AreMoving, Settings};
 ghost use Rattle.j39_audit.specs.declared.window.Window.{Window as AWindow};
 ghost use Rattle.j39_audit.specs.declared.mark.Word.TheVariants.{Address, Cannot, Layout, NoFlow, Priority, Urgent};
@@ -8,17 +9,20 @@ ghost use Rattle.j39_audit.specs.declared.mark.Word.TheVariants.{Nobody, Short, 
 ghost use Rattle.j39_audit_laws.specs.AuditedRuns.{ArePartsKept, IsNotWrittenOf};
 ghost use Rattle.j39_audit_laws.specs.ExactClocks.{ExactClocks};
 ghost use Rattle.j39_audit_laws.specs.FoundLines.{FoundAreListed, LinesAreOfLog};
-ghost use Rattle.j39_audit_laws.specs.LogBounds.{AreOfLog, Lines};
+ghost use Rattle.j39_audit_laws.specs.LogBounds.{AreOfLog, IsMarkedBound, Lines};
 ghost use Rattle.j39_audit_laws.specs.OneAudit.{AuditHasOneText};
 ghost use Rattle.j39_audit_laws.specs.OwnPart.{AlwaysCan, AreItsOwn, ClaimsItsOwn, IsNotNamed, LooksAsPlanned, SentBy};
 ghost use Rattle.j39_audit_laws.specs.OwnPart.{WaitsForPlanned};
 ghost use Rattle.j39_audit_laws.specs.MarkRecords.{AreFew, IsMarkOf, KeepsTime, ShowsIdle, longest_reach};
-ghost use Rattle.j39_audit_laws.specs.StreamRecords.{AreLines, AreMsApart, AreReleasedFirst, HaveJitter};
+ghost use Rattle.j39_audit_laws.specs.StreamRecords.{AreAllBefore, AreLines, AreMsApart, AreReleasedFirst, HaveJitter, KeepsMs};
+ghost use Rattle.j39_audit_laws.specs.Pausing.{ComesInTime, IsBoundAt, NotesTheSilent, NotesTheSilentEnd};
+ghost use Rattle.j39_audit_laws.specs.Stepping.{AreMomentsWithin, AreStepsApart, NotesTheNear};
 ghost use Rattle.j39_findings.specs.Findings.{Clean};
 ghost use Rattle.j39_id.specs.Lines.{Line as ALine};
 ghost use Rattle.j39_network.specs.declared.plan.Plan.{Plan as Plans};
 ghost use Rattle.j39_network.specs.declared.steps.Step.{Step as Steps};
 ghost use Rattle.j39_timing.specs.Errors.{Damaged, IsBusWithErrors};
+ghost use Rattle.j39_timing.specs.Messages.{frame_end};
 ghost use Rattle.j39_timing.specs.TimedFrames.{Schedule};
 ghost use Rattle.j39_world.specs.Run.{Run};
 ghost use Rattle.j39_world.specs.World.{World, all_off};
@@ -88,6 +92,63 @@ pub fn runs_keep_all_parts()
         → ArePartsKept plan w }
 {}
 
+/// A message is told as too near where there is no room for a step between each two of some messages in a row up to it,
+/// and only there: one that is told has such messages before it (`told`), the first one that has is told (`first`), and
+/// so one is told of the first so many messages exactly where there is one that has (`some`).
+pub fn near_is_exact()
+    ensures told { (step : ℕ) (windows : ℕ → AWindow) (j : ℕ) → is_too_near step windows j ≡ true → IsTooNear step windows j }
+    ensures first { (step : ℕ) (windows : ℕ → AWindow) (j : ℕ) → ((k : ℕ) → k < j → is_too_near step windows k ≡ false)
+        → (is_too_near step windows j ≡ true) ↔ IsTooNear step windows j }
+    ensures some { (step : ℕ) (windows : ℕ → AWindow) (n : ℕ)
+        → ((j : ℕ) × (j < n) × (is_too_near step windows j ≡ true)) ↔ ((j : ℕ) × (j < n) × IsTooNear step windows j) }
+{}
+
+/// Of the messages of a stream behind one another those are noted that are told as too near, each by how much and at its
+/// line.
+pub fn the_near_are_noted()
+    ensures { NotesTheNear }
+{}
+
+/// Of moments that are a step apart, in whatever order the messages come on the log, none is told as too near: whatever
+/// the bounds are, if no message from one on had its moment before the lower bound of this one, and none up to it after
+/// its upper bound.
+pub fn who_keeps_a_step_is_not_near()
+    ensures { (step : ℕ) (windows : ℕ → AWindow) (n : ℕ) (moment : ℕ → ℕ) → AreMomentsWithin n windows moment → AreStepsApart n step moment
+        → (j : ℕ) → j < n → is_too_near step windows j ≡ false }
+{}
+
+/// A flow is told as silent where from the upper bound of a message no pause between each two leads up to a later lower
+/// bound, and only there, likewise. What comes last may be no message, but the moment at which another one should have
+/// come.
+pub fn silent_is_exact()
+    ensures told { (pause : ℕ) (windows : ℕ → AWindow) (j : ℕ) (lower : Option ℕ) → is_silent pause windows j lower ≡ true
+        → IsTooFar pause windows j lower }
+    ensures first { (pause : ℕ) (windows : ℕ → AWindow) (j : ℕ)
+        → ((k : ℕ) → k < j → is_silent pause windows k (windows k).lower ≡ false)
+        → (lower : Option ℕ) → (is_silent pause windows j lower ≡ true) ↔ IsTooFar pause windows j lower }
+    ensures some { (pause : ℕ) (windows : ℕ → AWindow) (n : ℕ)
+        → ((j : ℕ) × (j < n) × (is_silent pause windows j (windows j).lower ≡ true))
+        ↔ ((j : ℕ) × (j < n) × IsTooFar pause windows j (windows j).lower) }
+{}
+
+/// Of the messages of a flow with a pause that doesn't end between them those are noted at which it is told as silent
+/// (`messages`), and where the pause ends, by the last frame of its ends, so is the last of them (`end`), each by how
+/// much and at the line of the message before.
+pub fn the_silent_are_noted()
+    ensures messages { NotesTheSilent }
+    ensures end { NotesTheSilentEnd }
+{}
+
+/// Of a flow of which at each moment a message had its own within the last pause, none is told as silent, in whatever
+/// order its messages come on the log: neither at a message nor at a moment at which another one should have come.
+pub fn who_keeps_a_pause_is_not_silent()
+    ensures { (is_message : ℕ → Bool) (pause from to : ℕ) (frame moment : ℕ → ℕ) (windows : ℕ → AWindow)
+        → ComesInTime is_message pause moment from to
+        → (j : ℕ) → ((i : ℕ) → i < j → from ≤ 1000 * (windows i).upper) → (lower : Option ℕ)
+        → ((x : ℕ) → lower ≡ Some x → (1000 * x ≤ to) × IsBoundAt is_message frame moment windows j x)
+        → is_silent pause windows j lower ≡ false }
+{}
+
 /// Where two frames behind one another do not touch, what begins from the second one on was queued no earlier than its
 /// time, less its length, the bit before it, what damage may fill and what the line's time may differ: on each bus that
 /// is never idle while a frame waits, whoever goes first there, and on which no more than a few attempts are damaged in
@@ -101,11 +162,11 @@ pub fn idle_marks_are_right()
     ensures exact { ExactClocks }
 {}
 
-/// Who keeps its own stream's period and jitter is never told as too near by the idle bits that a log shows, however long
-/// its frames wait for others: on each such bus, whatever others do, by exact clocks of the unit and the bus, and one of
-/// the logger that may differ by a thousandth.
+/// Who keeps its own stream's period and jitter is never told as too near by the idle bits that a log shows, and who keeps
+/// its pause and jitter never as silent, however long its frames wait for others: on each such bus, whatever others do,
+/// by exact clocks of the unit and the bus, and one of the logger that may differ by a thousandth.
 pub fn no_stream_is_told_wrongly()
-    ensures { (s : Schedule) (d : Damaged) (log : Lines) (period jitter n : ℕ) (is_message : ℕ → Bool) (release frame : ℕ → ℕ)
+    ensures near { (s : Schedule) (d : Damaged) (log : Lines) (period jitter n : ℕ) (is_message : ℕ → Bool) (release frame : ℕ → ℕ)
         (windows : ℕ → AWindow)
         → log.us ≤ 8 → KeepsTime log.us log.clock
         → IsBusWithErrors s d → ((p : ℕ) → p < s.count → s.bits p ≤ 160) → AreFew d log.few
@@ -113,4 +174,14 @@ pub fn no_stream_is_told_wrongly()
         → AreMsApart s log.us period is_message release
         → AreLines s is_message n frame → AreOfLog s log jitter n frame windows
         → (j : ℕ) → j < n → is_too_near (999 * period) windows j ≡ false }
+    ensures silent { (s : Schedule) (d : Damaged) (log : Lines) (bits_of_ms pause jitter from to n : ℕ) (is_message : ℕ → Bool)
+        (release frame : ℕ → ℕ) (windows : ℕ → AWindow)
+        → log.us ≤ 8 → log.us * bits_of_ms ≡ 1000 → KeepsTime log.us log.clock
+        → IsBusWithErrors s d → ((p : ℕ) → p < s.count → s.bits p ≤ 160) → AreFew d log.few
+        → AreReleasedFirst s is_message release → HaveJitter s log.us jitter is_message release
+        → KeepsMs s log.us pause is_message release from to → from ≤ to
+        → AreLines s is_message n frame → AreOfLog s log jitter n frame windows → from ≤ frame_end s (frame 0)
+        → (j : ℕ) → j ≤ n → (lower : Option ℕ) → (of : ℕ) → AreAllBefore s is_message frame j of
+        → ((x : ℕ) → lower ≡ Some x → IsMarkedBound s log jitter of x × (1000 * x ≤ log.clock to))
+        → is_silent (1001 * pause) windows j lower ≡ false }
 {}

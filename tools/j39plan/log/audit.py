@@ -24,6 +24,7 @@ WORDS = {
     "priority": Word("a message of a flow with another priority", "which priority is set"),
     "urgent": Word("a frame that isn't planned, above `unplanned_priority`", "what it is for"),
     "near": Word("messages of a flow, or requests, sooner than `period` and `jitter` allow, at line M most", "its period and jitter"),
+    "silent": Word("messages of a flow later than `pause` allows, most behind line M", "its pause and jitter"),
 }
 
 # What may be accused, and the measure that may stand behind.

@@ -9,7 +9,7 @@ use Rattle.j39_follow.specs.inside.FollowedSoFar.{interface_of}
 use Rattle.j39_log.specs.LineCounting.{AreWithin}
 use Rattle.j39_stream.specs.declared.verdict.Verdict.{Verdict}
 use Rattle.j39_tp.specs.declared.packet.Packet.{Packet}
-use Rattle.j39_audit.specs.AuditText.{AuditPast, AuditsLines, AuditsShort, accusation_count, is_of_moments, nothing_read, text_by, verdict_by, past_with_frame}
+use Rattle.j39_audit.specs.AuditText.{AuditPast, AuditsLines, AuditsShort, accusation_count, is_of_moments, log_ended, nothing_read, text_by, verdict_by, past_with_frame}
 use Rattle.j39_audit.specs.Counting.{key_of}
 use Rattle.j39_audit.specs.Looking.{IsPacketOf}
 use Rattle.j39_audit.specs.Settings.{Settings}
@@ -66,6 +66,13 @@ pub record HasAudited (s : Settings) (log : AuditLog) (ls : List Line) : Type 0 
   pub number_is : past.number ≡ length ls
   pub settings_are : settings_of log.basis ≡ s
 
+-- and there are no more
+pub record HasAuditedWhole (s : Settings) (log : AuditLog) (ls : List Line) : Type 0 where
+  pub past : AuditPast
+  pub read : AuditsLines s nothing_read ls past
+  pub recalls : RecallsAudit log (log_ended s past)
+  pub settings_are : settings_of log.basis ≡ s
+
 -- no more lines were counted than this, and no moment that is kept lies far ahead
 pub record IsWithinLines (log : AuditLog) (most : ℕ) : Type 0 where
   pub number : log.number ≤ most
@@ -77,7 +84,7 @@ pub record HasReadLog (s : Settings) (log : AuditLog) (old new : Option (List �
   pub input : List ℕ
   pub consumed : Consumes old new input
   pub end : IsAtEnd new
-  pub audited : HasAudited s log (lines input)
+  pub ended : HasAuditedWhole s log (lines input)
 
 -- what is written of the log that was read, with the verdict
 pub record IsAuditReport (log : AuditLog) (text : List ℕ) (verdict : Verdict) : Type 0 where

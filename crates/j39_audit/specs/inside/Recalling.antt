@@ -15,6 +15,10 @@ use Rattle.j39_audit.specs.declared.known.Known.{Known}
 use Rattle.j39_audit.specs.declared.mark.Mark.{Mark}
 use Rattle.j39_audit.specs.declared.messages.UnitMessage.{UnitMessage}
 use Rattle.j39_audit.specs.declared.moments.Moments.{Moments as KeptMoments}
+use Rattle.j39_audit.specs.Pauses.{unclear_behind}
+use Rattle.j39_audit.specs.declared.pauses.LastFrame.{LastFrame}
+use Rattle.j39_audit.specs.declared.pauses.Newest.{Newest}
+use Rattle.j39_audit.specs.declared.pauses.Pauses.{Pauses}
 use Rattle.j39_audit.specs.declared.senders.SureSender.{SureSender}
 use Rattle.j39_audit.specs.declared.senders.SureSender.TheVariants.{Unit as OfUnit, Nobody, Unknown}
 use Rattle.j39_audit.specs.declared.tally.MarkTally.{MarkTally}
@@ -37,6 +41,7 @@ AreCounted tally noted = (key : Key) → tallied_at tally key ≡ told_at noted 
 pub record Notes (old new : MarkTally) (more : List Noted) : Type 0 where
   pub counts : (noted : List Noted) → AreCounted old noted → AreCounted new (noted ++ more)
   pub sights : new.sighting ≡ sighted_behind old.sighting more
+  pub unclear : new.unclear.items ≡ unclear_behind old.unclear.items more
 
 -- ---- moments
 
@@ -48,17 +53,37 @@ far_ahead = 2 ^ 62
 abbrev pub earliest_in : Earliest → Key → Option ℕ
 earliest_in kept key = unwrap_or (get is_same_key kept.moments key) None
 
+abbrev pub newest_in : Pauses → ℕ → Option Newest
+newest_in pauses n = slice_index_or pauses.newest.items n None
+
+abbrev pub last_in_pauses : Pauses → ℕ → Option LastFrame
+last_in_pauses pauses u = slice_index_or pauses.last.items u None
+
+-- where none is open, none is kept
+pub record RecallsPauses (pauses : Pauses) (m : Moments) : Type 0 where
+  pub newest : (n : ℕ) → newest_in pauses n ≡ m.newest n
+  pub last : (u : ℕ) → last_in_pauses pauses u ≡ m.last u
+  pub closed : pauses.open ≡ false → ((n : ℕ) → m.newest n ≡ None) × ((u : ℕ) → m.last u ≡ None)
+
+pub record ArePausesNear (pauses : Pauses) : Type 0 where
+  pub newest : (n : ℕ) → IfSome (newest_in pauses n) (λ x. x.moment < far_ahead)
+  pub last : (u : ℕ) → IfSome (last_in_pauses pauses u) (λ x. IfSome x.idle (λ q. q < far_ahead))
+  pub newest_size : length pauses.newest.items ≡ 512
+  pub last_size : length pauses.last.items ≡ 128
+
 -- what the times tell is kept
 pub record RecallsMoments (kept : KeptMoments) (m : Moments) : Type 0 where
   pub before : kept.before ≡ m.before
   pub idle : kept.idle ≡ m.idle
   pub earliest : (key : Key) → earliest_in kept.earliest key ≡ m.earliest key
   pub counted : AreCounted kept.untimely m.untimely
+  pub pauses : RecallsPauses kept.pauses m
 
 -- and none of it lies far ahead
 pub record AreNear (kept : KeptMoments) : Type 0 where
   pub earliest : (key : Key) → IfSome (earliest_in kept.earliest key) (λ e. e < far_ahead)
   pub idle : IfSome kept.idle (λ q. q < far_ahead)
+  pub pauses : ArePausesNear kept.pauses
 
 -- ---- claims
 

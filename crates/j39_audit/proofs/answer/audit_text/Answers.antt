@@ -18,6 +18,6 @@ returns g c =
     read_and_put read.input
     (λ text verdict is.
     let audit = is_audit_of c.args.plan.now c.args.part c.args.stamps s c.read_log.new.log read.input text verdict begun.plan begun.part begun.stamps
-    begun.moving read.audited is in
+    begun.moving read.ended is in
     (audit, (verdict, audit)))
     c.put_report.result read.consumed read.end c.in_ok-read_log.ensures.limits (c.in_ok-read_log.ensures.calm (λ e. cc e)) c.put_report.ensures

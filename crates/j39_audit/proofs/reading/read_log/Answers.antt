@@ -1,6 +1,6 @@
-use Rattle.std.proofs.Common.{rules, ◌≡◌, ◌<◌, ◌≤◌, ◌++◌, [], ℕ, List, length, take, refl, sym, ap, subst, ◌∙◌, arith}
+use Rattle.std.proofs.Common.{rules, ◌≡◌, ◌<◌, ◌≤◌, ◌+◌, ◌++◌, [], ℕ, List, length, take, refl, sym, ap, subst, ◌∙◌, arith}
 use Rattle.std.proofs.lemmas.List.{length-append}
-use Rattle.j39_id.specs.Lines.{Line, Pending, at_start, behind_all, told}
+use Rattle.j39_id.specs.Lines.{Line, Pending, at_start, behind_all, lines, told}
 use Rattle.j39_id.proofs.CutLines.{behind_all-append, told-append}
 use Rattle.j39_stream.specs.Intakes.{Counts}
 use Rattle.j39_stream.specs.Streams.{log_limits}
@@ -32,6 +32,11 @@ loop-count-init g c =
       calm = refl;
     }
 
+pub end-requires : goal.end-requires
+end-requires g c =
+    let before = c.loop-count.invariant in
+    record { near = (c.in_ok-read.ensures.count (length before.seen) (length before.seen + 1) before.count (omega arith)).near }
+
 pub returns-in_err-count-clause-long : goal.returns-in_err-count-clause-long
 returns-in_err-count-clause-long g c = λ e.
     let before = c.loop-count.invariant in
@@ -47,8 +52,9 @@ returns-then-count-eq0-clause-read g c = λ s audited.
       input = before.seen;
       consumed = last.0;
       end = c.in_ok-count.ensures.end c.if-count-eq0.true;
-      audited = subst (λ (ls : List Line). HasAudited s c.read.new.self ls) all
-          (c.in_ok-read.ensures.lines s (told at_start before.seen) (before.audited s audited));
+      ended = c.in_ok-end.ensures s (lines before.seen)
+          (subst (λ (ls : List Line). HasAudited s c.read.new.self ls) all
+          (c.in_ok-read.ensures.lines s (told at_start before.seen) (before.audited s audited)));
     }
 
 pub returns-then-count-eq0-clause-limits : goal.returns-then-count-eq0-clause-limits

@@ -6,7 +6,7 @@ use Rattle.j39_id.specs.declared.cut.Cut.{Cut}
 use Rattle.j39_audit.specs.AuditText.{AuditPast, AuditsLines, AuditsShort, bad_line, nothing_read, with_next_number}
 use Rattle.j39_audit.specs.Settings.{Settings}
 use Rattle.j39_audit.specs.declared.basis.Basis.{Basis}
-use Rattle.j39_audit.specs.inside.Auditing.{HasAudited}
+use Rattle.j39_audit.specs.inside.Auditing.{HasAudited, RecallsAudit}
 use Rattle.j39_audit.specs.inside.Recalling.{settings_of}
 use Rattle.j39_audit.proofs.Hearing.{line_more}
 use Rattle.j39_audit.proofs.audit_log.AuditLog.read.Goals as goal
@@ -50,32 +50,38 @@ returns-in-Line-clause-lines c =
     c.take_line.ensures.line
 
 pub returns-in-Long-clause-lines : goal.returns-in-Long-clause-lines
-returns-in-Long-clause-lines c = λ s ls audited.
+returns-in-Long-clause-lines c =
+    let new = c.take_bad.new.self in
+    IfOk-weaker c.take_bad.result _ _
+    (λ _ took. λ s ls audited.
     let past : AuditPast = audited.past in
     let old = audited.recalls in
     let before = audited.number_is in
     let more = length_push ls Long in
-    let end : AuditPast = bad_line (with_next_number past) in
-    let cut : tells c.args.cut c.args.line.now ≡ Long ∷ [] = ap (λ (k : Cut). tells k c.args.line.now) c.in-Long.is in
-    let count : end.number ≡ length (ls ++ Long ∷ []) = omega (arith, before, more) in
-    record {
-      past = end;
-      read = subst (λ (k : List Line). AuditsLines s nothing_read (ls ++ k) end) (sym cut)
-          (line_more s ls Long nothing_read past end audited.read refl);
-      recalls = record {
-        follows = record {
-          knows = old.follows.knows;
-          counted = old.follows.counted;
-          newest_is = old.follows.newest_is;
-          moments = c.pass_over.ensures.moments past.moments old.follows.moments;
-        };
-        number_is = ap (λ (n : ℕ). n + 1) old.number_is;
-        interface_is = old.interface_is;
-        frames_are = old.frames_are;
-        skipped_are = old.skipped_are;
-        bad_are = ap (λ (n : ℕ). n + 1) old.bad_are;
-        elsewhere_are = old.elsewhere_are;
+    let next = with_next_number past in
+    let end : AuditPast = bad_line s next in
+    let same : settings_of new.basis ≡ s = ap (λ (b : Basis). settings_of b) c.take_bad.ensures.basis ∙ audited.settings_are in
+    let one = took next (record {
+      follows = record {
+        knows = old.follows.knows;
+        counted = old.follows.counted;
+        newest_is = old.follows.newest_is;
+        moments = old.follows.moments;
       };
-      number_is = count ∙ ap (λ (k : List Line). length (ls ++ k)) (sym cut);
-      settings_are = audited.settings_are;
-    }
+      number_is = ap (λ (n : ℕ). n + 1) old.number_is;
+      interface_is = old.interface_is;
+      frames_are = old.frames_are;
+      skipped_are = old.skipped_are;
+      bad_are = old.bad_are;
+      elsewhere_are = old.elsewhere_are;
+    }) in
+    let count : end.number ≡ length (ls ++ Long ∷ []) = omega (arith, before, more) in
+    let done : HasAudited s new (ls ++ Long ∷ []) = record {
+      past = end;
+      read = line_more s ls Long nothing_read past end audited.read refl;
+      recalls = subst (λ (t : Settings). RecallsAudit new (bad_line t next)) same one;
+      number_is = count;
+      settings_are = same;
+    } in
+    subst (λ (k : List Line). HasAudited s new (ls ++ k)) (sym (ap (λ (k : Cut). tells k c.args.line.now) c.in-Long.is)) done)
+    c.take_bad.ensures.fault

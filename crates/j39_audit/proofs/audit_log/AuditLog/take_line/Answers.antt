@@ -98,9 +98,10 @@ returns-in-Err-clause-line c =
     let read = c.read_part-part in
     let named = c.interface-named in
     let error = c.in-Err.error in
+    let s = settings_of c.take_fault.new.self.basis in
     IfOk-weaker c.take_fault.result _ _
     (λ _ took. λ past recalls. record {
-      next = passed_by error past;
+      next = passed_by s error past;
       reads = (
         read.result.now,
         option_copied named.result,
@@ -119,6 +120,6 @@ returns-in-Err-clause-line c =
         ),
       );
       recalls = took past recalls;
-      number_is = as_many_lines error past;
+      number_is = as_many_lines s error past;
     })
     c.take_fault.ensures.fault

@@ -6,14 +6,17 @@ use Rattle.j39_tp.specs.Packets.{InRange}
 use Rattle.j39_tp.specs.declared.packet.Packet.{Packet}
 use Rattle.j39_audit.specs.AuditText.{claims_before, past_with_frame}
 use Rattle.j39_audit.specs.Breaks.{breaks, newest_behind}
-use Rattle.j39_audit.specs.Claiming.{broken_off}
+use Rattle.j39_audit.specs.Claiming.{Knowledge, broken_off, knowledge}
 use Rattle.j39_audit.specs.Counting.{Noted}
 use Rattle.j39_audit.specs.Looking.{IsPacketOf, break_noted, frame_noted}
 use Rattle.j39_audit.specs.Moments.{begins_anew, moments_behind}
 use Rattle.j39_audit.specs.MessageStreams.{sighted_behind}
+use Rattle.j39_audit.specs.Pauses.{ending_of, unclear_behind}
+use Rattle.j39_audit.specs.declared.pauses.Ending.{Ending}
 use Rattle.j39_audit.specs.declared.tally.Sighting.{Sighting}
 use Rattle.j39_audit.specs.inside.Recalling.{AreCounted, KnowsClaims, Notes, RecallsMoments, settings_of}
 use Rattle.j39_audit.proofs.Counted.{counted_on}
+use Rattle.j39_audit.proofs.Knowing.{known_knowledge}
 use Rattle.j39_audit.proofs.Noting.{notes_both}
 use Rattle.j39_audit.proofs.audit_log.AuditLog.take_timed.Goals as goal
 
@@ -42,7 +45,11 @@ returns-clause-frame c = λ past named accords number.
     let anew : c.begins_anew-anew.result ≡ begins_anew s.stamps past.newest time =
     c.begins_anew-anew.ensures ∙ ap (λ (n : Option ℕ). begins_anew s.stamps n time) accords.newest_is in
     let sights = both.sights ∙ ap (λ (w : Sighting). sighted_behind w (lines number_now)) c.look_at_next.ensures.nothing in
-    let looked = c.in_ok-look.ensures.moments past.moments (lines number_now) accords.moments sights in
+    let unclear = c.as_slice.ensures.value ∙ both.unclear ∙ ap (λ (ns : List ℕ). unclear_behind ns (lines number_now)) c.look_at_next.ensures.clear in
+    let looked = c.in_ok-look.ensures.moments past.moments (lines number_now) accords.moments sights unclear in
+    let ends : Ending = ending_of s (knowledge s before) f in
+    let ending : c.ending_of-ending.result ≡ ends = c.ending_of-ending.ensures
+    ∙ ap (λ (k : Knowledge). ending_of s k f) (known_knowledge s c.take_break.new.known before known) in
     let kept = c.look.new.self in
     record {
       packet = packet;
@@ -53,10 +60,12 @@ returns-clause-frame c = λ past named accords number.
             number (both.counts past.noted (counted_on c.args.self.now.tally clean past.noted c.look_at_next.ensures.found accords.counted));
         newest_is = c.newest_behind-self.ensures ∙ ap (λ (n : Option ℕ). newest_behind s.stamps n time) accords.newest_is;
         moments = subst (λ (n : ℕ). RecallsMoments kept
-            (moments_behind s (breaks s.stamps past.newest time) (begins_anew s.stamps past.newest time) time f n (lines n) past.moments)) number
+            (moments_behind s (breaks s.stamps past.newest time) (begins_anew s.stamps past.newest time) time f n (lines n) ends past.moments)) number
             (subst (λ (a : Bool). RecallsMoments kept
-            (moments_behind s (breaks s.stamps past.newest time) a time f number_now (lines number_now) past.moments)) anew
+            (moments_behind s (breaks s.stamps past.newest time) a time f number_now (lines number_now) ends past.moments)) anew
             (subst (λ (b : Bool). RecallsMoments kept
-            (moments_behind s b c.begins_anew-anew.result time f number_now (lines number_now) past.moments)) broken looked));
+            (moments_behind s b c.begins_anew-anew.result time f number_now (lines number_now) ends past.moments)) broken
+            (subst (λ (e : Ending). RecallsMoments kept
+            (moments_behind s c.breaks-broken.result c.begins_anew-anew.result time f number_now (lines number_now) e past.moments)) ending looked)));
       };
     }

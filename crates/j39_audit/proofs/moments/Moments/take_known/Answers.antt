@@ -1,5 +1,5 @@
-use Rattle.std.proofs.Common.{ℕ, Option, subst}
-use Rattle.j39_audit.specs.Moments.{Moments, with_moment, with_stream}
+use Rattle.std.proofs.Common.{ℕ, Option, length, subst}
+use Rattle.j39_audit.specs.Moments.{Moments, listed_pauses_ended, with_counted, with_ending, with_moment, with_stream}
 use Rattle.j39_audit.specs.MessageStreams.{sighted_stream}
 use Rattle.j39_audit.specs.declared.streams.MessageStream.{MessageStream}
 use Rattle.j39_audit.specs.inside.Recalling.{RecallsMoments, settings_of}
@@ -9,11 +9,13 @@ pub returns-clause-moments : goal.returns-clause-moments
 returns-clause-moments c = λ m recalls.
     let s = settings_of c.args.basis.now in
     let t = c.args.timing in
-    let w = c.args.sighting in
-    let new = c.take_stream.new.self in
-    let next : ℕ → Moments = λ n. with_moment s t c.args.broken n c.args.time m in
-    subst (λ (n : ℕ). RecallsMoments new (with_stream s c.args.time c.args.line (sighted_stream s t c.args.frame.now w.flow w.request) (next n)))
-    c.len.ensures.value
-    (subst (λ (o : Option MessageStream). RecallsMoments new (with_stream s c.args.time c.args.line o (next c.len.result)))
-    c.sighted_stream-stream.ensures.value
-    (c.in_ok-take_stream.ensures.moments (next c.len.result) (c.take_time.ensures.moments m recalls)))
+    let seen = c.args.seen in
+    let w = seen.sighting in
+    let new = c.take_counted.new.self in
+    let ended : ℕ → Moments = λ n. listed_pauses_ended s t seen.unclear.now (length seen.unclear.now)
+    (with_ending s t seen.ending (with_moment s t c.args.broken n c.args.time m)) in
+    let next : Option MessageStream → ℕ → Moments = λ o n. with_counted s w.unit c.args.line (with_stream s c.args.time c.args.line o (ended n)) in
+    subst (λ (n : ℕ). RecallsMoments new (next (sighted_stream s t c.args.frame.now w.flow w.request) n)) c.len.ensures.value
+    (subst (λ (o : Option MessageStream). RecallsMoments new (next o c.len.result)) c.sighted_stream-stream.ensures.value
+    (c.take_counted.ensures.moments _ (c.in_ok-take_stream.ensures.moments (ended c.len.result)
+    (c.in_ok-end_pauses.ensures.moments _ (c.take_time.ensures.moments m recalls)))))

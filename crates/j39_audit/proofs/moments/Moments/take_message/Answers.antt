@@ -18,6 +18,7 @@ returns-clause-near c =
           (one_of (λ k. k < far_ahead) (is_same_key (key_of stream.mark) key) c.kept_behind.result (earliest_in c.args.self.now.earliest key)
           c.kept_behind.ensures.near (c.requires.near.earliest key));
       idle = c.requires.near.idle;
+      pauses = c.requires.near.pauses;
     }
 
 pub returns-clause-moments : goal.returns-clause-moments
@@ -41,4 +42,5 @@ returns-clause-moments c = λ m recalls.
           ∙ ap (λ (f : Key → Option ℕ). with_earliest at (earliest_next stream.step (m.earliest at) window) f key) old;
       counted = subst (λ (b : Option ℕ). AreCounted c.note_near.new.untimely (m.untimely ++ near_noted stream c.args.line b)) by
           (c.in_ok-note_near.ensures.counts m.untimely recalls.counted);
+      pauses = record { newest = recalls.pauses.newest; last = recalls.pauses.last; closed = recalls.pauses.closed };
     }

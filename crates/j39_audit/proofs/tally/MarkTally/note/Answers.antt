@@ -15,4 +15,5 @@ returns-in-Ok c = record {
       settled _ _ _ _ noted n key (c.in-Ok.ensures.updates.0 key)
       (ap (λ (w : ℕ). (nat_eq w key.0 && nat_eq m.subject key.1) && nat_eq m.group key.2) c.number.ensures) new (counted key);
   sights = c.sighted-self.ensures;
+  unclear = c.in_ok-note_unclear.ensures;
 }

@@ -3,9 +3,9 @@ use Rattle.std.proofs.Common.{◌≡◌, ◌↔◌, ℕ, zero, suc, ◌+◌, ◌
 use Rattle.std.proofs.lemmas.Bool.{cases_Bool, cases_eq, cases_lt, ltb-true, lt-ltb, true≢false}
 use Rattle.j39_audit.specs.declared.window.Window.{Window}
 use Rattle.j39_audit.specs.Near.{IsTooNear, candidate, earliest, is_later_than, is_too_near, step_on}
-use Rattle.j39_audit.specs.Stepping.{AreStepsApart, AreMomentsWithin}
-use Rattle.j39_audit.proofs.Steps.{first_or_none, none_yet, one_more}
-use Rattle.j39_audit.proofs.Spread.{spread}
+use Rattle.j39_audit_laws.specs.Stepping.{AreStepsApart, AreMomentsWithin}
+use Rattle.j39_audit_laws.proofs.Steps.{first_or_none, none_yet, one_more}
+use Rattle.j39_audit_laws.proofs.Spread.{spread}
 
 -- ---- one step
 

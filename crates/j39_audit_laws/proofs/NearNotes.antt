@@ -7,7 +7,7 @@ use Rattle.j39_audit.specs.Below.{each_below}
 use Rattle.j39_audit.specs.Counting.{Key, Noted, is_same_key, key_of}
 use Rattle.j39_audit.specs.Moments.{Moments, near_noted, with_earliest}
 use Rattle.j39_audit.specs.Near.{candidate, earliest, earliest_at, earliest_next, excess, is_later_than}
-use Rattle.j39_audit.specs.Stepping.{NotesTheNear, near_at, with_messages}
+use Rattle.j39_audit_laws.specs.Stepping.{NotesTheNear, near_at, with_messages}
 use Rattle.j39_audit.specs.declared.streams.MessageStream.{MessageStream}
 use Rattle.j39_audit.specs.declared.window.Window.{Window}
 

@@ -1,0 +1,33 @@
+use Rattle.std.proofs.Common.{sym, subst}
+use Rattle.std.proofs.lemmas.Result.{IfOk-weaker}
+use Rattle.j39_audit.specs.Moments.{all_pauses_ended}
+use Rattle.j39_audit.specs.Settings.{Settings}
+use Rattle.j39_audit.specs.inside.Recalling.{RecallsMoments}
+use Rattle.j39_audit.proofs.audit_log.AuditLog.end.Goals as goal
+
+pub returns : goal.returns
+returns c =
+    IfOk-weaker c.end_all.result _ _
+    (λ _ ended. λ s ls audited.
+    let old = audited.recalls in
+    record {
+      past = audited.past;
+      read = audited.read;
+      recalls = record {
+        follows = record {
+          knows = old.follows.knows;
+          counted = old.follows.counted;
+          newest_is = old.follows.newest_is;
+          moments = subst (λ (t : Settings). RecallsMoments c.end_all.new.self (all_pauses_ended t audited.past.moments)) audited.settings_are
+              (ended audited.past.moments old.follows.moments);
+        };
+        number_is = old.number_is;
+        interface_is = old.interface_is;
+        frames_are = old.frames_are;
+        skipped_are = old.skipped_are;
+        bad_are = old.bad_are;
+        elsewhere_are = old.elsewhere_are;
+      };
+      settings_are = audited.settings_are;
+    })
+    c.end_all.ensures.moments

@@ -1,5 +1,0 @@
-use Rattle.j39_audit.proofs.Near.{first_near, some_near, told_near}
-use Rattle.j39_audit.proofs.laws.near_is_exact.Goals as goal
-
-pub returns : goal.returns
-returns c = record { told = told_near; first = first_near; some = some_near }

@@ -1,5 +1,0 @@
-use Rattle.j39_audit.proofs.NearNotes.{notes_the_near}
-use Rattle.j39_audit.proofs.laws.the_near_are_noted.Goals as goal
-
-pub returns : goal.returns
-returns c = notes_the_near

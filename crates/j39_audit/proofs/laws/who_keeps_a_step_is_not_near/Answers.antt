@@ -1,5 +1,0 @@
-use Rattle.j39_audit.proofs.Near.{kept_steps_are_not_near}
-use Rattle.j39_audit.proofs.laws.who_keeps_a_step_is_not_near.Goals as goal
-
-pub returns : goal.returns
-returns c = kept_steps_are_not_near

@@ -1,0 +1,208 @@
+//! How a line that accuses is written.
+ghost use Rattle.std.specs.Prelude.{◌≡◌, ◌++◌, [], OnOk};
+ghost use Rattle.std.specs.List.{slice_get};
+ghost use Rattle.std.specs.Option.{option_map_or};
+ghost use Rattle.j39_network.specs.declared.plan.flow_plan.FlowPlan.{FlowPlan as AFlow};
+ghost use Rattle.j39_network.specs.declared.plan.request_plan.RequestPlan.{RequestPlan as ARequest};
+ghost use Rattle.j39_audit.specs.AuditText.{accusing_line, measure_text, named_flow_text, request_text, sending_text};
+ghost use Rattle.j39_audit.specs.AuditText.{stranger_text, subject_of, times_text, unit_and_group_text, unit_at_text};
+ghost use Rattle.j39_audit.specs.AuditText.{unit_text, word_text, worst_text};
+
+use crate::mark::{Mark, Word};
+use crate::tally::Told;
+use j39_follow::{write_name, write_to};
+use j39_network::{FlowPlan, Plan, RequestPlan, To};
+use j39_text::{TextBuffer, group_label, unit_label};
+use std::alloc::AllocError;
+
+fn word_text(word: Word) -> &'static str
+    ensures { result.now ≡ word_text word }
+{
+    match word {
+        Word::Short => "short",
+        Word::Stranger => "stranger",
+        Word::Nobody => "nobody",
+        Word::Address => "address",
+        Word::Cannot => "cannot",
+        Word::Layout => "layout",
+        Word::NoFlow => "no_flow",
+        Word::Priority => "priority",
+        Word::NearFlow | Word::NearRequest => "near",
+        Word::SilentFlow => "silent",
+        _ => "urgent",
+    }
+}
+
+#[tactic(auto, unfolding(crate::specs::AuditText::unit_text))]
+fn write_unit(text: &mut TextBuffer, plan: &Plan, unit: usize) -> Result<(), AllocError>
+    ensures { OnOk result (text.new ≡ text.old ++ unit_text plan.now unit) }
+{
+    text.word(" unit ")?;
+    text.word(unit_label(plan, unit))
+}
+
+#[tactic(auto, unfolding(crate::specs::AuditText::unit_and_group_text))]
+fn write_unit_and_group(
+    text: &mut TextBuffer,
+    plan: &Plan,
+    unit: usize,
+    group: usize,
+) -> Result<(), AllocError>
+    ensures { OnOk result (text.new ≡ text.old ++ unit_and_group_text plan.now unit group) }
+{
+    write_unit(text, plan, unit)?;
+    text.word(" group ")?;
+    text.word(group_label(plan, group))
+}
+
+#[tactic(auto, unfolding(crate::specs::AuditText::stranger_text))]
+fn write_stranger(text: &mut TextBuffer, address: usize, name: u64) -> Result<(), AllocError>
+    ensures { OnOk result (text.new ≡ text.old ++ stranger_text address name) }
+{
+    text.field(" address ", address)?;
+    text.word(" ")?;
+    write_name(text, name)
+}
+
+#[tactic(auto, unfolding(crate::specs::AuditText::unit_at_text))]
+fn write_unit_at(
+    text: &mut TextBuffer,
+    plan: &Plan,
+    unit: usize,
+    address: u64,
+) -> Result<(), AllocError>
+    ensures { OnOk result (text.new ≡ text.old ++ unit_at_text plan.now unit address) }
+{
+    write_unit(text, plan, unit)?;
+    text.field(" at ", address)
+}
+
+/// Writes which group is sent, by whom and to whom.
+#[tactic(auto, unfolding(crate::specs::AuditText::sending_text))]
+pub(crate) fn write_sending(
+    text: &mut TextBuffer,
+    plan: &Plan,
+    group: usize,
+    sender: usize,
+    to: To,
+) -> Result<(), AllocError>
+    ensures { OnOk result (text.new ≡ text.old ++ sending_text plan.now group sender to) }
+{
+    text.word(" ")?;
+    text.word(group_label(plan, group))?;
+    text.word(" ")?;
+    text.word(unit_label(plan, sender))?;
+    text.word(" ")?;
+    write_to(text, plan, to)
+}
+
+#[tactic(auto, unfolding(crate::specs::AuditText::named_flow_text))]
+fn write_flow_named(
+    text: &mut TextBuffer,
+    plan: &Plan,
+    place: usize,
+    flow: &FlowPlan,
+) -> Result<(), AllocError>
+    ensures { OnOk result (text.new ≡ text.old ++ named_flow_text plan.now place flow.now) }
+{
+    text.place(" flow ", place)?;
+    write_sending(text, plan, flow.group, flow.sender, flow.to)
+}
+
+fn write_flow_at(text: &mut TextBuffer, plan: &Plan, place: usize) -> Result<(), AllocError>
+    ensures { OnOk result (text.new ≡ text.old ++ option_map_or (λ (flow : AFlow). named_flow_text plan.now place flow) (slice_get plan.now.flows.items place) []) }
+{
+    match plan.flows.get(place) {
+        Some(flow) => write_flow_named(text, plan, place, flow),
+        None => Ok(()),
+    }
+}
+
+#[tactic(auto, unfolding(crate::specs::AuditText::request_text))]
+fn write_request_named(
+    text: &mut TextBuffer,
+    plan: &Plan,
+    place: usize,
+    request: &RequestPlan,
+) -> Result<(), AllocError>
+    ensures { OnOk result (text.new ≡ text.old ++ request_text plan.now place request.now) }
+{
+    text.place(" request ", place)?;
+    write_sending(text, plan, request.group, request.sender, request.to)
+}
+
+fn write_request_at(text: &mut TextBuffer, plan: &Plan, place: usize) -> Result<(), AllocError>
+    ensures { OnOk result (text.new ≡ text.old ++ option_map_or (λ (r : ARequest). request_text plan.now place r) (slice_get plan.now.requests.items place) []) }
+{
+    match plan.requests.get(place) {
+        Some(request) => write_request_named(text, plan, place, request),
+        None => Ok(()),
+    }
+}
+
+// Writes whom or what a word speaks of, and what belongs to the first line.
+fn write_subject(
+    text: &mut TextBuffer,
+    plan: &Plan,
+    mark: Mark,
+    detail: u64,
+) -> Result<(), AllocError>
+    ensures { OnOk result (text.new ≡ text.old ++ subject_of plan.now mark.word mark.subject mark.group detail) }
+{
+    match mark.word {
+        Word::Short => Ok(()),
+        Word::Stranger => write_stranger(text, mark.subject, detail),
+        Word::Nobody => text.field(" address ", mark.subject),
+        Word::Address => write_unit_at(text, plan, mark.subject, detail),
+        Word::Layout | Word::NoFlow | Word::Priority => {
+            write_unit_and_group(text, plan, mark.subject, mark.group)
+        }
+        Word::NearFlow | Word::SilentFlow => write_flow_at(text, plan, mark.subject),
+        Word::NearRequest => write_request_at(text, plan, mark.subject),
+        _ => write_unit(text, plan, mark.subject),
+    }
+}
+
+#[tactic(auto, unfolding(crate::specs::AuditText::worst_text))]
+fn write_worst(text: &mut TextBuffer, told: Told) -> Result<(), AllocError>
+    ensures { OnOk result (text.new ≡ text.old ++ worst_text told) }
+{
+    text.field(" worst ", told.worst_at)?;
+    text.field(" by ", told.worst)?;
+    text.word(" us")
+}
+
+// Writes by how much at most, where a word has a measure.
+fn write_measure(text: &mut TextBuffer, word: Word, told: Told) -> Result<(), AllocError>
+    ensures { OnOk result (text.new ≡ text.old ++ measure_text word told) }
+{
+    match word {
+        Word::NearFlow | Word::NearRequest | Word::SilentFlow => write_worst(text, told),
+        _ => Ok(()),
+    }
+}
+
+#[tactic(auto, unfolding(crate::specs::AuditText::times_text))]
+fn write_times(text: &mut TextBuffer, word: Word, told: Told) -> Result<(), AllocError>
+    ensures { OnOk result (text.new ≡ text.old ++ times_text word told) }
+{
+    text.field(" times ", told.times)?;
+    text.field(" first ", told.first)?;
+    write_measure(text, word, told)?;
+    text.end_line()
+}
+
+/// Writes the line of a mark of which this was found.
+#[tactic(auto, unfolding(crate::specs::AuditText::accusing_line))]
+pub(crate) fn write_accusing(
+    text: &mut TextBuffer,
+    plan: &Plan,
+    mark: Mark,
+    told: Told,
+) -> Result<(), AllocError>
+    ensures { OnOk result (text.new ≡ text.old ++ accusing_line plan.now mark told) }
+{
+    text.word(word_text(mark.word))?;
+    write_subject(text, plan, mark, told.detail)?;
+    write_times(text, mark.word, told)
+}
