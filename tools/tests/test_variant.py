@@ -172,8 +172,8 @@ class Found(unittest.TestCase):
             ("line_older_without_an_option", ["NO_RETARDER"], "with RETARDER: unit R at line 15"),
         ):
             plan = os.path.join(CHECKS, f"{name}.toml")
-            for option in ([], ["--github"]):
-                status, answer, _ = run("where.py", *option, plan)
+            for words in (["where.py", plan], ["where.py", "--github", plan]):
+                status, answer, _ = run(*words)
                 self.assertEqual(status, 1)
                 self.assertIn(f" in {' '.join(labels)}  (", answer)
             first = json.loads(run("where.py", "--json", plan)[1])["findings"][0]
