@@ -106,15 +106,6 @@ class Clock:
         self._before = last
         return at
 
-    def pace(self) -> tuple[str, int, int]:
-        """What times begin with up to their microseconds, what that is, and the last one, where the clock wasn't set just now; else what none begins with."""
-        is_even = self.has_times and self._most == DAY and not self.is_set and not self.is_back
-        return self._head if is_even else "?", self._base, self.last
-
-    def passed(self, before: int, at: int) -> None:
-        """Times went on, by less than a day each, up to this one, before which was that one."""
-        self._before, self.last = before, at
-
     def goes_on(self, time: str) -> bool:
         """Whether a time surely goes on from the one before, so that none but who asks what it is has to `see` it: one in microseconds
         that is spelled as long, no smaller, and with the same digits up to those of ten thousand seconds."""

@@ -21,7 +21,7 @@ from j39plan.log.checks.queued import Begun, Queued
 from j39plan.log.checks.requests import Asked
 from j39plan.log.checks.transfers import WHOLE, Announcement, Cause, Pair, Route, Transfers, announcement_in, is_managing, pair_of, pgn_of
 from j39plan.log.checks.unplanned import Bounds, Unplanned
-from j39plan.log.clock import DAY, MILLISECOND, SECOND, Clock
+from j39plan.log.clock import MILLISECOND, SECOND, Clock
 from j39plan.log.reports import Acknowledgement, Claim, Frame, Message, Report, Request, Who
 from j39plan.log.serial_numbers import Renumbered
 from j39plan.plan.tables import Group, Tables
@@ -43,20 +43,6 @@ LONGEST = 51 * SECOND
 
 # So many bytes has a NAME, and a request.
 NAME_BYTES, REQUEST_BYTES = 8, 3
-
-
-class Pace(NamedTuple):
-    """How times go on where nothing is waited for: what they begin with up to their microseconds, and what that is in nanoseconds; the last one;
-    and how much later the next one may be."""
-
-    head: str
-    base: int
-    last: int
-    gap: float
-
-
-# None goes on so.
-NO_PACE = Pace("?", 0, 0, 0)
 
 
 class Settings(NamedTuple):
@@ -89,7 +75,6 @@ class Comparison:
         self.transfers, self.unplanned = Transfers(tables.timing, found), Unplanned(tables, bounds.flows, found)
         labels = {pgn: groups[0].label for pgn, groups in self.groups.items() if len(groups) == 1}
         self.others = OtherRequests(labels, found, self.hands.is_on)
-        self._waiting = self.transfers.waits, self.transfers.refused, self.claims.open, self.commanded.open  # what is told when its time has come
         self._begun: dict[Pair, Begun] = {}
         self.of_premises = Beside()
         self.is_unjudged = False  # whether `audit` doesn't judge yet, or nobody, since the plan has findings: what `follow` says is told
@@ -377,25 +362,8 @@ class Comparison:
             self.hands.stood_still(line, at, at - last)
             self.anew(line, at)
         self._at, self._line = at, line
-        if self._is_watched or self.hands.ignition.gap or any(self._waiting):
+        if self._is_watched or self.transfers.waits or self.transfers.refused or self.claims.open or self.hands.ignition.gap or self.commanded.open:
             self.goes_by(at)
-
-    def moment(self, line: int, time: str) -> int | None:
-        """The time of a line in nanoseconds, None where it has none; time goes by up to it."""
-        at = self.clock.see(line, time)
-        if at is not None:
-            self.looks_at_time(line, at)
-        return at
-
-    def pace(self) -> Pace:
-        """How times go on of which nothing but the last one is to be known here."""
-        is_waiting = self._is_watched or self.damage.is_off or self.hands.ignition.gap or any(self._waiting)
-        return NO_PACE if is_waiting or self._at != self.clock.last else Pace(*self.clock.pace(), min(self._gap, DAY))
-
-    def passed(self, line: int, before: int, at: int) -> None:
-        """Times went on at that pace up to this line, before which the time was this one."""
-        self.clock.passed(before, at)
-        self._at, self._line = at, line
 
     def watches(self) -> None:
         """From here on what is due is told as soon as it is, by the times of the log, and by `waits`."""
@@ -442,7 +410,9 @@ class Comparison:
     def report(self, report: Report, noted: Noted | None) -> None:
         """A report, and what was noted of its frame beside it."""
         line = report.line
-        at = self.moment(line, report.time)
+        at = self.clock.see(line, report.time)
+        if at is not None:
+            self.looks_at_time(line, at)
         if isinstance(report, Message):
             self.message(line, at, report)
         elif isinstance(report, Claim):

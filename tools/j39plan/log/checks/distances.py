@@ -111,12 +111,6 @@ class Track:
     at: int | None = None
     waited: int = 0
     is_known: bool = False  # whether it was sent before the clock was set, or nothing was heard
-    least: float = math.inf  # the limits once more; of a flow without any no distance is within
-    most: float = -math.inf
-
-    def __post_init__(self) -> None:
-        if self.limits:
-            self.least, self.most = self.limits.least, self.limits.most
 
     @property
     def name(self) -> str:
@@ -190,7 +184,7 @@ class Distances:
         if last is None:
             self._begins(track, line, at)
             self._is_due(track)
-        elif self._usual is not None or not track.least <= at - last <= track.most:
+        elif self._usual is not None or limits is None or not limits.least <= at - last <= limits.most:
             self._compare(track, line, at, last, before)
         often = track.often
         if often is None or last is not None and at < last:

@@ -119,13 +119,13 @@ class Feed:
 
     def _take_all(self, number: int, lines: list[bytes]) -> None:
         """Lines come. Most have a frame of which nothing is noted, and hexadecimal digits up to their end."""
-        plain, measure, take = self._plain, self._meter.take if self._meter else None, self._take
+        plain, meter, take = self._plain, self._meter, self._take
         for line in lines:
             at = line.rfind(b"#")
             digits = len(line) - at
             if digits & 1 and digits > 1 and line[at - 8:at] in plain and line[-1] in HEX and line[at + 1] in HEX and len(line) < LINE_MOST:
-                if measure:
-                    measure(line, at - 8, digits)
+                if meter:
+                    meter.take(line, at - 8, digits)
                 self._last = line
             elif len(line) < LINE_MOST:
                 take(number, line)

@@ -136,14 +136,14 @@ class Hands:
         self.free: dict[Key, int] = {}  # from when on each may send that claimed another address than it had
         self.last: dict[Key, Heard] = {}
         self.ignition = Ignition(found)
-        self.heard: dict[Box, Heard] = {}
+        self._heard: dict[Box, Heard] = {}
         self._since = 0  # the line at which the clock was set last
         self._stood = 0  # the line behind which all was silent last
         self._stale: set[int] = set()  # addresses that nobody claimed since
         self._claimed: dict[Box, int] = {}  # when each claimed an address last
         self._told: dict[Box, int | None] = {}  # what each claimed last, None of one that could claim none
         self._units_told: set[Key] = set()  # the same of whom any claim came
-        self.fresh: dict[int, Claimed] = {}  # claims of which it isn't known yet what comes of them
+        self._fresh: dict[int, Claimed] = {}  # claims of which it isn't known yet what comes of them
         self._contests: dict[int, Contest] = {}
         self._left: dict[int, Left] = {}
         self._taken: dict[Box, Taken] = {}
@@ -161,7 +161,7 @@ class Hands:
         self._asked, self._since = None, line
         self._claimed.clear()
         self._contests.clear()
-        self.fresh.clear()
+        self._fresh.clear()
         self._restarts.clear()
 
     def stood_still(self, line: int, at: int, silence: int) -> None:
@@ -194,11 +194,11 @@ class Hands:
         if at is not None:
             self._pass(at)
             self._frees(at, key, address)
-        is_start = self._is_start(self.heard.get(box) or self.heard.get(f"?{key}"))
+        is_start = self._is_start(self._heard.get(box) or self._heard.get(f"?{key}"))
         if is_start:
             self.ignition.starts(box)
-        if (unclaimed := self.heard.pop(f"?{key}", None)) is not None:
-            self.heard.setdefault(box, unclaimed)
+        if (unclaimed := self._heard.pop(f"?{key}", None)) is not None:
+            self._heard.setdefault(box, unclaimed)
         before = self._holders.get(address) if address is not None else None
         is_defence = self._defends(who, at)
         contest = self._begun(at, who, before, is_defence)
@@ -233,7 +233,7 @@ class Hands:
 
     def is_heard(self, line: int, at: int | None, key: Key, box: Box, address: int | None) -> None:
         """Somebody is heard, at an address, None of one that could claim none."""
-        self.last[key] = self.heard[box] = line, at, address
+        self.last[key] = self._heard[box] = line, at, address
         if key not in self.first:
             self.begun.setdefault(key, (line, at))
             if at is not None:
@@ -286,18 +286,18 @@ class Hands:
 
     def _settles(self, box: Box) -> None:
         """Somebody is heard of: of claims of its address, it has defended this, or moved."""
-        for address, claimed in list(self.fresh.items()):
+        for address, claimed in list(self._fresh.items()):
             if claimed.before and box_of(claimed.before) == box:
-                del self.fresh[address]
+                del self._fresh[address]
                 if not claimed.is_contest and address != self._at.get(box):
-                    self.fresh[address] = claimed._replace(before=None)
+                    self._fresh[address] = claimed._replace(before=None)
 
     def _takes(self, line: int, at: int | None, who: Who, before: Who | None, is_defence: bool) -> None:
         """Somebody claims an address that it doesn't hold."""
         box, address = box_of(who), who.address
         assert address is not None
         self._left.pop(address, None)
-        self.fresh.pop(address, None)
+        self._fresh.pop(address, None)
         if before is not None:
             self._at.pop(box_of(before), None)
             if address not in self._stale:
@@ -305,7 +305,7 @@ class Hands:
             if before.label and not who.label:
                 self._taken[box_of(before)] = Taken(line, at, who, before.label, self._is_box_on(before, at))
         if address in POOL and self._is_new(box, address, at) and not is_defence:
-            self.fresh[address] = Claimed(line, at, who, before, self._is_contested(at, before, who))
+            self._fresh[address] = Claimed(line, at, who, before, self._is_contested(at, before, who))
         self._holders[address], self._at[box] = who, address
 
     def _claims_again(self, line: int, at: int | None, who: Who, is_start: bool) -> None:
@@ -318,7 +318,7 @@ class Hands:
             self.ignition.claims_again(Again(line, at, who.label, text))
             return
         self._found.tell("restart", text, line, at, unit=who.label)
-        before = self._time_of(self.heard.get(box_of(who)))
+        before = self._time_of(self._heard.get(box_of(who)))
         if self._is_live and before is not None:
             self._restarts[key_of(who)] = Restart(at, before)
 
@@ -353,7 +353,7 @@ class Hands:
 
     def _is_new(self, box: Box, address: int, at: int | None) -> bool:
         """Whether a claim is none that was asked for, nor of one that sends from this address already."""
-        known = self.heard.get(box)
+        known = self._heard.get(box)
         heard = self._time_of(known) if known and known[2] == address else None
         return at is not None and not self.was_asked(at) and not (heard is not None and 0 <= at - heard < HEARD)
 
@@ -368,7 +368,7 @@ class Hands:
 
     def _is_box_on(self, who: Who, at: int | None) -> bool:
         """The same of a box that claimed."""
-        return self._is_lately(self.heard.get(box_of(who)), key_of(who), at)
+        return self._is_lately(self._heard.get(box_of(who)), key_of(who), at)
 
     def _is_lately(self, known: Heard | None, key: Key, at: int | None) -> bool:
         """Whether that was within a second, or two of the shortest periods of a unit."""
@@ -404,30 +404,35 @@ class Hands:
         """Whether who sends is known by a claim, or by the plan alone, and not by a contest."""
         return not who.is_guess or who.address not in self._holders
 
+    @property
+    def is_settled(self) -> bool:
+        """Whether it is known of all claims what comes of them."""
+        return not self._fresh
+
     def sends(self, line: int, at: int | None, who: Who) -> None:
         """Somebody sends something that is no claim."""
         if self.is_named(who):  # else only the contest tells who it is
             self.is_heard(line, at, *self.source_of(who), who.address)
-        if self.fresh and at is not None:
+        if self._fresh and at is not None:
             self._pass(at)
             self._is_early(line, at, who)
 
     def _is_early(self, line: int, at: int, who: Who) -> None:
         """Whether somebody sends who should wait. Where another one held the address, it may be that one's frame, which was queued before the claim;
         a frame of a contest may be anybody's."""
-        claimed = self.fresh.get(who.address) if who.address is not None else None
+        claimed = self._fresh.get(who.address) if who.address is not None else None
         if not claimed or claimed.is_contest or claimed.before or self._contest(claimed.who.address or 0, at):
             return
         if key_of(claimed.who) == key_of(who):
-            del self.fresh[claimed.who.address or 0]
+            del self._fresh[claimed.who.address or 0]
             text = f"{who.spelled} sends before {milliseconds(CONTEST)} ms have passed after its claim of address {who.address}"
             self._found.tell("too-early", text, line, at, unit=who.label)
 
     def _pass(self, at: int) -> None:
         """Time goes by: who didn't defend an address until now doesn't."""
-        for address, claimed in list(self.fresh.items()):
+        for address, claimed in list(self._fresh.items()):
             if claimed.at is not None and not 0 <= at - claimed.at < CONTEST:
-                del self.fresh[address]
+                del self._fresh[address]
                 if claimed.is_contest and claimed.before and at >= claimed.at:
                     larger, smaller = both_named(claimed.who, claimed.before)
                     text = f"{larger} claims address {address}, and {smaller} doesn't defend it, whose NAME is smaller"

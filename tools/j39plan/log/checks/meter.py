@@ -4,9 +4,8 @@ from __future__ import annotations
 
 from j39plan.log.clock import ORDER, nanoseconds
 
-# The bits of a frame by how many characters it has behind its identifier in a log: `#` and two digits for each of up to 8 bytes.
-MOST = 17
-BITS = [75 + 5 * characters if characters & 1 else 0 for characters in range(MOST + 1)]
+# The bits of a frame by the bytes that it has, in the spelling of a log: `#` and two digits a byte.
+BITS = {1 + 2 * length: 80 + 10 * length for length in range(9)}
 
 
 class Meter:
@@ -16,17 +15,16 @@ class Meter:
         self.bits = self.worst = 0
         self.worst_second: int | None = None
         self._interface, self._start, self._inside = b"", b"\n", 0  # no line begins so
-        self._way, self._before = b" ", 1  # what stands before an identifier, and how long that is
+        self._way = b" "  # what stands before an identifier
         self._last = b""  # the line before
 
     def take(self, line: bytes, end: int, digits: int) -> None:
         """A line by where its identifier begins, and how many characters its data has."""
-        if line.startswith(self._start) and line.startswith(self._way, end - self._before) or self._turns(line[:end]):
+        if line.startswith(self._start) and line.startswith(self._way, end - len(self._way)) or self._turns(line[:end]):
             if line < self._last and self._goes_back(line):
                 self._close()
             self._last = line
-            if digits <= MOST:
-                self._inside += BITS[digits]
+            self._inside += BITS.get(digits, 0)
 
     def _goes_back(self, line: bytes) -> bool:
         """Whether the clock was set back within a second, so that this one began anew."""
@@ -45,7 +43,6 @@ class Meter:
             self._close()
             self._start = start
         self._way = b" " + self._interface
-        self._before = len(self._way)
         return True
 
     def _close(self) -> None:

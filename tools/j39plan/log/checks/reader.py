@@ -8,7 +8,7 @@ from itertools import islice
 from typing import NamedTuple
 
 from j39plan.j1939 import FRAME_BYTES
-from j39plan.log.checks.comparison import NO_PACE, Comparison
+from j39plan.log.checks.comparison import Comparison
 from j39plan.log.checks.feed import Feed
 from j39plan.log.checks.distances import Track
 from j39plan.log.reports import GROUP, KIND, Claim, Counts, Frame, Message, Who, below_of, report_of
@@ -43,53 +43,38 @@ class Reader:
         self._frames: dict[str, Frame] = {}  # the last frame of no planned group, by its line without time and data
 
     def take(self, lines: Iterator[str], most: int | None = None) -> None:
-        """Takes the lines, so many of them at most. Times that go on in small steps, while nothing is waited for, are handed on where they end."""
-        comparison, plain_of, frame_of, unheard, beside = self._comparison, self._plain.get, self._frames.get, self._unheard, self._beside
-        hands, asked, others, comes = comparison.hands, comparison.asked.open, comparison.others.open, comparison.distances.comes
-        fresh, first, heard, heard_boxes, is_heard, sends = hands.fresh, hands.first, hands.last, hands.heard, hands.is_heard, hands.sends
-        passed: tuple[int, int] | None = None  # the line and the time before the last one
-        head_of_time, base, last, gap = NO_PACE
+        """Takes the lines, so many of them at most."""
+        comparison, plain_of, unheard, beside = self._comparison, self._plain.get, self._unheard, self._beside
+        hands, asked, others = comparison.hands, comparison.asked, comparison.others
+        see, looks_at_time, comes, frame_of = comparison.clock.see, comparison.looks_at_time, comparison.distances.comes, self._frames.get
         for line in islice(lines, most):
             words = line.split(" ", 2)
             head, _, data = words[-1].rpartition(" ")
             plain = plain_of(head)
             if plain is not None and len(data) <= DIGITS and (not unheard and not beside or self._is_before(int(words[0]))):
                 track, times, pgn, sender, to, key, box, address = plain
-                number, time = int(words[0]), words[1]
-                at: int | None
-                if time[:-7] == head_of_time and 0 <= (now := base + int(time[-7:-1]) * 1000) - last <= gap:
-                    passed, last, at = (number, last), now, now
+                number = int(words[0])
+                at = see(number, words[1])
+                if at is not None:
+                    looks_at_time(number, at)
+                if hands.is_settled:
+                    hands.is_heard(number, at, key, box, address)
                 else:
-                    if passed:
-                        comparison.passed(*passed, last)
-                        passed = None
-                    at = comparison.moment(number, time)
-                    head_of_time, base, last, gap = comparison.pace()
-                if not fresh and key in first:
-                    heard[key] = heard_boxes[box] = number, at, address
-                elif fresh:
-                    sends(number, at, sender)
-                else:
-                    is_heard(number, at, key, box, address)
-                if asked or others:
+                    hands.sends(number, at, sender)
+                if asked.open or others.open:
                     comparison.answers(number, at, sender, to, pgn)
                 times[0] += 1
                 comes(track, number, at)
-                continue
-            if passed:
-                comparison.passed(*passed, last)
-                passed = None
-            head_of_time, base, last, gap = NO_PACE
-            if not unheard and not beside and (frame := frame_of(head)) is not None:
+            elif not unheard and not beside and (frame := frame_of(head)) is not None:
                 number = int(words[0])
-                at = comparison.moment(number, words[1])
+                at = see(number, words[1])
+                if at is not None:
+                    looks_at_time(number, at)
                 comparison.frame(number, at, Frame(number, words[1], *frame[2:6], bytes.fromhex(data)))
             elif line[0].isdigit():
                 self._report(line, lines, head)
             else:
                 self._counts.take(line)
-        if passed:
-            comparison.passed(*passed, last)
 
     def _is_before(self, line: int) -> bool:
         """Whether a line comes before all of which something is noted."""
