@@ -15,7 +15,7 @@ from j39plan.plan.variants import Line, line_of, variant_text
 from tests.support import TOP, InFolder, example, run, text_of
 
 # Where plans stand with what check answers.
-CHECKS = os.path.join(TOP, "crates", "examples_check", "data", "checks")
+CHECKS = os.path.join(TOP, "rows", "checks")
 
 # Claims of D at 0 and of R at 15, a frame of D, and another one 3 s later.
 DETROIT = (
