@@ -1,0 +1,48 @@
+-- How the code writes the rules of a table, and what is known of a table that keeps them.
+use Rattle.std.specs.Prelude.{◌≡◌, ℕ, ◌≤◌, List, [], ◌∷◌, Bool, true, false, Option, None}
+use Rattle.toml.specs.Data.{Data, Members}
+use Rattle.j39_toml.specs.declared.cause.Cause.{Cause}
+use Rattle.j39_toml.specs.declared.key_rule.ValueKind.{ValueKind}
+use Rattle.j39_toml.specs.declared.key_rule.ValueKind.TheVariants as kinds
+use Rattle.j39_toml.specs.declared.key_rule.KeyRule.{KeyRule}
+use Rattle.j39_toml.specs.declared.key_rule.KeyRule.TheVariants.{Needed, Optional}
+use Rattle.j39_toml.specs.Rules.{Rule, rule_of, natural_in, truth, text_where, array_up_to, standing}
+use Rattle.j39_toml.specs.TableFaults.{standing_cause}
+
+-- the cause for which a value is refused that is to be of a kind
+abbrev pub kind_cause : {P : Type 0} → (P → List ℕ → Bool) → ValueKind P → Data → Option Cause
+kind_cause fits (kinds.Number low high) = natural_in low high
+kind_cause fits kinds.Truth = truth
+kind_cause fits (kinds.Text form) = text_where fits form
+kind_cause fits (kinds.Array limit) = array_up_to limit
+
+abbrev pub key_of : {K P : Type 0} → KeyRule K P → K
+key_of (Needed k kind) = k
+key_of (Optional k kind) = k
+
+abbrev pub kind_of : {K P : Type 0} → KeyRule K P → ValueKind P
+kind_of (Needed k kind) = kind
+kind_of (Optional k kind) = kind
+
+-- a kind of numbers has this one, and one of arrays those of so many elements
+abbrev pub HasNumber : {P : Type 0} → ValueKind P → ℕ → Type 0
+HasNumber (kinds.Number low high) n = (low ≤ n) × (n ≤ high)
+HasNumber _ n = Unit {0}
+
+abbrev pub HasCount : {P : Type 0} → ValueKind P → ℕ → Type 0
+HasCount (kinds.Array limit) n = n ≤ limit
+HasCount _ n = Unit {0}
+
+-- the rule that is written so
+abbrev pub as_rule : {K P : Type 0} → (K → List ℕ) → (P → List ℕ → Bool) → KeyRule K P → Rule K
+as_rule word fits (Needed k kind) = rule_of word k (kind_cause fits kind) true
+as_rule word fits (Optional k kind) = rule_of word k (kind_cause fits kind) false
+
+-- what stands at the key of a rule isn't refused
+abbrev pub IsKept : {K : Type 0} → Members → Rule K → Type 0
+IsKept ms r = standing_cause r (standing r ms) ≡ None
+
+-- nor what stands at those of any of these rules
+abbrev pub AreKept : {K : Type 0} → Members → List (Rule K) → Type 0
+AreKept ms [] = Unit {0}
+AreKept ms (r ∷ rules) = IsKept ms r × AreKept ms rules
