@@ -1,19 +1,24 @@
 -- Tables that keep rules.
-use Rattle.std.proofs.Common.{◌≡◌, ℕ, ◌+◌, ◌<◌, ◌≤◌, List, [], ◌∷◌, ◌++◌, map, length, drop, drop-cons, get_or, Bool, true, Option, Some, None, refl, ap, ◌∙◌, String, Global, string_bytes}
+use Rattle.std.proofs.Common.{◌≡◌, ◌≢◌, ℕ, ℤ, ◌+◌, ◌<◌, ◌≤◌, List, [], ◌∷◌, ◌++◌, map, length, drop, drop-cons, get_or, Bool, true, false, if◌then◌else◌, nat_le, Option, Some, None, refl, ap, ◌∙◌, String, Global, string_bytes}
+use Rattle.std.proofs.lemmas.Bool.{leb-true}
 use Rattle.std.specs.List.{list_all, list_any}
 use Rattle.std.specs.Map.{keys_of}
 use Rattle.std.specs.Option.{option_map_or}
 use Rattle.std.specs.Str.{bytes_eq}
-use Rattle.toml.specs.Data.{Members}
-use Rattle.toml.specs.View.{members_view}
+use Rattle.toml.specs.Data.{Data, integer, array, Members, get_member}
+use Rattle.toml.specs.View.{items_view, members_view}
 use Rattle.toml.specs.declared.value.Value.{Value}
 use Rattle.j39_toml.specs.declared.cause.Cause.{Cause}
+use Rattle.j39_toml.specs.declared.cause.Cause.TheVariants.{TooMany}
 use Rattle.j39_toml.specs.declared.fault.TableFault.{TableFault}
+use Rattle.j39_toml.specs.declared.key_rule.ValueKind.{ValueKind}
+use Rattle.j39_toml.specs.declared.key_rule.ValueKind.TheVariants as kinds
 use Rattle.j39_toml.specs.declared.key_rule.KeyRule.{KeyRule}
 use Rattle.j39_toml.specs.declared.key_rule.KeyRule.TheVariants.{Needed, Optional}
-use Rattle.j39_toml.specs.KeyRules.{as_rule, key_of, AreKept}
+use Rattle.j39_toml.specs.KeyRules.{as_rule, key_of, kind_cause, kind_of, AreKept, HasCount, IsKept}
 use Rattle.j39_toml.specs.Outcome.{first}
-use Rattle.j39_toml.specs.Rules.{Rule, standing}
+use Rattle.j39_toml.specs.Rules.{Rule, array_up_to, standing, text_where, truth}
+use Rattle.j39_toml.proofs.TableViews.{items_count_view}
 use Rattle.j39_toml.specs.TableFaults.{fault, has_only, is_key_word, key_faults, keys_faults, standing_cause}
 
 -- ---- keys that some rule names
@@ -71,3 +76,30 @@ all_tried at ms rule i xs tried none = tried.same ∙ ap (λ ys. keys_faults at 
 pub same_key : {K P : Type 0} (word : K → List ℕ) (fits : P → List ℕ → Bool) (r : KeyRule K P) → (as_rule word fits r).key ≡ key_of r
 same_key word fits (Needed k kind) = refl
 same_key word fits (Optional k kind) = refl
+
+-- ---- what stands at the key of a rule that is kept
+
+pub kept_at : {K P : Type 0} (word : K → List ℕ) (fits : P → List ℕ → Bool) (r : KeyRule K P) (ms : Members) (d : Data)
+    → IsKept ms (as_rule word fits r) → get_member (word (key_of r)) ms ≡ Some d → kind_cause fits (kind_of r) d ≡ None
+kept_at word fits (Needed k kind) ms d kept is = rw is at kept
+kept_at word fits (Optional k kind) ms d kept is = rw is at kept
+
+few_where : (n limit : ℕ) (test : Bool) → nat_le n limit ≡ test → (if test then None else Some TooMany) ≡ None → n ≤ limit
+few_where n limit true is none = leb-true n limit is
+few_where n limit false is none = absurd cc
+
+pub count_kept : {P : Type 0} (fits : P → List ℕ → Bool) (kind : ValueKind P) (vs : List Value)
+    → kind_cause fits kind (array (items_view vs)) ≡ None → HasCount kind (length vs)
+unfolding array_up_to
+count_kept fits (kinds.Number low high) vs kept = tt
+count_kept fits kinds.Truth vs kept = tt
+count_kept fits (kinds.Text form) vs kept = tt
+count_kept fits (kinds.Array limit) vs kept = few_where (length vs) limit (nat_le (length vs) limit) refl (rw (items_count_view vs) at kept)
+
+pub no_number : {P : Type 0} (fits : P → List ℕ → Bool) (kind : ValueKind P) (z : ℤ)
+    → ((low high : ℕ) → kind ≢ kinds.Number low high) → kind_cause fits kind (integer z) ≢ None
+unfolding truth text_where array_up_to
+no_number fits (kinds.Number low high) z other kept = other low high refl
+no_number fits kinds.Truth z other kept = cc
+no_number fits (kinds.Text form) z other kept = cc
+no_number fits (kinds.Array limit) z other kept = cc

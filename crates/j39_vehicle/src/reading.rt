@@ -41,9 +41,13 @@ pub use vehicle_error::{VehicleError, VehicleFault};
 type VehicleRule = KeyRule<Key, TextKind>;
 
 const VERSION: VehicleRule = KeyRule::Needed(Key::Version, ValueKind::Number(1, 1));
+
 const BUSES: VehicleRule = KeyRule::Optional(Key::Bus, ValueKind::Array(BUS_LIMIT));
+
 const GATEWAYS: VehicleRule = KeyRule::Optional(Key::Gateway, ValueKind::Array(GATEWAY_LIMIT));
+
 const FORWARDS: VehicleRule = KeyRule::Optional(Key::Forward, ValueKind::Array(FORWARD_LIMIT));
+
 const NEEDS: VehicleRule = KeyRule::Optional(Key::Need, ValueKind::Array(VEHICLE_NEED_LIMIT));
 
 const RULES: [VehicleRule; 5] = [VERSION, BUSES, GATEWAYS, FORWARDS, NEEDS];

@@ -26,15 +26,22 @@ use std::alloc::Global;
 use toml::Value;
 
 pub const GATEWAY: VehicleRule = KeyRule::Needed(Key::Gateway, ValueKind::Text(TextKind::Any));
+
 pub const INPUT: VehicleRule = KeyRule::Needed(Key::Group, ValueKind::Text(TextKind::OnBus));
+
 const FROM: VehicleRule = KeyRule::Optional(Key::From, ValueKind::Text(TextKind::Any));
+
 pub const AT: VehicleRule = KeyRule::Optional(Key::At, ValueKind::Text(TextKind::Any));
+
 pub const OUTPUT: VehicleRule = KeyRule::Needed(Key::As, ValueKind::Text(TextKind::OnBus));
+
 pub const BY: VehicleRule = KeyRule::Optional(Key::By, ValueKind::Text(TextKind::Any));
+
 const TO: VehicleRule = KeyRule::Optional(Key::To, ValueKind::Text(TextKind::Any));
+
 const MODE: VehicleRule = KeyRule::Optional(Key::Mode, ValueKind::Text(TextKind::ModeWord));
-const SIGNALS: VehicleRule =
-    KeyRule::Optional(Key::Signal, ValueKind::Array(FORWARD_SIGNAL_LIMIT));
+
+const SIGNALS: VehicleRule = KeyRule::Optional(Key::Signal, ValueKind::Array(FORWARD_SIGNAL_LIMIT));
 
 const RULES: [VehicleRule; 10] = [
     GATEWAY, INPUT, FROM, AT, OUTPUT, BY, TO, MODE, WITHIN, SIGNALS,

@@ -21,8 +21,11 @@ use std::alloc::Global;
 use toml::Value;
 
 const UNIT: VehicleRule = KeyRule::Needed(Key::Unit, ValueKind::Text(TextKind::OnBus));
+
 const GROUP: VehicleRule = KeyRule::Needed(Key::Group, ValueKind::Text(TextKind::Any));
+
 const SIGNAL: VehicleRule = KeyRule::Optional(Key::Signal, ValueKind::Text(TextKind::Any));
+
 const FROM: VehicleRule = KeyRule::Needed(Key::From, ValueKind::Text(TextKind::OnBus));
 
 const RULES: [VehicleRule; 5] = [UNIT, GROUP, SIGNAL, FROM, WITHIN];

@@ -14,7 +14,9 @@ use std::alloc::Global;
 use toml::Value;
 
 const READ: VehicleRule = KeyRule::Needed(Key::Label, ValueKind::Text(TextKind::Any));
+
 const WRITTEN: VehicleRule = KeyRule::Optional(Key::As, ValueKind::Text(TextKind::Any));
+
 const EXACT: VehicleRule = KeyRule::Optional(Key::Exact, ValueKind::Truth);
 
 const RULES: [VehicleRule; 3] = [READ, WRITTEN, EXACT];

@@ -12,6 +12,7 @@ use j39_id::Label;
 use j39_toml::{KeyRule, ValueKind};
 
 pub const LABEL: VehicleRule = KeyRule::Needed(Key::Label, ValueKind::Text(TextKind::Label));
+
 pub const WITHIN: VehicleRule = KeyRule::Optional(Key::Within, ValueKind::Number(1, 65_535));
 
 /// The label of a table that keeps the rule of labels.
