@@ -1,25 +1,23 @@
 -- Tables that keep rules.
-use Rattle.std.proofs.Common.{◌≡◌, ◌≢◌, ℕ, ℤ, ◌+◌, ◌<◌, ◌≤◌, List, [], ◌∷◌, ◌++◌, map, length, drop, drop-cons, get_or, Bool, true, false, if◌then◌else◌, nat_le, Option, Some, None, refl, ap, ◌∙◌, String, Global, string_bytes}
-use Rattle.std.proofs.lemmas.Bool.{leb-true}
+use Rattle.std.proofs.Common.{◌≡◌, ◌≢◌, ℕ, ℤ, ◌+◌, ◌<◌, ◌≤◌, List, [], ◌∷◌, ◌++◌, map, length, drop, drop-cons, get_or, Bool, true, false, Option, Some, None, refl, sym, subst, absurd, ap, ◌∙◌, add-one, String, Global, string_bytes}
 use Rattle.std.specs.List.{list_all, list_any}
 use Rattle.std.specs.Map.{keys_of}
 use Rattle.std.specs.Option.{option_map_or}
 use Rattle.std.specs.Str.{bytes_eq}
-use Rattle.toml.specs.Data.{Data, integer, array, Members, get_member}
-use Rattle.toml.specs.View.{items_view, members_view}
+use Rattle.toml.specs.Data.{Data, string, integer, float, boolean, datetime, array, table, Members, get_member, as_integer}
+use Rattle.toml.specs.View.{members_view}
 use Rattle.toml.specs.declared.value.Value.{Value}
 use Rattle.j39_toml.specs.declared.cause.Cause.{Cause}
-use Rattle.j39_toml.specs.declared.cause.Cause.TheVariants.{TooMany}
+use Rattle.j39_toml.specs.declared.cause.Cause.TheVariants.{UnknownKey}
 use Rattle.j39_toml.specs.declared.fault.TableFault.{TableFault}
 use Rattle.j39_toml.specs.declared.key_rule.ValueKind.{ValueKind}
 use Rattle.j39_toml.specs.declared.key_rule.ValueKind.TheVariants as kinds
 use Rattle.j39_toml.specs.declared.key_rule.KeyRule.{KeyRule}
 use Rattle.j39_toml.specs.declared.key_rule.KeyRule.TheVariants.{Needed, Optional}
-use Rattle.j39_toml.specs.KeyRules.{as_rule, key_of, kind_cause, kind_of, AreKept, HasCount, IsKept}
+use Rattle.j39_toml.specs.KeyRules.{as_rule, is_ruled, key_of, kind_cause, kind_of, AreKept, IsKept}
 use Rattle.j39_toml.specs.Outcome.{first}
-use Rattle.j39_toml.specs.Rules.{Rule, array_up_to, standing, text_where, truth}
-use Rattle.j39_toml.proofs.TableViews.{items_count_view}
-use Rattle.j39_toml.specs.TableFaults.{fault, has_only, is_key_word, key_faults, keys_faults, standing_cause}
+use Rattle.j39_toml.specs.Rules.{Rule, array_up_to, number_found, standing, text_where, truth}
+use Rattle.j39_toml.specs.TableFaults.{fault, has_only, is_key_word, key_faults, keys_faults, standing_cause, table_faults, unknown_faults}
 
 -- ---- keys that some rule names
 
@@ -29,9 +27,9 @@ named_by word fits [] name = refl
 named_by word fits (Needed k kind ∷ rules) name = rw (named_by word fits rules name)
 named_by word fits (Optional k kind ∷ rules) name = rw (named_by word fits rules name)
 
-pub only_named : {K P : Type 0} (word : K → List ℕ) (fits : P → List ℕ → Bool) (rules : List (KeyRule K P)) (es : List (String Global × Value))
-    → has_only word (map (λ r. r.key) (map (as_rule word fits) rules)) (members_view es)
-    ≡ list_all (λ k. list_any (λ r. bytes_eq (word (key_of r)) (string_bytes k)) rules) (keys_of es)
+only_named : {K P : Type 0} (word : K → List ℕ) (fits : P → List ℕ → Bool) (rules : List (KeyRule K P)) (es : List (String Global × Value))
+    → has_only word (map (λ r. r.key) (map (as_rule word fits) rules)) (members_view es) ≡ list_all (λ k. is_ruled word rules (string_bytes k)) (keys_of es)
+unfolding is_ruled
 only_named word fits rules [] = refl
 only_named word fits rules (e ∷ es) = rw (named_by word fits rules (string_bytes e.0), only_named word fits rules es) refl
 
@@ -60,9 +58,9 @@ pub one_more : {T K X : Type 0} (at : T) (ms : Members) (rule : X → Rule K) (i
     → i < length xs → standing_cause (rule (get_or xs i d)) (standing (rule (get_or xs i d)) ms) ≡ None → AreTried at ms rule (i + 1) xs
 unfolding key_faults
 one_more at ms rule i xs d tried inside none =
-    record { same = tried.same ∙ (ap (λ ys. keys_faults at ms (map rule ys)) (drop-cons xs i d inside) ∙ rw none refl) }
+    record { same = rw add-one (tried.same ∙ (ap (λ ys. keys_faults at ms (map rule ys)) (drop-cons xs i d inside) ∙ rw none refl)) }
 
-pub stops_at : {T K X : Type 0} (at : T) (ms : Members) (rule : X → Rule K) (i : ℕ) (xs : List X) (d : X) (cause : Cause) → AreTried at ms rule i xs
+stops_at : {T K X : Type 0} (at : T) (ms : Members) (rule : X → Rule K) (i : ℕ) (xs : List X) (d : X) (cause : Cause) → AreTried at ms rule i xs
     → i < length xs → standing_cause (rule (get_or xs i d)) (standing (rule (get_or xs i d)) ms) ≡ Some cause
     → first (keys_faults at ms (map rule xs)) ≡ Some (fault cause at (Some (rule (get_or xs i d)).key))
 unfolding key_faults
@@ -73,33 +71,71 @@ pub all_tried : {T K X : Type 0} (at : T) (ms : Members) (rule : X → Rule K) (
     → keys_faults at ms (map rule xs) ≡ []
 all_tried at ms rule i xs tried none = tried.same ∙ ap (λ ys. keys_faults at ms (map rule ys)) none
 
-pub same_key : {K P : Type 0} (word : K → List ℕ) (fits : P → List ℕ → Bool) (r : KeyRule K P) → (as_rule word fits r).key ≡ key_of r
+same_key : {K P : Type 0} (word : K → List ℕ) (fits : P → List ℕ → Bool) (r : KeyRule K P) → (as_rule word fits r).key ≡ key_of r
 same_key word fits (Needed k kind) = refl
 same_key word fits (Optional k kind) = refl
 
+-- ---- the whole table
+
+pub unknown_first : {T K P : Type 0} (word : K → List ℕ) (fits : P → List ℕ → Bool) (at : T) (rules : List (KeyRule K P)) (es : List (String Global × Value))
+    (known : Bool) → known ≡ list_all (λ k. is_ruled word rules (string_bytes k)) (keys_of es) → known ≡ false
+    → first (table_faults word at (map (as_rule word fits) rules) (members_view es)) ≡ Some (fault UnknownKey at None)
+unfolding unknown_faults
+unknown_first word fits at rules es known is not = rw (only_named word fits rules es) (rw (← is) (rw not refl))
+
+none_unknown : {T K P : Type 0} (word : K → List ℕ) (fits : P → List ℕ → Bool) (at : T) (rules : List (KeyRule K P)) (es : List (String Global × Value))
+    (known : Bool) → known ≡ list_all (λ k. is_ruled word rules (string_bytes k)) (keys_of es) → known ≡ true
+    → unknown_faults word at (map (λ r. r.key) (map (as_rule word fits) rules)) (members_view es) ≡ []
+unfolding unknown_faults
+none_unknown word fits at rules es known is so = rw (only_named word fits rules es) (rw (← is) (rw so refl))
+
+pub broken_first : {T K P : Type 0} (word : K → List ℕ) (fits : P → List ℕ → Bool) (at : T) (rules : List (KeyRule K P)) (es : List (String Global × Value))
+    (known : Bool) (i : ℕ) (d : KeyRule K P) (cause : Cause) (k : K) → known ≡ list_all (λ k. is_ruled word rules (string_bytes k)) (keys_of es)
+    → known ≡ true → AreTried at (members_view es) (as_rule word fits) i rules → i < length rules
+    → standing_cause (as_rule word fits d) (standing (as_rule word fits d) (members_view es)) ≡ Some cause → d ≡ get_or rules i d → k ≡ key_of d
+    → first (table_faults word at (map (as_rule word fits) rules) (members_view es)) ≡ Some (fault cause at (Some k))
+broken_first word fits at rules es known i d cause k is so tried inside broken here key =
+    let rule : KeyRule _ _ → Rule _ = as_rule word fits in
+    let there = stops_at at (members_view es) rule i rules d cause tried inside
+    (subst (λ r. standing_cause (rule r) (standing (rule r) (members_view es)) ≡ Some cause) here broken) in
+    let same : (rule (get_or rules i d)).key ≡ k = ap (λ r. (rule r).key) (sym here) ∙ (same_key word fits d ∙ sym key) in
+    rw (none_unknown word fits at rules es known is so) (there ∙ ap (λ n. Some (fault cause at (Some n))) same)
+
+pub none_broken : {T K P : Type 0} (word : K → List ℕ) (fits : P → List ℕ → Bool) (at : T) (rules : List (KeyRule K P)) (es : List (String Global × Value))
+    (known : Bool) → known ≡ list_all (λ k. is_ruled word rules (string_bytes k)) (keys_of es) → known ≡ true
+    → keys_faults at (members_view es) (map (as_rule word fits) rules) ≡ []
+    → table_faults word at (map (as_rule word fits) rules) (members_view es) ≡ []
+none_broken word fits at rules es known is so none = rw (none_unknown word fits at rules es known is so) none
+
 -- ---- what stands at the key of a rule that is kept
 
-pub kept_at : {K P : Type 0} (word : K → List ℕ) (fits : P → List ℕ → Bool) (r : KeyRule K P) (ms : Members) (d : Data)
+kept_at : {K P : Type 0} (word : K → List ℕ) (fits : P → List ℕ → Bool) (r : KeyRule K P) (ms : Members) (d : Data)
     → IsKept ms (as_rule word fits r) → get_member (word (key_of r)) ms ≡ Some d → kind_cause fits (kind_of r) d ≡ None
 kept_at word fits (Needed k kind) ms d kept is = rw is at kept
 kept_at word fits (Optional k kind) ms d kept is = rw is at kept
 
-few_where : (n limit : ℕ) (test : Bool) → nat_le n limit ≡ test → (if test then None else Some TooMany) ≡ None → n ≤ limit
-few_where n limit true is none = leb-true n limit is
-few_where n limit false is none = absurd cc
-
-pub count_kept : {P : Type 0} (fits : P → List ℕ → Bool) (kind : ValueKind P) (vs : List Value)
-    → kind_cause fits kind (array (items_view vs)) ≡ None → HasCount kind (length vs)
-unfolding array_up_to
-count_kept fits (kinds.Number low high) vs kept = tt
-count_kept fits kinds.Truth vs kept = tt
-count_kept fits (kinds.Text form) vs kept = tt
-count_kept fits (kinds.Array limit) vs kept = few_where (length vs) limit (nat_le (length vs) limit) refl (rw (items_count_view vs) at kept)
-
-pub no_number : {P : Type 0} (fits : P → List ℕ → Bool) (kind : ValueKind P) (z : ℤ)
+no_number : {P : Type 0} (fits : P → List ℕ → Bool) (kind : ValueKind P) (z : ℤ)
     → ((low high : ℕ) → kind ≢ kinds.Number low high) → kind_cause fits kind (integer z) ≢ None
 unfolding truth text_where array_up_to
 no_number fits (kinds.Number low high) z other kept = other low high refl
 no_number fits kinds.Truth z other kept = cc
 no_number fits (kinds.Text form) z other kept = cc
 no_number fits (kinds.Array limit) z other kept = cc
+
+no_integer : {P : Type 0} (fits : P → List ℕ → Bool) (kind : ValueKind P) (d : Data)
+    → ((low high : ℕ) → kind ≢ kinds.Number low high) → kind_cause fits kind d ≡ None → as_integer d ≡ None
+no_integer fits kind (integer z) other kept = absurd (no_number fits kind z other kept)
+no_integer fits kind (string s) other kept = refl
+no_integer fits kind (float x) other kept = refl
+no_integer fits kind (boolean b) other kept = refl
+no_integer fits kind (datetime t) other kept = refl
+no_integer fits kind (array ds) other kept = refl
+no_integer fits kind (table ms) other kept = refl
+
+-- where a kind of no numbers is kept no number stands
+pub no_number_there : {K P : Type 0} (word : K → List ℕ) (fits : P → List ℕ → Bool) (r : KeyRule K P) (ms : Members) (d : Data)
+    → ((low high : ℕ) → kind_of r ≢ kinds.Number low high) → IsKept ms (as_rule word fits r) → get_member (word (key_of r)) ms ≡ Some d
+    → None ≡ number_found word (key_of r) ms
+unfolding number_found
+no_number_there word fits r ms d other kept is =
+    rw is (rw (no_integer fits (kind_of r) d other (kept_at word fits r ms d kept is)) refl)

@@ -1,5 +1,7 @@
 -- How the code writes the rules of a table, and what is known of a table that keeps them.
 use Rattle.std.specs.Prelude.{◌≡◌, ℕ, ◌≤◌, List, [], ◌∷◌, Bool, true, false, Option, None}
+use Rattle.std.specs.List.{list_any}
+use Rattle.std.specs.Str.{bytes_eq}
 use Rattle.toml.specs.Data.{Data, Members}
 use Rattle.j39_toml.specs.declared.cause.Cause.{Cause}
 use Rattle.j39_toml.specs.declared.key_rule.ValueKind.{ValueKind}
@@ -37,6 +39,10 @@ HasCount _ n = Unit {0}
 abbrev pub as_rule : {K P : Type 0} → (K → List ℕ) → (P → List ℕ → Bool) → KeyRule K P → Rule K
 as_rule word fits (Needed k kind) = rule_of word k (kind_cause fits kind) true
 as_rule word fits (Optional k kind) = rule_of word k (kind_cause fits kind) false
+
+-- some rule's key is spelled so
+unfoldable pub is_ruled : {K P : Type 0} → (K → List ℕ) → List (KeyRule K P) → List ℕ → Bool
+is_ruled word rules name = list_any (λ r. bytes_eq (word (key_of r)) name) rules
 
 -- what stands at the key of a rule isn't refused
 abbrev pub IsKept : {K : Type 0} → Members → Rule K → Type 0

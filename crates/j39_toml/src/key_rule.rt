@@ -1,13 +1,12 @@
 //! The rules of a table, and what stands at the keys of one that keeps them.
 ghost use Rattle.std.specs.Prelude.{◌≡◌, ◌≤◌, string_bytes, None, IfSome, IfOk, map, option_map, unwrap_or, [], length};
-ghost use Rattle.std.specs.List.{list_all, list_any};
+ghost use Rattle.std.specs.List.{list_all};
 ghost use Rattle.std.specs.Map.{keys_of};
-ghost use Rattle.std.specs.Str.{bytes_eq};
 ghost use Rattle.toml.specs.Data.{as_integer};
 ghost use Rattle.toml.specs.View.{view, items_view, table_view};
 ghost use Rattle.j39_toml.specs.declared.key_rule.ValueKind.TheVariants as kinds;
 ghost use Rattle.j39_toml.specs.Rules.{array_found, array_up_to, elements_found, natural, natural_in, number_found, standing, text_found, truth_found, text_where};
-ghost use Rattle.j39_toml.specs.KeyRules.{as_rule, key_of, kind_cause, kind_of, AreKept, HasCount, HasNumber, IsKept};
+ghost use Rattle.j39_toml.specs.KeyRules.{as_rule, is_ruled, key_of, kind_cause, kind_of, AreKept, HasCount, HasNumber, IsKept};
 ghost use Rattle.j39_toml.specs.TableFaults.{standing_cause, table_faults};
 ghost use Rattle.j39_toml.specs.Outcome.{Gives};
 
@@ -237,21 +236,20 @@ impl<K: FileKey, P: TextForm> KeyRule<K, P> {
     }
 }
 
+#[tactic(auto, unfolding(crate::specs::KeyRules::is_ruled))]
 fn is_named<K: FileKey, P: TextForm>(name: &str, rules: &[KeyRule<K, P>]) -> bool
-    ensures { result ≡ list_any (λ r. bytes_eq (K.word (key_of r)) name.now) rules.now }
+    ensures { result ≡ is_ruled K.word rules.now name.now }
 {
     rules.iter().any(|rule| rule.key().spelled() == name)
 }
 
 fn has_only<K: FileKey, P: TextForm>(members: &toml::Table, rules: &[KeyRule<K, P>]) -> bool
-    ensures { result
-        ≡ list_all (λ name. list_any (λ r. bytes_eq (K.word (key_of r)) (string_bytes name)) rules.now) (keys_of members.now.entries) }
+    ensures { result ≡ list_all (λ name. is_ruled K.word rules.now (string_bytes name)) (keys_of members.now.entries) }
 {
     members.keys().all(|name| is_named(name.as_str(), rules))
 }
 
 /// Refuses a table with a key that no rule names, or else for the first rule that it breaks.
-#[tactic(auto, using(crate::proofs::KeptRules::only_named, crate::proofs::KeptRules::one_more, crate::proofs::KeptRules::stops_at, crate::proofs::KeptRules::all_tried, crate::proofs::KeptRules::all_kept, crate::proofs::KeptRules::same_key, crate::proofs::TableViews::has_only_view), unfolding(crate::specs::TableFaults::unknown_faults))]
 pub fn checked<T: Copy, K: FileKey, P: TextForm>(
     members: &toml::Table,
     table: T,
