@@ -1,4 +1,4 @@
-use Rattle.std.proofs.Common.{◌≡◌, None, Some, [], arith, drop, subst, sym, ◌∙◌, tt}
+use Rattle.std.proofs.Common.{◌≡◌, None, Some, [], arith, drop, subst, sym, ◌∙◌}
 use Rattle.std.proofs.lemmas.List.{drop_all}
 use Rattle.toml.specs.View.{table_view}
 use Rattle.j39_toml.specs.KeyRules.{as_rule}

@@ -1,4 +1,4 @@
-use Rattle.std.proofs.Common.{◌∙◌, sym, tt}
+use Rattle.std.proofs.Common.{◌∙◌, sym}
 use Rattle.toml.specs.View.{view, table_view}
 use Rattle.j39_toml.proofs.KeptRules.{no_number_there}
 use Rattle.j39_toml.proofs.key_rule.KeyRule.given_number.Goals as goal
