@@ -1,14 +1,15 @@
 -- Tables that keep rules.
-use Rattle.std.proofs.Common.{◌≡◌, ◌≢◌, ℕ, ℤ, ◌+◌, ◌<◌, ◌≤◌, List, [], ◌∷◌, ◌++◌, map, length, drop, drop-cons, get_or, Bool, true, false, Option, Some, None, refl, sym, subst, ap, ◌∙◌, add-one, String, Global, string_bytes}
+use Rattle.std.proofs.Common.{◌≡◌, ◌≢◌, ℕ, ℤ, ◌+◌, ◌<◌, ◌≤◌, List, [], ◌∷◌, ◌++◌, map, length, drop, drop-cons, get_or, Bool, true, false, if◌then◌else◌, Option, Some, None, refl, sym, subst, ap, ◌∙◌, add-one, String, Global, string_bytes}
+use Rattle.std.specs.Prelude.{option_and_then, unwrap_or}
 use Rattle.std.specs.List.{list_all, list_any}
 use Rattle.std.specs.Map.{keys_of}
-use Rattle.std.specs.Option.{option_map_or}
+use Rattle.std.specs.Option.{option_map_or, option_or}
 use Rattle.std.specs.Str.{bytes_eq}
-use Rattle.toml.specs.Data.{Data, string, integer, float, boolean, datetime, array, table, Members, get_member, as_integer}
+use Rattle.toml.specs.Data.{Data, string, integer, float, boolean, datetime, array, table, Members, get_member, as_integer, as_str}
 use Rattle.toml.specs.View.{members_view}
 use Rattle.toml.specs.declared.value.Value.{Value}
 use Rattle.j39_toml.specs.declared.cause.Cause.{Cause}
-use Rattle.j39_toml.specs.declared.cause.Cause.TheVariants.{UnknownKey}
+use Rattle.j39_toml.specs.declared.cause.Cause.TheVariants.{Range, UnknownKey}
 use Rattle.j39_toml.specs.declared.fault.TableFault.{TableFault}
 use Rattle.j39_toml.specs.declared.key_rule.ValueKind.{ValueKind}
 use Rattle.j39_toml.specs.declared.key_rule.ValueKind.TheVariants as kinds
@@ -16,7 +17,7 @@ use Rattle.j39_toml.specs.declared.key_rule.KeyRule.{KeyRule}
 use Rattle.j39_toml.specs.declared.key_rule.KeyRule.TheVariants.{Needed, Optional}
 use Rattle.j39_toml.specs.KeyRules.{as_rule, is_ruled, key_of, kind_cause, kind_of, AreKept, IsKept}
 use Rattle.j39_toml.specs.Outcome.{first}
-use Rattle.j39_toml.specs.Rules.{Rule, array_up_to, number_found, standing, text_where, truth}
+use Rattle.j39_toml.specs.Rules.{Rule, rule_of, array_up_to, number_found, standing, text_found, text_where, truth}
 use Rattle.j39_toml.specs.TableFaults.{fault, has_only, is_key_word, key_faults, keys_faults, standing_cause, table_faults, unknown_faults}
 
 -- ---- keys that some rule names
@@ -139,3 +140,26 @@ pub no_number_there : {K P : Type 0} (word : K → List ℕ) (fits : P → List 
 unfolding number_found
 no_number_there word fits r ms d other kept is =
     rw is (rw (no_integer fits (kind_of r) d other (kept_at word fits r ms d kept is)) refl)
+
+taken_where : (test : Bool) → (if test then None else Some Range) ≡ None → test ≡ true
+taken_where true none = refl
+taken_where false none = absurd cc
+
+taken_there : {K P : Type 0} (word : K → List ℕ) (fits : P → List ℕ → Bool) (k : K) (form : P) (found : Option Data)
+    → standing_cause (rule_of word k (text_where fits form) true) (option_or found None) ≡ None
+    → fits form (unwrap_or (option_and_then as_str found) []) ≡ true
+unfolding text_where
+taken_there word fits k form None kept = absurd cc
+taken_there word fits k form (Some (string s)) kept = taken_where (fits form s) kept
+taken_there word fits k form (Some (integer z)) kept = absurd cc
+taken_there word fits k form (Some (float x)) kept = absurd cc
+taken_there word fits k form (Some (boolean b)) kept = absurd cc
+taken_there word fits k form (Some (datetime t)) kept = absurd cc
+taken_there word fits k form (Some (array ds)) kept = absurd cc
+taken_there word fits k form (Some (table ms)) kept = absurd cc
+
+-- the text at the key of a rule that asks for one has its form
+pub text_taken : {K P : Type 0} (word : K → List ℕ) (fits : P → List ℕ → Bool) (k : K) (form : P) (ms : Members)
+    → IsKept ms (rule_of word k (text_where fits form) true) → fits form (unwrap_or (text_found word k ms) []) ≡ true
+unfolding text_found
+text_taken word fits k form ms kept = taken_there word fits k form (get_member (word k) ms) kept
