@@ -1,0 +1,420 @@
+#!/usr/bin/env python3
+"""Compares which flows `audit` tells as near or silent, at which lines and by how much, with a reference in Python: audit_logs.py [LOGS [SEED]]
+
+Each of so many random logs (200) is of a random plan of five units: frames that keep their distances or don't, claims of these units and of others, messages
+that may be of several flows, clocks that are set back, quiet seconds, lines that are bad or without a time. The reference follows pages, not the program.
+J39PLAN names the program, else ./j39plan is asked. The status is 1 where an answer differs, which is shown.
+"""
+
+from __future__ import annotations
+
+import os
+import random
+import subprocess
+import sys
+import tempfile
+from dataclasses import dataclass, field
+from pathlib import Path
+from typing import NamedTuple
+
+PROGRAM = os.environ.get("J39PLAN", str(Path(__file__).resolve().parent.parent / "j39plan"))
+CLAIM, REQUEST, TRANSPORT, PACKETS = 60928, 59904, 60416, 60160
+ALL, NULL, POOL = 255, 254, range(128, 248)
+BIT, SECOND = 4, 1_000_000
+FRAME_BYTES, LONGEST = 8, 1785
+
+
+class Unit(NamedTuple):
+    label: str
+    address: int
+    identity: int
+    is_arbitrary: bool = False
+    moves: bool = False
+    claims: bool = True
+
+    def name(self) -> int:
+        return self.identity | self.is_arbitrary << 63
+
+
+class Group(NamedTuple):
+    label: str
+    pgn: int
+    priority: int
+    length: int
+    most: int
+
+
+class Flow(NamedTuple):
+    """A flow by the places of its group and its units, to all where `to` is None. Times are in milliseconds."""
+
+    group: int
+    sender: int
+    to: int | None
+    period: int
+    pause: int | None
+    jitter: int = 0
+
+
+class Plan(NamedTuple):
+    units: list[Unit]
+    groups: list[Group]
+    flows: list[Flow]
+    drift: int
+    errors: tuple[int, int] | None
+
+    def receiver(self, flow: Flow) -> str:
+        return "all" if flow.to is None else self.units[flow.to].label
+
+    def toml(self) -> str:
+        lines = ["version = 4", "[timing]", "bitrate = 250000", "unplanned = 0"]
+        lines += [f"drift = {self.drift}"] if self.drift else []
+        lines += [f"errors = {{ count = {self.errors[0]}, every = {self.errors[1]} }}"] if self.errors else []
+        for unit in self.units:
+            arbitrary = ", arbitrary = true" if unit.is_arbitrary else ""
+            lines += ["[[unit]]", f'label = "{unit.label}"', f"address = {unit.address}", f"name = {{ identity = {unit.identity}{arbitrary} }}"]
+            lines += [] if unit.claims else ["claims = false"]
+        for group in self.groups:
+            lines += ["[[group]]", f'label = "{group.label}"', f"pgn = {group.pgn}", f"priority = {group.priority}", f"length = {group.length}"]
+            lines += [f"most = {group.most}"] if group.most != group.length else []
+        for flow in self.flows:
+            lines += ["[[flow]]", f'group = "{self.groups[flow.group].label}"', f'from = "{self.units[flow.sender].label}"']
+            lines += [f'to = "{self.receiver(flow)}"', f"period = {flow.period}", f"jitter = {flow.jitter}"]
+            lines += [f"pause = {flow.pause}"] if flow.pause else []
+        return "\n".join(lines) + "\n"
+
+
+class Frame(NamedTuple):
+    """A frame with its time in microseconds, None where the line has none."""
+
+    time: int | None
+    priority: int
+    pgn: int
+    to: int
+    source: int
+    data: bytes
+
+    def is_broadcast(self) -> bool:
+        return self.pgn >> 8 & 0xFF >= 240
+
+    def text(self) -> str:
+        identifier = self.priority << 26 | self.pgn << 8 | (0 if self.is_broadcast() else self.to << 8) | self.source
+        time = "" if self.time is None else f"({self.time // SECOND}.{self.time % SECOND:06d}) "
+        return f"{time}can0 {identifier:08X}#{self.data.hex().upper()}"
+
+
+# A line is a frame, or a text with what it is: bad, skipped or empty.
+Line = Frame | tuple[str, str]
+
+
+def random_plan(dice: random.Random) -> Plan:
+    units = [Unit("A", 0, 1), Unit("B", 3, 3, claims=dice.random() < 0.8), Unit("C", 128, 5, True, True), Unit("D", 128, 6, True, True), Unit("S", 128, 4, True)]
+    groups = [Group("G1", 61444, 3, 8, 8), Group("G2", 65260, 6, 18, 18), Group("G3", 0, 6, 8, 8), Group("G4", 65100, 6, 4, 12)]
+    flows = [Flow(0, 0, None, 10, dice.choice([20, 25]), dice.choice([0, 2])), Flow(1, 0, None, 100, 200), Flow(2, 0, 2, 10, 30, dice.choice([0, 3])),
+             Flow(2, 0, 3, 10, 40), Flow(3, 1, None, 10, 15), Flow(2, 2, 0, 10, 15), Flow(0, 1, None, 20, dice.choice([None, 20]), 5)]
+    return Plan(units, groups, flows, dice.choice([0, 0, 500, 20000]), dice.choice([None, None, (1, 50), (3, 100)]))
+
+
+def random_claim(dice: random.Random, plan: Plan, time: int | None) -> Frame:
+    place = dice.choice([0, 0, 1, 2, 2, 3, 3, 4, None])
+    if place is None:
+        name, source = 99, dice.choice([140, 141, NULL, 128])
+    else:
+        unit = plan.units[place]
+        name, source = unit.name(), dice.choice([unit.address] * 4 + [128, 129, 130, NULL]) if unit.moves else unit.address
+    return Frame(time, 6, CLAIM, ALL, source, name.to_bytes(8, "little"))
+
+
+def random_line(dice: random.Random, plan: Plan, at: int) -> Line:
+    kind, time = dice.random(), None if dice.random() < 0.01 else at
+    if kind < 0.55:
+        return Frame(time, 3, 61444, ALL, dice.choice([0, 0, 0, 0, 3]), bytes(8))
+    if kind < 0.62:
+        announced = bytes([0x20, 18, 0, 3, ALL]) + (65260).to_bytes(3, "little")
+        return Frame(time, dice.choice([7, 7, 6]), TRANSPORT, ALL, 0, announced)
+    if kind < 0.76:
+        return Frame(time, 6, 0, dice.choice([128, 128, 129, 129, 140, 3, ALL]), 0, bytes(8))
+    if kind < 0.81:
+        return Frame(time, 6, 65100, ALL, 3, bytes(dice.choice([4, 8, 3])))
+    if kind < 0.86:
+        return Frame(time, 6, 0, 0, dice.choice([128, 130, 129]), bytes(8))
+    if kind < 0.91:
+        return random_claim(dice, plan, time)
+    if kind < 0.96:
+        return Frame(time, 6, *dice.choice([(PACKETS, ALL, 0), (65000, ALL, 3), (65000, ALL, 0)]), bytes(8))
+    return dice.choice([("junk", "bad"), ("(1.0) can0 XYZ#00", "bad"), (f"({at // SECOND}.{at % SECOND:06d}) can0 123#00", "skipped"), ("", "empty")])
+
+
+def random_log(dice: random.Random, plan: Plan) -> list[Line]:
+    near, even = (300, 600, 900, 1500, 3000, 5000, 8000, 10000, 12000, 20000, 25000, 40000, 60000), (9000, 10000, 11000, 10500, 22000, 35000, 700)
+    distances, at, lines = dice.choice([near, even]), SECOND, []
+    for _ in range(dice.randint(10, 120)):
+        at += dice.choice(distances)
+        odd = dice.random()
+        at += dice.choice([1_000_001, 2_000_000, 999_999]) if odd < 0.02 else -dice.choice([3000, 100_000, 2_500_000]) if odd > 0.985 else 0
+        at = max(at, 0)
+        lines.append(random_line(dice, plan, at))
+    return lines
+
+
+def whole(value: int, parts: int) -> int:
+    """A quotient, rounded up."""
+    return -(-value // parts)
+
+
+@dataclass
+class Addresses:
+    """Who may be where, by the claims so far: each with its unit, None of a NAME of no unit. Those of units that may move are forgotten at a break."""
+
+    plan: Plan
+    is_part: bool
+    claims: list[tuple[int | None, int]] = field(default_factory=list)
+    recent: list[tuple[int | None, int]] = field(default_factory=list)
+
+    def last(self, unit: int) -> int | None:
+        claims = [] if self.is_part else self.recent if self.plan.units[unit].moves else self.claims
+        return next((address for other, address in reversed(claims) if other == unit), None)
+
+    def is_taken(self, address: int) -> bool:
+        return address < NULL and (None, address) in self.claims
+
+    def is_own(self, unit: int, address: int) -> bool:
+        return self.plan.units[unit].address == address or (self.plan.units[unit].moves and address in POOL)
+
+    def may_be(self, unit: int, address: int) -> bool:
+        last = self.last(unit)
+        return self.is_own(unit, address) if last is None else last == address
+
+    def sender(self, address: int) -> int | None:
+        found = [unit for unit in range(len(self.plan.units)) if self.may_be(unit, address)]
+        return found[0] if len(found) == 1 and not self.is_taken(address) else None
+
+
+class Reference:
+    """What is told of the flows of a plan by a log, whose lines' times may differ by so many microseconds."""
+
+    def __init__(self, plan: Plan, is_part: bool, stamps: int) -> None:
+        self.plan, self.is_part, self.stamps = plan, is_part, stamps
+        self.addresses = Addresses(plan, is_part)
+        self.told: dict[tuple[str, int], list[tuple[int, int]]] = {}
+        self.greatest: int | None = None  # the greatest time since times began
+        self.before: int | None = None  # the time of the line before, where it is a frame
+        self.idle: int | None = None
+        self.earliest: dict[int, int | None] = {}
+        self.latest: dict[int, tuple[int, int]] = {}  # the latest moment of the newest message of a flow, and its line
+        self.shown: dict[int, tuple[int, int | None]] = {}  # the line of the last frame of a unit, and its idle mark
+
+    def longest(self, ms: int) -> int:
+        return whole(1001 * ms * (SECOND + self.plan.drift), SECOND)
+
+    def shortest(self, ms: int) -> int:
+        return 999 * ms * (SECOND - self.plan.drift) // SECOND
+
+    def jitter(self, flow: Flow) -> int:
+        return self.longest(flow.jitter + (0 if self.plan.groups[flow.group].most <= FRAME_BYTES else flow.period))
+
+    def pause(self, flow: Flow) -> int | None:
+        """How long the pause is of a flow that is judged."""
+        group, ends = self.plan.groups[flow.group], [flow.sender] + ([] if flow.to is None else [flow.to])
+        is_of_one_sort = group.most <= FRAME_BYTES or group.length > FRAME_BYTES
+        is_judged = not self.is_part and is_of_one_sort and all(self.plan.units[end].claims for end in ends)
+        return self.longest(flow.pause) if flow.pause and is_judged else None
+
+    def tell(self, word: str, flow: int, line: int, by: int) -> None:
+        self.told.setdefault((word, flow), []).append((line, by))
+
+    # ---- ends of pauses
+
+    def end(self, place: int) -> None:
+        """The pause of a flow ends: it is looked at by the last frame of its ends, of which the earlier one counts."""
+        flow = self.plan.flows[place]
+        pause = self.pause(flow)
+        if place not in self.latest or pause is None:
+            return
+        moment, line = self.latest.pop(place)
+        ends = [self.shown.get(end) for end in (flow.sender, flow.to) if end is not None]
+        there = [end for end in ends if end is not None]
+        if len(there) < len(ends):
+            return
+        at, idle = min(there, key=lambda it: it[0])
+        if at > line and idle is not None and idle - self.jitter(flow) > moment + pause:
+            self.tell("silent", place, line, idle - self.jitter(flow) - moment - pause)
+
+    def end_all(self) -> None:
+        for place in range(len(self.plan.flows)):
+            self.end(place)
+        self.forget()
+
+    def forget(self) -> None:
+        self.latest, self.shown = {}, {}
+
+    def take_bad(self) -> None:
+        self.end_all()
+        self.take_skipped()
+
+    def take_skipped(self) -> None:
+        self.before = self.idle = None
+
+    # ---- frames
+
+    def take(self, line: int, frame: Frame) -> None:
+        is_broken = self.see_time(frame.time)
+        is_claim = frame.pgn == CLAIM and len(frame.data) == FRAME_BYTES and frame.source <= NULL
+        claimant = next((place for place, unit in enumerate(self.plan.units) if is_claim and unit.name() == int.from_bytes(frame.data, "little")), None)
+        sender = self.addresses.sender(frame.source) if not is_claim and frame.source < NULL else None
+        flows = [] if sender is None else self.flows_of(sender, frame)
+        if frame.time is not None:
+            self.mark_idle(frame.time, len(frame.data), is_broken)
+            if is_claim:
+                self.end_at_claim(claimant, frame.source)
+            for place in flows if len(flows) > 1 else []:
+                self.end(place)
+            if len(flows) == 1:
+                self.take_message(line, frame.time, flows[0], frame.pgn != TRANSPORT)
+            if sender is not None:
+                self.shown[sender] = line, self.idle
+        if is_claim:
+            self.addresses.claims.append((claimant, frame.source))
+            self.addresses.recent.append((claimant, frame.source))
+
+    def see_time(self, time: int | None) -> bool:
+        """Times begin anew at a frame without one or where the clock was set back; the log breaks off there, and behind a quiet second."""
+        is_back = time is not None and self.greatest is not None and time + 2 * self.stamps < self.greatest
+        is_quiet = time is not None and self.greatest is not None and time > self.greatest + SECOND
+        if time is None or is_back:
+            self.end_all()
+            self.before = self.idle = None
+            self.earliest = {}
+        elif is_quiet:
+            self.forget()
+        self.greatest = time if time is None or is_back or self.greatest is None else max(self.greatest, time)
+        if is_back or is_quiet:
+            self.addresses.recent = []
+        return is_back or is_quiet
+
+    def mark_idle(self, time: int, size: int, is_broken: bool) -> None:
+        """The bus was idle before a frame that doesn't touch the one before, if damage can't fill what is between."""
+        count, every = self.plan.errors or (0, 0)
+        reach = whole(BIT * (81 + 10 * size + 192 * count) * (SECOND + self.plan.drift), SECOND) + 2
+        is_rare = not self.plan.errors or BIT * 192 * (count + 1) * (SECOND + self.plan.drift) <= 1000 * every * SECOND
+        if not self.is_part and not is_broken and is_rare and self.before is not None and time > self.before + reach + 2 * self.stamps:
+            self.idle = time - reach - self.stamps
+        self.before = time
+
+    def end_at_claim(self, unit: int | None, source: int) -> None:
+        if unit is None and (source == NULL or self.addresses.is_taken(source)):
+            return
+        if unit is None or self.addresses.last(unit) != source:
+            self.end_all()
+            return
+        for place, flow in enumerate(self.plan.flows):
+            if unit in (flow.sender, flow.to):
+                self.end(place)
+        self.shown.pop(unit, None)
+
+    def flows_of(self, sender: int, frame: Frame) -> list[int]:
+        """The flows of which a frame, or what it announces, may be a message: the nearest ones."""
+        number, size, priority, data = frame.pgn, len(frame.data), frame.priority, frame.data
+        if number in (CLAIM, REQUEST, PACKETS):
+            return []
+        if number == TRANSPORT:
+            size, packets, number = data[1] | data[2] << 8, data[3], int.from_bytes(data[5:8], "little")
+            if not FRAME_BYTES < size <= LONGEST or packets != whole(size, 7) or (data[0], data[4], frame.to) != (0x20, ALL, ALL):
+                return []
+        is_single = frame.pgn != TRANSPORT
+        is_broadcast = is_single and frame.is_broadcast()
+
+        def is_of(flow: Flow) -> bool:
+            group, to = self.plan.groups[flow.group], flow.to
+            is_fit = group.pgn == number and group.length <= size <= group.most and (not is_single or group.priority == priority)
+            if not is_fit or flow.sender != sender or is_broadcast:
+                return is_fit and flow.sender == sender
+            return frame.to == ALL if to is None else frame.to != ALL and (self.addresses.is_own(to, frame.to) or self.addresses.last(to) == frame.to)
+
+        found = [place for place, flow in enumerate(self.plan.flows) if is_of(flow)]
+        near = [it for it in found if is_broadcast or (to := self.plan.flows[it].to) is None or self.addresses.may_be(to, frame.to)]
+        return near or found
+
+    def take_message(self, line: int, time: int, place: int, is_single: bool) -> None:
+        flow, upper = self.plan.flows[place], time + self.stamps
+        if (self.plan.groups[flow.group].most <= FRAME_BYTES) != is_single:
+            return
+        lower = None if self.idle is None else self.idle - self.jitter(flow)
+        last = self.earliest.get(place)
+        bounds = [it for it in (lower, None if last is None else last + self.shortest(flow.period)) if it is not None]
+        earliest = max(bounds, default=None)
+        if earliest is not None and earliest > upper:
+            self.tell("near", place, line, earliest - upper)
+            earliest = lower
+        self.earliest[place] = earliest
+        pause = self.pause(flow)
+        if pause is None:
+            return
+        latest = upper
+        if place in self.latest:
+            moment, before = self.latest[place]
+            if lower is not None and lower > moment + pause:
+                self.tell("silent", place, before, lower - moment - pause)
+            else:
+                latest = min(upper, moment + pause)
+        self.latest[place] = latest, line
+
+    def lines(self) -> list[str]:
+        """What is told, by words and then by flows."""
+        found = []
+        for word in ("near", "silent"):
+            for place, flow in enumerate(self.plan.flows):
+                if told := self.told.get((word, place)):
+                    by = max(it[1] for it in told)
+                    worst = next(it[0] for it in told if it[1] == by)
+                    names = f"{self.plan.groups[flow.group].label} {self.plan.units[flow.sender].label} {self.plan.receiver(flow)}"
+                    found.append(f"{word} flow {place + 1} {names} times {len(told)} first {told[0][0]} worst {worst} by {by} us")
+        return found
+
+
+def wanted(plan: Plan, lines: list[Line], is_part: bool, stamps: int) -> list[str]:
+    """What the reference tells of a log."""
+    reference = Reference(plan, is_part, stamps)
+    for number, line in enumerate(lines, 1):
+        if isinstance(line, Frame):
+            reference.take(number, line)
+        elif line[1] == "bad":
+            reference.take_bad()
+        elif line[1] == "skipped":
+            reference.take_skipped()
+    reference.end_all()
+    return reference.lines()
+
+
+def answered(plan: Plan, lines: list[Line], is_part: bool, stamps: int, folder: str) -> list[str]:
+    """What the program tells of it."""
+    files = {"plan.toml": plan.toml(), "a.log": "".join(f"{line.text() if isinstance(line, Frame) else line[0]}\n" for line in lines)}
+    for name, text in files.items():
+        Path(folder, name).write_text(text, encoding="ascii")
+    words = [PROGRAM, "audit", *(["--part"] if is_part else []), "--stamps", str(stamps), *(f"{folder}/{name}" for name in files)]
+    ran = subprocess.run(words, stdin=subprocess.DEVNULL, capture_output=True, text=True, check=False)
+    answer = ran.stdout.splitlines()
+    if ran.returncode > 1 or not answer or not answer[-1].startswith("deviations "):
+        raise SystemExit(f"audit answers {ran.stdout}{ran.stderr}")
+    return [line for line in answer if line.startswith(("near flow ", "silent flow "))]
+
+
+def main(words: list[str]) -> int:
+    count, seed = int(words[0]) if words else 200, int(words[1]) if words[1:] else 1
+    differences, told = 0, {"near": 0, "silent": 0}
+    with tempfile.TemporaryDirectory(prefix="j39plan-audits-") as folder:
+        for number in range(count):
+            dice = random.Random(f"{seed} {number}")
+            plan = random_plan(dice)
+            lines, is_part, stamps = random_log(dice, plan), dice.random() < 0.1, dice.choice([1000, 1000, 0, 5000])
+            want, have = wanted(plan, lines, is_part, stamps), answered(plan, lines, is_part, stamps, folder)
+            for line in want:
+                told[line.split()[0]] += 1
+            if want != have:
+                differences += 1
+                print(f"log {number} of seed {seed}: audit tells {have}, the reference {want}")
+    print(f"logs {count} near {told['near']} silent {told['silent']} differences {differences}")
+    return int(differences > 0)
+
+
+if __name__ == "__main__":
+    sys.exit(main(sys.argv[1:]))
