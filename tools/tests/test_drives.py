@@ -1,7 +1,7 @@
 """What `against` reports of drives: units that don't claim, an ignition that was off, boxes that are plugged in or move, and messages that wait for
 others of their unit."""
 
-from tests.test_deviations import BRAKES, CLEAR, EBC1, HITCH, PACKETS, PLAN, RTS, SPRAYER, WHOLE, Deviations, brakes
+from tests.test_deviations import BRAKES, CLEAR, EBC1, HITCH, PACKETS, PLAN, RTS, SPRAYER, WHOLE, Deviations, brakes, lines_of
 
 ASKS = "18EAFFFE#00EE00"
 
@@ -99,6 +99,12 @@ class Ignition(Deviations):
         self.assertEqual(self.told(*first, *self.drive(10, 20), plan=self.PLAN, words=()), [f"L:{len(first) + 1}: {text}"])
         self.assertEqual(self.told(*first, *self.drive(10, 12), plan=self.PLAN, words=()), [f"L:{len(first) + 1}: {text}"])
 
+    def test_a_message_that_the_ignition_cuts(self) -> None:
+        """Its units go off together: that accuses none of them."""
+        first, text = [*self.drive(1, 3), (2.97, RTS), (2.98, CLEAR), (2.99, PACKETS[0])], "nothing at all came for 7010 ms before, then units claimed anew"
+        found = self.told(*first, *self.drive(10, 20), plan=self.PLAN, words=())
+        self.assertEqual([line[:line.index(":", 60)] for line in found], [f"L:{len(first) + 1}: {text}"])
+
     def test_a_slow_unit(self) -> None:
         """It claims 9 s behind the others: that is its start too. What claims once more then restarts."""
         late = [(19.0, SPRAYER), (25.0, SPRAYER)]
@@ -142,6 +148,14 @@ class Queues(Deviations):
         self.assertEqual(self.told_of_dm1((0.5, BRAKES), *self.dm1(1), *other, *self.dm1(2.14, 2.98, 4.0)), [f"L:11: {near.format(840)}"])
         self.assertEqual(self.told_of_dm1((0.5, BRAKES), *self.dm1(1, 2.14, 3.0))[-1], f"L:8: {near.format(860)}")
 
+    def test_a_clock_that_is_set_in_a_broadcast(self) -> None:
+        """Where its announcement was by the new clock isn't known; the next one is measured from."""
+        before = self.dm1(1, 2, 3, 4)[:-2]
+        after = [(at - 3, frame) for at, frame in [*self.dm1(4)[1:], *self.dm1(5, 6, 7, 8)]]
+        for behind, found in ((after, []), ([*after, *self.dm1(5.7)], ["L:26: flow 3, DM1 from BRAKES to all: 700 ms after the one before, its period is 1000 ms"])):
+            told = self.told_of(lines_of((0.5, BRAKES), *before) + lines_of(*behind), self.PLAN)
+            self.assertEqual([line for line in told if "DM1" in line], found)
+
     def test_two_broadcasts_before_it(self) -> None:
         """What waits behind the second one waits since the first one began."""
         others = [(begin + number / 20, frame) for begin in (1.9, 2.05) for number, frame in enumerate(OTHER)]
@@ -164,6 +178,14 @@ class Refused(Deviations):
         """HITCH has no session for VI of 3 s; half a second later it has: the next one comes 1,500 ms after that."""
         self.assertEqual(self.told_of_vi(*self.whole(1), (3, RTS), (3.01, self.BUSY), *self.whole(3.5, 5, 7)), [])
 
+    def test_a_log_that_ends_in_a_message(self) -> None:
+        """It may go on for 1,250 ms behind its last frame."""
+        whole, lost = self.whole(3), "L:3: VI from BRAKES to HITCH: announced, and not carried whole: {}"
+        for count, cause in ((1, "no clear to send"), (2, "packet 1 of 3 didn't come"), (4, "packet 3 of 3 didn't come")):
+            last = whole[count - 1][0]
+            self.assertEqual(self.told_of_vi(*whole[:count], (last + 1.25, EBC1)), [])
+            self.assertEqual(self.told_of_vi(*whole[:count], (last + 1.26, EBC1)), [lost.format(cause)])
+
     def test_one_that_is_not_tried_again(self) -> None:
         """Each Abort is told once; a refusal when it isn't tried again within 5 s, and then each."""
         text = "VI from BRAKES to HITCH: given up by HITCH, reason 1 (too many sessions)"
@@ -174,7 +196,7 @@ class Refused(Deviations):
     def test_answers_that_do_not_fit(self) -> None:
         """A clear to send for more packets than the announcement allows, an acknowledgement of another size."""
         two_at_once, three = RTS.replace("110003FF", "11000302"), "L:4: VI from BRAKES to HITCH: cleared to send 3 packets at once, its announcement allows 2"
-        self.assertEqual(self.told_of_vi((3, two_at_once), (3.01, CLEAR)), [three, "L:3: VI from BRAKES to HITCH: announced, and not carried whole: packet 1 of 3 didn't come"][::-1])
+        self.assertEqual(self.told_of_vi((3, two_at_once), (3.01, CLEAR), (5, EBC1)), [three, "L:3: VI from BRAKES to HITCH: announced, and not carried whole: packet 1 of 3 didn't come"][::-1])
         self.assertEqual(self.told_of_vi((3, two_at_once), (3.01, CLEAR.replace("110301", "110201")), (3.02, PACKETS[0]), (3.03, PACKETS[1]), (3.04, CLEAR.replace("110301", "110103")),
                                          (3.05, PACKETS[2]), (3.06, WHOLE)), [])
         other = WHOLE.replace("13110003", "13120003")

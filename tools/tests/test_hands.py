@@ -131,9 +131,12 @@ class Hands(Compared):
         self.assertEqual(told(live, *twice), [f"{restart}  (2 times)", f"L:7: ENGINE {said.format('50')}  (2 times)"])
 
     def test_units_that_are_not_there(self) -> None:
-        """Who neither claimed an address nor sent anything; who only answers does send."""
+        """Who neither claimed an address nor sent anything; who only answers does send, and who only listens is never seen."""
         plan = PLAN + '[[unit]]\nlabel = "GHOST"\naddress = 5\nname = { identity = 9 }\n'
         said = ["P: unit GHOST: neither claimed an address nor sent anything"]
         self.assertEqual(self.compared(plan, FLOWS), said)
         for frame in ("18EEFF05#0900000000000000", "18EAFF05#00EE00", "18FF1005#00", "1CEC0005#110301FFFFECFE00"):
             self.assertEqual(self.compared(plan, [*FLOWS, frame]), [], frame)
+        listens = plan.replace("version = 1", "version = 4") + "claims = false\n"
+        self.assertEqual(self.compared(listens, FLOWS), [])
+        self.assertIn(said[0], self.compared(listens + '[[flow]]\ngroup = "ET1"\nfrom = "GHOST"\nto = "all"\n', FLOWS))

@@ -326,8 +326,8 @@ class Comparison:
             self.unplanned.came(line, at, identifier_of(6, REQUEST, 0))
 
     def end(self, begun: Begun | None) -> None:
-        """A message that comes to nothing, if there is one."""
-        if begun is None:
+        """A message that comes to nothing, if there is one; of one before which frames may be missing that isn't known."""
+        if begun is None or self.distances.is_before(begun.line):
             return
         if begun.between:
             address, _, where = begun.between.partition(" at ")
@@ -441,7 +441,8 @@ class Comparison:
     def ends(self, last: int | None, has_frames: bool) -> None:
         """Tells what is known at the end, where the last time of the log is this one."""
         for begun in self._begun.values():
-            self.end(begun)
+            if begun.between or not self.transfers.may_go_on(begun.pair, last):
+                self.end(begun)
         self.claims.end(last)
         self.commanded.end()
         self.hands.end(last)
@@ -457,8 +458,12 @@ class Comparison:
                 self.found.tell("never-sent", f"{self.distances.name(number)}: never sent", None, flow=number, unit=flow.sender)
         self.unmet()
         for label in self.units:
-            if has_frames and label not in self.hands.last:
+            if has_frames and label not in self.hands.last and self.is_seen(label):
                 self.found.tell("absent", f"unit {label}: neither claimed an address nor sent anything", None, unit=label)
+
+    def is_seen(self, label: str) -> bool:
+        """Whether a unit that is there sends something: it claims its address, or has messages or requests to send."""
+        return self.units[label].claims or any(label == way.sender for way in (*self.flows, *self.requests))
 
     def unmet(self) -> None:
         """Tells the needs that nothing met in this log."""

@@ -155,6 +155,10 @@ class Distances:
             track.at = None
             track.row_ends()
 
+    def is_before(self, line: int) -> bool:
+        """Whether distances begin behind a line."""
+        return self._since is not None and line < self._since[0]
+
     def alive(self, at: int) -> int:
         """How many flows aren't silent at a time."""
         return sum(track.limits is not None and track.limits.most < math.inf and track.at is not None and at - track.at <= track.limits.most
@@ -176,7 +180,7 @@ class Distances:
         if at is None:
             self.without_time = self.without_time or limits is not None
             return
-        if limits is None and self._usual is None:
+        if limits is None and self._usual is None or self.is_before(line):
             return
         before, track.line, track.at, track.waited = track.waited, line, at, waited
         if self._overdue and track.number in self._overdue:

@@ -167,6 +167,13 @@ class Transfers:
             return Cause("its packets came out of order")
         return Cause(f"packet {{}} of {transfer.count} didn't come", transfer.missing)
 
+    def may_go_on(self, pair: Pair, last: int | None) -> bool:
+        """Whether a message that was announced may go on behind the log's last time: packets or an answer may still come."""
+        transfer = self._open.get(pair)
+        if transfer is None or transfer.at is None or last is None or transfer.is_broadcast and transfer.missing is None:
+            return False
+        return 0 <= last - transfer.at <= WAITED
+
     def goes_by(self, at: int) -> None:
         """Time goes by: what isn't acknowledged, or tried again, until now isn't any more."""
         for pair, refusals in list(self.refused.items()):
