@@ -30,7 +30,7 @@ MEANINGS = {
     "remote": "a remote frame, which J1939 hasn't",
     "fd": "a CAN FD frame, which J1939 hasn't",
     "extended-page": "a frame with the extended data page, which J1939 hasn't",
-    "not-whole": "a long message that was announced and not completed, and why; none whose last frame is within 1,250 ms of the log's end, or before a gap",
+    "not-whole": f"a long message that was announced and not completed, and why; none whose last frame is within {WAIT:,} ms of the log's end, or before a gap",
     "given-up": "a long message that was aborted, by whom and why; a refusal for lack of a session is none where the message is carried whole within 5 s",
     "wrong-answer": "a clear to send for more packets than the announcement allows; an acknowledgement of another size",
     "not-acknowledged": f"a complete long message that its receiver didn't acknowledge within {WAIT:,} ms",
