@@ -2,7 +2,7 @@
 use crate::row::Command;
 use j39_app::{
     Fault, Sink, Source, Verdict, addresses_line_text, audit_planned, bus_plan, check_line_text,
-    follow_text, input_text, line_text, load_text, read_text, refuse_choices, run_planned,
+    follow_text, input_text, line_text, load_line_text, read_text, refuse_choices, run_planned,
     show_text, variant_text, vehicle_file, vehicle_text,
 };
 use j39_id::Label;
@@ -57,7 +57,7 @@ pub fn perform<P: Source, S: Source, W: Sink>(
         Command::Show => return show_text(alloc, plan, sink),
         Command::Variant => return variant_text(alloc, &[], plan, sink),
         Command::Addresses => return addresses_line_text(alloc, plan, sink),
-        Command::Load => return load_text(alloc, plan, sink),
+        Command::Load => return load_line_text(alloc, plan, sink),
         Command::Vehicle => return perform_vehicle(alloc, plan, input, sink),
         Command::Run | Command::Read | Command::Follow => {}
         Command::FollowAll | Command::Audit | Command::AuditPart => {}

@@ -4,7 +4,7 @@ ghost use Rattle.j39_line_text.specs.LineAddressesText.{IsLineAddressesReport, I
 ghost use Rattle.j39_stream.specs.CommandEnds.{AnswersWhole, IsOfAny};
 ghost use Rattle.j39_stream.specs.Streams.{plan_limits};
 
-use crate::hindrances::check_addresses;
+use crate::hindrances::{Asked, check_for};
 use crate::line_report::{faulty_text, many_variants, no_variant_text};
 use crate::standing_lines::standings_text;
 use j39_line_bounds::line_standings;
@@ -33,7 +33,7 @@ fn line_addresses(
 {
     who_stays();
     who_stays_with_strangers();
-    let answer = check_addresses(alloc, line)?;
+    let answer = check_for(alloc, Asked::Addresses, line)?;
     match answer {
         LineAnswer::ManyVariants(count) => {
             let text = many_variants(alloc, count)?;

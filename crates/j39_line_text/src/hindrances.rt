@@ -1,38 +1,56 @@
 //! Findings of possible variants for which check's answer is written.
-ghost use Rattle.std.specs.Prelude.{IfOk, map};
-ghost use Rattle.j39_line_text.specs.Hindrances.{IsHidingAnswer, TellsWhetherAnyIsHidden, TellsWhetherHidden};
-ghost use Rattle.j39_plan_text.specs.AddressesText.{is_of_addresses};
 
-use j39_findings::check;
+use j39_findings::{Finding, check};
 use j39_line_findings::{
     LineAnswer, VARIANT_LIMIT, all_variants, combinations, is_any_possible,
 };
-use j39_plan_text::is_of_addresses;
+use j39_plan_text::{hides_times, is_of_addresses};
 use j39_variants::{ProductLine, is_possible, plan_of};
 use std::alloc::{AllocError, Global};
 
-// Whether a variant is possible, and its plan has a finding on NAMEs or addresses.
-fn is_hidden(alloc: Global, line: &ProductLine, variant: &[usize]) -> Result<bool, AllocError>
-    ensures { IfOk result (TellsWhetherHidden is_of_addresses line.now variant.now) }
+/// What is asked of a line.
+#[derive(Clone, Copy, PartialEq, Eq)]
+pub(crate) enum Asked {
+    /// Which of its units stay.
+    Addresses,
+    /// Its times.
+    Times,
+}
+
+// Whether a finding hides what is asked.
+fn hides(asked: Asked, finding: &Finding) -> bool {
+    match asked {
+        Asked::Addresses => is_of_addresses(finding),
+        Asked::Times => hides_times(finding.number()),
+    }
+}
+
+// Whether a variant is possible, and its plan has a finding that hides what is asked.
+fn is_hidden(
+    alloc: Global,
+    asked: Asked,
+    line: &ProductLine,
+    variant: &[usize],
+) -> Result<bool, AllocError>
 {
     if !is_possible(&line.nevers, variant) {
         return Ok(false);
     }
     let plan = plan_of(alloc, line, variant)?;
     let findings = check(alloc, &plan)?;
-    Ok(findings.iter().any(is_of_addresses))
+    Ok(findings.iter().any(|finding| hides(asked, finding)))
 }
 
 // Whether one of these variants is.
 fn is_any_hidden(
     alloc: Global,
+    asked: Asked,
     line: &ProductLine,
     variants: &[Vec<usize>],
 ) -> Result<bool, AllocError>
-    ensures { IfOk result (TellsWhetherAnyIsHidden is_of_addresses line.now (map (λ v. v.items) variants.now)) }
 {
     for variant in variants {
-        let hidden = is_hidden(alloc, line, variant)?;
+        let hidden = is_hidden(alloc, asked, line, variant)?;
         if hidden {
             return Ok(true);
         }
@@ -42,8 +60,11 @@ fn is_any_hidden(
 
 /// Whether something stands in the way of what is told of the addresses of a line: too many variants to look at each,
 /// none that is possible, or a possible one with a finding on NAMEs or addresses.
-pub(crate) fn check_addresses(alloc: Global, line: &ProductLine) -> Result<LineAnswer, AllocError>
-    ensures { IfOk result (IsHidingAnswer is_of_addresses line.now) }
+pub(crate) fn check_for(
+    alloc: Global,
+    asked: Asked,
+    line: &ProductLine,
+) -> Result<LineAnswer, AllocError>
 {
     let count = combinations(&line.choices);
     if VARIANT_LIMIT < count {
@@ -53,7 +74,7 @@ pub(crate) fn check_addresses(alloc: Global, line: &ProductLine) -> Result<LineA
     if !is_any_possible(line, &variants) {
         return Ok(LineAnswer::NoVariant);
     }
-    let hidden = is_any_hidden(alloc, line, &variants)?;
+    let hidden = is_any_hidden(alloc, asked, line, &variants)?;
     if hidden {
         return Ok(LineAnswer::Faulty);
     }

@@ -233,3 +233,59 @@ pub(crate) fn findings_text(
     write_all(alloc, &mut text, line, &alternatives, &variants, told)?;
     Ok(text)
 }
+
+// Whether a finding is one of which the lines of the times tell: of a bus that is too full, a late flow, or an old need.
+fn is_of_times(finding: LineFinding) -> bool {
+    matches!(finding.rank().number, 17 | 18 | 20)
+}
+
+fn write_untold_report(
+    alloc: Global,
+    text: &mut TextBuffer,
+    line: &ProductLine,
+    alternatives: &[Alternative],
+    variant: &[usize],
+    finding: LineFinding,
+) -> Result<(), AllocError> {
+    if is_of_times(finding) {
+        return Ok(());
+    }
+    write_report(alloc, text, line, alternatives, variant, finding)
+}
+
+fn write_untold_reports(
+    alloc: Global,
+    text: &mut TextBuffer,
+    line: &ProductLine,
+    alternatives: &[Alternative],
+    variants: &[Vec<usize>],
+    told: &[Witnessed],
+) -> Result<(), AllocError> {
+    for witnessed in told {
+        let variant = variant_at(variants, witnessed.variant);
+        write_untold_report(alloc, text, line, alternatives, variant, witnessed.finding)?;
+    }
+    Ok(())
+}
+
+/// Writes a line for each thing that is found of a line of vehicles and isn't of its times, with what is told of its
+/// witness, and how many there are, where there are any.
+pub(crate) fn write_untold(
+    alloc: Global,
+    text: &mut TextBuffer,
+    line: &ProductLine,
+    told: &[Witnessed],
+) -> Result<(), AllocError> {
+    let count = told
+        .iter()
+        .filter(|witnessed| !is_of_times(witnessed.finding))
+        .count();
+    if count == 0 {
+        return Ok(());
+    }
+    let alternatives = alternatives_of(alloc, line)?;
+    let variants = all_variants(alloc, &line.choices)?;
+    write_untold_reports(alloc, text, line, &alternatives, &variants, told)?;
+    text.field("findings ", count)?;
+    text.end_line()
+}

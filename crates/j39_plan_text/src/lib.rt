@@ -8,7 +8,6 @@ mod laws;
 mod live_identifiers;
 mod load;
 mod load_lines;
-mod load_report;
 mod plan_file;
 mod plan_findings;
 mod plan_report;
@@ -27,8 +26,10 @@ pub use laws::{
     written_runs_read_back, written_runs_show_the_conflict,
 };
 pub use live_identifiers::live_flows_have_different_identifiers;
-pub use load::load_text;
-pub use load_lines::{write_load, write_load_finding};
+pub use load::{hides_times, load_report};
+pub use load_lines::{
+    write_age, write_flow, write_known_delay, write_load, write_load_finding, write_time,
+};
 pub use plan_file::{line_text, refuse_choices, write_choices_refused, write_refusal};
 pub use plan_findings::PlanFindings;
 pub use plan_report::write_check;
