@@ -1,6 +1,7 @@
 -- What is told of units, with one variant more.
 use Rattle.std.proofs.Common.{◌≡◌, ℕ, zero, suc, ◌+◌, ◌<◌, ◌⊎◌, List, [], ◌∷◌, ◌++◌, Bool, true, false, Option, Some, None, inl, inr, get_or, length, map, take, refl, sym, ap, ◌∙◌, arith, subst}
 use Rattle.std.specs.Bool.{MatchBool}
+use Rattle.std.specs.Prelude.{if◌then◌else◌}
 use Rattle.std.specs.List.{range_with_len, slice_get}
 use Rattle.std.proofs.lemmas.Bool.{cases_Bool, false≢true, true≢false}
 use Rattle.std.proofs.lemmas.List.{length-map, map-append, take_more}
@@ -13,7 +14,7 @@ use Rattle.j39_network.specs.declared.plan.unit_plan.UnitPlan.{UnitPlan}
 use Rattle.j39_variants.specs.VariantPlans.{IsVariantPlan}
 use Rattle.j39_variants.specs.Variants.{is_possible}
 use Rattle.j39_variants.specs.declared.line.ProductLine.{ProductLine}
-use Rattle.j39_line_findings.proofs.EveryVariant.{every_variant, one_cases, one_left, one_right}
+use Rattle.j39_line_findings.proofs.EveryVariant.{every_variant, one_cases}
 use Rattle.j39_line_findings.specs.AllVariants.{IsOneOf, all_variants}
 use Rattle.j39_line_findings.specs.LineAnswers.{IsPossible}
 use Rattle.j39_line_findings.specs.MissedNeeds.{is_unit_there}
@@ -51,11 +52,11 @@ module _ (line : ProductLine) (v : List ℕ) (plan : Plan) (stays : UnitPlan →
   decided p has = decides p unit (same_unit line v u plan p is has ∙ at)
 
   stays_there : stays unit ≡ true → StaysIn line v u
-  stays_there yes other p of has =
+  stays_there yes other p of_other has =
       let here : StaysBeside plan.strangers (units_of plan) p =
       subst (λ b. MatchBool b (StaysBeside plan.strangers (units_of plan) p) (¬ StaysBeside plan.strangers (units_of plan) p)) yes (decided p has) in
-      let strangers = same_strangers line v plan other is of in
-      let units = same_units line v plan other is of in
+      let strangers = same_strangers line v plan other is of_other in
+      let units = same_units line v plan other is of_other in
       subst (λ n. StaysBeside n (units_of other) p) strangers (subst (λ us. StaysBeside plan.strangers us p) units here)
 
   moves_there : stays unit ≡ false → HasUnit line v u → MayMoveIn line v u
@@ -81,12 +82,21 @@ module _ (line : ProductLine) (v : List ℕ) (plan : Plan) (stays : UnitPlan →
 
 -- ---- one variant more
 
+one_left : (xs ys : List (List ℕ)) (v : List ℕ) → IsOneOf xs v → IsOneOf (xs ++ ys) v
+one_left [] ys v is = absurd is
+one_left (x ∷ xs) ys v (inl is) = inl is
+one_left (x ∷ xs) ys v (inr is) = inr (one_left xs ys v is)
+
+one_last : (xs : List (List ℕ)) (v : List ℕ) → IsOneOf (xs ++ v ∷ []) v
+one_last [] v = inl refl
+one_last (x ∷ xs) v = inr (one_last xs v)
+
 module _ (line : ProductLine) (vs : List (List ℕ)) (v : List ℕ) where
   more : (w : List ℕ) → IsPossibleOf line vs w → IsPossibleOf line (vs ++ v ∷ []) w
   more w these = (one_left vs (v ∷ []) w these.0, these.1)
 
   last : is_possible line.nevers.items v ≡ true → IsPossibleOf line (vs ++ v ∷ []) v
-  last possible = (one_right vs (v ∷ []) v (inl refl), possible)
+  last possible = (one_last vs v, possible)
 
   each_more : (P : List ℕ → Type 0) → ((w : List ℕ) → IsPossibleOf line vs w → P w) → (is_possible line.nevers.items v ≡ true → P v) → (w : List ℕ)
       → IsPossibleOf line (vs ++ v ∷ []) w → P w

@@ -9,12 +9,12 @@ use Rattle.j39_line_findings.specs.AllVariants.{AreAllVariants, IsOneOf, all_beh
 
 -- ---- one of these
 
-pub one_left : (xs ys : List (List ℕ)) (v : List ℕ) → IsOneOf xs v → IsOneOf (xs ++ ys) v
+one_left : (xs ys : List (List ℕ)) (v : List ℕ) → IsOneOf xs v → IsOneOf (xs ++ ys) v
 one_left [] ys v is = absurd is
 one_left (x ∷ xs) ys v (inl is) = inl is
 one_left (x ∷ xs) ys v (inr is) = inr (one_left xs ys v is)
 
-pub one_right : (xs ys : List (List ℕ)) (v : List ℕ) → IsOneOf ys v → IsOneOf (xs ++ ys) v
+one_right : (xs ys : List (List ℕ)) (v : List ℕ) → IsOneOf ys v → IsOneOf (xs ++ ys) v
 one_right [] ys v is = is
 one_right (x ∷ xs) ys v is = inr (one_right xs ys v is)
 

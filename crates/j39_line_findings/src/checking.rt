@@ -66,8 +66,7 @@ fn is_any_faulty(
     Ok(false)
 }
 
-/// Whether one of these variants is possible.
-pub fn is_any_possible(line: &ProductLine, variants: &[Vec<usize>]) -> bool
+fn is_any_possible(line: &ProductLine, variants: &[Vec<usize>]) -> bool
     ensures { result ≡ list_any (λ v. is_possible line.now.nevers.items v.items) variants.now }
 {
     variants

@@ -1,9 +1,11 @@
 //! Findings of possible variants for which check's answer is written.
+ghost use Rattle.std.specs.Prelude.{◌≡◌, IfOk, map};
+ghost use Rattle.std.specs.List.{list_any};
+ghost use Rattle.j39_variants.specs.Variants.{is_possible};
+ghost use Rattle.j39_line_text.specs.Hindrances.{IsHidingAnswer, TellsWhetherAnyIsHidden, TellsWhetherHidden, hides};
 
 use j39_findings::{Finding, check};
-use j39_line_findings::{
-    LineAnswer, VARIANT_LIMIT, all_variants, combinations, is_any_possible,
-};
+use j39_line_findings::{LineAnswer, VARIANT_LIMIT, all_variants, combinations};
 use j39_plan_text::{hides_times, is_of_addresses};
 use j39_variants::{ProductLine, is_possible, plan_of};
 use std::alloc::{AllocError, Global};
@@ -18,7 +20,9 @@ pub(crate) enum Asked {
 }
 
 // Whether a finding hides what is asked.
-fn hides(asked: Asked, finding: &Finding) -> bool {
+fn hides(asked: Asked, finding: &Finding) -> bool
+    ensures { result ≡ hides asked finding.now }
+{
     match asked {
         Asked::Addresses => is_of_addresses(finding),
         Asked::Times => hides_times(finding.number()),
@@ -32,6 +36,7 @@ fn is_hidden(
     line: &ProductLine,
     variant: &[usize],
 ) -> Result<bool, AllocError>
+    ensures { IfOk result (TellsWhetherHidden (hides asked) line.now variant.now) }
 {
     if !is_possible(&line.nevers, variant) {
         return Ok(false);
@@ -41,6 +46,14 @@ fn is_hidden(
     Ok(findings.iter().any(|finding| hides(asked, finding)))
 }
 
+fn is_any_possible(line: &ProductLine, variants: &[Vec<usize>]) -> bool
+    ensures { result ≡ list_any (λ v. is_possible line.now.nevers.items v.items) variants.now }
+{
+    variants
+        .iter()
+        .any(|variant| is_possible(&line.nevers, variant))
+}
+
 // Whether one of these variants is.
 fn is_any_hidden(
     alloc: Global,
@@ -48,6 +61,7 @@ fn is_any_hidden(
     line: &ProductLine,
     variants: &[Vec<usize>],
 ) -> Result<bool, AllocError>
+    ensures { IfOk result (TellsWhetherAnyIsHidden (hides asked) line.now (map (λ v. v.items) variants.now)) }
 {
     for variant in variants {
         let hidden = is_hidden(alloc, asked, line, variant)?;
@@ -58,13 +72,14 @@ fn is_any_hidden(
     Ok(false)
 }
 
-/// Whether something stands in the way of what is told of the addresses of a line: too many variants to look at each,
-/// none that is possible, or a possible one with a finding on NAMEs or addresses.
+/// Whether something stands in the way of what is told of a line: too many variants to look at each, none that is
+/// possible, or a possible one with a finding that hides what is asked.
 pub(crate) fn check_for(
     alloc: Global,
     asked: Asked,
     line: &ProductLine,
 ) -> Result<LineAnswer, AllocError>
+    ensures { IfOk result (IsHidingAnswer (hides asked) line.now) }
 {
     let count = combinations(&line.choices);
     if VARIANT_LIMIT < count {
