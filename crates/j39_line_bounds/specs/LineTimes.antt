@@ -1,5 +1,5 @@
 -- Times of the flows, ages of what is needed, and the load of a line of vehicles: the greatest of its possible variants.
-use Rattle.std.specs.Prelude.{◌≡◌, ◌⊎◌, ℕ, ◌+◌, ◌≤◌, ◌==◌, List, [], ◌∷◌, Bool, true, false, ◌&&◌, ◌||◌, if◌then◌else◌, is_some, length, max, nat_lt, slice_index_or, Option, Some, None}
+use Rattle.std.specs.Prelude.{◌≡◌, ◌⊎◌, ℕ, ◌+◌, ◌≤◌, ◌==◌, List, [], ◌∷◌, ◌++◌, Bool, true, false, ◌&&◌, ◌||◌, if◌then◌else◌, is_some, length, max, nat_lt, slice_index_or, Option, Some, None}
 use Rattle.std.specs.List.{AllZip, slice_get}
 use Rattle.std.specs.Option.{option_and_then, option_map, option_map_or}
 use Rattle.j39_load.specs.Ages.{has_several, least_age, youngest_flow}
@@ -68,6 +68,10 @@ need_badness need.NoVariant = badness 0 0
 need_badness (need.Age age youngest) = badness_known age
 need_badness need.Unmet = badness 4 0
 
+-- the worse of two, the first where none is
+abbrev pub worse : {T : Type 0} → (T → Badness) → T → T → T
+worse bad x y = if is_less_bad (bad x) (bad y) then y else x
+
 -- ---- in one variant
 
 -- the place in its plan of what stands at a place in the file: that of the first of these
@@ -79,14 +83,16 @@ place_of (place ∷ places) i = if place == i then Some 0 else option_map (λ k.
 abbrev pub flow_time : List ℕ → List (Option Delay) → ℕ → FlowTime
 flow_time there delays f = option_map_or (λ i. flow.Told (slice_index_or delays i None)) (place_of there f) flow.NoVariant
 
--- the age of what a need of the variant's plan is for: that it isn't met; or how old it is at most, and by which flow of the file, where several
--- bring it
+-- by which flow of the file, by its place, what is needed is youngest, where several bring it
+abbrev pub youngest_here : List ℕ → Plan → Timing → List (Option Delay) → NeedPlan → Option ℕ
+youngest_here flows plan timing delays needed = if has_several plan.requests.items plan.flows.items needed
+    then option_map (place_in_file flows) (youngest_flow timing plan.requests.items plan.flows.items delays needed) else None
+
+-- the age of what a need of the variant's plan is for: that it isn't met; or how old it is at most
 abbrev pub age_here : List ℕ → Plan → Timing → List (Option Delay) → NeedPlan → NeedTime
 age_here flows plan timing delays needed =
     if is_unmet plan.requests.items plan.flows.items needed then need.Unmet
-    else need.Age (least_age timing plan.requests.items plan.flows.items delays needed)
-    (if has_several plan.requests.items plan.flows.items needed
-    then option_map (place_in_file flows) (youngest_flow timing plan.requests.items plan.flows.items delays needed) else None)
+    else need.Age (least_age timing plan.requests.items plan.flows.items delays needed) (youngest_here flows plan timing delays needed)
 
 -- of a need of the file: none asks for it; what it is for isn't there; or this
 abbrev pub need_time : ProductLine → List ℕ → WhatIsThere → Plan → Timing → List (Option Delay) → ℕ → NeedTime
@@ -151,6 +157,12 @@ AreTimesOf line (variant ∷ variants) each =
     ((is_possible line.nevers.items variant ≡ false) × AreTimesOf line variants each)
     ⊎ ((is_possible line.nevers.items variant ≡ true)
     × ((times : LineTimes) × (others : List LineTimes) × AreVariantTimes line variant times × AreTimesOf line variants others × (each ≡ times ∷ others)))
+
+-- of one variant more, which counts where it is possible
+abbrev pub AddsTimes : ProductLine → List ℕ → List LineTimes → LineTimes → Option LineTimes → Type 0
+AddsTimes line variant each so_far None = (is_possible line.nevers.items variant ≡ false) ⊎ (timing_of line.plan ≡ None)
+AddsTimes line variant each so_far (Some told) = (is_possible line.nevers.items variant ≡ true)
+    × ((times : LineTimes) × AreVariantTimes line variant times × AreWorst line (each ++ times ∷ []) told)
 
 -- what is told of a line: the worst of its possible variants
 pub record AreLineTimes (line : ProductLine) (told : LineTimes) : Type 0 where

@@ -1,7 +1,13 @@
 //! Times of the flows, ages of what is needed, and the load of a line of vehicles: the greatest of its possible
 //! variants.
-ghost use Rattle.std.specs.Prelude.{◌≡◌, IfOk};
-ghost use Rattle.j39_line_bounds.specs.LineTimes.{AreLineTimes, AreVariantTimes, AreWorst};
+ghost use Rattle.std.specs.Prelude.{◌≡◌, ◌≢◌, ◌∷◌, ◌++◌, [], List, IfOk, None, Some, length, map};
+ghost use Rattle.std.specs.List.{range_with_len};
+ghost use Rattle.j39_load.specs.BusTimes.{timing_of};
+ghost use Rattle.j39_line_findings.specs.There.{place_in_file};
+ghost use Rattle.j39_variants.specs.VariantPlans.{IsVariantPlan};
+ghost use Rattle.j39_variants.specs.declared.line.ProductLine.{ProductLine as ALine};
+ghost use Rattle.j39_line_bounds.specs.declared.times.LineTimes.{LineTimes as Times};
+ghost use Rattle.j39_line_bounds.specs.LineTimes.{AddsTimes, AreLineTimes, AreVariantTimes, AreWorst, flow_at, need_at, worse, youngest_here};
 ghost use Rattle.j39_line_bounds.specs.LineTimes.{age_here, badness, badness_known, delay_badness, flow_badness, flow_time};
 ghost use Rattle.j39_line_bounds.specs.LineTimes.{is_less_bad, need_badness, need_time, place_of, time_told};
 
@@ -50,15 +56,21 @@ struct Badness {
     time: u64,
 }
 
-fn badness(degree: u8, time: u64) -> Badness {
+fn badness(degree: u8, time: u64) -> Badness
+    ensures { result ≡ badness degree time }
+{
     Badness { degree, time }
 }
 
-fn is_less_bad(one: Badness, other: Badness) -> bool {
+fn is_less_bad(one: Badness, other: Badness) -> bool
+    ensures { result ≡ is_less_bad one other }
+{
     one.degree < other.degree || one.degree == other.degree && one.time < other.time
 }
 
-fn badness_known(time: Option<u64>) -> Badness {
+fn badness_known(time: Option<u64>) -> Badness
+    ensures { result ≡ badness_known time }
+{
     match time {
         None => badness(3, 0),
         Some(time) => badness(1, time),
@@ -66,7 +78,9 @@ fn badness_known(time: Option<u64>) -> Badness {
 }
 
 // The time that is told of long messages to all: that of each of them, where a deadline is written.
-fn time_told(whole: &WholeTime) -> Option<u64> {
+fn time_told(whole: &WholeTime) -> Option<u64>
+    ensures { result ≡ time_told whole.now }
+{
     if whole.limit.is_some() {
         whole.time_of_each()
     } else {
@@ -74,7 +88,9 @@ fn time_told(whole: &WholeTime) -> Option<u64> {
     }
 }
 
-fn delay_badness(delay: &Delay) -> Badness {
+fn delay_badness(delay: &Delay) -> Badness
+    ensures { result ≡ delay_badness delay.now }
+{
     match delay {
         Delay::Within(bits) => badness(1, u64::from(*bits)),
         Delay::Beyond(bits) => badness(2, u64::from(*bits)),
@@ -84,7 +100,9 @@ fn delay_badness(delay: &Delay) -> Badness {
     }
 }
 
-fn flow_badness(time: &FlowTime) -> Badness {
+fn flow_badness(time: &FlowTime) -> Badness
+    ensures { result ≡ flow_badness time.now }
+{
     match time {
         FlowTime::NoVariant => badness(0, 0),
         FlowTime::Told(None) => badness(1, 0),
@@ -92,7 +110,9 @@ fn flow_badness(time: &FlowTime) -> Badness {
     }
 }
 
-fn need_badness(time: &NeedTime) -> Badness {
+fn need_badness(time: &NeedTime) -> Badness
+    ensures { result ≡ need_badness time.now }
+{
     match time {
         NeedTime::NoVariant => badness(0, 0),
         NeedTime::Age(age, _) => badness_known(*age),
@@ -101,11 +121,15 @@ fn need_badness(time: &NeedTime) -> Badness {
 }
 
 // The place in the plan of a variant of what stands at a place in the file.
-fn place_of(places: &[usize], place: usize) -> Option<usize> {
+fn place_of(places: &[usize], place: usize) -> Option<usize>
+    ensures { result ≡ place_of places.now place }
+{
     places.iter().position(|other| *other == place)
 }
 
-fn flow_time(there: &[usize], delays: &[Option<Delay>], flow: usize) -> FlowTime {
+fn flow_time(there: &[usize], delays: &[Option<Delay>], flow: usize) -> FlowTime
+    ensures { result ≡ flow_time there.now delays.now flow }
+{
     match place_of(there, flow) {
         None => FlowTime::NoVariant,
         Some(place) => match delays.get(place) {
@@ -115,7 +139,9 @@ fn flow_time(there: &[usize], delays: &[Option<Delay>], flow: usize) -> FlowTime
     }
 }
 
-fn place_in_file(places: &[usize], place: usize) -> usize {
+fn place_in_file(places: &[usize], place: usize) -> usize
+    ensures { result ≡ place_in_file places.now place }
+{
     match places.get(place) {
         Some(found) => *found,
         None => 0,
@@ -135,7 +161,9 @@ struct VariantLoad<'a> {
 
 impl VariantLoad<'_> {
     // The flow of the file that brings what is needed, where several do.
-    fn youngest(&self, need: &NeedPlan) -> Option<usize> {
+    fn youngest(&self, need: &NeedPlan) -> Option<usize>
+        ensures { result ≡ youngest_here self.now.there.now.flows.items self.now.plan.now self.now.timing self.now.delays.now need.now }
+    {
         if !has_several(&self.plan.requests, &self.plan.flows, need) {
             return None;
         }
@@ -152,7 +180,9 @@ impl VariantLoad<'_> {
     }
 
     // The age of what a need of the variant's plan is for.
-    fn age_of(&self, need: &NeedPlan) -> NeedTime {
+    fn age_of(&self, need: &NeedPlan) -> NeedTime
+        ensures { result ≡ age_here self.now.there.now.flows.items self.now.plan.now self.now.timing self.now.delays.now need.now }
+    {
         if !is_met(&self.plan.requests, &self.plan.flows, need) {
             return NeedTime::Unmet;
         }
@@ -166,7 +196,9 @@ impl VariantLoad<'_> {
         NeedTime::Age(age, self.youngest(need))
     }
 
-    fn need_time(&self, place: usize) -> NeedTime {
+    fn need_time(&self, place: usize) -> NeedTime
+        ensures { result ≡ need_time self.now.line.now self.now.variant.now self.now.there.now self.now.plan.now self.now.timing self.now.delays.now place }
+    {
         if !is_need_asked_for(self.line, self.variant, place) {
             return NeedTime::NoVariant;
         }
@@ -179,13 +211,17 @@ impl VariantLoad<'_> {
         }
     }
 
-    fn flow_times(&self, alloc: Global) -> Result<Vec<FlowTime>, AllocError> {
+    fn flow_times(&self, alloc: Global) -> Result<Vec<FlowTime>, AllocError>
+        ensures { IfOk result (λ v. v.items ≡ map (flow_time self.now.there.now.flows.items self.now.delays.now) (range_with_len 0 (length self.now.line.now.plan.flows.items))) }
+    {
         (0..self.line.plan.flows.len())
             .map(|place| flow_time(&self.there.flows, self.delays, place))
             .collect(alloc)
     }
 
-    fn need_times(&self, alloc: Global) -> Result<Vec<NeedTime>, AllocError> {
+    fn need_times(&self, alloc: Global) -> Result<Vec<NeedTime>, AllocError>
+        ensures { IfOk result (λ v. v.items ≡ map (need_time self.now.line.now self.now.variant.now self.now.there.now self.now.plan.now self.now.timing self.now.delays.now) (range_with_len 0 (length self.now.line.now.plan.needs.items))) }
+    {
         (0..self.line.plan.needs.len())
             .map(|place| self.need_time(place))
             .collect(alloc)
@@ -199,7 +235,9 @@ fn variant_times(
     variant: &[usize],
     timing: Timing,
     plan: &Plan,
-) -> Result<LineTimes, AllocError> {
+) -> Result<LineTimes, AllocError>
+    ensures { IsVariantPlan line.now variant.now plan.now → timing_of plan.now ≡ Some timing → IfOk result (AreVariantTimes line.now variant.now) }
+{
     let there = WhatIsThere::new(alloc, line, variant)?;
     let answer = LoadAnswer::new(alloc, timing, plan)?;
     let told = VariantLoad {
@@ -217,7 +255,9 @@ fn variant_times(
     })
 }
 
-fn worse_flow(one: FlowTime, other: FlowTime) -> FlowTime {
+fn worse_flow(one: FlowTime, other: FlowTime) -> FlowTime
+    ensures { result ≡ worse flow_badness one other }
+{
     if is_less_bad(flow_badness(&one), flow_badness(&other)) {
         other
     } else {
@@ -225,7 +265,9 @@ fn worse_flow(one: FlowTime, other: FlowTime) -> FlowTime {
     }
 }
 
-fn worse_need(one: NeedTime, other: NeedTime) -> NeedTime {
+fn worse_need(one: NeedTime, other: NeedTime) -> NeedTime
+    ensures { result ≡ worse need_badness one other }
+{
     if is_less_bad(need_badness(&one), need_badness(&other)) {
         other
     } else {
@@ -233,14 +275,18 @@ fn worse_need(one: NeedTime, other: NeedTime) -> NeedTime {
     }
 }
 
-fn flow_at(times: &LineTimes, place: usize) -> FlowTime {
+fn flow_at(times: &LineTimes, place: usize) -> FlowTime
+    ensures { result ≡ flow_at times.now place }
+{
     match times.flows.get(place) {
         Some(time) => *time,
         None => FlowTime::NoVariant,
     }
 }
 
-fn need_at(times: &LineTimes, place: usize) -> NeedTime {
+fn need_at(times: &LineTimes, place: usize) -> NeedTime
+    ensures { result ≡ need_at times.now place }
+{
     match times.needs.get(place) {
         Some(time) => *time,
         None => NeedTime::NoVariant,
@@ -251,7 +297,9 @@ fn worse_flows(
     alloc: Global,
     one: &LineTimes,
     other: &LineTimes,
-) -> Result<Vec<FlowTime>, AllocError> {
+) -> Result<Vec<FlowTime>, AllocError>
+    ensures { IfOk result (λ v. v.items ≡ map (λ f. worse flow_badness (flow_at one.now f) (flow_at other.now f)) (range_with_len 0 (length one.now.flows.items))) }
+{
     (0..one.flows.len())
         .map(|place| worse_flow(flow_at(one, place), flow_at(other, place)))
         .collect(alloc)
@@ -261,14 +309,18 @@ fn worse_needs(
     alloc: Global,
     one: &LineTimes,
     other: &LineTimes,
-) -> Result<Vec<NeedTime>, AllocError> {
+) -> Result<Vec<NeedTime>, AllocError>
+    ensures { IfOk result (λ v. v.items ≡ map (λ d. worse need_badness (need_at one.now d) (need_at other.now d)) (range_with_len 0 (length one.now.needs.items))) }
+{
     (0..one.needs.len())
         .map(|place| worse_need(need_at(one, place), need_at(other, place)))
         .collect(alloc)
 }
 
 // The worst of two.
-fn worse(alloc: Global, one: &LineTimes, other: &LineTimes) -> Result<LineTimes, AllocError> {
+fn worse(alloc: Global, one: &LineTimes, other: &LineTimes) -> Result<LineTimes, AllocError>
+    ensures { IfOk result (λ worse. (line : ALine) (each : List Times) → AreWorst line each one.now → AreWorst line (each ++ other.now ∷ []) worse) }
+{
     Ok(LineTimes {
         flows: worse_flows(alloc, one, other)?,
         needs: worse_needs(alloc, one, other)?,
@@ -277,7 +329,9 @@ fn worse(alloc: Global, one: &LineTimes, other: &LineTimes) -> Result<LineTimes,
 }
 
 // What is told of no variant.
-fn nothing(alloc: Global, line: &ProductLine) -> Result<LineTimes, AllocError> {
+fn nothing(alloc: Global, line: &ProductLine) -> Result<LineTimes, AllocError>
+    ensures { IfOk result (AreWorst line.now []) }
+{
     Ok(LineTimes {
         flows: line
             .plan
@@ -301,7 +355,9 @@ fn times_with(
     line: &ProductLine,
     variant: &[usize],
     so_far: &LineTimes,
-) -> Result<Option<LineTimes>, AllocError> {
+) -> Result<Option<LineTimes>, AllocError>
+    ensures { IfOk result (λ more. (each : List Times) → AreWorst line.now each so_far.now → AddsTimes line.now variant.now each so_far.now more) }
+{
     if !is_possible(&line.nevers, variant) {
         return Ok(None);
     }
@@ -315,6 +371,7 @@ fn times_with(
 
 /// What is told of each flow and each need of a line whose bus is known, and its load.
 pub fn line_times(alloc: Global, line: &ProductLine) -> Result<LineTimes, AllocError>
+    ensures { timing_of line.now.plan ≢ None → IfOk result (AreLineTimes line.now) }
 {
     let variants = all_variants(alloc, &line.choices)?;
     let mut times = nothing(alloc, line)?;
