@@ -1,4 +1,12 @@
 //! What the load command writes.
+ghost use Rattle.std.specs.Prelude.{◌≡◌, IfOk, Some};
+ghost use Rattle.j39_load.specs.BusTimes.{timing_of};
+ghost use Rattle.j39_line_text.specs.Hindrances.{AreAllShown, hides};
+ghost use Rattle.j39_line_text.specs.LineLoadText.{IsLineLoadReport, IsLineLoadText, IsTimesReport};
+ghost use Rattle.j39_line_text.specs.declared.hindrances.Asked.TheVariants.{Times};
+ghost use Rattle.j39_stream.specs.CommandEnds.{AnswersWhole, IsOfAny};
+ghost use Rattle.j39_stream.specs.Streams.{plan_limits};
+
 
 use crate::hindrances::{Asked, check_for};
 use crate::line_report::{faulty_text, many_variants, no_variant_text};
@@ -19,7 +27,9 @@ fn times_report(
     alloc: Global,
     line: &ProductLine,
     timing: Timing,
-) -> Result<(TextBuffer, Verdict), AllocError> {
+) -> Result<(TextBuffer, Verdict), AllocError>
+    ensures { timing_of line.now.plan ≡ Some timing → AreAllShown (hides Times) line.now → IfOk result (λ report. IsTimesReport line.now timing report.0 report.1) }
+{
     let times = line_times(alloc, line)?;
     let told = line_findings(alloc, line)?;
     let mut text = TextBuffer::new(alloc);
@@ -37,7 +47,9 @@ fn line_load(
     alloc: Global,
     line: &ProductLine,
     timing: Timing,
-) -> Result<(TextBuffer, Verdict), AllocError> {
+) -> Result<(TextBuffer, Verdict), AllocError>
+    ensures { timing_of line.now.plan ≡ Some timing → IfOk result (λ report. IsLineLoadReport line.now timing report.0 report.1) }
+{
     let answer = check_for(alloc, Asked::Times, line)?;
     match answer {
         LineAnswer::ManyVariants(count) => {
@@ -60,6 +72,10 @@ fn line_load(
 struct TimesReport;
 
 impl LineReport for TimesReport {
+    ghost use Rattle.j39_line_text.specs.LineLoadText.{IsPlanOrLineLoad};
+
+    ghost says = { λ _. IsPlanOrLineLoad };
+
     fn report(
         &self,
         alloc: Global,
@@ -82,6 +98,8 @@ pub fn load_line_text<S: Source, W: Sink>(
     alloc: Global,
     source: &mut S,
     sink: &mut W,
-) -> Result<Verdict, Fault> {
+) -> Result<Verdict, Fault>
+    ensures { AnswersWhole IsLineLoadText (IsOfAny IsLineLoadText) plan_limits (S.state source.old) (S.state source.new) W.state sink.old sink.new result }
+{
     report_text(alloc, &TimesReport, source, sink)
 }
