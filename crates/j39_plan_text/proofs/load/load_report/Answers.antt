@@ -1,7 +1,7 @@
 use Rattle.std.proofs.Common.{◌≡◌, false, true, sym, ap, ◌∙◌}
 use Rattle.j39_plan_text.specs.LoadText.{shows_times}
 use Rattle.j39_plan_text.proofs.LoadReports.{as_checked, loads_told}
-use Rattle.j39_plan_text.proofs.load_report.load_report.Goals as goal
+use Rattle.j39_plan_text.proofs.load.load_report.Goals as goal
 
 pub returns-then-shows_times : goal.returns-then-shows_times
 returns-then-shows_times c =

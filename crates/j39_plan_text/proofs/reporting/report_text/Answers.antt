@@ -1,6 +1,6 @@
 use Rattle.std.proofs.Common.{rules, ◌≡◌}
 use Rattle.j39_plan_text.proofs.Reported.{none_read, refused, reported}
-use Rattle.j39_line_text.proofs.check.check_line_text.Goals as goal
+use Rattle.j39_plan_text.proofs.reporting.report_text.Goals as goal
 
 pub returns-in_err-line : goal.returns-in_err-line
 returns-in_err-line g c = none_read c.line_text.result c.line_text.ensures.answers _ _ c.in_err-line.was (search rules)

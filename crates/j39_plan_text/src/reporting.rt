@@ -10,7 +10,7 @@ use j39_variants::ProductLine;
 use std::alloc::{AllocError, Global};
 
 /// What is reported of a line of vehicles.
-pub(crate) trait LineReport {
+pub trait LineReport {
     ghost use Rattle.std.specs.Prelude.{ℕ, List, IfOk};
     ghost use Rattle.j39_variants.specs.declared.line.ProductLine.{ProductLine as ALine};
     ghost use Rattle.j39_stream.specs.declared.verdict.Verdict.{Verdict as AVerdict};
@@ -37,7 +37,7 @@ fn put_report<R: LineReport, W: Sink>(
 }
 
 /// Writes the report of the line of vehicles that a file describes, or why the file describes none.
-pub(crate) fn report_text<R: LineReport, S: Source, W: Sink>(
+pub fn report_text<R: LineReport, S: Source, W: Sink>(
     alloc: Global,
     report: &R,
     source: &mut S,

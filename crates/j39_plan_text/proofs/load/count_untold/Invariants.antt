@@ -1,6 +1,6 @@
 use Rattle.std.proofs.Common.{◌≡◌, ◌≤◌, take, count_by}
 use Rattle.j39_plan_text.specs.LoadText.{is_untold}
-use Rattle.j39_plan_text.proofs.load_report.count_untold.Given as goal
+use Rattle.j39_plan_text.proofs.load.count_untold.Given as goal
 
 abbrev pub invariant-loop-finding : goal.invariant-loop-finding
 invariant-loop-finding l = record {

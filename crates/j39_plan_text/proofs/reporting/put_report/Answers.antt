@@ -1,6 +1,6 @@
 use Rattle.std.proofs.Common.{rules}
 use Rattle.j39_stream.proofs.Answering.{all_put, none_put, part_put}
-use Rattle.j39_line_text.proofs.addresses.put_report.Goals as goal
+use Rattle.j39_plan_text.proofs.reporting.put_report.Goals as goal
 
 pub returns-in_err-text : goal.returns-in_err-text
 returns-in_err-text g c = none_put _ (search rules)
