@@ -1,6 +1,6 @@
 -- Times of the flows, ages of what is needed, and the load of a line of vehicles: the greatest of its possible variants.
-use Rattle.std.specs.Prelude.{◌≡◌, ◌⊎◌, ℕ, ◌+◌, ◌≤◌, ◌==◌, List, [], ◌∷◌, ◌++◌, Bool, true, false, ◌&&◌, ◌||◌, if◌then◌else◌, is_some, length, max, nat_lt, slice_index_or, Option, Some, None}
-use Rattle.std.specs.List.{AllZip, slice_get}
+use Rattle.std.specs.Prelude.{◌≡◌, ◌⊎◌, ℕ, ◌<◌, ◌≤◌, ◌==◌, List, [], ◌∷◌, ◌++◌, Bool, true, false, ◌&&◌, ◌||◌, if◌then◌else◌, is_some, length, max, nat_lt, slice_index_or, Option, Some, None}
+use Rattle.std.specs.List.{position, slice_get}
 use Rattle.std.specs.Option.{option_and_then, option_map, option_map_or}
 use Rattle.j39_load.specs.Ages.{has_several, least_age, youngest_flow}
 use Rattle.j39_load.specs.Asked.{asked_of, total_load}
@@ -21,6 +21,7 @@ use Rattle.j39_line_findings.specs.AllVariants.{all_variants}
 use Rattle.j39_line_findings.specs.MissedNeeds.{is_need_asked_for}
 use Rattle.j39_line_findings.specs.There.{IsWhatIsThere, place_in_file}
 use Rattle.j39_line_findings.specs.declared.there.WhatIsThere.{WhatIsThere}
+use Rattle.j39_line_bounds.specs.declared.times.Badness.{Badness}
 use Rattle.j39_line_bounds.specs.declared.times.FlowTime.{FlowTime}
 use Rattle.j39_line_bounds.specs.declared.times.FlowTime.TheVariants as flow
 use Rattle.j39_line_bounds.specs.declared.times.LineTimes.{LineTimes}
@@ -30,20 +31,16 @@ use Rattle.j39_line_bounds.specs.declared.times.NeedTime.TheVariants as need
 -- ---- which of two is worse
 
 -- how bad a time is, and how long it is
-pub record Badness : Type 0 where
-  pub degree : ℕ
-  pub time : ℕ
-
-abbrev pub badness : ℕ → ℕ → Badness
-badness degree time = record { degree = degree; time = time }
+abbrev pub of_degree : ℕ → ℕ → Badness
+of_degree degree time = record { degree = degree; time = time }
 
 abbrev pub is_less_bad : Badness → Badness → Bool
 is_less_bad a b = nat_lt a.degree b.degree || ((a.degree == b.degree) && nat_lt a.time b.time)
 
 -- one that isn't known is worse than each that is
 abbrev pub badness_known : Option ℕ → Badness
-badness_known None = badness 3 0
-badness_known (Some time) = badness 1 time
+badness_known None = of_degree 3 0
+badness_known (Some time) = of_degree 1 time
 
 -- the time that is told of long messages to all: that of each of them, where a deadline is written
 abbrev pub time_told : WholeTime → Option ℕ
@@ -51,22 +48,22 @@ time_told whole = if is_some whole.limit then time_of_each whole else whole.bits
 
 -- one beyond its deadline is worse than each that is within, and one that isn't shown to be within the period is the worst
 abbrev pub delay_badness : Delay → Badness
-delay_badness (Within bits) = badness 1 bits
-delay_badness (Beyond bits) = badness 2 bits
-delay_badness Late = badness 3 0
-delay_badness (Long frames) = badness 1 frames
+delay_badness (Within bits) = of_degree 1 bits
+delay_badness (Beyond bits) = of_degree 2 bits
+delay_badness Late = of_degree 3 0
+delay_badness (Long frames) = of_degree 1 frames
 delay_badness (Whole whole) = badness_known (time_told whole)
 
 abbrev pub flow_badness : FlowTime → Badness
-flow_badness flow.NoVariant = badness 0 0
-flow_badness (flow.Told None) = badness 1 0
+flow_badness flow.NoVariant = of_degree 0 0
+flow_badness (flow.Told None) = of_degree 1 0
 flow_badness (flow.Told (Some delay)) = delay_badness delay
 
 -- what isn't met is the worst
 abbrev pub need_badness : NeedTime → Badness
-need_badness need.NoVariant = badness 0 0
+need_badness need.NoVariant = of_degree 0 0
 need_badness (need.Age age youngest) = badness_known age
-need_badness need.Unmet = badness 4 0
+need_badness need.Unmet = of_degree 4 0
 
 -- the worse of two, the first where none is
 abbrev pub worse : {T : Type 0} → (T → Badness) → T → T → T
@@ -74,10 +71,9 @@ worse bad x y = if is_less_bad (bad x) (bad y) then y else x
 
 -- ---- in one variant
 
--- the place in its plan of what stands at a place in the file: that of the first of these
+-- the place in its plan of what stands at a place in the file
 abbrev pub place_of : List ℕ → ℕ → Option ℕ
-place_of [] i = None
-place_of (place ∷ places) i = if place == i then Some 0 else option_map (λ k. k + 1) (place_of places i)
+place_of places i = position (λ place. place == i) places
 
 -- the delay of a flow of the file
 abbrev pub flow_time : List ℕ → List (Option Delay) → ℕ → FlowTime
@@ -112,9 +108,9 @@ pub record AreVariantTimes (line : ProductLine) (variant : List ℕ) (times : Li
   pub delays : List (Option Delay)
   pub asks : AsksOfBus plan timing stays delays
   pub flow_count : length times.flows.items ≡ length line.plan.flows.items
-  pub flows : (f : ℕ) → slice_index_or times.flows.items f flow.NoVariant ≡ flow_time there.flows.items delays f
+  pub flows : (f : ℕ) → f < length line.plan.flows.items → slice_index_or times.flows.items f flow.NoVariant ≡ flow_time there.flows.items delays f
   pub need_count : length times.needs.items ≡ length line.plan.needs.items
-  pub needs : (d : ℕ) → slice_index_or times.needs.items d need.NoVariant ≡ need_time line variant there plan timing delays d
+  pub needs : (d : ℕ) → d < length line.plan.needs.items → slice_index_or times.needs.items d need.NoVariant ≡ need_time line variant there plan timing delays d
   pub load : times.load ≡ total_load timing (asked_of timing plan stays)
 
 -- ---- in all of them
@@ -144,9 +140,9 @@ pub record IsGreatestLoad (each : List LineTimes) (load : ℕ) : Type 0 where
 -- of each flow and each need of the file the worst, and the greatest load
 pub record AreWorst (line : ProductLine) (each : List LineTimes) (told : LineTimes) : Type 0 where
   pub flow_count : length told.flows.items ≡ length line.plan.flows.items
-  pub flows : (f : ℕ) → IsWorst flow_badness flow.NoVariant (λ times. flow_at times f) each (flow_at told f)
+  pub flows : (f : ℕ) → f < length line.plan.flows.items → IsWorst flow_badness flow.NoVariant (λ times. flow_at times f) each (flow_at told f)
   pub need_count : length told.needs.items ≡ length line.plan.needs.items
-  pub needs : (d : ℕ) → IsWorst need_badness need.NoVariant (λ times. need_at times d) each (need_at told d)
+  pub needs : (d : ℕ) → d < length line.plan.needs.items → IsWorst need_badness need.NoVariant (λ times. need_at times d) each (need_at told d)
   pub load : IsGreatestLoad each told.load
 
 -- those of each of some variants that are possible, in order

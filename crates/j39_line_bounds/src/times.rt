@@ -8,7 +8,7 @@ ghost use Rattle.j39_variants.specs.VariantPlans.{IsVariantPlan};
 ghost use Rattle.j39_variants.specs.declared.line.ProductLine.{ProductLine as ALine};
 ghost use Rattle.j39_line_bounds.specs.declared.times.LineTimes.{LineTimes as Times};
 ghost use Rattle.j39_line_bounds.specs.LineTimes.{AddsTimes, AreLineTimes, AreVariantTimes, AreWorst, flow_at, need_at, worse, youngest_here};
-ghost use Rattle.j39_line_bounds.specs.LineTimes.{age_here, badness, badness_known, delay_badness, flow_badness, flow_time};
+ghost use Rattle.j39_line_bounds.specs.LineTimes.{age_here, of_degree, badness_known, delay_badness, flow_badness, flow_time};
 ghost use Rattle.j39_line_bounds.specs.LineTimes.{is_less_bad, need_badness, need_time, place_of, time_told};
 
 use j39_line_findings::{WhatIsThere, all_variants, is_need_asked_for};
@@ -56,8 +56,8 @@ struct Badness {
     time: u64,
 }
 
-fn badness(degree: u8, time: u64) -> Badness
-    ensures { result ≡ badness degree time }
+fn of_degree(degree: u8, time: u64) -> Badness
+    ensures { result ≡ of_degree degree time }
 {
     Badness { degree, time }
 }
@@ -72,8 +72,8 @@ fn badness_known(time: Option<u64>) -> Badness
     ensures { result ≡ badness_known time }
 {
     match time {
-        None => badness(3, 0),
-        Some(time) => badness(1, time),
+        None => of_degree(3, 0),
+        Some(time) => of_degree(1, time),
     }
 }
 
@@ -92,10 +92,10 @@ fn delay_badness(delay: &Delay) -> Badness
     ensures { result ≡ delay_badness delay.now }
 {
     match delay {
-        Delay::Within(bits) => badness(1, u64::from(*bits)),
-        Delay::Beyond(bits) => badness(2, u64::from(*bits)),
-        Delay::Late => badness(3, 0),
-        Delay::Long(frames) => badness(1, u64::from(*frames)),
+        Delay::Within(bits) => of_degree(1, u64::from(*bits)),
+        Delay::Beyond(bits) => of_degree(2, u64::from(*bits)),
+        Delay::Late => of_degree(3, 0),
+        Delay::Long(frames) => of_degree(1, u64::from(*frames)),
         Delay::Whole(whole) => badness_known(time_told(whole)),
     }
 }
@@ -104,8 +104,8 @@ fn flow_badness(time: &FlowTime) -> Badness
     ensures { result ≡ flow_badness time.now }
 {
     match time {
-        FlowTime::NoVariant => badness(0, 0),
-        FlowTime::Told(None) => badness(1, 0),
+        FlowTime::NoVariant => of_degree(0, 0),
+        FlowTime::Told(None) => of_degree(1, 0),
         FlowTime::Told(Some(delay)) => delay_badness(delay),
     }
 }
@@ -114,9 +114,9 @@ fn need_badness(time: &NeedTime) -> Badness
     ensures { result ≡ need_badness time.now }
 {
     match time {
-        NeedTime::NoVariant => badness(0, 0),
+        NeedTime::NoVariant => of_degree(0, 0),
         NeedTime::Age(age, _) => badness_known(*age),
-        NeedTime::Unmet => badness(4, 0),
+        NeedTime::Unmet => of_degree(4, 0),
     }
 }
 
@@ -162,6 +162,7 @@ struct VariantLoad<'a> {
 impl VariantLoad<'_> {
     // The flow of the file that brings what is needed, where several do.
     fn youngest(&self, need: &NeedPlan) -> Option<usize>
+        requires { length self.now.delays.now ≡ length self.now.plan.now.flows.items }
         ensures { result ≡ youngest_here self.now.there.now.flows.items self.now.plan.now self.now.timing self.now.delays.now need.now }
     {
         if !has_several(&self.plan.requests, &self.plan.flows, need) {
@@ -181,6 +182,7 @@ impl VariantLoad<'_> {
 
     // The age of what a need of the variant's plan is for.
     fn age_of(&self, need: &NeedPlan) -> NeedTime
+        requires { length self.now.delays.now ≡ length self.now.plan.now.flows.items }
         ensures { result ≡ age_here self.now.there.now.flows.items self.now.plan.now self.now.timing self.now.delays.now need.now }
     {
         if !is_met(&self.plan.requests, &self.plan.flows, need) {
@@ -197,6 +199,7 @@ impl VariantLoad<'_> {
     }
 
     fn need_time(&self, place: usize) -> NeedTime
+        requires { length self.now.delays.now ≡ length self.now.plan.now.flows.items }
         ensures { result ≡ need_time self.now.line.now self.now.variant.now self.now.there.now self.now.plan.now self.now.timing self.now.delays.now place }
     {
         if !is_need_asked_for(self.line, self.variant, place) {
@@ -220,6 +223,7 @@ impl VariantLoad<'_> {
     }
 
     fn need_times(&self, alloc: Global) -> Result<Vec<NeedTime>, AllocError>
+        requires { length self.now.delays.now ≡ length self.now.plan.now.flows.items }
         ensures { IfOk result (λ v. v.items ≡ map (need_time self.now.line.now self.now.variant.now self.now.there.now self.now.plan.now self.now.timing self.now.delays.now) (range_with_len 0 (length self.now.line.now.plan.needs.items))) }
     {
         (0..self.line.plan.needs.len())
