@@ -3,6 +3,7 @@ use Rattle.std.proofs.Common.{◌≡◌, ◌≢◌, ◌⊎◌, ℕ, suc, ◌+◌
 use Rattle.std.specs.List.{range_with_len}
 use Rattle.std.specs.Option.{option_map}
 use Rattle.std.proofs.lemmas.Option.{none-some}
+use Rattle.std.proofs.lemmas.Bool.{false≢true}
 use Rattle.std.proofs.lemmas.List.{map-append, take_more}
 use Rattle.std.proofs.lemmas.List.FromFn.{get_or-map-range_with_len, length-map-range_with_len}
 use Rattle.j39_load.specs.Asked.{asked_of, total_load}
@@ -17,7 +18,9 @@ use Rattle.j39_variants.specs.Variants.{is_possible}
 use Rattle.j39_variants.specs.declared.line.ProductLine.{ProductLine}
 use Rattle.j39_line_findings.specs.There.{IsWhatIsThere}
 use Rattle.j39_line_findings.specs.declared.there.WhatIsThere.{WhatIsThere}
-use Rattle.j39_line_bounds.specs.LineTimes.{AddsTimes, AreTimesOf, AreVariantTimes, AreWorst, flow_time, need_time}
+use Rattle.j39_line_findings.proofs.EveryVariant.{every_variant}
+use Rattle.j39_line_findings.specs.AllVariants.{IsOneOf, all_variants}
+use Rattle.j39_line_bounds.specs.LineTimes.{AddsTimes, AreLineTimes, AreTimesOf, AreVariantTimes, AreWorst, BoundEachVariant, IsOfSomeVariant, IsTimesAmong, TimesBoundEachVariant, flow_at, flow_time, need_at, need_time}
 use Rattle.j39_line_bounds.specs.declared.times.FlowTime.TheVariants as flow
 use Rattle.j39_line_bounds.specs.declared.times.LineTimes.{LineTimes as Times}
 use Rattle.j39_line_bounds.specs.declared.times.NeedTime.TheVariants as need
@@ -110,3 +113,62 @@ without_next line f vs k d v old below is same timed so_far adds = elim (adds so
       (so_far.0, not_counted line (map f (take k vs)) v so_far.0 never so_far.1, so_far.2)
   | inr none ↦ absurd (timed none)
 ]
+
+-- ---- of the line
+
+module _ (line : ProductLine) where
+  of_variant : (vs : List (List ℕ)) (each : List Times) → AreTimesOf line vs each → (v : List ℕ) → IsOneOf vs v → is_possible line.nevers.items v ≡ true
+      → (times : Times) × AreVariantTimes line v times × IsTimesAmong each times
+  of_variant [] each are v is possible = absurd is
+  of_variant (w ∷ vs) each (inl skipped) v (inl same) possible =
+      absurd (false≢true (sym skipped.0 ∙ subst (λ x. is_possible line.nevers.items x ≡ true) (sym same) possible))
+  of_variant (w ∷ vs) each (inl skipped) v (inr later) possible = of_variant vs each skipped.1 v later possible
+  of_variant (w ∷ vs) each (inr (here, times, others, of_w, rest, is)) v (inl same) possible =
+      (times, subst (λ x. AreVariantTimes line x times) same of_w, subst (λ xs. IsTimesAmong xs times) (sym is) (inl refl))
+  of_variant (w ∷ vs) each (inr (here, times, others, of_w, rest, is)) v (inr later) possible =
+      let found = of_variant vs others rest v later possible in
+      (found.0, found.1, subst (λ xs. IsTimesAmong xs found.0) (sym is) (inr found.2))
+
+  of_times : (vs : List (List ℕ)) (each : List Times) → AreTimesOf line vs each → (times : Times) → IsTimesAmong each times
+      → (v : List ℕ) × IsOneOf vs v × (is_possible line.nevers.items v ≡ true) × AreVariantTimes line v times
+  of_times [] [] are times among = absurd among
+  of_times [] (x ∷ each) are times among = absurd are
+  of_times (w ∷ vs) each (inl skipped) times among =
+      let found = of_times vs each skipped.1 times among in (found.0, inr found.1, found.2, found.3)
+  of_times (w ∷ vs) each (inr (here, x, others, of_w, rest, is)) times among = elim (subst (λ xs. IsTimesAmong xs times) is among) [
+    | inl same ↦ (w, inl refl, here, subst (λ t. AreVariantTimes line w t) same of_w)
+    | inr later ↦ let found = of_times vs others rest times later in (found.0, inr found.1, found.2, found.3)
+  ]
+
+  module _ (told : Times) (are : AreLineTimes line told) where
+    of_some : {T : Type 0} (at : Times → T) (nothing worst : T)
+        → (worst ≡ nothing) ⊎ ((times : Times) × IsTimesAmong are.each times × (worst ≡ at times)) → (worst ≡ nothing) ⊎ IsOfSomeVariant line at worst
+    of_some at nothing worst (inl none) = inl none
+    of_some at nothing worst (inr (times, among, same)) =
+        let found = of_times (all_variants line.choices.items) are.each are.are_each times among in
+        inr (
+          found.0,
+          record { is_variant = (every_variant line.choices.items).sound found.0 found.1; possible = found.2 },
+          (times, found.3, same),
+        )
+
+    pub bound : BoundEachVariant line told
+    bound = record {
+      each = λ v is.
+          let one = (every_variant line.choices.items).complete v is.is_variant in
+          let found = of_variant (all_variants line.choices.items) are.each are.are_each v one is.possible in (
+            found.0,
+            found.1,
+            record {
+              flows = λ f below. (are.worst.flows f below).none_worse found.0 found.2;
+              needs = λ d below. (are.worst.needs d below).none_worse found.0 found.2;
+              load = are.worst.load.none_more found.0 found.2;
+            },
+          );
+      flows = λ f below. of_some (λ times. flow_at times f) flow.NoVariant (flow_at told f) (are.worst.flows f below).one;
+      needs = λ d below. of_some (λ times. need_at times d) need.NoVariant (need_at told d) (are.worst.needs d below).one;
+      load = of_some (λ times. times.load) 0 told.load are.worst.load.one;
+    }
+
+pub bound_each_variant : TimesBoundEachVariant
+bound_each_variant line told are = bound line told are

@@ -18,6 +18,7 @@ use Rattle.j39_variants.specs.VariantPlans.{IsVariantPlan}
 use Rattle.j39_variants.specs.Variants.{is_possible}
 use Rattle.j39_variants.specs.declared.line.ProductLine.{ProductLine}
 use Rattle.j39_line_findings.specs.AllVariants.{all_variants}
+use Rattle.j39_line_findings.specs.LineAnswers.{IsPossible}
 use Rattle.j39_line_findings.specs.MissedNeeds.{is_need_asked_for}
 use Rattle.j39_line_findings.specs.There.{IsWhatIsThere, place_in_file}
 use Rattle.j39_line_findings.specs.declared.there.WhatIsThere.{WhatIsThere}
@@ -165,3 +166,25 @@ pub record AreLineTimes (line : ProductLine) (told : LineTimes) : Type 0 where
   pub each : List LineTimes
   pub are_each : AreTimesOf line (all_variants line.choices.items) each
   pub worst : AreWorst line each told
+
+-- ---- laws
+
+-- what is told of one variant is no worse than this
+pub record AreNoWorse (line : ProductLine) (times told : LineTimes) : Type 0 where
+  pub flows : (f : ℕ) → f < length line.plan.flows.items → is_less_bad (flow_badness (flow_at told f)) (flow_badness (flow_at times f)) ≡ false
+  pub needs : (d : ℕ) → d < length line.plan.needs.items → is_less_bad (need_badness (need_at told d)) (need_badness (need_at times d)) ≡ false
+  pub load : times.load ≤ told.load
+
+-- this is told of some possible variant
+abbrev pub IsOfSomeVariant : {T : Type 0} → ProductLine → (LineTimes → T) → T → Type 0
+IsOfSomeVariant line at told = (variant : List ℕ) × IsPossible line variant × ((times : LineTimes) × AreVariantTimes line variant times × (told ≡ at times))
+
+-- each possible variant's times and load are no worse than those that are told; and each that is told is that of one, where one has it
+pub record BoundEachVariant (line : ProductLine) (told : LineTimes) : Type 0 where
+  pub each : (variant : List ℕ) → IsPossible line variant → (times : LineTimes) × AreVariantTimes line variant times × AreNoWorse line times told
+  pub flows : (f : ℕ) → f < length line.plan.flows.items → (flow_at told f ≡ flow.NoVariant) ⊎ IsOfSomeVariant line (λ times. flow_at times f) (flow_at told f)
+  pub needs : (d : ℕ) → d < length line.plan.needs.items → (need_at told d ≡ need.NoVariant) ⊎ IsOfSomeVariant line (λ times. need_at times d) (need_at told d)
+  pub load : (told.load ≡ 0) ⊎ IsOfSomeVariant line (λ times. times.load) told.load
+
+abbrev pub TimesBoundEachVariant : Type 0
+TimesBoundEachVariant = (line : ProductLine) (told : LineTimes) → AreLineTimes line told → BoundEachVariant line told
