@@ -1,12 +1,12 @@
 -- What is told of each possible variant, one after the other.
-use Rattle.std.proofs.Common.{◌≡◌, ◌≢◌, ◌⊎◌, ℕ, suc, ◌+◌, ◌<◌, ◌≤◌, List, [], ◌∷◌, ◌++◌, Bool, true, false, Option, Some, None, inl, inr, get_or, length, map, take, refl, sym, ap, ◌∙◌, arith, subst}
+use Rattle.std.proofs.Common.{◌≡◌, ◌≢◌, ◌⊎◌, ℕ, ◌+◌, ◌<◌, List, [], ◌∷◌, ◌++◌, true, false, Option, Some, None, inl, inr, get_or, length, map, take, refl, sym, ap, ◌∙◌, arith, subst}
 use Rattle.std.specs.List.{range_with_len}
 use Rattle.std.specs.Option.{option_map}
 use Rattle.std.proofs.lemmas.Option.{none-some}
 use Rattle.std.proofs.lemmas.Bool.{false≢true}
 use Rattle.std.proofs.lemmas.List.{map-append, take_more}
 use Rattle.std.proofs.lemmas.List.FromFn.{get_or-map-range_with_len, length-map-range_with_len}
-use Rattle.j39_load.specs.Asked.{asked_of, total_load}
+use Rattle.j39_load.specs.Asked.{total_load}
 use Rattle.j39_load.specs.AskedLoads.{asked_in}
 use Rattle.j39_load.specs.BusTimes.{timing_of, with_claims}
 use Rattle.j39_load.specs.LoadAnswers.{IsLoadAnswer}

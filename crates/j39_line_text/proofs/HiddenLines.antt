@@ -1,5 +1,5 @@
 -- What is told of variants by the findings of their plans that hide something.
-use Rattle.std.proofs.Common.{◌≡◌, ℕ, zero, suc, ◌<◌, ◌≤◌, List, [], ◌∷◌, Bool, true, false, inl, inr, get_or, length, map, refl, sym, ap, subst, ◌∙◌, arith}
+use Rattle.std.proofs.Common.{◌≡◌, ℕ, suc, ◌≤◌, List, [], ◌∷◌, Bool, true, false, inl, inr, map, refl, sym, subst, ◌∙◌, arith}
 use Rattle.std.specs.List.{Contains, list_any}
 use Rattle.std.proofs.lemmas.Bool.{cases_Bool, false≢true, true≢false}
 use Rattle.std.proofs.lemmas.List.Folds.{list_any_at}
@@ -11,9 +11,8 @@ use Rattle.j39_variants.specs.VariantPlans.{IsVariantPlan}
 use Rattle.j39_variants.specs.Variants.{is_possible}
 use Rattle.j39_line_findings.proofs.EveryVariant.{any_found, every_variant, none_found}
 use Rattle.j39_line_findings.specs.AllVariants.{IsOneOf, all_variants, combinations, variant_limit}
-use Rattle.j39_line_findings.specs.LineAnswers.{IsPossible}
-use Rattle.j39_line_findings.specs.declared.checking.LineAnswer.TheVariants.{Clean, Faulty, ManyVariants, NoVariant}
-use Rattle.j39_line_text.specs.Hindrances.{IsHidden, IsHidingAnswer, IsShown, TellsWhetherAnyIsHidden, TellsWhetherHidden}
+use Rattle.j39_line_findings.specs.declared.checking.LineAnswer.TheVariants.{Clean, Faulty, NoVariant}
+use Rattle.j39_line_text.specs.Hindrances.{IsHidingAnswer, TellsWhetherAnyIsHidden, TellsWhetherHidden}
 
 contained : {X : Type 0} (p : X → Bool) (xs : List X) → list_any p xs ≡ true → (x : X) × Contains xs x × (p x ≡ true)
 contained p [] is = absurd (false≢true is)

@@ -1,5 +1,5 @@
 -- The text that the load command writes for a plan file, also of a line of vehicles.
-use Rattle.std.specs.Prelude.{◌≡◌, ◌≢◌, ◌⊎◌, ℕ, ◌==◌, List, [], ◌++◌, if◌then◌else◌, length, Option, Some, None}
+use Rattle.std.specs.Prelude.{◌≡◌, ◌≢◌, ◌⊎◌, ℕ, ◌==◌, List, [], ◌++◌, if◌then◌else◌, length, Some, None}
 use Rattle.j39_load.specs.BusTimes.{timing_of}
 use Rattle.j39_network.specs.declared.plan.timing.Timing.{Timing}
 use Rattle.j39_variants.specs.declared.line.ProductLine.{ProductLine}
@@ -17,7 +17,7 @@ use Rattle.j39_line_text.specs.declared.hindrances.Asked.TheVariants.{Times}
 use Rattle.j39_plan_text.specs.LoadText.{IsLoadReport}
 use Rattle.j39_plan_text.specs.PlanText.{IsReportedText}
 use Rattle.j39_stream.specs.declared.verdict.Verdict.{Verdict}
-use Rattle.j39_stream.specs.declared.verdict.Verdict.TheVariants.{Done, Findings, Refused, Unreadable}
+use Rattle.j39_stream.specs.declared.verdict.Verdict.TheVariants.{Done, Findings}
 
 -- the times of a line in no possible variant of which a finding hides them, and behind them the findings of which they don't tell
 pub record IsTimesReport (line : ProductLine) (timing : Timing) (text : List ℕ) (verdict : Verdict) : Type 0 where

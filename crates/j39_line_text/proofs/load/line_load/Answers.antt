@@ -1,5 +1,5 @@
 use Rattle.std.proofs.Common.{inl, inr, refl, ap, ◌∙◌}
-use Rattle.j39_line_findings.specs.declared.checking.LineAnswer.TheVariants.{Clean, Faulty, ManyVariants, NoVariant}
+use Rattle.j39_line_findings.specs.declared.checking.LineAnswer.TheVariants.{Faulty, ManyVariants, NoVariant}
 use Rattle.j39_line_text.specs.Hindrances.{IsHidingAnswer, hides}
 use Rattle.j39_line_text.specs.LineCheckText.{many_variants_text}
 use Rattle.j39_line_text.specs.declared.hindrances.Asked.TheVariants.{Times}
