@@ -12,9 +12,7 @@ ghost use Rattle.j39_line_bounds.specs.LineTimes.{age_here, of_degree, badness_k
 ghost use Rattle.j39_line_bounds.specs.LineTimes.{is_less_bad, need_badness, need_time, place_of, time_told};
 
 use j39_line_findings::{WhatIsThere, all_variants, is_need_asked_for};
-use j39_load::{
-    Delay, LoadAnswer, WholeTime, has_several, least_age, timing_of, youngest_flow,
-};
+use j39_load::{Delay, LoadAnswer, WholeTime, has_several, least_age, timing_of, youngest_flow};
 use j39_network::{NeedPlan, Plan, Timing, is_met};
 use j39_variants::{ProductLine, is_possible, plan_of};
 use std::alloc::{AllocError, Global};

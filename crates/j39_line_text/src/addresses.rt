@@ -26,10 +26,7 @@ fn stays_text(alloc: Global, line: &ProductLine) -> Result<TextBuffer, AllocErro
 }
 
 // What is written of the addresses of a line of vehicles, with the verdict.
-fn line_addresses(
-    alloc: Global,
-    line: &ProductLine,
-) -> Result<(TextBuffer, Verdict), AllocError>
+fn line_addresses(alloc: Global, line: &ProductLine) -> Result<(TextBuffer, Verdict), AllocError>
     ensures { IfOk result (λ report. IsLineAddressesReport line.now report.0 report.1) }
 {
     who_stays();

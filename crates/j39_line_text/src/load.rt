@@ -7,7 +7,6 @@ ghost use Rattle.j39_line_text.specs.declared.hindrances.Asked.TheVariants.{Time
 ghost use Rattle.j39_stream.specs.CommandEnds.{AnswersWhole, IsOfAny};
 ghost use Rattle.j39_stream.specs.Streams.{plan_limits};
 
-
 use crate::hindrances::{Asked, check_for};
 use crate::line_report::{faulty_text, many_variants, no_variant_text};
 use crate::time_lines::write_times;

@@ -4,7 +4,6 @@ ghost use Rattle.j39_load.specs.LineLists.{lines_of_each};
 ghost use Rattle.j39_line_bounds.specs.LineTimes.{flow_at, need_at};
 ghost use Rattle.j39_line_text.specs.TimeLines.{flow_time_text, line_flow_line, line_need_line, need_time_text, times_text, youngest_text};
 
-
 use j39_line_bounds::{FlowTime, LineTimes, NeedTime};
 use j39_load::bits_of_second;
 use j39_network::{FlowPlan, NeedPlan, Plan, Timing};

@@ -10,7 +10,6 @@ ghost use Rattle.j39_line_text.specs.WitnessLines.{told_alternative, told_altern
 ghost use Rattle.j39_line_text.specs.WitnessLines.{line_finding_text, witness_report, witness_reports};
 ghost use Rattle.j39_line_text.specs.WitnessLines.{is_of_line_times, untold_of_line_text, untold_report, untold_reports};
 
-
 use j39_line_findings::{LineFinding, Telling, Witnessed, all_variants, alternatives_of};
 use j39_plan_text::{write_finding, write_load_finding, write_run};
 use j39_text::TextBuffer;
