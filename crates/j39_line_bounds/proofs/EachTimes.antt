@@ -71,16 +71,16 @@ module _ (line : ProductLine) where
   not_counted [] v [] never are = inl (never, tt)
   not_counted [] v (times ∷ each) never are = absurd are
   not_counted (w ∷ vs) v each never (inl skipped) = inl (skipped.0, not_counted vs v each never skipped.1)
-  not_counted (w ∷ vs) v each never (inr (possible, times, others, is, rest, same)) =
-      inr (possible, times, others, is, not_counted vs v others never rest, same)
+  not_counted (w ∷ vs) v each never (inr (possible, (times, others, is, rest, same))) =
+      inr (possible, (times, others, is, not_counted vs v others never rest, same))
 
   counted : (vs : List (List ℕ)) (v : List ℕ) (each : List Times) (more : Times) → is_possible line.nevers.items v ≡ true → AreVariantTimes line v more
       → AreTimesOf line vs each → AreTimesOf line (vs ++ v ∷ []) (each ++ more ∷ [])
-  counted [] v [] more possible is are = inr (possible, more, [], is, tt, refl)
+  counted [] v [] more possible is are = inr (possible, (more, [], is, tt, refl))
   counted [] v (times ∷ each) more possible is are = absurd are
   counted (w ∷ vs) v each more possible is (inl skipped) = inl (skipped.0, counted vs v each more possible is skipped.1)
-  counted (w ∷ vs) v each more possible is (inr (here, times, others, of_w, rest, same)) =
-      inr (here, times, others ++ more ∷ [], of_w, counted vs v others more possible is rest, ap (λ xs. xs ++ more ∷ []) same)
+  counted (w ∷ vs) v each more possible is (inr (here, (times, others, of_w, rest, same))) =
+      inr (here, (times, others ++ more ∷ [], of_w, counted vs v others more possible is rest, ap (λ xs. xs ++ more ∷ []) same))
 
 -- so far
 abbrev pub SoFar : ProductLine → List (List ℕ) → Times → Type 0
@@ -101,7 +101,7 @@ pub with_next : {V : Type 0} (line : ProductLine) (f : V → List ℕ) (vs : Lis
 with_next line f vs k d v old new below is same so_far adds =
     let added = adds so_far.0 so_far.2 in
     subst (λ ws. SoFar line ws new) (sym (longer f vs k d v below is same))
-    (so_far.0 ++ added.1 ∷ [], counted line (map f (take k vs)) v so_far.0 added.1 added.0 added.2 so_far.1, added.3)
+    (so_far.0 ++ added.1.0 ∷ [], counted line (map f (take k vs)) v so_far.0 added.1.0 added.0 added.1.1 so_far.1, added.1.2)
 
 -- or isn't possible
 pub without_next : {V : Type 0} (line : ProductLine) (f : V → List ℕ) (vs : List V) (k : ℕ) (d : V) (v : List ℕ) (old : Times) → k < length vs
@@ -123,9 +123,9 @@ module _ (line : ProductLine) where
   of_variant (w ∷ vs) each (inl skipped) v (inl same) possible =
       absurd (false≢true (sym skipped.0 ∙ subst (λ x. is_possible line.nevers.items x ≡ true) (sym same) possible))
   of_variant (w ∷ vs) each (inl skipped) v (inr later) possible = of_variant vs each skipped.1 v later possible
-  of_variant (w ∷ vs) each (inr (here, times, others, of_w, rest, is)) v (inl same) possible =
+  of_variant (w ∷ vs) each (inr (here, (times, others, of_w, rest, is))) v (inl same) possible =
       (times, subst (λ x. AreVariantTimes line x times) same of_w, subst (λ xs. IsTimesAmong xs times) (sym is) (inl refl))
-  of_variant (w ∷ vs) each (inr (here, times, others, of_w, rest, is)) v (inr later) possible =
+  of_variant (w ∷ vs) each (inr (here, (times, others, of_w, rest, is))) v (inr later) possible =
       let found = of_variant vs others rest v later possible in
       (found.0, found.1, subst (λ xs. IsTimesAmong xs found.0) (sym is) (inr found.2))
 
@@ -135,7 +135,7 @@ module _ (line : ProductLine) where
   of_times [] (x ∷ each) are times among = absurd are
   of_times (w ∷ vs) each (inl skipped) times among =
       let found = of_times vs each skipped.1 times among in (found.0, inr found.1, found.2, found.3)
-  of_times (w ∷ vs) each (inr (here, x, others, of_w, rest, is)) times among = elim (subst (λ xs. IsTimesAmong xs times) is among) [
+  of_times (w ∷ vs) each (inr (here, (x, others, of_w, rest, is))) times among = elim (subst (λ xs. IsTimesAmong xs times) is among) [
     | inl same ↦ (w, inl refl, here, subst (λ t. AreVariantTimes line w t) same of_w)
     | inr later ↦ let found = of_times vs others rest times later in (found.0, inr found.1, found.2, found.3)
   ]
