@@ -4,6 +4,7 @@ ghost use Rattle.std.specs.Option.{option_or};
 ghost use Rattle.j39_audit.specs.Asking.{Asking as AnAsking, all_forgotten, answered, answered_at, asked_at, asked_before, asked_behind, asked_by};
 ghost use Rattle.j39_audit.specs.Asking.{asks_for_claims as is_for_claims, holds_surely, is_asked, is_for, is_overdue, is_sender, nobody_asked, with_deaf};
 ghost use Rattle.j39_audit.specs.Asking.{with_sign_of};
+ghost use Rattle.j39_audit.specs.Looking.{is_claim};
 ghost use Rattle.j39_audit.specs.inside.Recalling.{RecallsAsking, asked_in, known_by, settings_of};
 
 use crate::basis::Basis;
@@ -60,6 +61,13 @@ fn forget_requests(asked: &mut Vec<Option<ClaimRequest>>)
     for unit in 0..asked.len() {
         asked[unit] = None;
     }
+}
+
+// Whether a frame is a claim.
+fn is_claim(frame: &Frame) -> bool
+    ensures { result ≡ is_claim frame.now }
+{
+    claims_address(frame) || cannot_claim(frame)
 }
 
 // Whether a frame asks for claims.
@@ -147,9 +155,12 @@ impl Asking {
     }
 
     // Forgets that to a unit.
-    fn forget(&mut self, basis: &Basis<'_>, unit: usize)
-        ensures { (a : AnAsking) → RecallsAsking (settings_of basis.now) self.old a
-            → RecallsAsking (settings_of basis.now) self.new (answered (Some unit) a) }
+    fn forget(&mut self, unit: usize)
+        ensures open { self.new.open ≡ self.old.open }
+        ensures deaf { self.new.deaf ≡ self.old.deaf }
+        ensures size { length self.new.asked.items ≡ length self.old.asked.items }
+        ensures others { (u : ℕ) → u ≢ unit → asked_in self.new u ≡ asked_in self.old u }
+        ensures here { unit < length self.old.asked.items → asked_in self.new unit ≡ None }
     {
         if unit < self.asked.len() {
             self.asked[unit] = None;
@@ -183,7 +194,7 @@ impl Asking {
             → RecallsAsking (settings_of basis.now) self.new (answered claimant a) }
     {
         if let Some(unit) = claimant {
-            self.forget(basis, unit);
+            self.forget(unit);
         }
     }
 
@@ -192,7 +203,7 @@ impl Asking {
         ensures { (a : AnAsking) → RecallsAsking (settings_of basis.now) self.old a
             → RecallsAsking (settings_of basis.now) self.new (answered_at (settings_of basis.now) frame.now a) }
     {
-        if claims_address(frame) || cannot_claim(frame) {
+        if is_claim(frame) {
             let claimant = unit_named(basis.plan, carried_name(frame).to_bits());
             self.take_claim(basis, claimant);
         }
@@ -303,7 +314,7 @@ impl Asking {
         ensures { OnOk result ((a : AnAsking) → RecallsAsking (settings_of basis.now) self.old a
             → RecallsAsking (settings_of basis.now) self.new (with_deaf unit request a)) }
     {
-        self.forget(basis, unit);
+        self.forget(unit);
         self.deaf.note(make_mark(Word::Deaf, unit), request.line, 0)
     }
 
