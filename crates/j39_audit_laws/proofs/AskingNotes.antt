@@ -5,7 +5,7 @@ use Rattle.std.proofs.lemmas.Bool.{cases_Bool, cases_eq, ne_eqb}
 use Rattle.std.proofs.lemmas.List.{append-nil}
 use Rattle.j39_id.specs.declared.frame.Frame.{Frame}
 use Rattle.j39_network.specs.declared.plan.timing.Timing.{Timing}
-use Rattle.j39_audit.specs.Asking.{Asking, answered, answered_at, asked_at, asked_before, asked_behind, asking_behind, deaf_if_overdue, is_overdue, with_sign_of}
+use Rattle.j39_audit.specs.Asking.{Asking, answered, answered_at, asked_at, asked_before, asked_behind, asking_behind, deaf_if_overdue, is_overdue, with_deaf, with_sign_of}
 use Rattle.j39_audit.specs.Claiming.{Knowledge, is_at}
 use Rattle.j39_audit.specs.Counting.{Noted}
 use Rattle.j39_audit.specs.Looking.{claimant, is_claim}
@@ -15,9 +15,9 @@ use Rattle.j39_audit_laws.specs.Answering.{KeepsRequests, NotesTheDeaf, asks_at,
 
 -- ---- where a request says no more
 
-none_either : (test : Bool) → cond test None None ≡ (None : Option ClaimRequest)
-none_either true = refl
-none_either false = refl
+none_either : (test : Bool) (o : Option ClaimRequest) → o ≡ None → cond test None o ≡ None
+none_either true o none = refl
+none_either false o none = none
 
 forgot_before : (anew broken : Bool) (a : Asking) (u : ℕ) → (asked_before anew broken a).asked u ≡ cond (anew || broken) None (a.asked u)
 forgot_before true broken a u = refl
@@ -31,7 +31,7 @@ forgot_answered true (Some v) a u = refl
 forgot_answered false unit a u = refl
 
 either : (x y : Bool) (o : Option ClaimRequest) → cond y None (cond x None o) ≡ cond (x || y) None o
-either true y o = none_either y
+either true y o = none_either y None refl
 either false y o = refl
 
 -- ---- a request
@@ -59,17 +59,21 @@ behind s k broken anew time f line a u =
 sign_here : (t : Timing) (idle : Option ℕ) (a : Asking) (u : ℕ) (o : Option ClaimRequest) → a.asked u ≡ o
     → (deaf_if_overdue t idle u o a).asked u ≡ request_kept t o (Some idle)
 sign_here t idle a u None is = is
-sign_here t idle a u (Some r) is = elim (cases_Bool (is_overdue t r idle)) [
-  | inl late ↦ rw (late, eq-eqb u u refl) refl
-  | inr not ↦ rw not is
-]
+sign_here t idle a u (Some r) is =
+    let next : Bool → Option ClaimRequest = λ b. (cond b (with_deaf u r a) a).asked u in
+    elim (cases_Bool (is_overdue t r idle)) [
+      | inl late ↦ ap next late ∙ ap (λ (b : Bool). cond b None (a.asked u)) (eq-eqb u u refl) ∙ sym (ap (λ (b : Bool). cond b None (Some r)) late)
+      | inr not ↦ ap next not ∙ is ∙ sym (ap (λ (b : Bool). cond b None (Some r)) not)
+    ]
 
 sign_other : (t : Timing) (idle : Option ℕ) (a : Asking) (u v : ℕ) (o : Option ClaimRequest) → v ≢ u → (deaf_if_overdue t idle v o a).asked u ≡ a.asked u
 sign_other t idle a u v None other = refl
-sign_other t idle a u v (Some r) other = elim (cases_Bool (is_overdue t r idle)) [
-  | inl late ↦ rw (late, ne_eqb v u other) refl
-  | inr not ↦ rw not refl
-]
+sign_other t idle a u v (Some r) other =
+    let next : Bool → Option ClaimRequest = λ b. (cond b (with_deaf v r a) a).asked u in
+    elim (cases_Bool (is_overdue t r idle)) [
+      | inl late ↦ ap next late ∙ ap (λ (b : Bool). cond b None (a.asked u)) (ne_eqb v u other)
+      | inr not ↦ ap next not
+    ]
 
 no_sign : (t : Timing) (o : Option ClaimRequest) → o ≡ request_kept t o None
 no_sign t None = refl
@@ -78,10 +82,13 @@ no_sign t (Some r) = refl
 signed : (t : Timing) (unit idle : Option ℕ) (a : Asking) (u : ℕ)
     → (with_sign_of (Some t) unit idle a).asked u ≡ request_kept t (a.asked u) (sign_at unit idle u)
 signed t None idle a u = no_sign t (a.asked u)
-signed t (Some v) idle a u = elim (cases_eq v u) [
-  | inl same ↦ rw (same, eq-eqb u u refl) (sign_here t idle a u (a.asked u) refl)
-  | inr other ↦ rw (ne_eqb v u other) (sign_other t idle a u v (a.asked v) other ∙ no_sign t (a.asked u))
-]
+signed t (Some v) idle a u =
+    let kept : Bool → Option ClaimRequest = λ b. request_kept t (a.asked u) (cond b (Some idle) None) in
+    elim (cases_eq v u) [
+      | inl same ↦ ap (λ (w : ℕ). (deaf_if_overdue t idle w (a.asked w) a).asked u) same ∙ sign_here t idle a u (a.asked u) refl
+          ∙ sym (ap kept (eq-eqb v u same))
+      | inr other ↦ sign_other t idle a u v (a.asked v) other ∙ no_sign t (a.asked u) ∙ sym (ap kept (ne_eqb v u other))
+    ]
 
 pub keeps_requests : KeepsRequests
 unfolding asking_behind
@@ -95,10 +102,13 @@ keeps_requests s t k broken anew time f line unit idle a u timing =
 noted_here : (t : Timing) (idle : Option ℕ) (a : Asking) (u : ℕ) (o : Option ClaimRequest)
     → (deaf_if_overdue t idle u o a).deaf ≡ a.deaf ++ deaf_there u (is_late t o (Some idle)) o
 noted_here t idle a u None = sym (append-nil a.deaf)
-noted_here t idle a u (Some r) = elim (cases_Bool (is_overdue t r idle)) [
-  | inl late ↦ rw late refl
-  | inr not ↦ rw not (sym (append-nil a.deaf))
-]
+noted_here t idle a u (Some r) =
+    let next : Bool → List Noted = λ b. (cond b (with_deaf u r a) a).deaf in
+    let there : Bool → List Noted = λ b. a.deaf ++ deaf_there u b (Some r) in
+    elim (cases_Bool (is_overdue t r idle)) [
+      | inl late ↦ ap next late ∙ sym (ap there late)
+      | inr not ↦ ap next not ∙ sym (append-nil a.deaf) ∙ sym (ap there not)
+    ]
 
 noted_before : (anew broken : Bool) (a : Asking) → (asked_before anew broken a).deaf ≡ a.deaf
 noted_before true broken a = refl
