@@ -6,25 +6,25 @@ use Rattle.std.proofs.lemmas.Option.{slice_get_past}
 use Rattle.j39_id.specs.declared.frame.Frame.{Frame}
 use Rattle.j39_network.specs.declared.plan.timing.Timing.{Timing}
 use Rattle.j39_network.specs.declared.plan.unit_plan.UnitPlan.{UnitPlan}
-use Rattle.j39_audit.specs.Asking.{Asking, answered, asking_behind, asks_for_claims, deaf_if_overdue, is_asked, is_overdue, with_asked, with_deaf, with_sign_of}
+use Rattle.j39_audit.specs.Asking.{Asking, answered, asking_behind, asks_for_claims, deaf_if_overdue, is_asked_to_claim, is_overdue, with_asked, with_deaf, with_sign_of}
 use Rattle.j39_audit.specs.Claiming.{Knowledge}
 use Rattle.j39_audit.specs.Looking.{is_claiming}
 use Rattle.j39_audit.specs.Settings.{Settings}
 use Rattle.j39_audit.specs.declared.asking.Asking.{Asking as KeptAsking}
 use Rattle.j39_audit.specs.declared.asking.ClaimRequest.{ClaimRequest}
 use Rattle.j39_audit.specs.declared.tally.MarkTally.{MarkTally}
-use Rattle.j39_audit.specs.inside.Recalling.{AreCounted, RecallsAsking, asked_in}
+use Rattle.j39_audit.specs.inside.Recalling.{AreCounted, RecallsAsking, request_in}
 use Rattle.j39_audit.proofs.Pausing.{forgotten, none_either, placed}
 
 pub forgot : (s : Settings) (u : ℕ) (a : Asking) (old new : KeptAsking) → new.open ≡ old.open → new.deaf ≡ old.deaf
-    → length new.asked.items ≡ length old.asked.items → ((v : ℕ) → v ≢ u → asked_in new v ≡ asked_in old v)
-    → (u < length old.asked.items → asked_in new u ≡ None) → RecallsAsking s old a → RecallsAsking s new (answered (Some u) a)
+    → length new.asked.items ≡ length old.asked.items → ((v : ℕ) → v ≢ u → request_in new v ≡ request_in old v)
+    → (u < length old.asked.items → request_in new u ≡ None) → RecallsAsking s old a → RecallsAsking s new (answered (Some u) a)
 forgot s u a old new open_is deaf_is size others here recalls =
     let none = forgotten u new.asked.items (length old.asked.items) size here in
-    let table : asked_in old ≡ a.asked = λ i v. recalls.asked v i in
+    let table : request_in old ≡ a.asked = λ i v. recalls.asked v i in
     record {
       size = size ∙ recalls.size;
-      asked = λ v. placed u None (asked_in new) (asked_in old) others none v ∙ ap (λ (f : ℕ → Option ClaimRequest). with_asked u None f v) table;
+      asked = λ v. placed u None (request_in new) (request_in old) others none v ∙ ap (λ (f : ℕ → Option ClaimRequest). with_asked u None f v) table;
       closed = λ e v. none_either (u == v) (a.asked v) (recalls.closed (sym open_is ∙ e) v);
       counted = subst (λ (t : MarkTally). AreCounted t a.deaf) (sym deaf_is) recalls.counted;
     }
@@ -41,16 +41,16 @@ either_false true = refl
 either_false false = refl
 
 -- one that isn't in the plan
-pub never_asked : (s : Settings) (k : Knowledge) (f : Frame) (u : ℕ) → length s.plan.units.items ≤ u → is_asked s k f u ≡ false
-unfolding is_asked
+pub never_asked : (s : Settings) (k : Knowledge) (f : Frame) (u : ℕ) → length s.plan.units.items ≤ u → is_asked_to_claim s k f u ≡ false
+unfolding is_asked_to_claim
 never_asked s k f u past =
     let none : is_claiming s u ≡ false = ap (λ (o : Option UnitPlan). option_map_or (λ (unit : UnitPlan). unit.claims) o false)
     (slice_get_past s.plan.units.items u past) in
     rw none (both_false (not s.part) (asks_for_claims f))
 
 -- and none by another frame
-pub not_asking : (s : Settings) (k : Knowledge) (f : Frame) (u : ℕ) → asks_for_claims f ≡ false → is_asked s k f u ≡ false
-unfolding is_asked
+pub not_asking : (s : Settings) (k : Knowledge) (f : Frame) (u : ℕ) → asks_for_claims f ≡ false → is_asked_to_claim s k f u ≡ false
+unfolding is_asked_to_claim
 not_asking s k f u none = rw none (either_false (not s.part))
 
 pub as_before : (x : Option ClaimRequest) (b : Bool) (r : ClaimRequest) → b ≡ false → x ≡ option_or x (cond b (Some r) None)

@@ -17,8 +17,9 @@ both true same other = same
 both false same other = other
 
 looks : (log : AuditLog) (past : AuditPast) → RecallsAudit log past → tallied log ≡ look_at past
-looks log past recalls = λ i m. both (is_of_moments m.word) (recalls.follows.moments.counted (key_of m))
-(both (is_of_asking m.word) (recalls.follows.asking.counted (key_of m)) (recalls.follows.counted (key_of m))) i
+looks log past recalls = λ i m.
+    both (is_of_moments m.word) (recalls.follows.moments.counted (key_of m))
+    (both (is_of_asking m.word) (recalls.follows.asking.counted (key_of m)) (recalls.follows.counted (key_of m))) i
 
 counts : (log : AuditLog) (past : AuditPast) → RecallsAudit log past → log.counts ≡ counts_of past
 counts log past recalls =

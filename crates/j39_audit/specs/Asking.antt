@@ -68,18 +68,18 @@ abbrev pub is_for : Settings → Knowledge → ℕ → ℕ → Bool
 is_for s k u a = a == global_address || (is_sender (sender_at s k a) u && holds_surely s k u a)
 
 -- a unit that claims is asked, unless it may be the one that asks; of a part of what the bus carried nobody is
-unfoldable pub is_asked : Settings → Knowledge → Frame → ℕ → Bool
-is_asked s k f u =
+unfoldable pub is_asked_to_claim : Settings → Knowledge → Frame → ℕ → Bool
+is_asked_to_claim s k f u =
     not s.part && (asks_for_claims f && (is_claiming s u && (not (may_be s k u f.ident.sa) && is_for s k u f.ident.ps)))
 
 -- who is asked already stays so
-abbrev pub asked_by : Settings → Knowledge → Frame → ClaimRequest → Asking → Asking
-asked_by s k f r a = record a { asked = λ u. option_or (a.asked u) (if is_asked s k f u then Some r else None) }
+abbrev pub asked_with : Settings → Knowledge → Frame → ClaimRequest → Asking → Asking
+asked_with s k f r a = record a { asked = λ u. option_or (a.asked u) (if is_asked_to_claim s k f u then Some r else None) }
 
 -- at a frame of this time, by the moment at which it ended at the latest
 abbrev pub asked_at : Settings → Knowledge → Frame → Option ℕ → ℕ → Asking → Asking
 asked_at s k f None line a = a
-asked_at s k f (Some time) line a = asked_by s k f (record { moment = time + long_before + logger_error s; line = line }) a
+asked_at s k f (Some time) line a = asked_with s k f (record { moment = time + long_before + logger_error s; line = line }) a
 
 -- ---- who doesn't answer
 

@@ -1,11 +1,11 @@
 //! Which units are asked for claims, and which of them don't answer.
 ghost use Rattle.std.specs.Prelude.{◌≡◌, ◌≢◌, ◌<◌, ◌^◌, ℕ, true, IfOk, IfSome, OnOk, Some, None, if◌then◌else◌, length, slice_index_or};
 ghost use Rattle.std.specs.Option.{option_or};
-ghost use Rattle.j39_audit.specs.Asking.{Asking as AnAsking, all_forgotten, answered, answered_at, asked_at, asked_before, asked_behind, asked_by};
-ghost use Rattle.j39_audit.specs.Asking.{asks_for_claims as is_for_claims, holds_surely, is_asked, is_for, is_overdue, is_sender, nobody_asked, with_deaf};
+ghost use Rattle.j39_audit.specs.Asking.{Asking as AnAsking, all_forgotten, answered, answered_at, asked_at, asked_before, asked_behind, asked_with};
+ghost use Rattle.j39_audit.specs.Asking.{asks_for_claims as is_for_claims, holds_surely, is_asked_to_claim, is_for, is_overdue, is_sender, nobody_asked, with_deaf};
 ghost use Rattle.j39_audit.specs.Asking.{with_sign_of};
 ghost use Rattle.j39_audit.specs.Looking.{is_claim};
-ghost use Rattle.j39_audit.specs.inside.Recalling.{RecallsAsking, asked_in, known_by, settings_of};
+ghost use Rattle.j39_audit.specs.inside.Recalling.{RecallsAsking, request_in, known_by, settings_of};
 
 use crate::basis::Basis;
 use crate::frame_marks::is_claiming;
@@ -105,9 +105,9 @@ fn is_for(basis: &Basis<'_>, known: &Known, unit: usize, address: u8) -> bool
 }
 
 // Whether a frame asks a unit for claims.
-#[tactic(auto, unfolding(crate::specs::Asking::is_asked))]
+#[tactic(auto, unfolding(crate::specs::Asking::is_asked_to_claim))]
 fn is_asked(basis: &Basis<'_>, known: &Known, frame: &Frame, unit: usize) -> bool
-    ensures { result ≡ is_asked (settings_of basis.now) (known_by known.now) frame.now unit }
+    ensures { result ≡ is_asked_to_claim (settings_of basis.now) (known_by known.now) frame.now unit }
 {
     !basis.part
         && (asks_for_claims(frame)
@@ -145,7 +145,7 @@ impl Asking {
 
     // The request to a unit that it hasn't answered.
     fn request(&self, unit: usize) -> Option<ClaimRequest>
-        ensures { result ≡ asked_in self.now unit }
+        ensures { result ≡ request_in self.now unit }
     {
         if unit < self.asked.len() {
             self.asked[unit]
@@ -159,8 +159,8 @@ impl Asking {
         ensures open { self.new.open ≡ self.old.open }
         ensures deaf { self.new.deaf ≡ self.old.deaf }
         ensures size { length self.new.asked.items ≡ length self.old.asked.items }
-        ensures others { (u : ℕ) → u ≢ unit → asked_in self.new u ≡ asked_in self.old u }
-        ensures here { unit < length self.old.asked.items → asked_in self.new unit ≡ None }
+        ensures others { (u : ℕ) → u ≢ unit → request_in self.new u ≡ request_in self.old u }
+        ensures here { unit < length self.old.asked.items → request_in self.new unit ≡ None }
     {
         if unit < self.asked.len() {
             self.asked[unit] = None;
@@ -222,9 +222,9 @@ impl Asking {
         ensures open { self.new.open ≡ self.old.open }
         ensures deaf { self.new.deaf ≡ self.old.deaf }
         ensures size { length self.new.asked.items ≡ length self.old.asked.items }
-        ensures others { (u : ℕ) → u ≢ unit → asked_in self.new u ≡ asked_in self.old u }
-        ensures here { asked_in self.new unit ≡ option_or (asked_in self.old unit)
-            (if is_asked (settings_of basis.now) (known_by known.now) frame.now unit then Some request else None) }
+        ensures others { (u : ℕ) → u ≢ unit → request_in self.new u ≡ request_in self.old u }
+        ensures here { request_in self.new unit ≡ option_or (request_in self.old unit)
+            (if is_asked_to_claim (settings_of basis.now) (known_by known.now) frame.now unit then Some request else None) }
     {
         if self.asked[unit].is_none() && is_asked(basis, known, frame, unit) {
             self.asked[unit] = Some(request);
@@ -232,15 +232,9 @@ impl Asking {
     }
 
     // Asks each unit that a frame asks.
-    fn ask_all(
-        &mut self,
-        basis: &Basis<'_>,
-        known: &Known,
-        frame: &Frame,
-        request: ClaimRequest,
-    )
+    fn ask_all(&mut self, basis: &Basis<'_>, known: &Known, frame: &Frame, request: ClaimRequest)
         ensures { (a : AnAsking) → RecallsAsking (settings_of basis.now) self.old a
-            → RecallsAsking (settings_of basis.now) self.new (asked_by (settings_of basis.now) (known_by known.now) frame.now request a) }
+            → RecallsAsking (settings_of basis.now) self.new (asked_with (settings_of basis.now) (known_by known.now) frame.now request a) }
     {
         self.open = true;
         for unit in 0..self.asked.len() {
@@ -257,7 +251,7 @@ impl Asking {
         request: ClaimRequest,
     )
         ensures { (a : AnAsking) → RecallsAsking (settings_of basis.now) self.old a
-            → RecallsAsking (settings_of basis.now) self.new (asked_by (settings_of basis.now) (known_by known.now) frame.now request a) }
+            → RecallsAsking (settings_of basis.now) self.new (asked_with (settings_of basis.now) (known_by known.now) frame.now request a) }
     {
         if asks_for_claims(frame) {
             self.ask_all(basis, known, frame, request);

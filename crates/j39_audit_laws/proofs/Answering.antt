@@ -9,7 +9,7 @@ use Rattle.j39_timing.specs.Messages.{frame_end}
 use Rattle.j39_timing.specs.TimedFrames.{Schedule}
 use Rattle.j39_audit.specs.Asking.{is_overdue}
 use Rattle.j39_audit.specs.declared.asking.ClaimRequest.{ClaimRequest}
-use Rattle.j39_audit_laws.specs.Answering.{Answers, EndsBetween, IsAnswerWithin, IsDeafAt, IsUnanswered, UnitLines, is_late, is_told_deaf, request_at, request_before, request_kept, request_next}
+use Rattle.j39_audit_laws.specs.Answering.{AnswersInTime, EndsBetween, IsAnswerWithin, IsDeafAt, IsStillAsked, UnitLines, is_late, is_told_deaf, request_at, request_before, request_kept, request_next}
 use Rattle.j39_audit_laws.specs.LogBounds.{IsMarkedBound, IsTimedBound, Lines}
 use Rattle.j39_audit_laws.specs.MarkRecords.{AreFew, KeepsTime}
 use Rattle.j39_audit_laws.proofs.OnBus.{at_most}
@@ -77,7 +77,7 @@ module _ (t : Timing) (l : UnitLines) where
   unfolding request_before
   before_more n = refl
 
-  here : (n : ℕ) (r : ClaimRequest) → l.asks n ≡ Some r → (l.forgets n ≡ true) ⊎ (request_before t l n ≡ None) → IsUnanswered t l n r
+  here : (n : ℕ) (r : ClaimRequest) → l.asks n ≡ Some r → (l.forgets n ≡ true) ⊎ (request_before t l n ≡ None) → IsStillAsked t l n r
   here n r asks new = record {
     first = n;
     before = omega arith;
@@ -87,7 +87,7 @@ module _ (t : Timing) (l : UnitLines) where
     untold = λ m least less. absurd (omega (arith, least, less));
   }
 
-  longer : (n : ℕ) (r : ClaimRequest) → IsUnanswered t l n r → l.forgets (suc n) ≡ false → is_told_deaf t l n ≡ false → IsUnanswered t l (suc n) r
+  longer : (n : ℕ) (r : ClaimRequest) → IsStillAsked t l n r → l.forgets (suc n) ≡ false → is_told_deaf t l n ≡ false → IsStillAsked t l (suc n) r
   longer n r was kept untold = record {
     first = was.first;
     before = let b = was.before in omega (arith, b);
@@ -103,7 +103,7 @@ module _ (t : Timing) (l : UnitLines) where
     ];
   }
 
-  unanswered : (n : ℕ) (r : ClaimRequest) → request_at t l n ≡ Some r → IsUnanswered t l n r
+  unanswered : (n : ℕ) (r : ClaimRequest) → request_at t l n ≡ Some r → IsStillAsked t l n r
   unanswered zero r is = elim (next_from (l.forgets 0) (l.asks 0) (request_before t l 0) r is) [
     | inl new ↦ here 0 r new.0 new.1
     | inr old ↦ absurd (none_not_some r (sym before_none ∙ old.1))
@@ -115,19 +115,19 @@ module _ (t : Timing) (l : UnitLines) where
         longer n r (unanswered n r kept.0) old.0 kept.1
   ]
 
-  new_there : (n : ℕ) (r : ClaimRequest) (is : IsUnanswered t l n r) → is.first ≡ n → request_at t l n ≡ Some r
+  new_there : (n : ℕ) (r : ClaimRequest) (is : IsStillAsked t l n r) → is.first ≡ n → request_at t l n ≡ Some r
   new_there n r is same =
       subst (λ (k : ℕ). request_at t l k ≡ Some r) same
       (next_new (l.forgets is.first) (l.asks is.first) (request_before t l is.first) r is.asks is.new)
 
-  asked_still : (n : ℕ) (r : ClaimRequest) → IsUnanswered t l n r → request_at t l n ≡ Some r
+  asked_still : (n : ℕ) (r : ClaimRequest) → IsStillAsked t l n r → request_at t l n ≡ Some r
   asked_still zero r is = let b = is.before in new_there 0 r is (omega (arith, b))
   asked_still (suc n) r is = elim (cases_eq is.first (suc n)) [
     | inl same ↦ new_there (suc n) r is same
     | inr other ↦
         let b = is.before in
         let less : is.first ≤ n = omega (arith, b, other) in
-        let was : IsUnanswered t l n r = record {
+        let was : IsStillAsked t l n r = record {
           first = is.first;
           before = less;
           asks = is.asks;
@@ -147,7 +147,7 @@ module _ (t : Timing) (l : UnitLines) where
   pub is_deaf : (n : ℕ) → IsDeafAt t l n → is_told_deaf t l n ≡ true
   is_deaf n is = late_some t (request_at t l n) (l.signs n) is.request is.idle (asked_still n is.request is.unanswered) is.sign is.overdue
 
-  pub not_deaf : (n : ℕ) → Answers t l n → is_told_deaf t l n ≡ false
+  pub not_deaf : (n : ℕ) → AnswersInTime t l n → is_told_deaf t l n ≡ false
   not_deaf n answers = elim (cases_Bool (is_told_deaf t l n)) [
     | inr not ↦ not
     | inl told ↦

@@ -3,7 +3,7 @@ use Rattle.std.specs.Prelude.{◌≡◌, ℕ, zero, suc, ◌+◌, ◌*◌, ◌<�
 use Rattle.std.specs.Option.{option_or}
 use Rattle.j39_id.specs.declared.frame.Frame.{Frame}
 use Rattle.j39_network.specs.declared.plan.timing.Timing.{Timing}
-use Rattle.j39_audit.specs.Asking.{Asking, asking_behind, is_asked, is_overdue}
+use Rattle.j39_audit.specs.Asking.{Asking, asking_behind, is_asked_to_claim, is_overdue}
 use Rattle.j39_audit.specs.Claiming.{Knowledge, is_at}
 use Rattle.j39_audit.specs.Counting.{Noted}
 use Rattle.j39_audit.specs.Looking.{claimant, is_claim}
@@ -43,7 +43,7 @@ forgets_at s broken anew f u = (anew || broken) || (is_claim f && is_at (claiman
 
 abbrev pub asks_at : Settings → Knowledge → Option ℕ → Frame → ℕ → ℕ → Option ClaimRequest
 asks_at s k None f line u = None
-asks_at s k (Some time) f line u = if is_asked s k f u then Some (record { moment = time + long_before + logger_error s; line = line }) else None
+asks_at s k (Some time) f line u = if is_asked_to_claim s k f u then Some (record { moment = time + long_before + logger_error s; line = line }) else None
 
 abbrev pub sign_at : Option ℕ → Option ℕ → ℕ → Option (Option ℕ)
 sign_at unit idle u = if is_at unit u then Some idle else None
@@ -79,7 +79,7 @@ abbrev pub is_told_deaf : Timing → UnitLines → ℕ → Bool
 is_told_deaf t l n = is_late t (request_at t l n) (l.signs n)
 
 -- the request is the first one behind what was answered, forgotten or told before, and nothing of this came since
-pub record IsUnanswered (t : Timing) (l : UnitLines) (n : ℕ) (request : ClaimRequest) : Type 0 where
+pub record IsStillAsked (t : Timing) (l : UnitLines) (n : ℕ) (request : ClaimRequest) : Type 0 where
   pub first : ℕ
   pub before : first ≤ n
   pub asks : l.asks first ≡ Some request
@@ -90,7 +90,7 @@ pub record IsUnanswered (t : Timing) (l : UnitLines) (n : ℕ) (request : ClaimR
 -- and the bus was idle at line n, which is of the unit, when its claim had to be ready
 pub record IsDeafAt (t : Timing) (l : UnitLines) (n : ℕ) : Type 0 where
   pub request : ClaimRequest
-  pub unanswered : IsUnanswered t l n request
+  pub unanswered : IsStillAsked t l n request
   pub idle : Option ℕ
   pub sign : l.signs n ≡ Some idle
   pub overdue : is_overdue t request idle ≡ true
@@ -98,8 +98,8 @@ pub record IsDeafAt (t : Timing) (l : UnitLines) (n : ℕ) : Type 0 where
 -- ---- who answers
 
 -- behind each request that is overdue at a line of the unit there is one up to there by which it says no more
-abbrev pub Answers : Timing → UnitLines → ℕ → Type 0
-Answers t l n = (i : ℕ) (request : ClaimRequest) (idle : Option ℕ) → i ≤ n → l.asks i ≡ Some request → l.signs n ≡ Some idle
+abbrev pub AnswersInTime : Timing → UnitLines → ℕ → Type 0
+AnswersInTime t l n = (i : ℕ) (request : ClaimRequest) (idle : Option ℕ) → i ≤ n → l.asks i ≡ Some request → l.signs n ≡ Some idle
     → is_overdue t request idle ≡ true → (m : ℕ) × (i < m) × (m ≤ n) × (l.forgets m ≡ true)
 
 -- a claim p is queued behind the end of a frame g, and at most so many milliseconds behind it

@@ -6,7 +6,7 @@ ghost use Rattle.j39_audit.specs.Settings.{AreMoving, Settings};
 ghost use Rattle.j39_audit.specs.declared.window.Window.{Window as AWindow};
 ghost use Rattle.j39_audit.specs.declared.mark.Word.TheVariants.{Address, Cannot, Layout, NoFlow, Priority, Urgent};
 ghost use Rattle.j39_audit.specs.declared.mark.Word.TheVariants.{Nobody, Short, Stranger};
-ghost use Rattle.j39_audit_laws.specs.Answering.{Answers, EndsBetween, IsAnswerWithin, IsDeafAt, KeepsRequests, NotesTheDeaf, UnitLines};
+ghost use Rattle.j39_audit_laws.specs.Answering.{AnswersInTime, EndsBetween, IsAnswerWithin, IsDeafAt, KeepsRequests, NotesTheDeaf, UnitLines};
 ghost use Rattle.j39_audit_laws.specs.Answering.{is_told_deaf};
 ghost use Rattle.j39_audit_laws.specs.AuditedRuns.{ArePartsKept, IsNotWrittenOf};
 ghost use Rattle.j39_audit_laws.specs.ExactClocks.{ExactClocks};
@@ -209,5 +209,5 @@ pub fn who_answers_is_not_deaf()
     ensures between { (s : Schedule) (d : Damaged) (log : Lines) (ms g p of moment idle : ℕ) → log.us ≤ 8 → KeepsTime log.us log.clock
         → IsBusWithErrors s d → ((q : ℕ) → q < s.count → s.bits q ≤ 160) → AreFew d log.few → IsTimedBound s log g moment
         → IsAnswerWithin s log.us ms g p → IsMarkedBound s log 0 of idle → moment + 1001 * ms < idle → EndsBetween s g p of }
-    ensures told { (t : Timings) (l : UnitLines) (n : ℕ) → Answers t l n → is_told_deaf t l n ≡ false }
+    ensures told { (t : Timings) (l : UnitLines) (n : ℕ) → AnswersInTime t l n → is_told_deaf t l n ≡ false }
 {}

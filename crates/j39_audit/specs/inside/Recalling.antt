@@ -90,13 +90,13 @@ pub record AreNear (kept : KeptMoments) : Type 0 where
 
 -- ---- requests for claims
 
-abbrev pub asked_in : KeptAsking → ℕ → Option ClaimRequest
-asked_in kept u = slice_index_or kept.asked.items u None
+abbrev pub request_in : KeptAsking → ℕ → Option ClaimRequest
+request_in kept u = slice_index_or kept.asked.items u None
 
 -- who is asked is kept; where it isn't open, nobody is
 pub record RecallsAsking (s : Settings) (kept : KeptAsking) (a : Asking) : Type 0 where
   pub size : length kept.asked.items ≡ length s.plan.units.items
-  pub asked : (u : ℕ) → asked_in kept u ≡ a.asked u
+  pub asked : (u : ℕ) → request_in kept u ≡ a.asked u
   pub closed : kept.open ≡ false → (u : ℕ) → a.asked u ≡ None
   pub counted : AreCounted kept.deaf a.deaf
 
