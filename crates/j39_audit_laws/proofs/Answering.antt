@@ -165,8 +165,7 @@ pub answered_between : (s : Schedule) (d : Damaged) (log : Lines) (ms g p of mom
 answered_between s d log ms g p of moment idle fast keeps bus short seldom timed answer mark late =
     let bits = bus.positive p answer.known in
     let queued = bus.queued_first p answer.known in
-    let behind = answer.behind in
-    (
+    let behind = answer.behind in (
       omega (arith, bits, queued, behind),
       elim (cases_lt (frame_end s p) (frame_end s of)) [
         | inl less ↦ less
