@@ -463,7 +463,8 @@ class Comparison:
 
     def is_seen(self, label: str) -> bool:
         """Whether a unit that is there sends something: it claims its address, or has messages or requests to send."""
-        return self.units[label].claims or any(label == way.sender for way in (*self.flows, *self.requests))
+        senders = [flow.sender for flow in self.flows] + [request.sender for request in self.requests]
+        return self.units[label].claims or label in senders
 
     def unmet(self) -> None:
         """Tells the needs that nothing met in this log."""
