@@ -1,9 +1,9 @@
 #!/usr/bin/env python3
-"""Compares what `check` and `addresses` write of lines of vehicles with what they write of each of their variants: lines.py [PLANS [SEED]]
+"""Compares what `check`, `addresses` and `load` write of lines of vehicles with what they write of each of their variants: lines.py [PLANS [SEED]]
 
 Each of so many random plans (200) has up to five choices. The plan of each possible variant is written as a file and asked about by itself; the findings
 are put at their places in the line's file, each once, with the witness and the alternatives that are to stand behind ` in`, by sets of alternatives and
-none of the program's definitions; so is who stays. J39PLAN names the program, else ./j39plan is asked. The status is 1 where an answer differs, which is
+none of the program's definitions; so are who stays and the worst times. J39PLAN names the program, else ./j39plan is asked. The status is 1 where an answer differs, which is
 shown.
 """
 from __future__ import annotations
@@ -20,6 +20,7 @@ TOP = Path(__file__).resolve().parent.parent
 PROGRAM = os.environ.get("J39PLAN", str(TOP / "j39plan"))
 KINDS = ("unit", "group", "flow", "need", "request")
 OF_TIMES = ("F3", "F17", "F18", "F20")
+HIDING = ("F1", "F2", "F3", "F4", "F5", "F9", "F10", "F11", "F12", "F26", "F27", "F28")
 OF_ADDRESSES = ("F1", "F2", "F3", "F12", "F26", "F27")
 Table = dict[str, object]
 Found = tuple[list[str], list[tuple[str, int]], list[str]]
@@ -240,6 +241,57 @@ class Line:
             lines.append(min(these, key=lambda line: " stays " in line, default=f"unit {unit['label']} no variant"))
         return [*lines, f"stay {sum(' stays ' in line for line in lines)} of {len(lines)}"]
 
+    def times(self, taken: tuple[str, ...]) -> dict[tuple[str, int], str]:
+        """What `load` writes of the flows and needs of a variant's plan, by their places in the file, and its load."""
+        there = self.there(taken)
+        told = {("need", number): " unmet of {}000 us".format(need["within"]) for number, need in enumerate(self.tables["need"])
+                if "within" in need and set(taken) <= self.boxes["need", number]}
+        for line in ask("load", self.text(there)):
+            words = line.split()
+            if words[0] in ("flow", "need"):
+                place = there[words[0]][int(words[1]) - 1]
+                rest = line[len(" ".join(words[:5 if words[0] == "flow" else 4])):]
+                if words[0] == "need" and " flow " in rest:
+                    rest, flow = rest.split(" flow ")
+                    rest += f" flow {there['flow'][int(flow) - 1] + 1}"
+                told[words[0], place] = rest
+            elif words[0] == "load":
+                told["load", 0] = line
+        return told
+
+    def load(self) -> list[str]:
+        """What `load` is to write of the line."""
+        variants = self.possible()
+        if "bitrate" not in self.top:
+            return ["refused plan NoTiming"]
+        if not variants or any(words[0] in HIDING for taken in variants for words, _, _ in self.found(taken)):
+            return self.answer()
+        each = [self.times(taken) for taken in variants]
+
+        def worst(kind: str, place: int) -> str:
+            return max((told[kind, place] for told in each if (kind, place) in told), key=badness, default=" no variant")
+
+        lines = [f"flow {number + 1} {flow['group']} {flow['from']} {flow['to']}{worst('flow', number)}" for number, flow in enumerate(self.tables["flow"])]
+        lines += [f"need {number + 1} {need['unit']} {need['group']}{worst('need', number)}" for number, need in enumerate(self.tables["need"])
+                  if "within" in need]
+        lines.append(max((told["load", 0] for told in each), key=lambda line: int(line.split()[1])))
+        answer = self.answer()
+        others = [line for line in answer if not line.startswith(("F17", "F18", "F20", "ok ", "findings "))]
+        count = sum(line.startswith("F") for line in others)
+        return [*lines, *others, *([f"findings {count}"] if count else [])]
+
+
+def badness(told: str) -> tuple[int, int]:
+    """How bad a time of a flow or a need is, and how long it is."""
+    words = told.split()
+    if words[0] == "unmet" or words[:2] == ["late", "of"] or words[:2] == ["old", "of"] or words[0] == "frames" and words[2:4] == ["late", "of"]:
+        return (4 if words[0] == "unmet" else 3, 0)
+    if words[0] == "frames" and "within" not in words and "late" not in words:
+        return (3, 0)
+    late = words[0] == "late" or words[0] == "old" or "late" in words
+    number = next((int(word) for before, word in zip(words, words[1:]) if before in ("within", "late", "age", "old")), 0)
+    return (2 if late else 1, number)
+
 
 def random_line(rng: random.Random) -> Line:
     """A random line of vehicles."""
@@ -321,7 +373,7 @@ def main(words: list[str]) -> int:
                 print(written)
             continue
         try:
-            wanted = {"check": line.answer(), "addresses": line.addresses()}
+            wanted = {"check": line.answer(), "addresses": line.addresses(), "load": line.load()}
         except ValueError as error:
             print(f"plan {number}: a variant is refused: {error}")
             differences += 1

@@ -3,9 +3,9 @@ use Rattle.std.specs.Prelude.{◌≡◌, ◌⊎◌, ℕ, Bool, List, Option, str
 use Rattle.j39_app.specs.AuditAnswers.{IsAuditOf}
 use Rattle.j39_app.specs.Known.{AreFrontOf, AreOf, Names}
 use Rattle.j39_app.specs.VehicleAnswers.{IsAnswerOfVehicle}
-use Rattle.j39_plan_text.specs.LoadText.{IsLoadText}
 use Rattle.j39_line_text.specs.LineAddressesText.{IsLineAddressesText}
 use Rattle.j39_line_text.specs.LineCheckText.{IsLineCheckText}
+use Rattle.j39_line_text.specs.LineLoadText.{IsLineLoadText}
 use Rattle.j39_plan_text.specs.ShownLines.{IsShowText}
 use Rattle.j39_plan_text.specs.VariantText.{IsVariantText}
 use Rattle.j39_variants.specs.declared.line.ProductLine.{ProductLine}
@@ -66,7 +66,7 @@ IsAnswer files input (Variant plan labels) text verdict =
     IsOfBytes (IsVariantText (map string_bytes labels.items)) (files (string_bytes plan)) text verdict
 IsAnswer files input (Check plan) text verdict = IsOfBytes IsLineCheckText (files (string_bytes plan)) text verdict
 IsAnswer files input (Addresses plan) text verdict = IsOfBytes IsLineAddressesText (files (string_bytes plan)) text verdict
-IsAnswer files input (Load plan) text verdict = IsOfBytes IsLoadText (files (string_bytes plan)) text verdict
+IsAnswer files input (Load plan) text verdict = IsOfBytes IsLineLoadText (files (string_bytes plan)) text verdict
 IsAnswer files input (Run plan schedule) text verdict =
     IsAnswerOfTwo (IsForOnePlan IsRunOf) (files (string_bytes plan)) (files (string_bytes schedule)) text verdict
 IsAnswer files input (Read plan log) text verdict =

@@ -3,9 +3,9 @@ ghost use Rattle.std.specs.Prelude.{◌≡◌, IsErrOf, OnOk, map, string_bytes}
 ghost use Rattle.j39_app.specs.Answers.{IsAnswer, IsFrontAnswer, IsOfBytes, IsOfSome};
 ghost use Rattle.j39_app.specs.Faults.{AsksForMemory, Ends, EndsByFile, HasFileFailed, IsOfRead, PutsAtOnce};
 ghost use Rattle.j39_app.specs.Known.{MayBeTooLong};
-ghost use Rattle.j39_plan_text.specs.LoadText.{IsLoadText};
 ghost use Rattle.j39_line_text.specs.LineAddressesText.{IsLineAddressesText};
 ghost use Rattle.j39_line_text.specs.LineCheckText.{IsLineCheckText};
+ghost use Rattle.j39_line_text.specs.LineLoadText.{IsLineLoadText};
 ghost use Rattle.j39_plan_text.specs.ShownLines.{IsShowText};
 ghost use Rattle.j39_plan_text.specs.VariantText.{IsVariantText};
 ghost use Rattle.j39_stream.specs.CommandEnds.{AnswersWhole, IsOfAny};
@@ -17,7 +17,7 @@ use crate::auditing::AuditCommand;
 use crate::by_plan::{FollowCommand, ReadCommand, RunCommand, by_two};
 use crate::{
     Fault, Folder, Order, Sink, Source, Verdict, addresses_line_text, check_line_text, frame_text,
-    input_text, load_text, put_all, show_text, variant_text,
+    input_text, load_line_text, put_all, show_text, variant_text,
 };
 use std::alloc::Global;
 
@@ -95,10 +95,10 @@ fn load_file<F: Folder, W: Sink>(
     plan: &str,
     sink: &mut W,
 ) -> Result<Verdict, Fault>
-    ensures { EndsByFile (IsOfBytes IsLoadText) (λ known. IsOfSome (IsOfBytes IsLoadText known)) (Unit {0}) plan_limits
+    ensures { EndsByFile (IsOfBytes IsLineLoadText) (λ known. IsOfSome (IsOfBytes IsLineLoadText known)) (Unit {0}) plan_limits
         (F.stays_shut files.now) (F.bytes_of files.now) F.File.state plan.now W.state sink.old sink.new result }
 {
-    load_text(alloc, &mut files.open(plan)?, sink)
+    load_line_text(alloc, &mut files.open(plan)?, sink)
 }
 
 /// Writes what is asked for by an order: of the bytes of the files that it names, of its own line, or of the first line

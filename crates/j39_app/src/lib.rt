@@ -16,9 +16,9 @@ pub use folder::{Folder, SystemFiles};
 pub use j39_audit::audit_text;
 pub use j39_command_line::{Order, WordsFault, order};
 pub use j39_follow::follow_text;
-pub use j39_line_text::{addresses_line_text, check_line_text};
+pub use j39_line_text::{addresses_line_text, check_line_text, load_line_text};
 pub use j39_log::read_text;
-pub use j39_plan_text::{line_text, load_text, refuse_choices, show_text, variant_text};
+pub use j39_plan_text::{line_text, refuse_choices, show_text, variant_text};
 pub use j39_run::{refused_lines_end_the_text, run_planned, run_text};
 pub use j39_schedule::LineFault;
 pub use j39_stream::{

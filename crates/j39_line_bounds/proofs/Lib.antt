@@ -1,2 +1,4 @@
+pub mod EachTimes
 pub mod Standings
 pub mod UnitPlaces
+pub mod WorstTimes

@@ -1,2 +1,3 @@
 pub mod LineStandings
+pub mod LineTimes
 pub mod inside

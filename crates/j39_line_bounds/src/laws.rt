@@ -2,6 +2,7 @@
 ghost use Rattle.std.specs.Prelude.{ℕ};
 ghost use Rattle.j39_variants.specs.declared.line.ProductLine.{ProductLine};
 ghost use Rattle.j39_line_bounds.specs.LineStandings.{HasOneStanding, StandingsAreExact};
+ghost use Rattle.j39_line_bounds.specs.LineTimes.{TimesBoundEachVariant};
 
 /// A unit that is told to stay does in each possible variant that has it, and each unit that does is told so.
 pub fn standings_are_exact()
@@ -11,4 +12,9 @@ pub fn standings_are_exact()
 /// One thing is told of a unit.
 pub fn units_have_one_standing()
     ensures { (line : ProductLine) (u : ℕ) → HasOneStanding line u }
+{}
+
+/// Each time that is told bounds that of each possible variant, and is that of one; so does the load.
+pub fn times_bound_each_variant()
+    ensures { TimesBoundEachVariant }
 {}

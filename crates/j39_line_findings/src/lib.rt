@@ -20,6 +20,7 @@ pub use found::line_findings;
 pub use full::{FullAlternatives, alternatives_of};
 pub use laws::line_findings_are_exact;
 pub use line_finding::LineFinding;
+pub use missed_needs::is_need_asked_for;
 pub use part::LinePart;
 pub use rank::Rank;
 pub use there::WhatIsThere;

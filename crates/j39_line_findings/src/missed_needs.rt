@@ -26,7 +26,8 @@ pub(crate) fn is_group_there(line: &ProductLine, variant: &[usize], group: usize
     is_in_at(variant, &line.lists.groups, group)
 }
 
-pub(crate) fn is_need_asked_for(line: &ProductLine, variant: &[usize], place: usize) -> bool
+/// Whether a need is asked for in a variant.
+pub fn is_need_asked_for(line: &ProductLine, variant: &[usize], place: usize) -> bool
     ensures { result ≡ is_need_asked_for line.now variant.now place }
 {
     match line.plan.needs.get(place) {

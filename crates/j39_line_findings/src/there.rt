@@ -139,7 +139,7 @@ fn requests_there(
 
 impl WhatIsThere {
     /// What is there in a variant.
-    pub(crate) fn new(
+    pub fn new(
         alloc: Global,
         line: &ProductLine,
         variant: &[usize],

@@ -3,7 +3,7 @@ use Rattle.std.proofs.Common.{◌≡◌, ℕ, suc, ◌≤◌, List, [], ◌∷�
 use Rattle.std.specs.List.{Contains, list_any}
 use Rattle.std.proofs.lemmas.Bool.{cases_Bool, false≢true, true≢false}
 use Rattle.std.proofs.lemmas.List.Folds.{list_any_at}
-use Rattle.j39_findings.specs.Findings.{AreFindings, Holds}
+use Rattle.j39_findings.specs.Findings.{AreFindings}
 use Rattle.j39_findings.specs.declared.checking.finding.Finding.{Finding}
 use Rattle.j39_network.specs.declared.plan.Plan.{Plan}
 use Rattle.j39_variants.specs.declared.line.ProductLine.{ProductLine}
@@ -12,10 +12,6 @@ use Rattle.j39_variants.specs.Variants.{is_possible}
 use Rattle.j39_line_findings.proofs.EveryVariant.{any_found, every_variant, none_found}
 use Rattle.j39_line_findings.specs.AllVariants.{IsOneOf, all_variants, combinations, variant_limit}
 use Rattle.j39_line_findings.specs.declared.checking.LineAnswer.TheVariants.{Clean, Faulty, NoVariant}
-use Rattle.j39_plan_text.specs.AddressesText.{IsAddressesReport, is_of_addresses}
-use Rattle.j39_plan_text.specs.CheckText.{IsReport}
-use Rattle.j39_stream.specs.declared.verdict.Verdict.{Verdict}
-use Rattle.j39_stream.specs.declared.verdict.Verdict.TheVariants.{Done, Findings, Refused, Unreadable}
 use Rattle.j39_line_text.specs.Hindrances.{IsHidingAnswer, TellsWhetherAnyIsHidden, TellsWhetherHidden}
 
 contained : {X : Type 0} (p : X → Bool) (xs : List X) → list_any p xs ≡ true → (x : X) × Contains xs x × (p x ≡ true)
@@ -85,23 +81,3 @@ module _ (hides : Finding → Bool) (line : ProductLine) where
           );
           each = λ v is. told v (subst (λ xs. IsOneOf xs v) (sym are) ((every_variant line.choices.items).complete v is.is_variant)) is.possible;
         }
-
--- ---- of one plan
-
-pub some_wrong : (hides : Finding → Bool) (plan : Plan) (findings : List Finding) → AreFindings plan findings → list_any hides findings ≡ true
-    → (finding : Finding) × (hides finding ≡ true) × Holds plan finding
-some_wrong hides plan findings are is =
-    let one = contained hides findings is in (one.0, one.2, are.sound one.0 one.1)
-
-pub none_wrong : (hides : Finding → Bool) (plan : Plan) (findings : List Finding) → AreFindings plan findings → list_any hides findings ≡ false
-    → (finding : Finding) → hides finding ≡ true → ¬ Holds plan finding
-none_wrong hides plan findings are is finding one holds =
-    true≢false (sym (any_of hides findings finding (are.complete finding holds) one) ∙ is)
-
--- a plan with such a finding isn't clean, so that check writes its findings
-pub as_checked : (plan : Plan) (text : List ℕ) (verdict : Verdict) → ((finding : Finding) × (is_of_addresses finding ≡ true) × Holds plan finding)
-    → IsReport plan text verdict → IsAddressesReport plan text verdict
-as_checked plan text Done wrong report = absurd (report.0 wrong.0 wrong.2)
-as_checked plan text Findings wrong report = (wrong, report)
-as_checked plan text Refused wrong report = absurd report
-as_checked plan text Unreadable wrong report = absurd report

@@ -1,6 +1,6 @@
 -- What stands in the way of what is told of a line of vehicles: findings of possible variants, for which check's answer is written.
 use Rattle.std.specs.Prelude.{◌≡◌, ℕ, ◌<◌, ◌≤◌, List, Bool, true, false}
-use Rattle.j39_findings.specs.Findings.{Holds}
+use Rattle.j39_findings.specs.Findings.{Holds, finding_number}
 use Rattle.j39_findings.specs.declared.checking.finding.Finding.{Finding}
 use Rattle.j39_network.specs.declared.plan.Plan.{Plan}
 use Rattle.j39_variants.specs.declared.line.ProductLine.{ProductLine}
@@ -8,8 +8,17 @@ use Rattle.j39_variants.specs.VariantPlans.{IsVariantPlan}
 use Rattle.j39_variants.specs.Variants.{is_possible}
 use Rattle.j39_line_findings.specs.AllVariants.{IsOneOf, combinations, variant_limit}
 use Rattle.j39_line_findings.specs.LineAnswers.{IsPossible}
+use Rattle.j39_line_text.specs.declared.hindrances.Asked.{Asked}
+use Rattle.j39_line_text.specs.declared.hindrances.Asked.TheVariants.{Addresses, Times}
+use Rattle.j39_plan_text.specs.AddressesText.{is_of_addresses}
+use Rattle.j39_plan_text.specs.LoadText.{hides_times}
 use Rattle.j39_line_findings.specs.declared.checking.LineAnswer.{LineAnswer}
 use Rattle.j39_line_findings.specs.declared.checking.LineAnswer.TheVariants.{Clean, Faulty, ManyVariants, NoVariant}
+
+-- which findings hide what is asked
+abbrev pub hides : Asked → Finding → Bool
+hides Addresses finding = is_of_addresses finding
+hides Times finding = hides_times (finding_number finding)
 
 -- of findings that hide something: the plan of a variant has one
 pub record IsHidden (hides : Finding → Bool) (line : ProductLine) (variant : List ℕ) : Type 0 where

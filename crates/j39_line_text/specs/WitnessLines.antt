@@ -1,12 +1,14 @@
 -- The lines of what is found of a line of vehicles, with what is told of the variants that are its witnesses.
-use Rattle.std.specs.Prelude.{ℕ, List, [], ◌∷◌, ◌++◌, Bool, codes, if◌then◌else◌, length, unwrap_or}
+use Rattle.std.specs.Prelude.{ℕ, List, [], ◌∷◌, ◌++◌, ◌==◌, Bool, codes, count_by, if◌then◌else◌, length, not, unwrap_or}
 use Rattle.std.specs.List.{list_any, range_with_len, slice_get}
 use Rattle.std.specs.Option.{option_map_or}
 use Rattle.j39_load.specs.LineLists.{lines_of_each}
 use Rattle.j39_variants.specs.declared.line.Alternative.{Alternative}
 use Rattle.j39_variants.specs.declared.line.Choice.{Choice}
 use Rattle.j39_variants.specs.declared.line.ProductLine.{ProductLine}
+use Rattle.j39_line_findings.specs.InFile.{rank_of}
 use Rattle.j39_line_findings.specs.Told.{is_told}
+use Rattle.j39_plan_text.specs.FoundInPlan.{is_of_times}
 use Rattle.j39_line_findings.specs.declared.line_finding.LineFinding.{LineFinding}
 use Rattle.j39_line_findings.specs.declared.line_finding.LineFinding.TheVariants.{OfPlan, OfLoad}
 use Rattle.j39_line_findings.specs.declared.witnessed.Witnessed.{Witnessed}
@@ -74,3 +76,24 @@ witness_reports line alternatives variants =
 unfoldable pub findings_of_line_text : ProductLine → List Alternative → List (List ℕ) → List Witnessed → List ℕ
 findings_of_line_text line alternatives variants told = witness_reports line alternatives variants told
     ++ (field (codes "findings ") (length told) ++ 10 ∷ [])
+
+-- ---- those of which the lines of the times don't tell
+
+-- a bus that is too full, a late flow, an old need: F17, F18 and F20
+abbrev pub is_of_line_times : LineFinding → Bool
+is_of_line_times finding = is_of_times (rank_of finding).number
+
+abbrev pub is_untold_of_line : Witnessed → Bool
+is_untold_of_line w = not (is_of_line_times w.finding)
+
+unfoldable pub untold_report : ProductLine → List Alternative → List ℕ → LineFinding → List ℕ
+untold_report line alternatives variant finding = if is_of_line_times finding then [] else witness_report line alternatives variant finding
+
+abbrev pub untold_reports : ProductLine → List Alternative → List (List ℕ) → List Witnessed → List ℕ
+untold_reports line alternatives variants =
+    lines_of_each (λ _ w. untold_report line alternatives (variant_at variants w.variant) w.finding) 0
+
+-- a line for each, and how many they are, where there are any
+unfoldable pub untold_of_line_text : ProductLine → List Alternative → List (List ℕ) → List Witnessed → List ℕ
+untold_of_line_text line alternatives variants told = if count_by is_untold_of_line told == 0 then []
+    else untold_reports line alternatives variants told ++ (field (codes "findings ") (count_by is_untold_of_line told) ++ 10 ∷ [])

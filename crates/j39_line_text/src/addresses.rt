@@ -1,21 +1,17 @@
 //! What the addresses command writes.
 ghost use Rattle.std.specs.Prelude.{IfOk};
-ghost use Rattle.j39_plan_text.specs.AddressesText.{IsAddressesReport};
-ghost use Rattle.j39_line_text.specs.LineAddressesText.{IsLineAddressesReport, IsLineAddressesText, IsPlanOrLineAddresses, IsStandingText};
-ghost use Rattle.j39_stream.specs.CommandEnds.{AnswersWhole, IsOfAny, PutsText};
+ghost use Rattle.j39_line_text.specs.LineAddressesText.{IsLineAddressesReport, IsLineAddressesText, IsStandingText};
+ghost use Rattle.j39_stream.specs.CommandEnds.{AnswersWhole, IsOfAny};
 ghost use Rattle.j39_stream.specs.Streams.{plan_limits};
 
-use crate::hindrances::{check_addresses, is_any_of_addresses};
+use crate::hindrances::{Asked, check_for};
 use crate::line_report::{faulty_text, many_variants, no_variant_text};
 use crate::standing_lines::standings_text;
-use crate::stays_lines::write_stays;
-use j39_findings::{Standing, check};
 use j39_line_bounds::line_standings;
 use j39_line_findings::LineAnswer;
-use j39_network::Plan;
-use j39_plan_text::{PlanFindings, line_text, write_check};
+use j39_plan_text::{LineReport, report_text, stays_report};
 use j39_run_laws::{who_stays, who_stays_with_strangers};
-use j39_stream::{Fault, Sink, Source, Verdict, put_all};
+use j39_stream::{Fault, Sink, Source, Verdict};
 use j39_text::TextBuffer;
 use j39_variants::ProductLine;
 use std::alloc::{AllocError, Global};
@@ -35,7 +31,7 @@ fn line_addresses(alloc: Global, line: &ProductLine) -> Result<(TextBuffer, Verd
 {
     who_stays();
     who_stays_with_strangers();
-    let answer = check_addresses(alloc, line)?;
+    let answer = check_for(alloc, Asked::Addresses, line)?;
     match answer {
         LineAnswer::ManyVariants(count) => {
             let text = many_variants(alloc, count)?;
@@ -56,41 +52,24 @@ fn line_addresses(alloc: Global, line: &ProductLine) -> Result<(TextBuffer, Verd
     }
 }
 
-// What is written of the addresses of one plan, with the verdict.
-fn plan_addresses(alloc: Global, plan: &Plan) -> Result<(TextBuffer, Verdict), AllocError>
-    ensures { IfOk result (λ report. IsAddressesReport plan.now report.0 report.1) }
-{
-    let mut text = TextBuffer::new(alloc);
-    let findings = check(alloc, plan)?;
-    if is_any_of_addresses(&findings) {
-        let found = PlanFindings::new(alloc, plan)?;
-        let verdict = write_check(alloc, &mut text, plan, &found)?;
-        return Ok((text, verdict));
-    }
-    who_stays();
-    who_stays_with_strangers();
-    let standing = Standing::new(plan);
-    write_stays(&mut text, &standing, &plan.units)?;
-    Ok((text, Verdict::Done))
-}
+// What is reported of the addresses of a line, of its one plan where it has no choices.
+struct AddressesReport;
 
-// What is written for a line, of its one plan where it has no choices.
-fn report(alloc: Global, line: &ProductLine) -> Result<(TextBuffer, Verdict), AllocError>
-    ensures { IfOk result (λ report. IsPlanOrLineAddresses line.now report.0 report.1) }
-{
-    if line.has_choices() {
-        line_addresses(alloc, line)
-    } else {
-        plan_addresses(alloc, &line.plan)
-    }
-}
+impl LineReport for AddressesReport {
+    ghost use Rattle.j39_line_text.specs.LineAddressesText.{IsPlanOrLineAddresses};
 
-fn put_report<W: Sink>(alloc: Global, line: &ProductLine, sink: &mut W) -> Result<Verdict, Fault>
-    ensures { PutsText (IsPlanOrLineAddresses line.now) W.state sink.old sink.new result }
-{
-    let (text, verdict) = report(alloc, line)?;
-    put_all(sink, text.as_slice())?;
-    Ok(verdict)
+    ghost says = { λ _. IsPlanOrLineAddresses };
+
+    fn report(
+        &self,
+        alloc: Global,
+        line: ProductLine,
+    ) -> Result<(TextBuffer, Verdict), AllocError> {
+        if line.has_choices() {
+            return line_addresses(alloc, &line);
+        }
+        stays_report(alloc, &line.plan)
+    }
 }
 
 /// Writes which units of the plan that a file describes hold their planned addresses whatever happens, and which may
@@ -103,8 +82,5 @@ pub fn addresses_line_text<S: Source, W: Sink>(
 ) -> Result<Verdict, Fault>
     ensures { AnswersWhole IsLineAddressesText (IsOfAny IsLineAddressesText) plan_limits (S.state source.old) (S.state source.new) W.state sink.old sink.new result }
 {
-    match line_text(alloc, source, sink)? {
-        Some(line) => put_report(alloc, &line, sink),
-        None => Ok(Verdict::Unreadable),
-    }
+    report_text(alloc, &AddressesReport, source, sink)
 }

@@ -2,45 +2,54 @@
 ghost use Rattle.std.specs.Prelude.{◌≡◌, IfOk, map};
 ghost use Rattle.std.specs.List.{list_any};
 ghost use Rattle.j39_variants.specs.Variants.{is_possible};
-ghost use Rattle.j39_line_text.specs.Hindrances.{IsHidingAnswer, TellsWhetherAnyIsHidden, TellsWhetherHidden};
-ghost use Rattle.j39_plan_text.specs.AddressesText.{is_of_addresses};
+ghost use Rattle.j39_line_text.specs.Hindrances.{IsHidingAnswer, TellsWhetherAnyIsHidden, TellsWhetherHidden, hides};
 
 use j39_findings::{Finding, check};
 use j39_line_findings::{LineAnswer, VARIANT_LIMIT, all_variants, combinations};
+use j39_plan_text::{hides_times, is_of_addresses};
 use j39_variants::{ProductLine, is_possible, plan_of};
 use std::alloc::{AllocError, Global};
 
-fn is_of_addresses(finding: &Finding) -> bool
-    ensures { result ≡ is_of_addresses finding.now }
-{
-    matches!(
-        finding,
-        Finding::SameName(..)
-            | Finding::SameFixedAddress(..)
-            | Finding::TooFewAddresses(..)
-            | Finding::KeptAddress(..)
-            | Finding::SilentAddress(..)
-            | Finding::SilentInPool(..)
-    )
+/// What is asked of a line.
+#[derive(Clone, Copy, PartialEq, Eq)]
+pub(crate) enum Asked {
+    /// Which of its units stay.
+    Addresses,
+    /// Its times.
+    Times,
 }
 
-/// Whether one of these findings is on NAMEs or addresses.
-pub(crate) fn is_any_of_addresses(findings: &[Finding]) -> bool
-    ensures { result ≡ list_any is_of_addresses findings.now }
+// Whether a finding hides what is asked.
+fn hides(asked: Asked, finding: &Finding) -> bool
+    ensures { result ≡ hides asked finding.now }
 {
-    findings.iter().any(|finding| is_of_addresses(finding))
+    match asked {
+        Asked::Addresses => is_of_addresses(finding),
+        Asked::Times => hides_times(finding.number()),
+    }
 }
 
-// Whether a variant is possible, and its plan has a finding on NAMEs or addresses.
-fn is_hidden(alloc: Global, line: &ProductLine, variant: &[usize]) -> Result<bool, AllocError>
-    ensures { IfOk result (TellsWhetherHidden is_of_addresses line.now variant.now) }
+fn is_any_hiding(asked: Asked, findings: &[Finding]) -> bool
+    ensures { result ≡ list_any (hides asked) findings.now }
+{
+    findings.iter().any(|finding| hides(asked, finding))
+}
+
+// Whether a variant is possible, and its plan has a finding that hides what is asked.
+fn is_hidden(
+    alloc: Global,
+    asked: Asked,
+    line: &ProductLine,
+    variant: &[usize],
+) -> Result<bool, AllocError>
+    ensures { IfOk result (TellsWhetherHidden (hides asked) line.now variant.now) }
 {
     if !is_possible(&line.nevers, variant) {
         return Ok(false);
     }
     let plan = plan_of(alloc, line, variant)?;
     let findings = check(alloc, &plan)?;
-    Ok(is_any_of_addresses(&findings))
+    Ok(is_any_hiding(asked, &findings))
 }
 
 fn is_any_possible(line: &ProductLine, variants: &[Vec<usize>]) -> bool
@@ -54,13 +63,14 @@ fn is_any_possible(line: &ProductLine, variants: &[Vec<usize>]) -> bool
 // Whether one of these variants is.
 fn is_any_hidden(
     alloc: Global,
+    asked: Asked,
     line: &ProductLine,
     variants: &[Vec<usize>],
 ) -> Result<bool, AllocError>
-    ensures { IfOk result (TellsWhetherAnyIsHidden is_of_addresses line.now (map (λ v. v.items) variants.now)) }
+    ensures { IfOk result (TellsWhetherAnyIsHidden (hides asked) line.now (map (λ v. v.items) variants.now)) }
 {
     for variant in variants {
-        let hidden = is_hidden(alloc, line, variant)?;
+        let hidden = is_hidden(alloc, asked, line, variant)?;
         if hidden {
             return Ok(true);
         }
@@ -68,10 +78,14 @@ fn is_any_hidden(
     Ok(false)
 }
 
-/// Whether something stands in the way of what is told of the addresses of a line: too many variants to look at each,
-/// none that is possible, or a possible one with a finding on NAMEs or addresses.
-pub(crate) fn check_addresses(alloc: Global, line: &ProductLine) -> Result<LineAnswer, AllocError>
-    ensures { IfOk result (IsHidingAnswer is_of_addresses line.now) }
+/// Whether something stands in the way of what is told of a line: too many variants to look at each, none that is
+/// possible, or a possible one with a finding that hides what is asked.
+pub(crate) fn check_for(
+    alloc: Global,
+    asked: Asked,
+    line: &ProductLine,
+) -> Result<LineAnswer, AllocError>
+    ensures { IfOk result (IsHidingAnswer (hides asked) line.now) }
 {
     let count = combinations(&line.choices);
     if VARIANT_LIMIT < count {
@@ -81,7 +95,7 @@ pub(crate) fn check_addresses(alloc: Global, line: &ProductLine) -> Result<LineA
     if !is_any_possible(line, &variants) {
         return Ok(LineAnswer::NoVariant);
     }
-    let hidden = is_any_hidden(alloc, line, &variants)?;
+    let hidden = is_any_hidden(alloc, asked, line, &variants)?;
     if hidden {
         return Ok(LineAnswer::Faulty);
     }

@@ -6,9 +6,11 @@ mod certificate;
 mod check;
 mod hindrances;
 mod line_report;
+mod load;
 mod standing_lines;
-mod stays_lines;
+mod time_lines;
 mod witness_lines;
 
 pub use addresses::addresses_line_text;
 pub use check::check_line_text;
+pub use load::load_line_text;

@@ -8,6 +8,7 @@ ghost use Rattle.j39_line_findings.specs.Told.{is_told};
 ghost use Rattle.j39_line_text.specs.WitnessLines.{alternative_label, findings_of_line_text, is_any_told, label_of_alternative, place_taken, run_of_line};
 ghost use Rattle.j39_line_text.specs.WitnessLines.{told_alternative, told_alternatives, variant_at, witness_line, witness_text};
 ghost use Rattle.j39_line_text.specs.WitnessLines.{line_finding_text, witness_report, witness_reports};
+ghost use Rattle.j39_line_text.specs.WitnessLines.{is_of_line_times, untold_of_line_text, untold_report, untold_reports};
 
 use j39_line_findings::{LineFinding, Telling, Witnessed, all_variants, alternatives_of};
 use j39_plan_text::{write_finding, write_load_finding, write_run};
@@ -232,4 +233,70 @@ pub(crate) fn findings_text(
     let mut text = TextBuffer::new(alloc);
     write_all(alloc, &mut text, line, &alternatives, &variants, told)?;
     Ok(text)
+}
+
+// Whether a finding is one of which the lines of the times tell: of a bus that is too full, a late flow, or an old need.
+fn is_of_times(finding: LineFinding) -> bool
+    ensures { result ≡ is_of_line_times finding }
+{
+    matches!(finding.rank().number, 17 | 18 | 20)
+}
+
+#[tactic(auto, unfolding(crate::specs::WitnessLines::untold_report))]
+fn write_untold_report(
+    alloc: Global,
+    text: &mut TextBuffer,
+    line: &ProductLine,
+    alternatives: &[Alternative],
+    variant: &[usize],
+    finding: LineFinding,
+) -> Result<(), AllocError>
+    ensures { OnOk result (text.new ≡ text.old ++ untold_report line.now alternatives.now variant.now finding) }
+{
+    if is_of_times(finding) {
+        return Ok(());
+    }
+    write_report(alloc, text, line, alternatives, variant, finding)
+}
+
+fn write_untold_reports(
+    alloc: Global,
+    text: &mut TextBuffer,
+    line: &ProductLine,
+    alternatives: &[Alternative],
+    variants: &[Vec<usize>],
+    told: &[Witnessed],
+) -> Result<(), AllocError>
+    ensures { OnOk result (text.new ≡ text.old ++ untold_reports line.now alternatives.now (map (λ v. v.items) variants.now) told.now) }
+{
+    for witnessed in told {
+        let variant = variant_at(variants, witnessed.variant);
+        write_untold_report(alloc, text, line, alternatives, variant, witnessed.finding)?;
+    }
+    Ok(())
+}
+
+/// Writes a line for each thing that is found of a line of vehicles and isn't of its times, with what is told of its
+/// witness, and how many there are, where there are any.
+#[tactic(auto, unfolding(crate::specs::WitnessLines::untold_of_line_text))]
+pub(crate) fn write_untold(
+    alloc: Global,
+    text: &mut TextBuffer,
+    line: &ProductLine,
+    told: &[Witnessed],
+) -> Result<(), AllocError>
+    ensures { OnOk result (text.new ≡ text.old ++ untold_of_line_text line.now (alternatives_of line.now) (all_variants line.now.choices.items) told.now) }
+{
+    let count = told
+        .iter()
+        .filter(|witnessed| !is_of_times(witnessed.finding))
+        .count();
+    if count == 0 {
+        return Ok(());
+    }
+    let alternatives = alternatives_of(alloc, line)?;
+    let variants = all_variants(alloc, &line.choices)?;
+    write_untold_reports(alloc, text, line, &alternatives, &variants, told)?;
+    text.field("findings ", count)?;
+    text.end_line()
 }

@@ -1,4 +1,4 @@
--- The text that the addresses command writes for a plan file.
+-- What the addresses command writes for a plan.
 use Rattle.std.specs.Prelude.{◌≡◌, ◌<◌, ℕ, Bool, true, false, List, [], ◌∷◌, ◌++◌, codes, count_by, length}
 use Rattle.j39_network.specs.declared.plan.Plan.{Plan}
 use Rattle.j39_network.specs.declared.plan.unit_plan.UnitPlan.{UnitPlan}
@@ -12,7 +12,6 @@ use Rattle.j39_world.specs.SoundPlan.{Always, AlwaysBeside}
 use Rattle.j39_network.specs.Staying.{StaysBeside}
 use Rattle.j39_world.specs.HeldAddresses.{HoldsPlanned}
 use Rattle.j39_plan_text.specs.CheckText.{IsReport}
-use Rattle.j39_plan_text.specs.PlanText.{IsOfOnePlan, IsReportedText}
 use Rattle.j39_text.specs.Texts.{field}
 use Rattle.j39_stream.specs.declared.verdict.Verdict.{Verdict}
 use Rattle.j39_stream.specs.declared.verdict.Verdict.TheVariants.{Done, Findings, Refused, Unreadable}
@@ -62,10 +61,6 @@ IsAddressesReport plan text Findings =
     ((finding : Finding) × (is_of_addresses finding ≡ true) × Holds plan finding) × IsReport plan text Findings
 IsAddressesReport plan text Refused = ⊥
 IsAddressesReport plan text Unreadable = ⊥
-
--- what is written for a file
-abbrev pub IsAddressesText : List ℕ → List ℕ → Verdict → Type 0
-IsAddressesText = IsReportedText (IsOfOnePlan IsAddressesReport)
 
 -- ---- laws
 

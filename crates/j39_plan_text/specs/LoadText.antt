@@ -1,4 +1,4 @@
--- The text that the load command writes for a plan file.
+-- What the load command writes for a plan.
 use Rattle.std.specs.Prelude.{◌≡◌, ℕ, ◌+◌, ◌==◌, not, ◌||◌, if◌then◌else◌, Bool, List, [], ◌∷◌, ◌++◌, codes, count_by, length, Option, Some, None}
 use Rattle.std.specs.Bool.{MatchBool}
 use Rattle.std.specs.List.{list_all}
@@ -16,7 +16,6 @@ use Rattle.j39_load.specs.LoadFindings.{AsksOfBus, all_findings, load_finding_nu
 use Rattle.j39_plan_text.specs.CheckText.{IsReport}
 use Rattle.j39_plan_text.specs.FindingLines.{finding_lines, is_between}
 use Rattle.j39_plan_text.specs.LoadLines.{load_finding_lines, loads_text}
-use Rattle.j39_plan_text.specs.PlanText.{IsOfOnePlan, IsReportedText}
 use Rattle.j39_stream.specs.declared.verdict.Verdict.{Verdict}
 use Rattle.j39_stream.specs.declared.verdict.Verdict.TheVariants.{Done, Findings, Refused}
 use Rattle.j39_text.specs.Texts.{field}
@@ -69,10 +68,6 @@ abbrev pub IsLoadReport : Plan → Option Timing → List ℕ → Verdict → Ty
 IsLoadReport plan None text verdict = (text ≡ codes "refused plan NoTiming\n") × (verdict ≡ Refused)
 IsLoadReport plan (Some timing) text verdict = (stays : UnitPlan → Bool) × (delays : List (Option Delay))
     × AsksOfBus plan timing stays delays × WritesLoads plan timing stays delays text verdict
-
--- what is written for a file
-abbrev pub IsLoadText : List ℕ → List ℕ → Verdict → Type 0
-IsLoadText = IsReportedText (IsOfOnePlan (λ plan. IsLoadReport plan (timing_of plan)))
 
 -- ---- laws
 

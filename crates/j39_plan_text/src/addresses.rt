@@ -1,45 +1,45 @@
-//! What the addresses command writes.
-ghost use Rattle.j39_plan_text.specs.AddressesText.{IsAddressesText};
-ghost use Rattle.j39_stream.specs.CommandEnds.{AnswersWhole, IsOfAny};
-ghost use Rattle.j39_stream.specs.Streams.{plan_limits};
+//! What is written of a plan's addresses.
+ghost use Rattle.std.specs.Prelude.{◌≡◌, IfOk};
+ghost use Rattle.j39_plan_text.specs.AddressesText.{IsAddressesReport, is_of_addresses};
 
-use crate::plan_file::choices_refused;
-use crate::report_text::{LineReport, report_text};
-use crate::stays_report::stays_report;
-use j39_stream::{Fault, Sink, Source, Verdict};
+use crate::plan_report::write_findings;
+use crate::stays_lines::write_stays;
+use j39_findings::{Finding, Standing, check};
+use j39_load::check_load;
+use j39_network::Plan;
+use j39_run_laws::{who_stays, who_stays_with_strangers};
+use j39_stream::Verdict;
 use j39_text::TextBuffer;
-use j39_variants::ProductLine;
 use std::alloc::{AllocError, Global};
 
-// What is reported of the addresses of a plan.
-struct AddressesReport;
-
-impl LineReport for AddressesReport {
-    ghost use Rattle.j39_plan_text.specs.AddressesText.{IsAddressesReport};
-    ghost use Rattle.j39_plan_text.specs.PlanText.{IsOfOnePlan};
-
-    ghost says = { λ _. IsOfOnePlan IsAddressesReport };
-
-    fn report(
-        &self,
-        alloc: Global,
-        line: ProductLine,
-    ) -> Result<(TextBuffer, Verdict), AllocError> {
-        if line.has_choices() {
-            return Ok((choices_refused(alloc)?, Verdict::Refused));
-        }
-        stays_report(alloc, &line.plan)
-    }
+/// Whether a finding is one on the NAMEs or the addresses of units.
+pub fn is_of_addresses(finding: &Finding) -> bool
+    ensures { result ≡ is_of_addresses finding.now }
+{
+    matches!(
+        finding,
+        Finding::SameName(..)
+            | Finding::SameFixedAddress(..)
+            | Finding::TooFewAddresses(..)
+            | Finding::KeptAddress(..)
+            | Finding::SilentAddress(..)
+            | Finding::SilentInPool(..)
+    )
 }
 
-/// Writes which units of the plan that a file describes hold their planned addresses whatever happens, and which may
-/// move; of a plan whose NAMEs or addresses have findings, what `check` writes; or why the file describes no plan.
-pub fn addresses_text<S: Source, W: Sink>(
-    alloc: Global,
-    source: &mut S,
-    sink: &mut W,
-) -> Result<Verdict, Fault>
-    ensures { AnswersWhole IsAddressesText (IsOfAny IsAddressesText) plan_limits (S.state source.old) (S.state source.new) W.state sink.old sink.new result }
+/// What is written of a plan's addresses, with the verdict.
+pub fn stays_report(alloc: Global, plan: &Plan) -> Result<(TextBuffer, Verdict), AllocError>
+    ensures { IfOk result (λ report. IsAddressesReport plan.now report.0 report.1) }
 {
-    report_text(alloc, &AddressesReport, source, sink)
+    let mut text = TextBuffer::new(alloc);
+    let findings = check(alloc, plan)?;
+    if findings.iter().any(is_of_addresses) {
+        let others = check_load(alloc, plan)?;
+        write_findings(alloc, &mut text, plan, &findings, others.as_slice())?;
+        return Ok((text, Verdict::Findings));
+    }
+    who_stays();
+    who_stays_with_strangers();
+    write_stays(&mut text, &Standing::new(plan), plan.units.as_slice())?;
+    Ok((text, Verdict::Done))
 }

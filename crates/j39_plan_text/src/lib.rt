@@ -8,18 +8,16 @@ mod laws;
 mod live_identifiers;
 mod load;
 mod load_lines;
-mod load_report;
 mod plan_file;
 mod plan_findings;
 mod plan_report;
-mod report_text;
+mod reporting;
 mod show;
 mod show_lines;
 mod stays_lines;
-mod stays_report;
 mod variant;
 
-pub use addresses::addresses_text;
+pub use addresses::{is_of_addresses, stays_report};
 pub use certificate::clean_plans_are_certified;
 pub use finding_lines::{write_finding, write_run};
 pub use laws::{
@@ -28,10 +26,13 @@ pub use laws::{
     written_runs_read_back, written_runs_show_the_conflict,
 };
 pub use live_identifiers::live_flows_have_different_identifiers;
-pub use load::load_text;
-pub use load_lines::{write_load, write_load_finding};
+pub use load::{hides_times, load_report};
+pub use load_lines::{
+    write_age, write_flow, write_known_delay, write_load, write_load_finding, write_time,
+};
 pub use plan_file::{line_text, refuse_choices, write_choices_refused, write_refusal};
 pub use plan_findings::PlanFindings;
 pub use plan_report::write_check;
+pub use reporting::{LineReport, report_text};
 pub use show::show_text;
 pub use variant::variant_text;

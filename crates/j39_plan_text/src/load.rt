@@ -1,48 +1,122 @@
-//! What the load command writes.
-ghost use Rattle.j39_plan_text.specs.LoadText.{IsLoadText};
-ghost use Rattle.j39_stream.specs.CommandEnds.{AnswersWhole, IsOfAny};
-ghost use Rattle.j39_stream.specs.Streams.{plan_limits};
+//! What is written of what a plan asks of its bus.
+ghost use Rattle.std.specs.Prelude.{◌≡◌, ◌+◌, ◌++◌, ◌≤◌, IfOk, OnOk, count_by, length};
+ghost use Rattle.j39_plan_text.specs.LoadText.{IsLoadReport, hides_times, is_untold, load_verdict, shows_times};
+ghost use Rattle.j39_plan_text.specs.LoadText.{untold_count, untold_lines, untold_text};
+ghost use Rattle.j39_load.specs.BusTimes.{timing_of};
 
-use crate::load_report::load_report;
-use crate::plan_file::choices_refused;
-use crate::report_text::{LineReport, report_text};
-use j39_stream::{Fault, Sink, Source, Verdict};
+use crate::finding_lines::{is_between, write_lines};
+use crate::load_lines::{write_load_findings, write_loads};
+use crate::plan_report::write_findings;
+use j39_findings::{Finding, check};
+use j39_load::{LoadAnswer, LoadFinding, timing_of};
+use j39_network::Plan;
+use j39_stream::Verdict;
 use j39_text::TextBuffer;
-use j39_variants::ProductLine;
 use std::alloc::{AllocError, Global};
 
-// What is reported of the load of a plan.
-struct LoadReport;
+/// Whether no times are told where a finding of this number is.
+pub fn hides_times(number: u8) -> bool
+    ensures { result ≡ hides_times number }
+{
+    is_between(1, 6, number) || is_between(9, 13, number) || is_between(26, 29, number)
+}
 
-impl LineReport for LoadReport {
-    ghost use Rattle.j39_load.specs.BusTimes.{timing_of};
-    ghost use Rattle.j39_plan_text.specs.LoadText.{IsLoadReport};
-    ghost use Rattle.j39_plan_text.specs.PlanText.{IsOfOnePlan};
+// Whether there is none of these.
+fn shows_times(findings: &[Finding]) -> bool
+    ensures { result ≡ shows_times findings.now }
+{
+    findings
+        .iter()
+        .all(|finding| !hides_times(finding.number()))
+}
 
-    ghost says = { λ _. IsOfOnePlan (λ plan. IsLoadReport plan (timing_of plan)) };
+// Whether the lines of the load don't tell of it.
+fn is_untold(finding: LoadFinding) -> bool
+    ensures { result ≡ is_untold finding }
+{
+    is_between(16, 17, finding.number())
+}
 
-    fn report(
-        &self,
-        alloc: Global,
-        line: ProductLine,
-    ) -> Result<(TextBuffer, Verdict), AllocError> {
-        if line.has_choices() {
-            return Ok((choices_refused(alloc)?, Verdict::Refused));
+// How many of these there are.
+fn count_untold(others: &[LoadFinding]) -> usize
+    ensures count { result ≡ count_by is_untold others.now }
+    ensures few { result ≤ length others.now }
+{
+    let mut count = 0;
+    for finding in others {
+        if is_untold(*finding) {
+            count += 1;
         }
-        load_report(alloc, &line.plan)
+    }
+    count
+}
+
+// Writes so many findings, as check writes them: those of which the lines of the load don't tell.
+#[tactic(auto, unfolding(crate::specs::LoadText::untold_lines))]
+fn write_untold_lines(
+    alloc: Global,
+    text: &mut TextBuffer,
+    plan: &Plan,
+    findings: &[Finding],
+    others: &[LoadFinding],
+    count: usize,
+) -> Result<(), AllocError>
+    requires { count ≡ untold_count findings.now others.now }
+    ensures { OnOk result (text.new ≡ text.old ++ untold_lines plan.now findings.now others.now) }
+{
+    write_lines(alloc, text, plan, findings, 1, 16)?;
+    write_load_findings(text, others, 16, 17)?;
+    write_lines(alloc, text, plan, findings, 19, 20)?;
+    write_lines(alloc, text, plan, findings, 21, 29)?;
+    text.field("findings ", count)?;
+    text.end_line()
+}
+
+// The same, where there are any.
+#[tactic(auto, unfolding(crate::specs::LoadText::untold_text))]
+fn write_untold(
+    alloc: Global,
+    text: &mut TextBuffer,
+    plan: &Plan,
+    findings: &[Finding],
+    others: &[LoadFinding],
+) -> Result<(), AllocError>
+    ensures { OnOk result (text.new ≡ text.old ++ untold_text plan.now findings.now others.now) }
+{
+    let count = findings.len() + count_untold(others);
+    if count == 0 {
+        return Ok(());
+    }
+    write_untold_lines(alloc, text, plan, findings, others, count)
+}
+
+fn verdict_of(findings: &[Finding], others: &[LoadFinding]) -> Verdict
+    ensures { result ≡ load_verdict findings.now others.now }
+{
+    if findings.is_empty() && others.is_empty() {
+        Verdict::Done
+    } else {
+        Verdict::Findings
     }
 }
 
-/// Writes of each flow of the plan that a file describes how long its frames wait at most, that they aren't shown to be
-/// in time, or that it has no period, how much of the bus all flows take, and the findings of which these lines say
-/// nothing; where a finding hides the times, what `check` writes; that nothing is known of its bus; or why the file
-/// describes no plan.
-pub fn load_text<S: Source, W: Sink>(
-    alloc: Global,
-    source: &mut S,
-    sink: &mut W,
-) -> Result<Verdict, Fault>
-    ensures { AnswersWhole IsLoadText (IsOfAny IsLoadText) plan_limits (S.state source.old) (S.state source.new) W.state sink.old sink.new result }
+/// What is written of what a plan asks of its bus, with the verdict.
+pub fn load_report(alloc: Global, plan: &Plan) -> Result<(TextBuffer, Verdict), AllocError>
+    ensures { IfOk result (λ report. IsLoadReport plan.now (timing_of plan.now) report.0 report.1) }
 {
-    report_text(alloc, &LoadReport, source, sink)
+    let mut text = TextBuffer::new(alloc);
+    let Some(timing) = timing_of(plan) else {
+        text.word("refused plan NoTiming\n")?;
+        return Ok((text, Verdict::Refused));
+    };
+    let answer = LoadAnswer::new(alloc, timing, plan)?;
+    let others = answer.findings.as_slice();
+    let findings = check(alloc, plan)?;
+    if shows_times(&findings) {
+        write_loads(&mut text, plan, &answer.loads, answer.delays.as_slice())?;
+        write_untold(alloc, &mut text, plan, &findings, others)?;
+        return Ok((text, verdict_of(&findings, others)));
+    }
+    write_findings(alloc, &mut text, plan, &findings, others)?;
+    Ok((text, Verdict::Findings))
 }

@@ -75,8 +75,9 @@ pub(super) fn write_load_findings(
     Ok(())
 }
 
+/// Writes so many microseconds.
 #[tactic(auto, unfolding(crate::specs::LoadLines::time_text))]
-fn write_time(text: &mut TextBuffer, word: &str, us: u128) -> Result<(), AllocError>
+pub fn write_time(text: &mut TextBuffer, word: &str, us: u128) -> Result<(), AllocError>
     ensures { OnOk result (text.new ≡ text.old ++ time_text word.now us) }
 {
     text.field(word, us)?;
@@ -181,8 +182,9 @@ fn write_delay(
     }
 }
 
+/// Writes the delay of a flow, where it is known how often it is sent.
 #[tactic(auto, unfolding(crate::specs::LoadLines::known_delay_text))]
-fn write_known_delay(
+pub fn write_known_delay(
     text: &mut TextBuffer,
     timing: Timing,
     pace: Option<Pace>,
@@ -206,8 +208,9 @@ fn receiver_text(plan: &Plan, to: To) -> &str
     }
 }
 
+/// Writes a flow: its place, its group, its sender and its receiver.
 #[tactic(auto, unfolding(crate::specs::LoadLines::flow_text))]
-fn write_flow(
+pub fn write_flow(
     text: &mut TextBuffer,
     plan: &Plan,
     place: usize,
@@ -258,8 +261,9 @@ fn write_flows(
     Ok(())
 }
 
+/// Writes how old what is needed is at most, of a limit, which may be less.
 #[tactic(auto, unfolding(crate::specs::LoadLines::age_text))]
-fn write_age(text: &mut TextBuffer, limit: u32, age: Option<u64>) -> Result<(), AllocError>
+pub fn write_age(text: &mut TextBuffer, limit: u32, age: Option<u64>) -> Result<(), AllocError>
     ensures { OnOk result (text.new ≡ text.old ++ age_text limit age) }
 {
     let us = match age {

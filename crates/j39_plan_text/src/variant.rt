@@ -5,7 +5,7 @@ ghost use Rattle.j39_plan_text.specs.VariantText.{IsUnknown, IsVariantText, Name
 ghost use Rattle.j39_stream.specs.CommandEnds.{AnswersWhole, IsOfAny};
 ghost use Rattle.j39_stream.specs.Streams.{plan_limits};
 
-use crate::report_text::{LineReport, report_text};
+use crate::reporting::{LineReport, report_text};
 use crate::show_lines::write_plan;
 use j39_stream::{Fault, Sink, Source, Verdict};
 use j39_text::TextBuffer;

@@ -96,8 +96,8 @@ pub fn write_choices_refused(text: &mut TextBuffer) -> Result<(), AllocError>
     text.word("refused plan Choices\n")
 }
 
-/// The line that says that a plan has choices.
-pub(crate) fn choices_refused(alloc: Global) -> Result<TextBuffer, AllocError>
+// The line that says that a plan has choices.
+fn choices_refused(alloc: Global) -> Result<TextBuffer, AllocError>
     ensures { IfOk result (λ text. text ≡ choices_line) }
 {
     let mut text = TextBuffer::new(alloc);

@@ -9,4 +9,4 @@ pub returns : goal.returns
 returns g c =
     let opened = c.in_ok-open.ensures.opened in
     whole_ends (g.F.Folder.bytes_of c.args.files.now c.args.plan.now) _ _ opened (λ bytes text of part. (part.0, (bytes, of, part.1)))
-    (λ failed. inr (c.in_ok-open.field-0, c.load_text.new.source, opened, failed)) c.load_text.result c.load_text.ensures
+    (λ failed. inr (c.in_ok-open.field-0, c.load_line_text.new.source, opened, failed)) c.load_line_text.result c.load_line_text.ensures

@@ -1,0 +1,164 @@
+-- The worst of what is told of variants, one after the other.
+use Rattle.std.proofs.Common.{◌≡◌, ◌⊎◌, ℕ, ◌+◌, ◌<◌, ◌≤◌, List, [], ◌∷◌, ◌++◌, Bool, true, false, ◌&&◌, ◌||◌, nat_lt, inl, inr, get_or, length, map, max, refl, sym, ap, ◌∙◌, arith, subst}
+use Rattle.std.specs.Prelude.{◌==◌, if◌then◌else◌}
+use Rattle.std.specs.List.{range_with_len}
+use Rattle.std.proofs.Math.Nat.{le-max_left, le-max_right}
+use Rattle.std.proofs.lemmas.Bool.{cases_Bool, eq-eqb, eqb-true, false≢true, ltb-false, ltb-true, lt-ltb, true≢false}
+use Rattle.std.proofs.lemmas.List.FromFn.{get_or-map-range_with_len, length-map-range_with_len}
+use Rattle.j39_variants.specs.declared.line.ProductLine.{ProductLine}
+use Rattle.j39_line_bounds.specs.LineTimes.{AreWorst, IsGreatestLoad, IsTimesAmong, IsWorst, flow_at, flow_badness, is_less_bad, need_at, need_badness, worse}
+use Rattle.j39_line_bounds.specs.declared.times.Badness.{Badness}
+use Rattle.j39_line_bounds.specs.declared.times.FlowTime.TheVariants as flow
+use Rattle.j39_line_bounds.specs.declared.times.LineTimes.{LineTimes as Times}
+use Rattle.j39_line_bounds.specs.declared.times.NeedTime.TheVariants as need
+
+-- ---- the order
+
+abbrev IsLess : Badness → Badness → Type 0
+IsLess a b = (a.degree < b.degree) ⊎ ((a.degree ≡ b.degree) × (a.time < b.time))
+
+less : (a b : Badness) → is_less_bad a b ≡ true → IsLess a b
+less a b is = elim (cases_Bool (nat_lt a.degree b.degree)) [
+  | inl below ↦ inl (ltb-true a.degree b.degree below)
+  | inr not_below ↦
+      let rest : ((a.degree == b.degree) && nat_lt a.time b.time) ≡ true = rw not_below at is in
+      elim (cases_Bool (a.degree == b.degree)) [
+        | inl same ↦ inr (eqb-true a.degree b.degree same, ltb-true a.time b.time (rw same at rest))
+        | inr other ↦ absurd (false≢true (rw other at rest))
+      ]
+]
+
+from_less : (a b : Badness) → IsLess a b → is_less_bad a b ≡ true
+from_less a b (inl below) =
+    subst (λ p. (p || ((a.degree == b.degree) && nat_lt a.time b.time)) ≡ true) (sym (lt-ltb a.degree b.degree below)) refl
+from_less a b (inr (same, below)) = elim (cases_Bool (nat_lt a.degree b.degree)) [
+  | inl sooner ↦ subst (λ p. (p || ((a.degree == b.degree) && nat_lt a.time b.time)) ≡ true) (sym sooner) refl
+  | inr not_below ↦
+      let times : nat_lt a.time b.time ≡ true = lt-ltb a.time b.time below in
+      let rest : ((a.degree == b.degree) && nat_lt a.time b.time) ≡ true =
+      subst (λ q. (q && nat_lt a.time b.time) ≡ true) (sym (eq-eqb a.degree b.degree same)) times in
+      subst (λ p. (p || ((a.degree == b.degree) && nat_lt a.time b.time)) ≡ true) (sym not_below) rest
+]
+
+less_of_less : (a b c : Badness) → IsLess a b → IsLess b c → IsLess a c
+less_of_less a b c (inl x) (inl y) = inl (omega (arith, x, y))
+less_of_less a b c (inl x) (inr (same, y)) = inl (omega (arith, x, same))
+less_of_less a b c (inr (same, x)) (inl y) = inl (omega (arith, same, y))
+less_of_less a b c (inr (same, x)) (inr (other, y)) = inr (same ∙ other, omega (arith, x, y))
+
+not_itself : (a : Badness) → IsLess a a → ⊥
+not_itself a (inl x) = omega (arith, x)
+not_itself a (inr (same, x)) = omega (arith, x)
+
+not_less : (a b : Badness) → (IsLess a b → ⊥) → is_less_bad a b ≡ false
+not_less a b never = elim (cases_Bool (is_less_bad a b)) [
+  | inl is ↦ absurd (never (less a b is))
+  | inr is ↦ is
+]
+
+-- one that isn't less bad than a third stays so where a worse one takes its place
+still_not_less : (a b t : Badness) → is_less_bad a b ≡ true → is_less_bad a t ≡ false → is_less_bad b t ≡ false
+still_not_less a b t below never = not_less b t (λ is.
+    let through = from_less a t (less_of_less a b t (less a b below) is) in
+    true≢false (sym through ∙ never))
+
+-- ---- one of some
+
+among_left : (xs ys : List Times) (t : Times) → IsTimesAmong xs t → IsTimesAmong (xs ++ ys) t
+among_left [] ys t is = absurd is
+among_left (x ∷ xs) ys t (inl is) = inl is
+among_left (x ∷ xs) ys t (inr is) = inr (among_left xs ys t is)
+
+among_last : (xs : List Times) (t : Times) → IsTimesAmong (xs ++ t ∷ []) t
+among_last [] t = inl refl
+among_last (x ∷ xs) t = inr (among_last xs t)
+
+among_cases : (xs ys : List Times) (t : Times) → IsTimesAmong (xs ++ ys) t → IsTimesAmong xs t ⊎ IsTimesAmong ys t
+among_cases [] ys t is = inr is
+among_cases (x ∷ xs) ys t (inl is) = inl (inl is)
+among_cases (x ∷ xs) ys t (inr is) = elim (among_cases xs ys t is) [
+  | inl left ↦ inl (inr left)
+  | inr right ↦ inr right
+]
+
+-- ---- with one more
+
+module _ {T : Type 0} (bad : T → Badness) (nothing : T) (at : Times → T) (each : List Times) (more : Times) (worst : T) (is : IsWorst bad nothing at each worst) where
+  told_of_one : (b : Bool) → ((if b then at more else worst) ≡ nothing)
+      ⊎ ((times : Times) × IsTimesAmong (each ++ more ∷ []) times × ((if b then at more else worst) ≡ at times))
+  told_of_one true = inr (more, among_last each more, refl)
+  told_of_one false = elim is.one [
+    | inl none ↦ inl none
+    | inr one ↦ inr (one.0, among_left each (more ∷ []) one.0 one.1, one.2)
+  ]
+
+  not_less_than : (b : Bool) → is_less_bad (bad worst) (bad (at more)) ≡ b → (times : Times) → IsTimesAmong (each ++ more ∷ []) times
+      → is_less_bad (bad (if b then at more else worst)) (bad (at times)) ≡ false
+  not_less_than true below times among = elim (among_cases each (more ∷ []) times among) [
+    | inl old ↦ still_not_less (bad worst) (bad (at more)) (bad (at times)) below (is.none_worse times old)
+    | inr (inl same) ↦ subst (λ t. is_less_bad (bad (at more)) (bad (at t)) ≡ false) same (not_less (bad (at more)) (bad (at more)) (not_itself (bad (at more))))
+    | inr (inr none) ↦ absurd none
+  ]
+  not_less_than false never times among = elim (among_cases each (more ∷ []) times among) [
+    | inl old ↦ is.none_worse times old
+    | inr (inl same) ↦ subst (λ t. is_less_bad (bad worst) (bad (at t)) ≡ false) same never
+    | inr (inr none) ↦ absurd none
+  ]
+
+  pub worse_with : IsWorst bad nothing at (each ++ more ∷ []) (worse bad worst (at more))
+  worse_with = record {
+    one = told_of_one (is_less_bad (bad worst) (bad (at more)));
+    none_worse = not_less_than (is_less_bad (bad worst) (bad (at more))) refl;
+  }
+
+greatest_with : (each : List Times) (more : Times) (load : ℕ) → IsGreatestLoad each load → IsGreatestLoad (each ++ more ∷ []) (max load more.load)
+greatest_with each more load is = record {
+  one = elim (cases_Bool (nat_lt load more.load)) [
+    | inl below ↦
+        let less = ltb-true load more.load below in
+        inr (more, among_last each more, omega (arith, less))
+    | inr not_below ↦
+        let no_more = ltb-false load more.load not_below in
+        let same : max load more.load ≡ load = omega (arith, no_more) in
+        elim is.one [
+          | inl none ↦ inl (same ∙ none)
+          | inr one ↦ inr (one.0, among_left each (more ∷ []) one.0 one.1, same ∙ one.2)
+        ]
+  ];
+  none_more = λ times among. elim (among_cases each (more ∷ []) times among) [
+    | inl old ↦
+        let below = is.none_more times old in
+        let left = le-max_left load more.load in
+        omega (arith, below, left)
+    | inr (inl same) ↦ subst (λ t. t.load ≤ max load more.load) same (le-max_right load more.load)
+    | inr (inr none) ↦ absurd none
+  ];
+}
+
+pub all_with : (line : ProductLine) (each : List Times) (one more told : Times)
+    → told.flows.items ≡ map (λ f. worse flow_badness (flow_at one f) (flow_at more f)) (range_with_len 0 (length one.flows.items))
+    → told.needs.items ≡ map (λ d. worse need_badness (need_at one d) (need_at more d)) (range_with_len 0 (length one.needs.items))
+    → told.load ≡ max one.load more.load → AreWorst line each one → AreWorst line (each ++ more ∷ []) told
+all_with line each one more told flows needs load are =
+    let worse_flow = λ (f : ℕ). worse flow_badness (flow_at one f) (flow_at more f) in
+    let worse_need = λ (d : ℕ). worse need_badness (need_at one d) (need_at more d) in
+    let n = length one.flows.items in
+    let m = length one.needs.items in record {
+      flow_count = ap length flows ∙ length-map-range_with_len worse_flow 0 n ∙ are.flow_count;
+      flows = λ f below.
+          let inside : f < n = subst (λ k. f < k) (sym are.flow_count) below in
+          let first : 0 + f ≡ f = omega arith in
+          let here : flow_at told f ≡ worse_flow f =
+          ap (λ xs. get_or xs f flow.NoVariant) flows ∙ get_or-map-range_with_len worse_flow 0 n f f flow.NoVariant inside first in
+          subst (IsWorst flow_badness flow.NoVariant (λ times. flow_at times f) (each ++ more ∷ [])) (sym here)
+          (worse_with flow_badness flow.NoVariant (λ times. flow_at times f) each more (flow_at one f) (are.flows f below));
+      need_count = ap length needs ∙ length-map-range_with_len worse_need 0 m ∙ are.need_count;
+      needs = λ d below.
+          let inside : d < m = subst (λ k. d < k) (sym are.need_count) below in
+          let first : 0 + d ≡ d = omega arith in
+          let here : need_at told d ≡ worse_need d =
+          ap (λ xs. get_or xs d need.NoVariant) needs ∙ get_or-map-range_with_len worse_need 0 m d d need.NoVariant inside first in
+          subst (IsWorst need_badness need.NoVariant (λ times. need_at times d) (each ++ more ∷ [])) (sym here)
+          (worse_with need_badness need.NoVariant (λ times. need_at times d) each more (need_at one d) (are.needs d below));
+      load = subst (IsGreatestLoad (each ++ more ∷ [])) (sym load) (greatest_with each more one.load are.load);
+    }

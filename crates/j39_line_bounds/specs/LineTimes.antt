@@ -1,0 +1,190 @@
+-- Times of the flows, ages of what is needed, and the load of a line of vehicles: the greatest of its possible variants.
+use Rattle.std.specs.Prelude.{◌≡◌, ◌⊎◌, ℕ, ◌<◌, ◌≤◌, ◌==◌, List, [], ◌∷◌, ◌++◌, Bool, true, false, ◌&&◌, ◌||◌, if◌then◌else◌, is_some, length, nat_lt, slice_index_or, Option, Some, None}
+use Rattle.std.specs.List.{position, slice_get}
+use Rattle.std.specs.Option.{option_and_then, option_map, option_map_or}
+use Rattle.j39_load.specs.Ages.{has_several, least_age, youngest_flow}
+use Rattle.j39_load.specs.Asked.{asked_of, total_load}
+use Rattle.j39_load.specs.BusTimes.{timing_of}
+use Rattle.j39_load.specs.LoadFindings.{AsksOfBus, time_of_each}
+use Rattle.j39_load.specs.declared.waits.delay.Delay.{Delay}
+use Rattle.j39_load.specs.declared.waits.delay.Delay.TheVariants.{Within, Beyond, Late, Long, Whole}
+use Rattle.j39_load.specs.declared.waits.whole_time.WholeTime.{WholeTime}
+use Rattle.j39_findings.specs.Found.{is_unmet}
+use Rattle.j39_network.specs.declared.plan.Plan.{Plan}
+use Rattle.j39_network.specs.declared.plan.need_plan.NeedPlan.{NeedPlan}
+use Rattle.j39_network.specs.declared.plan.timing.Timing.{Timing}
+use Rattle.j39_network.specs.declared.plan.unit_plan.UnitPlan.{UnitPlan}
+use Rattle.j39_variants.specs.VariantPlans.{IsVariantPlan}
+use Rattle.j39_variants.specs.Variants.{is_possible}
+use Rattle.j39_variants.specs.declared.line.ProductLine.{ProductLine}
+use Rattle.j39_line_findings.specs.AllVariants.{all_variants}
+use Rattle.j39_line_findings.specs.LineAnswers.{IsPossible}
+use Rattle.j39_line_findings.specs.MissedNeeds.{is_need_asked_for}
+use Rattle.j39_line_findings.specs.There.{IsWhatIsThere, place_in_file}
+use Rattle.j39_line_findings.specs.declared.there.WhatIsThere.{WhatIsThere}
+use Rattle.j39_line_bounds.specs.declared.times.Badness.{Badness}
+use Rattle.j39_line_bounds.specs.declared.times.FlowTime.{FlowTime}
+use Rattle.j39_line_bounds.specs.declared.times.FlowTime.TheVariants as flow
+use Rattle.j39_line_bounds.specs.declared.times.LineTimes.{LineTimes}
+use Rattle.j39_line_bounds.specs.declared.times.NeedTime.{NeedTime}
+use Rattle.j39_line_bounds.specs.declared.times.NeedTime.TheVariants as need
+
+-- ---- which of two is worse
+
+-- how bad a time is, and how long it is
+abbrev pub of_degree : ℕ → ℕ → Badness
+of_degree degree time = record { degree = degree; time = time }
+
+abbrev pub is_less_bad : Badness → Badness → Bool
+is_less_bad a b = nat_lt a.degree b.degree || ((a.degree == b.degree) && nat_lt a.time b.time)
+
+-- one that isn't known is worse than each that is
+abbrev pub badness_known : Option ℕ → Badness
+badness_known None = of_degree 3 0
+badness_known (Some time) = of_degree 1 time
+
+-- the time that is told of long messages to all: that of each of them, where a deadline is written
+abbrev pub time_told : WholeTime → Option ℕ
+time_told whole = if is_some whole.limit then time_of_each whole else whole.bits
+
+-- one beyond its deadline is worse than each that is within, and one that isn't shown to be within the period is the worst
+abbrev pub delay_badness : Delay → Badness
+delay_badness (Within bits) = of_degree 1 bits
+delay_badness (Beyond bits) = of_degree 2 bits
+delay_badness Late = of_degree 3 0
+delay_badness (Long frames) = of_degree 1 frames
+delay_badness (Whole whole) = badness_known (time_told whole)
+
+abbrev pub flow_badness : FlowTime → Badness
+flow_badness flow.NoVariant = of_degree 0 0
+flow_badness (flow.Told None) = of_degree 1 0
+flow_badness (flow.Told (Some delay)) = delay_badness delay
+
+-- what isn't met is the worst
+abbrev pub need_badness : NeedTime → Badness
+need_badness need.NoVariant = of_degree 0 0
+need_badness (need.Age age youngest) = badness_known age
+need_badness need.Unmet = of_degree 4 0
+
+-- the worse of two, the first where none is
+abbrev pub worse : {T : Type 0} → (T → Badness) → T → T → T
+worse bad x y = if is_less_bad (bad x) (bad y) then y else x
+
+-- ---- in one variant
+
+-- the place in its plan of what stands at a place in the file
+abbrev pub place_of : List ℕ → ℕ → Option ℕ
+place_of places i = position (λ place. place == i) places
+
+-- the delay of a flow of the file
+abbrev pub flow_time : List ℕ → List (Option Delay) → ℕ → FlowTime
+flow_time there delays f = option_map_or (λ i. flow.Told (slice_index_or delays i None)) (place_of there f) flow.NoVariant
+
+-- by which flow of the file, by its place, what is needed is youngest, where several bring it
+abbrev pub youngest_here : List ℕ → Plan → Timing → List (Option Delay) → NeedPlan → Option ℕ
+youngest_here flows plan timing delays needed = if has_several plan.requests.items plan.flows.items needed
+    then option_map (place_in_file flows) (youngest_flow timing plan.requests.items plan.flows.items delays needed) else None
+
+-- the age of what a need of the variant's plan is for: that it isn't met; or how old it is at most
+abbrev pub age_here : List ℕ → Plan → Timing → List (Option Delay) → NeedPlan → NeedTime
+age_here flows plan timing delays needed =
+    if is_unmet plan.requests.items plan.flows.items needed then need.Unmet
+    else need.Age (least_age timing plan.requests.items plan.flows.items delays needed) (youngest_here flows plan timing delays needed)
+
+-- of a need of the file: none asks for it; what it is for isn't there; or this
+abbrev pub need_time : ProductLine → List ℕ → WhatIsThere → Plan → Timing → List (Option Delay) → ℕ → NeedTime
+need_time line variant there plan timing delays d = if is_need_asked_for line variant d
+    then option_map_or (age_here there.flows.items plan timing delays) (option_and_then (slice_get plan.needs.items) (place_of there.needs.items d)) need.Unmet
+    else need.NoVariant
+
+-- what is told of a possible variant, of each flow and need of the file, in order
+pub record AreVariantTimes (line : ProductLine) (variant : List ℕ) (times : LineTimes) : Type 0 where
+  pub there : WhatIsThere
+  pub is_there : IsWhatIsThere line variant there
+  pub plan : Plan
+  pub is_plan : IsVariantPlan line variant plan
+  pub timing : Timing
+  pub timed : timing_of plan ≡ Some timing
+  pub stays : UnitPlan → Bool
+  pub delays : List (Option Delay)
+  pub asks : AsksOfBus plan timing stays delays
+  pub flow_count : length times.flows.items ≡ length line.plan.flows.items
+  pub flows : (f : ℕ) → f < length line.plan.flows.items → slice_index_or times.flows.items f flow.NoVariant ≡ flow_time there.flows.items delays f
+  pub need_count : length times.needs.items ≡ length line.plan.needs.items
+  pub needs : (d : ℕ) → d < length line.plan.needs.items → slice_index_or times.needs.items d need.NoVariant ≡ need_time line variant there plan timing delays d
+  pub load : times.load ≡ total_load timing (asked_of timing plan stays)
+
+-- ---- in all of them
+
+-- of a line with these times, what is told of a flow and of a need of the file
+abbrev pub flow_at : LineTimes → ℕ → FlowTime
+flow_at times f = slice_index_or times.flows.items f flow.NoVariant
+
+abbrev pub need_at : LineTimes → ℕ → NeedTime
+need_at times d = slice_index_or times.needs.items d need.NoVariant
+
+-- those of one of some variants
+abbrev pub IsTimesAmong : List LineTimes → LineTimes → Type 0
+IsTimesAmong [] times = ⊥
+IsTimesAmong (x ∷ each) times = (x ≡ times) ⊎ IsTimesAmong each times
+
+-- the worst of what is told of them: it is told of one, or nothing is of any; and what is told of none is worse
+pub record IsWorst {T : Type 0} (bad : T → Badness) (nothing : T) (at : LineTimes → T) (each : List LineTimes) (worst : T) : Type 0 where
+  pub one : (worst ≡ nothing) ⊎ ((times : LineTimes) × IsTimesAmong each times × (worst ≡ at times))
+  pub none_worse : (times : LineTimes) → IsTimesAmong each times → is_less_bad (bad worst) (bad (at times)) ≡ false
+
+-- the greatest load of them
+pub record IsGreatestLoad (each : List LineTimes) (load : ℕ) : Type 0 where
+  pub one : (load ≡ 0) ⊎ ((times : LineTimes) × IsTimesAmong each times × (load ≡ times.load))
+  pub none_more : (times : LineTimes) → IsTimesAmong each times → times.load ≤ load
+
+-- of each flow and each need of the file the worst, and the greatest load
+pub record AreWorst (line : ProductLine) (each : List LineTimes) (told : LineTimes) : Type 0 where
+  pub flow_count : length told.flows.items ≡ length line.plan.flows.items
+  pub flows : (f : ℕ) → f < length line.plan.flows.items → IsWorst flow_badness flow.NoVariant (λ times. flow_at times f) each (flow_at told f)
+  pub need_count : length told.needs.items ≡ length line.plan.needs.items
+  pub needs : (d : ℕ) → d < length line.plan.needs.items → IsWorst need_badness need.NoVariant (λ times. need_at times d) each (need_at told d)
+  pub load : IsGreatestLoad each told.load
+
+-- those of each of some variants that are possible, in order
+abbrev pub AreTimesOf : ProductLine → List (List ℕ) → List LineTimes → Type 0
+AreTimesOf line [] [] = Unit {0}
+AreTimesOf line [] (times ∷ each) = ⊥
+AreTimesOf line (variant ∷ variants) each =
+    ((is_possible line.nevers.items variant ≡ false) × AreTimesOf line variants each)
+    ⊎ ((is_possible line.nevers.items variant ≡ true)
+    × ((times : LineTimes) × (others : List LineTimes) × AreVariantTimes line variant times × AreTimesOf line variants others × (each ≡ times ∷ others)))
+
+-- of one variant more, which counts where it is possible
+abbrev pub AddsTimes : ProductLine → List ℕ → List LineTimes → LineTimes → Option LineTimes → Type 0
+AddsTimes line variant each so_far None = (is_possible line.nevers.items variant ≡ false) ⊎ (timing_of line.plan ≡ None)
+AddsTimes line variant each so_far (Some told) = (is_possible line.nevers.items variant ≡ true)
+    × ((times : LineTimes) × AreVariantTimes line variant times × AreWorst line (each ++ times ∷ []) told)
+
+-- what is told of a line: the worst of its possible variants
+pub record AreLineTimes (line : ProductLine) (told : LineTimes) : Type 0 where
+  pub each : List LineTimes
+  pub are_each : AreTimesOf line (all_variants line.choices.items) each
+  pub worst : AreWorst line each told
+
+-- ---- laws
+
+-- what is told of one variant is no worse than this
+pub record AreNoWorse (line : ProductLine) (times told : LineTimes) : Type 0 where
+  pub flows : (f : ℕ) → f < length line.plan.flows.items → is_less_bad (flow_badness (flow_at told f)) (flow_badness (flow_at times f)) ≡ false
+  pub needs : (d : ℕ) → d < length line.plan.needs.items → is_less_bad (need_badness (need_at told d)) (need_badness (need_at times d)) ≡ false
+  pub load : times.load ≤ told.load
+
+-- this is told of some possible variant
+abbrev pub IsOfSomeVariant : {T : Type 0} → ProductLine → (LineTimes → T) → T → Type 0
+IsOfSomeVariant line at told = (variant : List ℕ) × IsPossible line variant × ((times : LineTimes) × AreVariantTimes line variant times × (told ≡ at times))
+
+-- each possible variant's times and load are no worse than those that are told; and each that is told is that of one, where one has it
+pub record BoundEachVariant (line : ProductLine) (told : LineTimes) : Type 0 where
+  pub each : (variant : List ℕ) → IsPossible line variant → (times : LineTimes) × AreVariantTimes line variant times × AreNoWorse line times told
+  pub flows : (f : ℕ) → f < length line.plan.flows.items → (flow_at told f ≡ flow.NoVariant) ⊎ IsOfSomeVariant line (λ times. flow_at times f) (flow_at told f)
+  pub needs : (d : ℕ) → d < length line.plan.needs.items → (need_at told d ≡ need.NoVariant) ⊎ IsOfSomeVariant line (λ times. need_at times d) (need_at told d)
+  pub load : (told.load ≡ 0) ⊎ IsOfSomeVariant line (λ times. times.load) told.load
+
+abbrev pub TimesBoundEachVariant : Type 0
+TimesBoundEachVariant = (line : ProductLine) (told : LineTimes) → AreLineTimes line told → BoundEachVariant line told

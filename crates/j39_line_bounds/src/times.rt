@@ -1,0 +1,386 @@
+//! Times of the flows, ages of what is needed, and the load of a line of vehicles: the greatest of its possible
+//! variants.
+ghost use Rattle.std.specs.Prelude.{◌≡◌, ◌≢◌, ◌∷◌, ◌++◌, [], List, IfOk, None, Some, length, map};
+ghost use Rattle.std.specs.List.{range_with_len};
+ghost use Rattle.j39_load.specs.BusTimes.{timing_of};
+ghost use Rattle.j39_line_findings.specs.There.{place_in_file};
+ghost use Rattle.j39_variants.specs.VariantPlans.{IsVariantPlan};
+ghost use Rattle.j39_variants.specs.declared.line.ProductLine.{ProductLine as ALine};
+ghost use Rattle.j39_line_bounds.specs.declared.times.LineTimes.{LineTimes as Times};
+ghost use Rattle.j39_line_bounds.specs.LineTimes.{AddsTimes, AreLineTimes, AreVariantTimes, AreWorst, flow_at, need_at, worse, youngest_here};
+ghost use Rattle.j39_line_bounds.specs.LineTimes.{age_here, of_degree, badness_known, delay_badness, flow_badness, flow_time};
+ghost use Rattle.j39_line_bounds.specs.LineTimes.{is_less_bad, need_badness, need_time, place_of, time_told};
+
+use j39_line_findings::{WhatIsThere, all_variants, is_need_asked_for};
+use j39_load::{Delay, LoadAnswer, WholeTime, has_several, least_age, timing_of, youngest_flow};
+use j39_network::{NeedPlan, Plan, Timing, is_met};
+use j39_variants::{ProductLine, is_possible, plan_of};
+use std::alloc::{AllocError, Global};
+
+/// What is told of a flow of a line.
+#[derive(Clone, Copy, PartialEq, Eq)]
+pub enum FlowTime {
+    /// No possible variant has it.
+    NoVariant,
+    /// Its worst delay in those that have it; none where it isn't known how often it is sent.
+    Told(Option<Delay>),
+}
+
+/// What is told of a need of a line that asks for an age.
+#[derive(Clone, Copy, PartialEq, Eq)]
+pub enum NeedTime {
+    /// No possible variant asks for it.
+    NoVariant,
+    /// In a possible variant that asks for it no flow meets it.
+    Unmet,
+    /// How old what is needed is at most, in microseconds, where that is known; and the place of the flow that brings
+    /// it, where several do.
+    Age(Option<u64>, Option<usize>),
+}
+
+/// What is told of the flows and needs of a line, in order, and its load.
+#[derive(Drop)]
+pub struct LineTimes {
+    pub flows: Vec<FlowTime>,
+    pub needs: Vec<NeedTime>,
+    /// Bits in a second.
+    pub load: u64,
+}
+
+// How bad a time is, and how long it is.
+#[derive(Clone, Copy)]
+struct Badness {
+    degree: u8,
+    time: u64,
+}
+
+fn of_degree(degree: u8, time: u64) -> Badness
+    ensures { result ≡ of_degree degree time }
+{
+    Badness { degree, time }
+}
+
+fn is_less_bad(one: Badness, other: Badness) -> bool
+    ensures { result ≡ is_less_bad one other }
+{
+    one.degree < other.degree || one.degree == other.degree && one.time < other.time
+}
+
+fn badness_known(time: Option<u64>) -> Badness
+    ensures { result ≡ badness_known time }
+{
+    match time {
+        None => of_degree(3, 0),
+        Some(time) => of_degree(1, time),
+    }
+}
+
+// The time that is told of long messages to all: that of each of them, where a deadline is written.
+fn time_told(whole: &WholeTime) -> Option<u64>
+    ensures { result ≡ time_told whole.now }
+{
+    if whole.limit.is_some() {
+        whole.time_of_each()
+    } else {
+        whole.bits
+    }
+}
+
+fn delay_badness(delay: &Delay) -> Badness
+    ensures { result ≡ delay_badness delay.now }
+{
+    match delay {
+        Delay::Within(bits) => of_degree(1, u64::from(*bits)),
+        Delay::Beyond(bits) => of_degree(2, u64::from(*bits)),
+        Delay::Late => of_degree(3, 0),
+        Delay::Long(frames) => of_degree(1, u64::from(*frames)),
+        Delay::Whole(whole) => badness_known(time_told(whole)),
+    }
+}
+
+fn flow_badness(time: &FlowTime) -> Badness
+    ensures { result ≡ flow_badness time.now }
+{
+    match time {
+        FlowTime::NoVariant => of_degree(0, 0),
+        FlowTime::Told(None) => of_degree(1, 0),
+        FlowTime::Told(Some(delay)) => delay_badness(delay),
+    }
+}
+
+fn need_badness(time: &NeedTime) -> Badness
+    ensures { result ≡ need_badness time.now }
+{
+    match time {
+        NeedTime::NoVariant => of_degree(0, 0),
+        NeedTime::Age(age, _) => badness_known(*age),
+        NeedTime::Unmet => of_degree(4, 0),
+    }
+}
+
+// The place in the plan of a variant of what stands at a place in the file.
+fn place_of(places: &[usize], place: usize) -> Option<usize>
+    ensures { result ≡ place_of places.now place }
+{
+    places.iter().position(|other| *other == place)
+}
+
+fn flow_time(there: &[usize], delays: &[Option<Delay>], flow: usize) -> FlowTime
+    ensures { result ≡ flow_time there.now delays.now flow }
+{
+    match place_of(there, flow) {
+        None => FlowTime::NoVariant,
+        Some(place) => match delays.get(place) {
+            Some(delay) => FlowTime::Told(*delay),
+            None => FlowTime::Told(None),
+        },
+    }
+}
+
+fn place_in_file(places: &[usize], place: usize) -> usize
+    ensures { result ≡ place_in_file places.now place }
+{
+    match places.get(place) {
+        Some(found) => *found,
+        None => 0,
+    }
+}
+
+// The plan of a variant, with what is told of it.
+#[derive(Clone, Copy)]
+struct VariantLoad<'a> {
+    line: &'a ProductLine,
+    variant: &'a [usize],
+    there: &'a WhatIsThere,
+    plan: &'a Plan,
+    timing: Timing,
+    delays: &'a [Option<Delay>],
+}
+
+impl VariantLoad<'_> {
+    // The flow of the file that brings what is needed, where several do.
+    fn youngest(&self, need: &NeedPlan) -> Option<usize>
+        requires { length self.now.delays.now ≡ length self.now.plan.now.flows.items }
+        ensures { result ≡ youngest_here self.now.there.now.flows.items self.now.plan.now self.now.timing self.now.delays.now need.now }
+    {
+        if !has_several(&self.plan.requests, &self.plan.flows, need) {
+            return None;
+        }
+        match youngest_flow(
+            self.timing,
+            &self.plan.requests,
+            &self.plan.flows,
+            self.delays,
+            need,
+        ) {
+            Some(flow) => Some(place_in_file(&self.there.flows, flow)),
+            None => None,
+        }
+    }
+
+    // The age of what a need of the variant's plan is for.
+    fn age_of(&self, need: &NeedPlan) -> NeedTime
+        requires { length self.now.delays.now ≡ length self.now.plan.now.flows.items }
+        ensures { result ≡ age_here self.now.there.now.flows.items self.now.plan.now self.now.timing self.now.delays.now need.now }
+    {
+        if !is_met(&self.plan.requests, &self.plan.flows, need) {
+            return NeedTime::Unmet;
+        }
+        let age = least_age(
+            self.timing,
+            &self.plan.requests,
+            &self.plan.flows,
+            self.delays,
+            need,
+        );
+        NeedTime::Age(age, self.youngest(need))
+    }
+
+    fn need_time(&self, place: usize) -> NeedTime
+        requires { length self.now.delays.now ≡ length self.now.plan.now.flows.items }
+        ensures { result ≡ need_time self.now.line.now self.now.variant.now self.now.there.now self.now.plan.now self.now.timing self.now.delays.now place }
+    {
+        if !is_need_asked_for(self.line, self.variant, place) {
+            return NeedTime::NoVariant;
+        }
+        match place_of(&self.there.needs, place) {
+            None => NeedTime::Unmet,
+            Some(found) => match self.plan.needs.get(found) {
+                Some(need) => self.age_of(need),
+                None => NeedTime::Unmet,
+            },
+        }
+    }
+
+    fn flow_times(&self, alloc: Global) -> Result<Vec<FlowTime>, AllocError>
+        ensures { IfOk result (λ v. v.items ≡ map (flow_time self.now.there.now.flows.items self.now.delays.now) (range_with_len 0 (length self.now.line.now.plan.flows.items))) }
+    {
+        (0..self.line.plan.flows.len())
+            .map(|place| flow_time(&self.there.flows, self.delays, place))
+            .collect(alloc)
+    }
+
+    fn need_times(&self, alloc: Global) -> Result<Vec<NeedTime>, AllocError>
+        requires { length self.now.delays.now ≡ length self.now.plan.now.flows.items }
+        ensures { IfOk result (λ v. v.items ≡ map (need_time self.now.line.now self.now.variant.now self.now.there.now self.now.plan.now self.now.timing self.now.delays.now) (range_with_len 0 (length self.now.line.now.plan.needs.items))) }
+    {
+        (0..self.line.plan.needs.len())
+            .map(|place| self.need_time(place))
+            .collect(alloc)
+    }
+}
+
+// What is told of a variant of a line with this timing.
+fn variant_times(
+    alloc: Global,
+    line: &ProductLine,
+    variant: &[usize],
+    timing: Timing,
+    plan: &Plan,
+) -> Result<LineTimes, AllocError>
+    ensures { IsVariantPlan line.now variant.now plan.now → timing_of plan.now ≡ Some timing → IfOk result (AreVariantTimes line.now variant.now) }
+{
+    let there = WhatIsThere::new(alloc, line, variant)?;
+    let answer = LoadAnswer::new(alloc, timing, plan)?;
+    let told = VariantLoad {
+        line,
+        variant,
+        there: &there,
+        plan,
+        timing,
+        delays: &answer.delays,
+    };
+    Ok(LineTimes {
+        flows: told.flow_times(alloc)?,
+        needs: told.need_times(alloc)?,
+        load: answer.loads.total(),
+    })
+}
+
+fn worse_flow(one: FlowTime, other: FlowTime) -> FlowTime
+    ensures { result ≡ worse flow_badness one other }
+{
+    if is_less_bad(flow_badness(&one), flow_badness(&other)) {
+        other
+    } else {
+        one
+    }
+}
+
+fn worse_need(one: NeedTime, other: NeedTime) -> NeedTime
+    ensures { result ≡ worse need_badness one other }
+{
+    if is_less_bad(need_badness(&one), need_badness(&other)) {
+        other
+    } else {
+        one
+    }
+}
+
+fn flow_at(times: &LineTimes, place: usize) -> FlowTime
+    ensures { result ≡ flow_at times.now place }
+{
+    match times.flows.get(place) {
+        Some(time) => *time,
+        None => FlowTime::NoVariant,
+    }
+}
+
+fn need_at(times: &LineTimes, place: usize) -> NeedTime
+    ensures { result ≡ need_at times.now place }
+{
+    match times.needs.get(place) {
+        Some(time) => *time,
+        None => NeedTime::NoVariant,
+    }
+}
+
+fn worse_flows(
+    alloc: Global,
+    one: &LineTimes,
+    other: &LineTimes,
+) -> Result<Vec<FlowTime>, AllocError>
+    ensures { IfOk result (λ v. v.items ≡ map (λ f. worse flow_badness (flow_at one.now f) (flow_at other.now f)) (range_with_len 0 (length one.now.flows.items))) }
+{
+    (0..one.flows.len())
+        .map(|place| worse_flow(flow_at(one, place), flow_at(other, place)))
+        .collect(alloc)
+}
+
+fn worse_needs(
+    alloc: Global,
+    one: &LineTimes,
+    other: &LineTimes,
+) -> Result<Vec<NeedTime>, AllocError>
+    ensures { IfOk result (λ v. v.items ≡ map (λ d. worse need_badness (need_at one.now d) (need_at other.now d)) (range_with_len 0 (length one.now.needs.items))) }
+{
+    (0..one.needs.len())
+        .map(|place| worse_need(need_at(one, place), need_at(other, place)))
+        .collect(alloc)
+}
+
+// The worst of two.
+fn worse(alloc: Global, one: &LineTimes, other: &LineTimes) -> Result<LineTimes, AllocError>
+    ensures { IfOk result (λ worse. (line : ALine) (each : List Times) → AreWorst line each one.now → AreWorst line (each ++ other.now ∷ []) worse) }
+{
+    Ok(LineTimes {
+        flows: worse_flows(alloc, one, other)?,
+        needs: worse_needs(alloc, one, other)?,
+        load: one.load.max(other.load),
+    })
+}
+
+// What is told of no variant.
+fn nothing(alloc: Global, line: &ProductLine) -> Result<LineTimes, AllocError>
+    ensures { IfOk result (AreWorst line.now []) }
+{
+    Ok(LineTimes {
+        flows: line
+            .plan
+            .flows
+            .iter()
+            .map(|_flow| FlowTime::NoVariant)
+            .collect(alloc)?,
+        needs: line
+            .plan
+            .needs
+            .iter()
+            .map(|_need| NeedTime::NoVariant)
+            .collect(alloc)?,
+        load: 0,
+    })
+}
+
+// With one variant more, which counts where it is possible.
+fn times_with(
+    alloc: Global,
+    line: &ProductLine,
+    variant: &[usize],
+    so_far: &LineTimes,
+) -> Result<Option<LineTimes>, AllocError>
+    ensures { IfOk result (λ more. (each : List Times) → AreWorst line.now each so_far.now → AddsTimes line.now variant.now each so_far.now more) }
+{
+    if !is_possible(&line.nevers, variant) {
+        return Ok(None);
+    }
+    let plan = plan_of(alloc, line, variant)?;
+    let Some(timing) = timing_of(&plan) else {
+        return Ok(None);
+    };
+    let here = variant_times(alloc, line, variant, timing, &plan)?;
+    Ok(Some(worse(alloc, so_far, &here)?))
+}
+
+/// What is told of each flow and each need of a line whose bus is known, and its load.
+pub fn line_times(alloc: Global, line: &ProductLine) -> Result<LineTimes, AllocError>
+    ensures { timing_of line.now.plan ≢ None → IfOk result (AreLineTimes line.now) }
+{
+    let variants = all_variants(alloc, &line.choices)?;
+    let mut times = nothing(alloc, line)?;
+    for variant in &variants {
+        if let Some(more) = times_with(alloc, line, variant, &times)? {
+            times = more;
+        }
+    }
+    Ok(times)
+}

@@ -1,0 +1,44 @@
+-- The text that the load command writes for a plan file, also of a line of vehicles.
+use Rattle.std.specs.Prelude.{◌≡◌, ◌≢◌, ◌⊎◌, ℕ, ◌==◌, List, [], ◌++◌, if◌then◌else◌, length, Some, None}
+use Rattle.j39_load.specs.BusTimes.{timing_of}
+use Rattle.j39_network.specs.declared.plan.timing.Timing.{Timing}
+use Rattle.j39_variants.specs.declared.line.ProductLine.{ProductLine}
+use Rattle.j39_line_bounds.specs.LineTimes.{AreLineTimes}
+use Rattle.j39_line_bounds.specs.declared.times.LineTimes.{LineTimes}
+use Rattle.j39_line_findings.specs.AllVariants.{all_variants}
+use Rattle.j39_line_findings.specs.FullVariants.{alternatives_of}
+use Rattle.j39_line_findings.specs.LineFound.{AreLineFindings}
+use Rattle.j39_line_findings.specs.declared.witnessed.Witnessed.{Witnessed}
+use Rattle.j39_line_text.specs.Hindrances.{AreAllShown, hides}
+use Rattle.j39_line_text.specs.LineAddressesText.{IsHiddenReport}
+use Rattle.j39_line_text.specs.TimeLines.{times_text}
+use Rattle.j39_line_text.specs.WitnessLines.{untold_of_line_text}
+use Rattle.j39_line_text.specs.declared.hindrances.Asked.TheVariants.{Times}
+use Rattle.j39_plan_text.specs.LoadText.{IsLoadReport}
+use Rattle.j39_plan_text.specs.PlanText.{IsReportedText}
+use Rattle.j39_stream.specs.declared.verdict.Verdict.{Verdict}
+use Rattle.j39_stream.specs.declared.verdict.Verdict.TheVariants.{Done, Findings}
+
+-- the times of a line in no possible variant of which a finding hides them, and behind them the findings of which they don't tell
+pub record IsTimesReport (line : ProductLine) (timing : Timing) (text : List ℕ) (verdict : Verdict) : Type 0 where
+  pub shown : AreAllShown (hides Times) line
+  pub times : LineTimes
+  pub are_times : AreLineTimes line times
+  pub told : List Witnessed
+  pub are_told : AreLineFindings line told
+  pub text_is : text ≡ times_text line.plan timing times ++ untold_of_line_text line (alternatives_of line) (all_variants line.choices.items) told
+  pub verdict_is : verdict ≡ (if length told == 0 then Done else Findings)
+
+-- what is written for a line of vehicles of whose bus this is known, with the verdict: as check does, where a finding hides the times
+abbrev pub IsLineLoadReport : ProductLine → Timing → List ℕ → Verdict → Type 0
+IsLineLoadReport line timing text verdict =
+    IsTimesReport line timing text verdict ⊎ (IsHiddenReport (hides Times) line text × (verdict ≡ Findings))
+
+-- of its one plan where it has no choices, or nothing is known of its bus
+abbrev pub IsPlanOrLineLoad : ProductLine → List ℕ → Verdict → Type 0
+IsPlanOrLineLoad line text verdict = (((line.choices.items ≡ []) ⊎ (timing_of line.plan ≡ None)) × IsLoadReport line.plan (timing_of line.plan) text verdict)
+    ⊎ ((line.choices.items ≢ []) × ((timing : Timing) × (timing_of line.plan ≡ Some timing) × IsLineLoadReport line timing text verdict))
+
+-- what is written for a file
+abbrev pub IsLineLoadText : List ℕ → List ℕ → Verdict → Type 0
+IsLineLoadText = IsReportedText IsPlanOrLineLoad

@@ -1,0 +1,104 @@
+//! What the load command writes.
+ghost use Rattle.std.specs.Prelude.{◌≡◌, IfOk, Some};
+ghost use Rattle.j39_load.specs.BusTimes.{timing_of};
+ghost use Rattle.j39_line_text.specs.Hindrances.{AreAllShown, hides};
+ghost use Rattle.j39_line_text.specs.LineLoadText.{IsLineLoadReport, IsLineLoadText, IsTimesReport};
+ghost use Rattle.j39_line_text.specs.declared.hindrances.Asked.TheVariants.{Times};
+ghost use Rattle.j39_stream.specs.CommandEnds.{AnswersWhole, IsOfAny};
+ghost use Rattle.j39_stream.specs.Streams.{plan_limits};
+
+use crate::hindrances::{Asked, check_for};
+use crate::line_report::{faulty_text, many_variants, no_variant_text};
+use crate::time_lines::write_times;
+use crate::witness_lines::write_untold;
+use j39_line_bounds::line_times;
+use j39_line_findings::{LineAnswer, line_findings};
+use j39_load::timing_of;
+use j39_network::Timing;
+use j39_plan_text::{LineReport, load_report, report_text};
+use j39_stream::{Fault, Sink, Source, Verdict};
+use j39_text::TextBuffer;
+use j39_variants::ProductLine;
+use std::alloc::{AllocError, Global};
+
+// What is told of the times of a line, where nothing stands in its way, and behind it the findings of which this says nothing.
+fn times_report(
+    alloc: Global,
+    line: &ProductLine,
+    timing: Timing,
+) -> Result<(TextBuffer, Verdict), AllocError>
+    ensures { timing_of line.now.plan ≡ Some timing → AreAllShown (hides Times) line.now → IfOk result (λ report. IsTimesReport line.now timing report.0 report.1) }
+{
+    let times = line_times(alloc, line)?;
+    let told = line_findings(alloc, line)?;
+    let mut text = TextBuffer::new(alloc);
+    write_times(&mut text, &line.plan, timing, &times)?;
+    write_untold(alloc, &mut text, line, &told)?;
+    if told.is_empty() {
+        Ok((text, Verdict::Done))
+    } else {
+        Ok((text, Verdict::Findings))
+    }
+}
+
+// What is written of the load of a line of vehicles, with the verdict.
+fn line_load(
+    alloc: Global,
+    line: &ProductLine,
+    timing: Timing,
+) -> Result<(TextBuffer, Verdict), AllocError>
+    ensures { timing_of line.now.plan ≡ Some timing → IfOk result (λ report. IsLineLoadReport line.now timing report.0 report.1) }
+{
+    let answer = check_for(alloc, Asked::Times, line)?;
+    match answer {
+        LineAnswer::ManyVariants(count) => {
+            let text = many_variants(alloc, count)?;
+            Ok((text, Verdict::Findings))
+        }
+        LineAnswer::NoVariant => {
+            let text = no_variant_text(alloc)?;
+            Ok((text, Verdict::Findings))
+        }
+        LineAnswer::Clean => times_report(alloc, line, timing),
+        LineAnswer::Faulty => {
+            let text = faulty_text(alloc, line)?;
+            Ok((text, Verdict::Findings))
+        }
+    }
+}
+
+// What is reported of the load of a line, of its one plan where it has no choices or nothing is known of its bus.
+struct TimesReport;
+
+impl LineReport for TimesReport {
+    ghost use Rattle.j39_line_text.specs.LineLoadText.{IsPlanOrLineLoad};
+
+    ghost says = { λ _. IsPlanOrLineLoad };
+
+    fn report(
+        &self,
+        alloc: Global,
+        line: ProductLine,
+    ) -> Result<(TextBuffer, Verdict), AllocError> {
+        if line.has_choices() {
+            if let Some(timing) = timing_of(&line.plan) {
+                return line_load(alloc, &line, timing);
+            }
+        }
+        load_report(alloc, &line.plan)
+    }
+}
+
+/// Writes of each flow of the plan that a file describes how long its frames wait at most, that they aren't shown to be
+/// in time, or that it has no period, how much of the bus all flows take, and the findings of which these lines say
+/// nothing, of a line of vehicles the worst of its possible variants; where a finding hides the times, what `check`
+/// writes; that nothing is known of its bus; or why the file describes no plan.
+pub fn load_line_text<S: Source, W: Sink>(
+    alloc: Global,
+    source: &mut S,
+    sink: &mut W,
+) -> Result<Verdict, Fault>
+    ensures { AnswersWhole IsLineLoadText (IsOfAny IsLineLoadText) plan_limits (S.state source.old) (S.state source.new) W.state sink.old sink.new result }
+{
+    report_text(alloc, &TimesReport, source, sink)
+}
