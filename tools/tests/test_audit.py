@@ -25,6 +25,7 @@ SAID = [
      {"word": "stranger", "address": 140, "name": "#A00C81045A20021B", "times": 3, "first": 8}),
     ("nobody address 15 times 2 first 15", "accused", {"word": "nobody", "address": 15, "times": 2, "first": 15}),
     ("address unit GPS at 29 times 1 first 4", "accused", {"word": "address", "unit": "GPS", "at": 29, "times": 1, "first": 4}),
+    ("deaf unit A times 3 first 1", "accused", {"word": "deaf", "unit": "A", "times": 3, "first": 1}),
     ("urgent unit A times 1 first 2", "accused", {"word": "urgent", "unit": "A", "times": 1, "first": 2}),
     ("layout unit ENGINE group HOURS times 1 first 13", "accused", {"word": "layout", "unit": "ENGINE", "group": "HOURS", "times": 1, "first": 13}),
     ("near flow 3 EEC1 ENGINE all times 12 first 120 worst 388 by 2310 us", "accused",

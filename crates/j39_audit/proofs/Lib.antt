@@ -1,3 +1,4 @@
+pub mod Asked
 pub mod Audited
 pub mod Below
 pub mod Counted

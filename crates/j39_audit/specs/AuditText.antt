@@ -21,24 +21,26 @@ use Rattle.j39_text.specs.Texts.{field, place_field}
 use Rattle.j39_tp.specs.declared.packet.Packet.{Packet}
 use Rattle.j39_stream.specs.declared.verdict.Verdict.{Verdict}
 use Rattle.j39_stream.specs.declared.verdict.Verdict.TheVariants.{Done, Findings, Refused, Unreadable}
+use Rattle.j39_audit.specs.Asking.{Asking, all_forgotten, asking_behind, nobody_asked as no_asking}
 use Rattle.j39_audit.specs.Below.{each_below, sum_below}
 use Rattle.j39_audit.specs.Breaks.{breaks, line_time, newest_behind}
 use Rattle.j39_audit.specs.Claiming.{HeardClaims, broken_off, knowledge, no_claims}
 use Rattle.j39_audit.specs.Counting.{Noted, told_in}
 use Rattle.j39_audit.specs.Looking.{IsPacketOf, break_noted, claims_behind, frame_noted, noted_if}
 use Rattle.j39_audit.specs.Moments.{Moments, all_pauses_ended, begins_anew, behind_bad, behind_gap, moments_behind, no_moments}
+use Rattle.j39_audit.specs.MessageStreams.{nothing_sighted, sighted_behind}
 use Rattle.j39_audit.specs.Pauses.{ending_of}
 use Rattle.j39_audit.specs.SentMessages.{noted_at}
 use Rattle.j39_audit.specs.Settings.{AreMoving, Settings, units_planned}
 use Rattle.j39_audit.specs.declared.mark.Mark.{Mark}
 use Rattle.j39_audit.specs.declared.mark.Word.{Word}
-use Rattle.j39_audit.specs.declared.mark.Word.TheVariants.{Short, Stranger, Nobody, Address, Cannot, Layout, NoFlow, Priority, Urgent, Seen, Unclear, Asked, Counted, Unsure, Break, NearFlow, NearRequest, SilentFlow}
+use Rattle.j39_audit.specs.declared.mark.Word.TheVariants.{Short, Stranger, Nobody, Address, Cannot, Layout, NoFlow, Priority, Urgent, Seen, Unclear, Asked, Counted, Unsure, Break, NearFlow, NearRequest, SilentFlow, Deaf}
 use Rattle.j39_audit.specs.declared.tally.Told.{Told}
 
 -- ---- a log
 
--- what came so far: how many lines, the interface of the log, the newest time, the claims, what was noted, what the times tell, and how many
--- lines there were of each sort
+-- what came so far: how many lines, the interface of the log, the newest time, the claims, what was noted, what the times tell, who is asked for
+-- claims, and how many lines there were of each sort
 pub record AuditPast : Type 0 where
   pub number : ℕ
   pub interface : Option (List ℕ)
@@ -46,6 +48,7 @@ pub record AuditPast : Type 0 where
   pub claims : HeardClaims
   pub noted : List Noted
   pub moments : Moments
+  pub asking : Asking
   pub frames : ℕ
   pub skipped : ℕ
   pub bad : ℕ
@@ -59,6 +62,7 @@ nothing_read = record {
   claims = no_claims;
   noted = [];
   moments = no_moments;
+  asking = no_asking;
   frames = 0;
   skipped = 0;
   bad = 0;
@@ -66,7 +70,7 @@ nothing_read = record {
 }
 
 abbrev pub bad_line : Settings → AuditPast → AuditPast
-bad_line s past = record past { bad = past.bad + 1; moments = behind_bad s past.moments }
+bad_line s past = record past { bad = past.bad + 1; moments = behind_bad s past.moments; asking = all_forgotten past.asking }
 
 -- a line of an 11-bit identifier is skipped, which is told of behind the first frame; one without a word isn't counted
 abbrev pub skipped_line : AuditPast → AuditPast
@@ -85,17 +89,26 @@ passed_by s _ past = bad_line s past
 abbrev pub claims_before : Settings → AuditPast → Option ℕ → HeardClaims
 claims_before s past time = broken_off (breaks s.stamps past.newest time) past.claims
 
+-- what is noted at a frame of this time and packet, and what the times tell behind it
+abbrev pub noted_newly : Settings → AuditPast → Option ℕ → Frame → Option Packet → List Noted
+noted_newly s past time f packet =
+    break_noted past.number (breaks s.stamps past.newest time) ++ frame_noted s (claims_before s past time) f packet past.number
+
+abbrev pub moments_with_frame : Settings → AuditPast → Option ℕ → Frame → Option Packet → Moments
+moments_with_frame s past time f packet =
+    moments_behind s (breaks s.stamps past.newest time) (begins_anew s.stamps past.newest time) time f past.number
+    (noted_newly s past time f packet) (ending_of s (knowledge s (claims_before s past time)) f) past.moments
+
 -- what came, with a frame of this time and packet of a line that names this interface
 unfoldable pub past_with_frame : Settings → AuditPast → Option ℕ → Option (List ℕ) → Frame → Option Packet → AuditPast
 past_with_frame s past time named f packet = record past {
   interface = interface_behind past.interface named;
   newest = newest_behind s.stamps past.newest time;
   claims = claims_behind s f (claims_before s past time);
-  noted = past.noted ++ (break_noted past.number (breaks s.stamps past.newest time)
-      ++ frame_noted s (claims_before s past time) f packet past.number);
-  moments = moments_behind s (breaks s.stamps past.newest time) (begins_anew s.stamps past.newest time) time f past.number
-      (break_noted past.number (breaks s.stamps past.newest time) ++ frame_noted s (claims_before s past time) f packet past.number)
-      (ending_of s (knowledge s (claims_before s past time)) f) past.moments;
+  noted = past.noted ++ noted_newly s past time f packet;
+  moments = moments_with_frame s past time f packet;
+  asking = asking_behind s (knowledge s (claims_before s past time)) (breaks s.stamps past.newest time) (begins_anew s.stamps past.newest time) time
+      f past.number (sighted_behind nothing_sighted (noted_newly s past time f packet)).unit (moments_with_frame s past time f packet).idle past.asking;
   frames = past.frames + 1;
 }
 
@@ -135,7 +148,7 @@ log_ended s past = record past { moments = all_pauses_ended s past.moments }
 
 -- the words that accuse, in the order in which they are written
 abbrev pub accusing : List Word
-accusing = Short ∷ Stranger ∷ Nobody ∷ Address ∷ Cannot ∷ Layout ∷ NoFlow ∷ Priority ∷ Urgent ∷ NearFlow ∷ NearRequest ∷ SilentFlow ∷ []
+accusing = Short ∷ Stranger ∷ Nobody ∷ Address ∷ Cannot ∷ Deaf ∷ Layout ∷ NoFlow ∷ Priority ∷ Urgent ∷ NearFlow ∷ NearRequest ∷ SilentFlow ∷ []
 
 abbrev pub accusing_at : ℕ → Word
 accusing_at n = slice_index_or accusing n Urgent
@@ -163,6 +176,7 @@ word_text Stranger = codes "stranger"
 word_text Nobody = codes "nobody"
 word_text Address = codes "address"
 word_text Cannot = codes "cannot"
+word_text Deaf = codes "deaf"
 word_text Layout = codes "layout"
 word_text NoFlow = codes "no_flow"
 word_text Priority = codes "priority"
@@ -255,10 +269,10 @@ unfoldable pub word_count : Settings → Look → Word → ℕ
 word_count s look word = sum_below (subject_count s look word) (subjects s word)
 
 unfoldable pub accusations : Settings → Look → List ℕ
-accusations s look = each_below (λ n. word_lines s look (accusing_at n)) 12
+accusations s look = each_below (λ n. word_lines s look (accusing_at n)) 13
 
 unfoldable pub accusation_count : Settings → Look → ℕ
-accusation_count s look = sum_below (λ n. word_count s look (accusing_at n)) 12
+accusation_count s look = sum_below (λ n. word_count s look (accusing_at n)) 13
 
 -- ---- what was seen
 
@@ -317,15 +331,21 @@ text_by s counts look =
 abbrev pub counts_of : AuditPast → LineCounts
 counts_of past = record { frames = past.frames; skipped = past.skipped; bad = past.bad; elsewhere = past.elsewhere }
 
--- what is told of each mark: of those that speak of times by the times, of the others by the frames
+-- what is told of each mark: of those that speak of times by the times, of units that don't answer by who is asked, of the others by the frames
 abbrev pub is_of_moments : Word → Bool
 is_of_moments NearFlow = true
 is_of_moments NearRequest = true
 is_of_moments SilentFlow = true
 is_of_moments _ = false
 
+abbrev pub is_of_asking : Word → Bool
+is_of_asking Deaf = true
+is_of_asking _ = false
+
 abbrev pub look_at : AuditPast → Look
-look_at past m = if is_of_moments m.word then told_in past.moments.untimely m else told_in past.noted m
+look_at past m =
+    if is_of_moments m.word then told_in past.moments.untimely m
+    else if is_of_asking m.word then told_in past.asking.deaf m else told_in past.noted m
 
 abbrev pub audit_text : Settings → AuditPast → List ℕ
 audit_text s past = text_by s (counts_of past) (look_at past)

@@ -1,3 +1,4 @@
+pub mod Asking
 pub mod AuditText
 pub mod Below
 pub mod Breaks

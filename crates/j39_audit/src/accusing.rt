@@ -24,6 +24,7 @@ fn word_text(word: Word) -> &'static str
         Word::Nobody => "nobody",
         Word::Address => "address",
         Word::Cannot => "cannot",
+        Word::Deaf => "deaf",
         Word::Layout => "layout",
         Word::NoFlow => "no_flow",
         Word::Priority => "priority",

@@ -3,7 +3,7 @@ ghost use Rattle.std.specs.Prelude.{◌≡◌, ◌≤◌, ◌<◌, ◌^◌, ◌+
 ghost use Rattle.std.specs.Option.{option_copied};
 ghost use Rattle.j39_id.specs.Lines.{Line, tells};
 ghost use Rattle.j39_log.specs.LineCounting.{AreWithin, IsLineMore};
-ghost use Rattle.j39_audit.specs.AuditText.{AuditPast, bad_line, is_of_moments, passed_by, skipped_line};
+ghost use Rattle.j39_audit.specs.AuditText.{AuditPast, bad_line, is_of_asking, is_of_moments, passed_by, skipped_line};
 ghost use Rattle.j39_audit.specs.Claiming.{HeardClaims, broken_off};
 ghost use Rattle.j39_audit.specs.Looking.{break_noted};
 ghost use Rattle.j39_audit.specs.Settings.{AreMoving, Settings};
@@ -11,6 +11,7 @@ ghost use Rattle.j39_audit.specs.inside.Auditing.{AccordsWith, HasAudited, HasAu
 ghost use Rattle.j39_audit.specs.inside.Auditing.{tallied};
 ghost use Rattle.j39_audit.specs.inside.Recalling.{AreNear, KnowsClaims, Notes, settings_of};
 
+use crate::asking::Asking;
 use crate::basis::Basis;
 use crate::frame_marks::{note_if, take_frame};
 use crate::known::Known;
@@ -38,6 +39,7 @@ pub(crate) struct AuditLog<'a> {
     pub known: Known,
     pub tally: MarkTally,
     pub moments: Moments,
+    pub asking: Asking,
     pub counts: LineCounts,
 }
 
@@ -75,6 +77,13 @@ fn is_of_moments(word: Word) -> bool
     matches!(word, Word::NearFlow | Word::NearRequest | Word::SilentFlow)
 }
 
+// Whether a word speaks of who is asked for claims.
+fn is_of_asking(word: Word) -> bool
+    ensures { result ≡ is_of_asking word }
+{
+    matches!(word, Word::Deaf)
+}
+
 impl<'a> AuditLog<'a> {
     pub fn new(alloc: Global, plan: &'a Plan, part: bool, stamps: u64) -> Result<Self, AllocError>
         ensures plan { IfOk result (λ log. log.basis.plan.now ≡ plan.entry.now) }
@@ -87,6 +96,7 @@ impl<'a> AuditLog<'a> {
         let basis = Basis::new(alloc, plan, part, stamps)?;
         let known = Known::new(alloc, &basis)?;
         let moments = Moments::new(alloc)?;
+        let asking = Asking::new(alloc, &basis)?;
         Ok(AuditLog {
             alloc,
             basis,
@@ -96,6 +106,7 @@ impl<'a> AuditLog<'a> {
             known,
             tally: MarkTally::new(alloc),
             moments,
+            asking,
             counts: LineCounts::new(),
         })
     }
@@ -106,6 +117,8 @@ impl<'a> AuditLog<'a> {
     {
         if is_of_moments(mark.word) {
             self.moments.untimely.told(mark)
+        } else if is_of_asking(mark.word) {
+            self.asking.deaf.told(mark)
         } else {
             self.tally.told(mark)
         }
@@ -135,6 +148,15 @@ impl<'a> AuditLog<'a> {
             broken,
         )?;
         let ending = ending_of(&self.basis, &self.known, frame);
+        self.asking.take(
+            &self.basis,
+            &self.known,
+            broken,
+            anew,
+            time,
+            frame,
+            self.number,
+        );
         take_frame(
             &mut self.tally,
             &self.basis,
@@ -156,6 +178,8 @@ impl<'a> AuditLog<'a> {
             },
             self.number,
         )?;
+        self.asking
+            .take_sign(&self.basis, self.tally.sighting.unit, self.moments.idle)?;
         Ok(())
     }
 
@@ -193,6 +217,7 @@ impl<'a> AuditLog<'a> {
             → RecallsAudit self.new (bad_line (settings_of self.new.basis) past)) }
     {
         self.counts.bad += 1;
+        self.asking.forget_all(&self.basis);
         self.moments.pass_bad(&self.basis)
     }
 

@@ -3,6 +3,7 @@
 
 mod accusing;
 mod answer;
+mod asking;
 mod audit_log;
 mod basis;
 mod earliest;

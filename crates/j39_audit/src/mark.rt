@@ -1,7 +1,7 @@
 //! What is counted of a log.
 ghost use Rattle.std.specs.Prelude.{◌≡◌};
 
-/// What is said of a line or a frame. The first nine accuse, and the last three.
+/// What is said of a line or a frame. The first nine accuse, and the last four.
 #[derive(Clone, Copy, PartialEq, Eq)]
 pub enum Word {
     /// A line of an 11-bit identifier.
@@ -40,6 +40,8 @@ pub enum Word {
     NearRequest,
     /// A message of a flow of which the next one comes too late.
     SilentFlow,
+    /// A unit that claims nothing when it is asked for claims.
+    Deaf,
 }
 
 impl Word {
@@ -69,6 +71,7 @@ impl Word {
             Word::NearFlow => 15,
             Word::NearRequest => 16,
             Word::SilentFlow => 17,
+            Word::Deaf => 18,
         }
     }
 }

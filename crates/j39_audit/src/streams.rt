@@ -48,8 +48,8 @@ fn shortest_us(timing: Timing, ms: u16) -> u64
     999 * u64::from(ms) * (MILLION - u64::from(timing.drift)) / MILLION
 }
 
-// And at most.
-fn longest_us(timing: Timing, ms: u32) -> u64
+/// And at most.
+pub(crate) fn longest_us(timing: Timing, ms: u32) -> u64
     requires { ms < 2 ^ 17 }
     ensures value { result ≡ longest_us timing ms }
     ensures few { result < 2 ^ 40 }

@@ -17,12 +17,13 @@ use j39_text::{TextBuffer, unit_label};
 use std::alloc::AllocError;
 
 // The words that accuse, in the order in which they are written.
-const ACCUSING: [Word; 12] = [
+const ACCUSING: [Word; 13] = [
     Word::Short,
     Word::Stranger,
     Word::Nobody,
     Word::Address,
     Word::Cannot,
+    Word::Deaf,
     Word::Layout,
     Word::NoFlow,
     Word::Priority,

@@ -1,3 +1,5 @@
+pub mod Answering
+pub mod AskingNotes
 pub mod ExactClocks
 pub mod Frames
 pub mod Hits

@@ -27,7 +27,7 @@ rises : (us : ℕ) (clock : ℕ → ℕ) → KeepsTime us clock → (a b : ℕ) 
 rises us clock keeps a b less = let slow = (keeps a b less).0 in omega (arith, slow)
 
 -- what lies within so many microseconds by the bus does by the clock, but for a thousandth
-at_most : (us : ℕ) (clock : ℕ → ℕ) → KeepsTime us clock → (a b more : ℕ) → a ≤ b → b * us ≤ a * us + more → clock b ≤ clock a + 1001 * more
+pub at_most : (us : ℕ) (clock : ℕ → ℕ) → KeepsTime us clock → (a b more : ℕ) → a ≤ b → b * us ≤ a * us + more → clock b ≤ clock a + 1001 * more
 at_most us clock keeps a b more less within =
     let quick = (keeps a b less).1 in
     let whole = difference us a b less in

@@ -19,7 +19,7 @@ module _ (s : Schedule) (d : Damaged) (log : Lines) (fast : log.us ≤ 8) (keeps
 
   module _ (jitter n : ℕ) (is_message : ℕ → Bool) (release frame : ℕ → ℕ) (windows : ℕ → Window) (first : AreReleasedFirst s is_message release)
       (late : HaveJitter s log.us jitter is_message release) where
-    marked : (of x : ℕ) → IsMarkedBound s log jitter of x → IsBoundFrom s log.clock is_message release of x
+    pub marked : (of x : ℕ) → IsMarkedBound s log jitter of x → IsBoundFrom s log.clock is_message release of x
     marked of x bound =
         let next = bound.shows.next in
         let right = mark_with_errors s d log.us log.few log.within bound.bytes log.clock bound.one bound.next bound.before bound.time fast keeps bus short seldom

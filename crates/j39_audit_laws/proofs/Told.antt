@@ -7,12 +7,12 @@ use Rattle.std.proofs.lemmas.List.{append_cancel_left, append-nil, length-append
 use Rattle.std.proofs.lemmas.List.Elements.{Contains-append_left, Contains-get_or, Contains-push, Contains-push_cases}
 use Rattle.std.proofs.lemmas.List.Quantifiers.{all_pairs_push}
 use Rattle.j39_id.specs.Lines.{Line}
-use Rattle.j39_audit.specs.AuditText.{AuditPast, AuditsLine, AuditsLines, is_of_moments, look_at, nothing_read}
+use Rattle.j39_audit.specs.AuditText.{AuditPast, AuditsLine, AuditsLines, is_of_asking, is_of_moments, look_at, nothing_read}
 use Rattle.j39_audit.specs.Counting.{Noted, most_times, told_at, told_in, told_of}
 use Rattle.j39_audit.specs.Settings.{Settings}
 use Rattle.j39_audit.specs.declared.mark.Mark.{Mark}
 use Rattle.j39_audit.specs.declared.mark.Word.{Word}
-use Rattle.j39_audit.specs.declared.mark.Word.TheVariants.{Short, Stranger, Nobody as NobodyThere, Address, Cannot, Layout, NoFlow, Priority, Urgent, Seen, Unclear, Asked, Counted, Unsure, Break, NearFlow, NearRequest, SilentFlow}
+use Rattle.j39_audit.specs.declared.mark.Word.TheVariants.{Short, Stranger, Nobody as NobodyThere, Address, Cannot, Layout, NoFlow, Priority, Urgent, Seen, Unclear, Asked, Counted, Unsure, Break, NearFlow, NearRequest, SilentFlow, Deaf}
 use Rattle.j39_audit.proofs.Hearing.{line_more}
 use Rattle.j39_audit_laws.specs.FoundLines.{IsAccusing, IsFoundAt, IsLineOf, LinesAreOfLog, IsToldAt}
 use Rattle.j39_audit_laws.proofs.Hits.{hits}
@@ -155,16 +155,16 @@ module _ (s : Settings) (log : List Line) (m : Mark) (accuses : IsAccusing m.wor
       ] refl
 
 -- what accuses so is told by the frames
-by_frames : (w : Word) → IsAccusing w → is_of_moments w ≡ false
-by_frames Short is = refl
-by_frames Stranger is = refl
-by_frames NobodyThere is = refl
-by_frames Address is = refl
-by_frames Cannot is = refl
-by_frames Layout is = refl
-by_frames NoFlow is = refl
-by_frames Priority is = refl
-by_frames Urgent is = refl
+by_frames : (w : Word) → IsAccusing w → (is_of_moments w ≡ false) × (is_of_asking w ≡ false)
+by_frames Short is = (refl, refl)
+by_frames Stranger is = (refl, refl)
+by_frames NobodyThere is = (refl, refl)
+by_frames Address is = (refl, refl)
+by_frames Cannot is = (refl, refl)
+by_frames Layout is = (refl, refl)
+by_frames NoFlow is = (refl, refl)
+by_frames Priority is = (refl, refl)
+by_frames Urgent is = (refl, refl)
 by_frames Seen is = absurd is
 by_frames Unclear is = absurd is
 by_frames Asked is = absurd is
@@ -174,9 +174,12 @@ by_frames Break is = absurd is
 by_frames NearFlow is = absurd is
 by_frames NearRequest is = absurd is
 by_frames SilentFlow is = absurd is
+by_frames Deaf is = absurd is
 
 looked : (end : AuditPast) (m : Mark) → IsAccusing m.word → told_in end.noted m ≡ look_at end m
-looked end m is = sym (ap (λ (b : Bool). cond b (told_in end.moments.untimely m) (told_in end.noted m)) (by_frames m.word is))
+looked end m is =
+    sym (ap (λ (b : Bool). cond b (told_in end.moments.untimely m) (cond (is_of_asking m.word) (told_in end.asking.deaf m) (told_in end.noted m)))
+    (by_frames m.word is).0 ∙ ap (λ (b : Bool). cond b (told_in end.asking.deaf m) (told_in end.noted m)) (by_frames m.word is).1)
 
 pub lines_are_of_log : LinesAreOfLog
 lines_are_of_log s log end read m accuses =

@@ -1,3 +1,4 @@
+pub mod Answering
 pub mod AuditedRuns
 pub mod ExactClocks
 pub mod FoundLines

@@ -6,10 +6,12 @@ ghost use Rattle.j39_audit.specs.Settings.{AreMoving, Settings};
 ghost use Rattle.j39_audit.specs.declared.window.Window.{Window as AWindow};
 ghost use Rattle.j39_audit.specs.declared.mark.Word.TheVariants.{Address, Cannot, Layout, NoFlow, Priority, Urgent};
 ghost use Rattle.j39_audit.specs.declared.mark.Word.TheVariants.{Nobody, Short, Stranger};
+ghost use Rattle.j39_audit_laws.specs.Answering.{AnswersInTime, EndsBetween, IsAnswerWithin, IsDeafAt, KeepsRequests, NotesTheDeaf, UnitLines};
+ghost use Rattle.j39_audit_laws.specs.Answering.{is_told_deaf};
 ghost use Rattle.j39_audit_laws.specs.AuditedRuns.{ArePartsKept, IsNotWrittenOf};
 ghost use Rattle.j39_audit_laws.specs.ExactClocks.{ExactClocks};
 ghost use Rattle.j39_audit_laws.specs.FoundLines.{FoundAreListed, LinesAreOfLog};
-ghost use Rattle.j39_audit_laws.specs.LogBounds.{AreOfLog, IsMarkedBound, Lines};
+ghost use Rattle.j39_audit_laws.specs.LogBounds.{AreOfLog, IsMarkedBound, IsTimedBound, Lines};
 ghost use Rattle.j39_audit_laws.specs.OneAudit.{AuditHasOneText};
 ghost use Rattle.j39_audit_laws.specs.OwnPart.{AlwaysCan, AreItsOwn, ClaimsItsOwn, IsNotNamed, LooksAsPlanned, SentBy};
 ghost use Rattle.j39_audit_laws.specs.OwnPart.{WaitsForPlanned};
@@ -20,6 +22,7 @@ ghost use Rattle.j39_audit_laws.specs.Stepping.{AreMomentsWithin, AreStepsApart,
 ghost use Rattle.j39_findings.specs.Findings.{Clean};
 ghost use Rattle.j39_id.specs.Lines.{Line as ALine};
 ghost use Rattle.j39_network.specs.declared.plan.Plan.{Plan as Plans};
+ghost use Rattle.j39_network.specs.declared.plan.timing.Timing.{Timing as Timings};
 ghost use Rattle.j39_network.specs.declared.steps.Step.{Step as Steps};
 ghost use Rattle.j39_timing.specs.Errors.{Damaged, IsBusWithErrors};
 ghost use Rattle.j39_timing.specs.Messages.{frame_end};
@@ -184,4 +187,27 @@ pub fn no_stream_is_told_wrongly()
         → (j : ℕ) → j ≤ n → (lower : Option ℕ) → (of : ℕ) → AreAllBefore s is_message frame j of
         → ((x : ℕ) → lower ≡ Some x → IsMarkedBound s log jitter of x × (1000 * x ≤ log.clock to))
         → is_silent (1001 * pause) windows j lower ≡ false }
+{}
+
+/// Of each unit the request for claims behind a frame that is kept is told by the one before it (`kept`), and where a frame
+/// counts for a unit whose request is overdue by then, that is noted at the line of the request (`noted`).
+pub fn the_deaf_are_noted()
+    ensures kept { KeepsRequests }
+    ensures noted { NotesTheDeaf }
+{}
+
+/// A unit is told as deaf at one of its frames exactly where there was a request to it, the first one behind what it
+/// answered, it claimed nothing since and the log has no gap since, and the bus was idle when its claim had to be ready.
+pub fn deaf_is_exact()
+    ensures { (t : Timings) (l : UnitLines) (n : ℕ) → (is_told_deaf t l n ≡ true) ↔ IsDeafAt t l n }
+{}
+
+/// Who claims within 250 ms when it is asked is never told as deaf, whatever others do: its claim ended behind the request
+/// and before each frame by which the request is overdue (`between`), by exact clocks of the unit and the bus, and one of
+/// the logger that may differ by a thousandth; and where such a claim is behind each request, it isn't told (`told`).
+pub fn who_answers_is_not_deaf()
+    ensures between { (s : Schedule) (d : Damaged) (log : Lines) (ms g p of moment idle : ℕ) → log.us ≤ 8 → KeepsTime log.us log.clock
+        → IsBusWithErrors s d → ((q : ℕ) → q < s.count → s.bits q ≤ 160) → AreFew d log.few → IsTimedBound s log g moment
+        → IsAnswerWithin s log.us ms g p → IsMarkedBound s log 0 of idle → moment + 1001 * ms < idle → EndsBetween s g p of }
+    ensures told { (t : Timings) (l : UnitLines) (n : ℕ) → AnswersInTime t l n → is_told_deaf t l n ≡ false }
 {}

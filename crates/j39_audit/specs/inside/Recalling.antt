@@ -3,12 +3,15 @@ use Rattle.std.specs.Prelude.{◌≡◌, ℕ, ◌++◌, ◌*◌, ◌^◌, ◌≤
 use Rattle.std.specs.HashMap.{get}
 use Rattle.std.specs.Option.{option_copied}
 use Rattle.j39_network.specs.declared.plan.Plan.{Plan}
+use Rattle.j39_audit.specs.Asking.{Asking}
 use Rattle.j39_audit.specs.Claiming.{HeardClaims, Knowledge, knowledge}
 use Rattle.j39_audit.specs.Counting.{Key, Noted, is_same_key, key_of, never, told_at}
 use Rattle.j39_audit.specs.Moments.{Moments}
 use Rattle.j39_audit.specs.SentMessages.{SentMessage}
 use Rattle.j39_audit.specs.Settings.{Settings}
 use Rattle.j39_audit.specs.MessageStreams.{sighted_behind}
+use Rattle.j39_audit.specs.declared.asking.Asking.{Asking as KeptAsking}
+use Rattle.j39_audit.specs.declared.asking.ClaimRequest.{ClaimRequest}
 use Rattle.j39_audit.specs.declared.basis.Basis.{Basis}
 use Rattle.j39_audit.specs.declared.earliest.Earliest.{Earliest}
 use Rattle.j39_audit.specs.declared.known.Known.{Known}
@@ -84,6 +87,18 @@ pub record AreNear (kept : KeptMoments) : Type 0 where
   pub earliest : (key : Key) → IfSome (earliest_in kept.earliest key) (λ e. e < far_ahead)
   pub idle : IfSome kept.idle (λ q. q < far_ahead)
   pub pauses : ArePausesNear kept.pauses
+
+-- ---- requests for claims
+
+abbrev pub request_in : KeptAsking → ℕ → Option ClaimRequest
+request_in kept u = slice_index_or kept.asked.items u None
+
+-- who is asked is kept; where it isn't open, nobody is
+pub record RecallsAsking (s : Settings) (kept : KeptAsking) (a : Asking) : Type 0 where
+  pub size : length kept.asked.items ≡ length s.plan.units.items
+  pub asked : (u : ℕ) → request_in kept u ≡ a.asked u
+  pub closed : kept.open ≡ false → (u : ℕ) → a.asked u ≡ None
+  pub counted : AreCounted kept.deaf a.deaf
 
 -- ---- claims
 

@@ -26,6 +26,7 @@ returns-in-Line-clause-lines c =
         counted = old.follows.counted;
         newest_is = old.follows.newest_is;
         moments = old.follows.moments;
+        asking = old.follows.asking;
       };
       number_is = ap (λ (n : ℕ). n + 1) old.number_is;
       interface_is = old.interface_is;
@@ -67,6 +68,7 @@ returns-in-Long-clause-lines c =
         counted = old.follows.counted;
         newest_is = old.follows.newest_is;
         moments = old.follows.moments;
+        asking = old.follows.asking;
       };
       number_is = ap (λ (n : ℕ). n + 1) old.number_is;
       interface_is = old.interface_is;

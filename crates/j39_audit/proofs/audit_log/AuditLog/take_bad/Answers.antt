@@ -11,6 +11,7 @@ returns-clause-fault c =
         counted = recalls.follows.counted;
         newest_is = recalls.follows.newest_is;
         moments = passed past.moments recalls.follows.moments;
+        asking = c.forget_all.ensures past.asking recalls.follows.asking;
       };
       number_is = recalls.number_is;
       interface_is = recalls.interface_is;

@@ -23,6 +23,7 @@ returns-clause-frame c = λ past recalls.
           counted = took.follows.counted;
           newest_is = took.follows.newest_is;
           moments = took.follows.moments;
+          asking = took.follows.asking;
         };
         number_is = timed.number ∙ recalls.number_is;
         interface_is = c.in_ok-keep_interface.ensures ∙ ap (λ (i : Option (List ℕ)). interface_behind i named)

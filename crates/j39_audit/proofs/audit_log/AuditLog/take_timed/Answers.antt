@@ -5,16 +5,18 @@ use Rattle.j39_log.specs.LogFrames.{IsPacket}
 use Rattle.j39_tp.specs.Packets.{InRange}
 use Rattle.j39_tp.specs.declared.packet.Packet.{Packet}
 use Rattle.j39_audit.specs.AuditText.{claims_before, past_with_frame}
+use Rattle.j39_audit.specs.Asking.{asking_behind}
 use Rattle.j39_audit.specs.Breaks.{breaks, newest_behind}
 use Rattle.j39_audit.specs.Claiming.{Knowledge, broken_off, knowledge}
 use Rattle.j39_audit.specs.Counting.{Noted}
 use Rattle.j39_audit.specs.Looking.{IsPacketOf, break_noted, frame_noted}
 use Rattle.j39_audit.specs.Moments.{begins_anew, moments_behind}
-use Rattle.j39_audit.specs.MessageStreams.{sighted_behind}
+use Rattle.j39_audit.specs.MessageStreams.{nothing_sighted, sighted_behind}
 use Rattle.j39_audit.specs.Pauses.{ending_of, unclear_behind}
 use Rattle.j39_audit.specs.declared.pauses.Ending.{Ending}
 use Rattle.j39_audit.specs.declared.tally.Sighting.{Sighting}
 use Rattle.j39_audit.specs.inside.Recalling.{AreCounted, KnowsClaims, Notes, RecallsMoments, settings_of}
+use Rattle.j39_audit.proofs.Asked.{asked_so}
 use Rattle.j39_audit.proofs.Counted.{counted_on}
 use Rattle.j39_audit.proofs.Knowing.{known_knowledge}
 use Rattle.j39_audit.proofs.Noting.{notes_both}
@@ -25,7 +27,7 @@ packet_of f None some none = none
 packet_of f (Some p) some none = some.0
 
 pub returns-clause-frame : goal.returns-clause-frame
-unfolding past_with_frame
+unfolding past_with_frame asking_behind
 returns-clause-frame c = λ past named accords number.
     let s = settings_of c.args.self.now.basis in
     let time = c.args.time in
@@ -51,6 +53,16 @@ returns-clause-frame c = λ past named accords number.
     let ending : c.ending_of-ending.result ≡ ends = c.ending_of-ending.ensures
     ∙ ap (λ (k : Knowledge). ending_of s k f) (known_knowledge s c.take_break.new.known before known) in
     let kept = c.look.new.self in
+    let same_known = known_knowledge s c.take_break.new.known before known in
+    let timed = subst (λ (n : ℕ). RecallsMoments kept
+    (moments_behind s (breaks s.stamps past.newest time) (begins_anew s.stamps past.newest time) time f n (lines n) ends past.moments)) number
+    (subst (λ (a : Bool). RecallsMoments kept
+    (moments_behind s (breaks s.stamps past.newest time) a time f number_now (lines number_now) ends past.moments)) anew
+    (subst (λ (b : Bool). RecallsMoments kept
+    (moments_behind s b c.begins_anew-anew.result time f number_now (lines number_now) ends past.moments)) broken
+    (subst (λ (e : Ending). RecallsMoments kept
+    (moments_behind s c.breaks-broken.result c.begins_anew-anew.result time f number_now (lines number_now) e past.moments)) ending looked))) in
+    let unit = ap (λ (w : Sighting). w.unit) sights ∙ ap (λ (n : ℕ). (sighted_behind nothing_sighted (lines n)).unit) number in
     record {
       packet = packet;
       packet_is = packet_of f packet c.transport_packet.ensures.found c.transport_packet.ensures.none;
@@ -59,13 +71,8 @@ returns-clause-frame c = λ past named accords number.
         counted = subst (λ (n : ℕ). AreCounted c.take_frame.new.tally (past.noted ++ (break_noted n (breaks s.stamps past.newest time) ++ frame_noted s before f packet n)))
             number (both.counts past.noted (counted_on c.args.self.now.tally clean past.noted c.look_at_next.ensures.found accords.counted));
         newest_is = c.newest_behind-self.ensures ∙ ap (λ (n : Option ℕ). newest_behind s.stamps n time) accords.newest_is;
-        moments = subst (λ (n : ℕ). RecallsMoments kept
-            (moments_behind s (breaks s.stamps past.newest time) (begins_anew s.stamps past.newest time) time f n (lines n) ends past.moments)) number
-            (subst (λ (a : Bool). RecallsMoments kept
-            (moments_behind s (breaks s.stamps past.newest time) a time f number_now (lines number_now) ends past.moments)) anew
-            (subst (λ (b : Bool). RecallsMoments kept
-            (moments_behind s b c.begins_anew-anew.result time f number_now (lines number_now) ends past.moments)) broken
-            (subst (λ (e : Ending). RecallsMoments kept
-            (moments_behind s c.breaks-broken.result c.begins_anew-anew.result time f number_now (lines number_now) e past.moments)) ending looked)));
+        moments = timed;
+        asking = asked_so s c.take_sign.new.self time f past.asking same_known broken anew number unit timed.idle
+            (c.in_ok-take_sign.ensures _ (c.take.ensures past.asking accords.asking));
       };
     }

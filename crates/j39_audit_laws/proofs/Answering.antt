@@ -1,0 +1,180 @@
+-- A unit that is asked for claims is told as deaf exactly where it doesn't claim.
+use Rattle.std.proofs.Common.{◌≡◌, ◌↔◌, ℕ, zero, suc, ◌+◌, ◌*◌, ◌<◌, ◌≤◌, ◌⊎◌, ◌||◌, ◌&&◌, ◌++◌, ◌==◌, ◌∷◌, [], Bool, true, false, cond, List, Option, Some, None, refl, sym, ap, subst, ◌∙◌, arith, inl, inr}
+use Rattle.std.specs.Option.{option_or}
+use Rattle.std.proofs.lemmas.Bool.{cases_Bool, cases_eq, cases_lt, true≢false}
+use Rattle.j39_id.specs.declared.frame.Frame.{Frame}
+use Rattle.j39_network.specs.declared.plan.timing.Timing.{Timing}
+use Rattle.j39_timing.specs.Errors.{Damaged, IsBusWithErrors}
+use Rattle.j39_timing.specs.Messages.{frame_end}
+use Rattle.j39_timing.specs.TimedFrames.{Schedule}
+use Rattle.j39_audit.specs.Asking.{is_overdue}
+use Rattle.j39_audit.specs.declared.asking.ClaimRequest.{ClaimRequest}
+use Rattle.j39_audit_laws.specs.Answering.{AnswersInTime, EndsBetween, IsAnswerWithin, IsDeafAt, IsStillAsked, UnitLines, is_late, is_told_deaf, request_at, request_before, request_kept, request_next}
+use Rattle.j39_audit_laws.specs.LogBounds.{IsMarkedBound, IsTimedBound, Lines}
+use Rattle.j39_audit_laws.specs.MarkRecords.{AreFew, KeepsTime}
+use Rattle.j39_audit_laws.proofs.OnBus.{at_most}
+use Rattle.j39_audit_laws.proofs.OnLogs.{marked}
+
+-- ---- one line
+
+is_there : Option ClaimRequest → Bool
+is_there None = false
+is_there (Some r) = true
+
+none_not_some : (r : ClaimRequest) → None ≡ Some r → ⊥
+none_not_some r e = true≢false (sym (ap is_there e))
+
+some_late : (t : Timing) (o : Option ClaimRequest) (sign : Option (Option ℕ)) → is_late t o sign ≡ true
+    → (r : ClaimRequest) × (idle : Option ℕ) × (o ≡ Some r) × (sign ≡ Some idle) × (is_overdue t r idle ≡ true)
+some_late t None sign is = absurd (true≢false (sym is))
+some_late t (Some r) None is = absurd (true≢false (sym is))
+some_late t (Some r) (Some idle) is = (r, idle, refl, refl, is)
+
+late_some : (t : Timing) (o : Option ClaimRequest) (sign : Option (Option ℕ)) (r : ClaimRequest) (idle : Option ℕ) → o ≡ Some r → sign ≡ Some idle
+    → is_overdue t r idle ≡ true → is_late t o sign ≡ true
+late_some t o sign r idle asked signed overdue =
+    ap (λ (x : Option ClaimRequest). is_late t x sign) asked ∙ ap (λ (x : Option (Option ℕ)). is_late t (Some r) x) signed ∙ overdue
+
+-- what is kept is what was asked, and wasn't late
+kept_from : (t : Timing) (o : Option ClaimRequest) (sign : Option (Option ℕ)) (r : ClaimRequest) → request_kept t o sign ≡ Some r
+    → (o ≡ Some r) × (is_late t o sign ≡ false)
+kept_from t o sign r is = elim (cases_Bool (is_late t o sign)) [
+  | inl late ↦ absurd (none_not_some r (sym (ap (λ (b : Bool). cond b None o) late) ∙ is))
+  | inr not ↦ (sym (ap (λ (b : Bool). cond b None o) not) ∙ is, not)
+]
+
+kept_by : (t : Timing) (o : Option ClaimRequest) (sign : Option (Option ℕ)) (r : ClaimRequest) → o ≡ Some r → is_late t o sign ≡ false
+    → request_kept t o sign ≡ Some r
+kept_by t o sign r is not = ap (λ (b : Bool). cond b None o) not ∙ is
+
+-- where it was asked just here, or before
+next_from : (forgets : Bool) (asks before : Option ClaimRequest) (r : ClaimRequest) → request_next forgets asks before ≡ Some r
+    → ((asks ≡ Some r) × ((forgets ≡ true) ⊎ (before ≡ None))) ⊎ ((forgets ≡ false) × (before ≡ Some r))
+next_from true asks before r is = inl (is, inl refl)
+next_from false asks None r is = inl (is, inr refl)
+next_from false asks (Some b) r is = inr (refl, is)
+
+next_new : (forgets : Bool) (asks before : Option ClaimRequest) (r : ClaimRequest) → asks ≡ Some r → (forgets ≡ true) ⊎ (before ≡ None)
+    → request_next forgets asks before ≡ Some r
+next_new true asks before r is new = is
+next_new false asks None r is new = is
+next_new false asks (Some b) r is (inl e) = absurd (true≢false (sym e))
+next_new false asks (Some b) r is (inr e) = absurd (none_not_some b (sym e))
+
+next_old : (forgets : Bool) (asks before : Option ClaimRequest) (r : ClaimRequest) → forgets ≡ false → before ≡ Some r
+    → request_next forgets asks before ≡ Some r
+next_old forgets asks before r not is =
+    ap (λ (b : Bool). request_next b asks before) not ∙ ap (λ (o : Option ClaimRequest). option_or o asks) is
+
+-- ---- lines behind one another
+
+module _ (t : Timing) (l : UnitLines) where
+  before_none : request_before t l 0 ≡ None
+  unfolding request_before
+  before_none = refl
+
+  before_more : (n : ℕ) → request_before t l (suc n) ≡ request_kept t (request_at t l n) (l.signs n)
+  unfolding request_before
+  before_more n = refl
+
+  here : (n : ℕ) (r : ClaimRequest) → l.asks n ≡ Some r → (l.forgets n ≡ true) ⊎ (request_before t l n ≡ None) → IsStillAsked t l n r
+  here n r asks new = record {
+    first = n;
+    before = omega arith;
+    asks = asks;
+    new = new;
+    kept = λ m less most. absurd (omega (arith, less, most));
+    untold = λ m least less. absurd (omega (arith, least, less));
+  }
+
+  longer : (n : ℕ) (r : ClaimRequest) → IsStillAsked t l n r → l.forgets (suc n) ≡ false → is_told_deaf t l n ≡ false → IsStillAsked t l (suc n) r
+  longer n r was kept untold = record {
+    first = was.first;
+    before = let b = was.before in omega (arith, b);
+    asks = was.asks;
+    new = was.new;
+    kept = λ m less most. elim (cases_eq m (suc n)) [
+      | inl same ↦ ap l.forgets same ∙ kept
+      | inr other ↦ was.kept m less (omega (arith, most, other))
+    ];
+    untold = λ m least less. elim (cases_eq m n) [
+      | inl same ↦ ap (λ (k : ℕ). is_told_deaf t l k) same ∙ untold
+      | inr other ↦ was.untold m least (omega (arith, less, other))
+    ];
+  }
+
+  unanswered : (n : ℕ) (r : ClaimRequest) → request_at t l n ≡ Some r → IsStillAsked t l n r
+  unanswered zero r is = elim (next_from (l.forgets 0) (l.asks 0) (request_before t l 0) r is) [
+    | inl new ↦ here 0 r new.0 new.1
+    | inr old ↦ absurd (none_not_some r (sym before_none ∙ old.1))
+  ]
+  unanswered (suc n) r is = elim (next_from (l.forgets (suc n)) (l.asks (suc n)) (request_before t l (suc n)) r is) [
+    | inl new ↦ here (suc n) r new.0 new.1
+    | inr old ↦
+        let kept = kept_from t (request_at t l n) (l.signs n) r (sym (before_more n) ∙ old.1) in
+        longer n r (unanswered n r kept.0) old.0 kept.1
+  ]
+
+  new_there : (n : ℕ) (r : ClaimRequest) (is : IsStillAsked t l n r) → is.first ≡ n → request_at t l n ≡ Some r
+  new_there n r is same =
+      subst (λ (k : ℕ). request_at t l k ≡ Some r) same
+      (next_new (l.forgets is.first) (l.asks is.first) (request_before t l is.first) r is.asks is.new)
+
+  asked_still : (n : ℕ) (r : ClaimRequest) → IsStillAsked t l n r → request_at t l n ≡ Some r
+  asked_still zero r is = let b = is.before in new_there 0 r is (omega (arith, b))
+  asked_still (suc n) r is = elim (cases_eq is.first (suc n)) [
+    | inl same ↦ new_there (suc n) r is same
+    | inr other ↦
+        let b = is.before in
+        let less : is.first ≤ n = omega (arith, b, other) in
+        let was : IsStillAsked t l n r = record {
+          first = is.first;
+          before = less;
+          asks = is.asks;
+          new = is.new;
+          kept = λ m low high. is.kept m low (omega (arith, high));
+          untold = λ m low high. is.untold m low (omega (arith, high));
+        } in
+        next_old (l.forgets (suc n)) (l.asks (suc n)) (request_before t l (suc n)) r (is.kept (suc n) (omega (arith, less)) (omega arith))
+        (before_more n ∙ kept_by t (request_at t l n) (l.signs n) r (asked_still n r was) (is.untold n less (omega arith)))
+  ]
+
+  pub deaf_is : (n : ℕ) → is_told_deaf t l n ≡ true → IsDeafAt t l n
+  deaf_is n is =
+      let (r, idle, asked, sign, overdue) = some_late t (request_at t l n) (l.signs n) is in
+      record { request = r; unanswered = unanswered n r asked; idle = idle; sign = sign; overdue = overdue }
+
+  pub is_deaf : (n : ℕ) → IsDeafAt t l n → is_told_deaf t l n ≡ true
+  is_deaf n is = late_some t (request_at t l n) (l.signs n) is.request is.idle (asked_still n is.request is.unanswered) is.sign is.overdue
+
+  pub not_deaf : (n : ℕ) → AnswersInTime t l n → is_told_deaf t l n ≡ false
+  not_deaf n answers = elim (cases_Bool (is_told_deaf t l n)) [
+    | inr not ↦ not
+    | inl told ↦
+        let is = deaf_is n told in
+        let u = is.unanswered in
+        let (m, less, most, forgets) = answers u.first is.request is.idle u.before u.asks is.sign is.overdue in
+        absurd (true≢false (sym forgets ∙ u.kept m less most))
+  ]
+
+-- ---- on a bus
+
+pub answered_between : (s : Schedule) (d : Damaged) (log : Lines) (ms g p of moment idle : ℕ) → log.us ≤ 8 → KeepsTime log.us log.clock
+    → IsBusWithErrors s d → ((q : ℕ) → q < s.count → s.bits q ≤ 160) → AreFew d log.few → IsTimedBound s log g moment
+    → IsAnswerWithin s log.us ms g p → IsMarkedBound s log 0 of idle → moment + 1001 * ms < idle → EndsBetween s g p of
+answered_between s d log ms g p of moment idle fast keeps bus short seldom timed answer mark late =
+    let bits = bus.positive p answer.known in
+    let queued = bus.queued_first p answer.known in
+    let behind = answer.behind in (
+      omega (arith, bits, queued, behind),
+      elim (cases_lt (frame_end s p) (frame_end s of)) [
+        | inl less ↦ less
+        | inr later ↦
+            let bound = marked s d log fast keeps bus short seldom 0 0 (λ k. true) s.queued (λ k. 0) (λ k. record { lower = None; upper = 0 })
+            (λ q in_q is. omega arith) (λ q in_q is. omega arith) of idle mark p answer.known refl (omega (arith, later)) in
+            let since = at_most log.us log.clock keeps (frame_end s g) (s.queued p) (1000 * ms) behind answer.within in
+            let at = timed.at.1 in
+            let is = timed.is in
+            absurd (omega (arith, bound, since, at, is, late))
+      ],
+    )
