@@ -2,4 +2,3 @@ pub mod CommandEnds
 pub mod Intakes
 pub mod LineReading
 pub mod Streams
-pub mod Tape
