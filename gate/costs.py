@@ -1,9 +1,11 @@
 #!/usr/bin/env python3
-"""Tells what the functions and lemmas of a crate cost to prove. The crate is checked from nothing, with one job, in a copy, over what
-./j39plan has built below it. What counts is processor time, which other work on the machine lengthens less than time by the clock.
+"""Tells what the functions and lemmas of a crate cost to prove. The crate is checked from nothing, with one job, in a copy, over the
+libraries that were built. What counts is processor time, which other work on the machine lengthens less than time by the clock.
 
-usage: costs.py CRATE [COUNT]           proves the library, or builds the program; shows the dearest COUNT, else 20
-       costs.py --test CRATE [COUNT]    the same of the crate with its tests, which are run
+usage: costs.py CRATE [COUNT]           proves the library or the program; shows the dearest COUNT, else 20
+       costs.py --all FILE [CRATE..]    proves these crates, else all, one after another, and writes a page of what they and their dearest
+                                        functions cost
+       costs.py --test CRATE [COUNT]    proves, builds and runs the crate's tests, over what ./j39plan has built
        costs.py --kept CRATE [COUNT]    checks nothing: shows how much earlier checks have written of each function, also of forms that it
                                         no longer has, and at the end what of all this stands in the library that was built last
 
@@ -23,9 +25,11 @@ import tempfile
 import time
 from bisect import bisect_left
 from collections import defaultdict
+from dataclasses import dataclass
 
 sys.dont_write_bytecode = True
 import build
+import checks
 import crates
 import times
 
@@ -34,7 +38,9 @@ COUNT = 20
 KEPT = "out/incremental"
 # A module of a crate, by its file: its path below the crate's definitions or proofs.
 FILE = re.compile(r"Rattle-\w+-(?:specs|proofs)\.(?:contracts\.)?(.+?)(?:\.decls)?\.oantt")
-MODES = {"--test": ["rt", "test", "--jobs", "1"], "library": ["rt", "lib", "--jobs", "1"], "program": ["rt", "run", "--jobs", "1", "--", "--version"]}
+TESTS = ["rt", "test", "--jobs", "1"]
+# How many functions a page names.
+DEAREST = 100
 
 Costs = list[tuple[str, float]]
 
@@ -117,38 +123,101 @@ def of_kept(name: str, count: int) -> int:
     return 0
 
 
-def of_functions(name: str, words: list[str], count: int) -> int:
-    """Proves a crate, and shows what that takes."""
+@dataclass
+class Proof:
+    """What the proof of a crate took: each module's part, what was taken ahead of the first one, and in all, in seconds of processor time."""
+
+    name: str
+    costs: Costs
+    ahead: float
+    whole: float
+
+    def line(self) -> str:
+        behind = self.whole - self.ahead - sum(it for _, it in self.costs)
+        return f"{self.name}: {self.whole:.0f} s of processor time, {self.ahead:.0f} of them ahead of the first module and {behind:.0f} behind the last"
+
+
+def proof_of(name: str, words: list[str]) -> Proof | None:
+    """Proves a crate by these words, or says why it isn't proved."""
     lacking = [it for it in crates.needed(name) if it != name and not os.path.isdir(f"{crates.folder(it)}/out/rlib")]
     if lacking:
-        print(f"what {name} stands on is to be built first, by ./j39plan or rt lib: {', '.join(lacking)}", file=sys.stderr)
-        return 2
+        print(f"what {name} stands on is to be built first, by rt ci, ./j39plan or rt lib: {', '.join(lacking)}", file=sys.stderr)
+        return None
     with tempfile.TemporaryDirectory(prefix="j39plan-costs-") as top:
         build.copy(name, top)
         folder = f"{top}/crates/{name}"
+        os.makedirs(f"{folder}/{KEPT}", exist_ok=True)
         status, said, clock = clocked(words, folder)
         if status:
             print("\n".join(line for _, line in said[-20:]), file=sys.stderr)
-            return status
+            return None
         taken = [(clock.seconds(moment), it) for moment, _, it in written(folder)]
-    ahead, last, whole = taken[0][0], taken[-1][0], clock.taken[-1]
-    print(f"{name}: {whole:.0f} s of processor time, {ahead:.0f} of them ahead of the first module and {whole - last:.0f} behind the last")
-    show([(it, now - before) for (before, _), (now, it) in zip([(ahead, ""), *taken], taken)], "s", count)
+    ahead = taken[0][0]
+    return Proof(name, [(it, now - before) for (before, _), (now, it) in zip([(ahead, ""), *taken], taken)], ahead, clock.taken[-1])
+
+
+def check_of(name: str) -> list[str]:
+    """Returns the words of a check from nothing."""
+    return ["rattle", "check", *checks.words_of(name), "--incremental", KEPT]
+
+
+def page_of(proofs: list[Proof]) -> str:
+    """Returns a page of what crates and their dearest functions cost."""
+    rows = [(sum(parts.values()), it.name, owner) for it in proofs for owner, parts in by_owner(it.costs).items()]
+    lines = ["# What proofs cost", "", f"Processor time of a check from nothing, with one job, in seconds: written by `gate/costs.py --all`, of commit {commit()}.", ""]
+    lines += ["| Crate | Seconds | Functions | Seconds of the dearest function |", "|---|---|---|---|"]
+    for it in sorted(proofs, key=lambda it: -it.whole):
+        functions = [sum(parts.values()) for parts in by_owner(it.costs).values() if "Code" in parts]
+        lines.append(f"| `{it.name}` | {it.whole:.0f} | {len(functions)} | {max(functions, default=0.0):.1f} |")
+    lines += [f"| all | {sum(it.whole for it in proofs):.0f} | | |", "", "| Seconds | Crate | Function or module |", "|---|---|---|"]
+    lines += [f"| {cost:.1f} | `{name}` | `{owner}` |" for cost, name, owner in sorted(rows, reverse=True)[:DEAREST]]
+    return "\n".join([*lines, ""])
+
+
+def commit() -> str:
+    ran = subprocess.run(["git", "rev-parse", "--short", "HEAD"], cwd=crates.TOP, stdin=subprocess.DEVNULL, capture_output=True, text=True, check=False)
+    return ran.stdout.strip() or "unknown"
+
+
+def of_all(file: str, names: list[str]) -> int:
+    """Proves crates one after another, and writes the page after each."""
+    proofs = []
+    for name in names:
+        found = proof_of(name, check_of(name))
+        if found is None:
+            return 1
+        print(found.line(), flush=True)
+        proofs.append(found)
+        with open(file, "w", encoding="utf-8") as page:
+            page.write(page_of(proofs))
+    return 0
+
+
+def of_one(name: str, words: list[str], count: int) -> int:
+    """Proves a crate, and shows what that takes."""
+    found = proof_of(name, words)
+    if found is None:
+        return 1
+    print(found.line())
+    show(found.costs, "s", count)
     return 0
 
 
 def main(words: list[str]) -> int:
-    mode = words[0] if words and words[0] in ("--test", "--kept") else ""
+    mode = words[0] if words and words[0] in ("--all", "--test", "--kept") else ""
     names = words[1:] if mode else words
-    if not names or names[0] not in crates.below():
+    file = names.pop(0) if mode == "--all" and names else ""
+    if any(it not in crates.below() for it in (names if mode == "--all" else names[:1] or [""])) or mode == "--all" and not file:
         print(__doc__, file=sys.stderr)
         return 2
-    name, count = names[0], int(names[1]) if names[1:] else COUNT
     # what is stopped ends what it has started, and removes its copy
     signal.signal(signal.SIGTERM, lambda *_: sys.exit(1))
+    if mode == "--all":
+        return of_all(file, names or list(crates.below()))
+    name, count = names[0], int(names[1]) if names[1:] else COUNT
     if mode == "--kept":
         return of_kept(name, count)
-    return of_functions(name, MODES[mode or ("program" if crates.is_program(name) else "library")], count)
+    return of_one(name, TESTS if mode else check_of(name), count)
 
 
 if __name__ == "__main__":
