@@ -139,11 +139,7 @@ fn requests_there(
 
 impl WhatIsThere {
     /// What is there in a variant.
-    pub fn new(
-        alloc: Global,
-        line: &ProductLine,
-        variant: &[usize],
-    ) -> Result<Self, AllocError>
+    pub fn new(alloc: Global, line: &ProductLine, variant: &[usize]) -> Result<Self, AllocError>
         ensures { IfOk result (IsWhatIsThere line.now variant.now) }
     {
         Ok(WhatIsThere {
