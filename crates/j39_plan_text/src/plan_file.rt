@@ -10,8 +10,8 @@ use j39_plan::PlanError;
 use j39_stream::{Fault, Sink, Source, put_all, read_whole};
 use j39_variants::{ProductLine, read_product_line};
 use refusals::refusal;
-pub use refusals::{refuse_choices, write_choices_refused, write_refusal};
 pub(crate) use refusals::write_table;
+pub use refusals::{refuse_choices, write_choices_refused, write_refusal};
 use std::alloc::Global;
 
 // Writes the line that says why a file describes no plan.
