@@ -139,11 +139,7 @@ fn requests_there(
 
 impl WhatIsThere {
     /// What is there in a variant.
-    pub fn new(
-        alloc: Global,
-        line: &ProductLine,
-        variant: &[usize],
-    ) -> Result<Self, AllocError>
+    pub fn new(alloc: Global, line: &ProductLine, variant: &[usize]) -> Result<Self, AllocError>
         ensures { IfOk result (IsWhatIsThere line.now variant.now) }
     {
         Ok(WhatIsThere {
@@ -157,7 +153,7 @@ impl WhatIsThere {
 }
 
 /// The place in the file of what has a place in the plan of a variant.
-pub(crate) fn place_in_file(places: &[usize], place: usize) -> usize
+pub fn place_in_file(places: &[usize], place: usize) -> usize
     ensures { result ≡ place_in_file places.now place }
 {
     match places.get(place) {
