@@ -1,5 +1,5 @@
 -- What a number that is told says of each variant.
-use Rattle.std.proofs.Common.{◌≡◌, ℕ, ◌≤◌, List, false, Option, Some, None, refl, subst}
+use Rattle.std.proofs.Common.{◌≡◌, ℕ, ◌≤◌, false, Option, Some, None, refl, subst}
 use Rattle.std.proofs.lemmas.Bool.{ltb-false, true≢false}
 use Rattle.j39_load.specs.declared.waits.delay.Delay.TheVariants.{Within, Beyond, Late, Whole}
 use Rattle.j39_variants.specs.declared.line.ProductLine.{ProductLine}
