@@ -1,5 +1,5 @@
 -- The text that the load command writes for a plan file, also of a line of vehicles.
-use Rattle.std.specs.Prelude.{◌≡◌, ◌≢◌, ◌⊎◌, ℕ, ◌==◌, List, [], ◌++◌, if◌then◌else◌, length, Some, None}
+use Rattle.std.specs.Prelude.{◌≡◌, ◌≢◌, ◌⊎◌, ℕ, ◌==◌, List, [], ◌++◌, if◌then◌else◌, length, Option, Some, None}
 use Rattle.j39_load.specs.BusTimes.{timing_of}
 use Rattle.j39_network.specs.declared.plan.timing.Timing.{Timing}
 use Rattle.j39_variants.specs.declared.line.ProductLine.{ProductLine}

@@ -1,5 +1,5 @@
 //! The lines that tell of the times of a line of vehicles.
-ghost use Rattle.std.specs.Prelude.{◌≡◌, ◌++◌, OnOk};
+ghost use Rattle.std.specs.Prelude.{◌≡◌, ◌++◌, ◌*◌, OnOk};
 ghost use Rattle.j39_load.specs.LineLists.{lines_of_each};
 ghost use Rattle.j39_line_text.specs.TimeLines.{flow_time_text, line_flow_line, line_need_line, need_time_text, times_text, youngest_text};
 
@@ -66,10 +66,12 @@ fn write_youngest(text: &mut TextBuffer, youngest: Option<usize>) -> Result<(), 
     }
 }
 
+// How old it is, of so many milliseconds.
 #[tactic(auto, unfolding(crate::specs::TimeLines::need_time_text))]
-fn write_need_time(text: &mut TextBuffer, limit: u32, time: NeedTime) -> Result<(), AllocError>
-    ensures { OnOk result (text.new ≡ text.old ++ need_time_text limit time) }
+fn write_need_time(text: &mut TextBuffer, within: u16, time: NeedTime) -> Result<(), AllocError>
+    ensures { OnOk result (text.new ≡ text.old ++ need_time_text (1000 * within) time) }
 {
+    let limit = 1_000 * u32::from(within);
     match time {
         NeedTime::NoVariant => text.word(" no variant"),
         NeedTime::Unmet => write_time(text, " unmet of ", u128::from(limit)),
@@ -95,7 +97,7 @@ fn write_need_line(
         return Ok(());
     };
     write_need(text, plan, place, need)?;
-    write_need_time(text, 1_000 * u32::from(within), times.need(place))?;
+    write_need_time(text, within, times.need(place))?;
     text.end_line()
 }
 

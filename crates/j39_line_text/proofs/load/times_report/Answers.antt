@@ -1,4 +1,4 @@
-use Rattle.std.proofs.Common.{◌≡◌, None, Some, sym, ◌∙◌}
+use Rattle.std.proofs.Common.{sym, ◌∙◌}
 use Rattle.std.proofs.lemmas.Option.{none-some}
 use Rattle.j39_line_bounds.specs.LineTimes.{AreLineTimes}
 use Rattle.j39_line_text.proofs.load.times_report.Goals as goal
