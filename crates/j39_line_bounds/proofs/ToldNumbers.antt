@@ -13,6 +13,9 @@ use Rattle.j39_line_bounds.proofs.EachTimes.{bound}
 no_more : (a b : ℕ) → is_less_bad (of_degree 1 a) (of_degree 1 b) ≡ false → b ≤ a
 no_more a b no_worse = ltb-false a b no_worse
 
+no_later : (a b : ℕ) → is_less_bad (of_degree 2 a) (of_degree 2 b) ≡ false → b ≤ a
+no_later a b no_worse = ltb-false a b no_worse
+
 known : (s t : Option ℕ) (a : ℕ) → s ≡ Some a → is_less_bad (badness_known s) (badness_known t) ≡ false → (b : ℕ) × (t ≡ Some b) × (b ≤ a)
 known s None a is no_worse = absurd (true≢false (subst (λ x. is_less_bad (badness_known x) (of_degree 3 0) ≡ false) is no_worse))
 known s (Some b) a is no_worse = (b, refl, no_more a b (subst (λ x. is_less_bad (badness_known x) (of_degree 1 b) ≡ false) is no_worse))
@@ -32,6 +35,11 @@ module _ (line : ProductLine) (told times : Times) (are : AreNoWorse line times 
     delays = λ f below a b is here.
         no_more a b
         (of_both flow_badness (flow_at told f) (flow_at times f) (flow.Told (Some (Within a))) (flow.Told (Some (Within b))) is here (are.flows f below));
+    never_unknown = λ f below a is here.
+        true≢false (of_both flow_badness (flow_at told f) (flow_at times f) (flow.Told (Some (Beyond a))) (flow.Told (Some Late)) is here (are.flows f below));
+    late_delays = λ f below a b is here.
+        no_later a b
+        (of_both flow_badness (flow_at told f) (flow_at times f) (flow.Told (Some (Beyond a))) (flow.Told (Some (Beyond b))) is here (are.flows f below));
     whole = λ f below w v a is is_known here.
         known (time_told w) (time_told v) a is_known
         (of_both flow_badness (flow_at told f) (flow_at times f) (flow.Told (Some (Whole w))) (flow.Told (Some (Whole v))) is here (are.flows f below));

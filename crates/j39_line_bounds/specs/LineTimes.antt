@@ -187,8 +187,8 @@ pub record BoundEachVariant (line : ProductLine) (told : LineTimes) : Type 0 whe
 abbrev pub TimesBoundEachVariant : Type 0
 TimesBoundEachVariant = (line : ProductLine) (told : LineTimes) → AreLineTimes line told → BoundEachVariant line told
 
--- where a number is told, what is told of one variant is no more: a flow within so many bits is never late, and waits for no more; long
--- messages are whole in as many; a need is met, and what it is for is no older
+-- where a number is told, that of one variant is no more: a flow within so many bits is never late, and waits for no more; one that is late
+-- with so many isn't late with more, nor with none; long messages are whole in as many; a need is met, and what it is for is no older
 pub record BoundNumbers (line : ProductLine) (told times : LineTimes) : Type 0 where
   pub never_late : (f : ℕ) → f < length line.plan.flows.items → (bits : ℕ) → flow_at told f ≡ flow.Told (Some (Within bits))
       → flow_at times f ≢ flow.Told (Some Late)
@@ -196,6 +196,10 @@ pub record BoundNumbers (line : ProductLine) (told times : LineTimes) : Type 0 w
       → flow_at times f ≢ flow.Told (Some (Beyond more))
   pub delays : (f : ℕ) → f < length line.plan.flows.items → (bits here : ℕ) → flow_at told f ≡ flow.Told (Some (Within bits))
       → flow_at times f ≡ flow.Told (Some (Within here)) → here ≤ bits
+  pub never_unknown : (f : ℕ) → f < length line.plan.flows.items → (bits : ℕ) → flow_at told f ≡ flow.Told (Some (Beyond bits))
+      → flow_at times f ≢ flow.Told (Some Late)
+  pub late_delays : (f : ℕ) → f < length line.plan.flows.items → (bits here : ℕ) → flow_at told f ≡ flow.Told (Some (Beyond bits))
+      → flow_at times f ≡ flow.Told (Some (Beyond here)) → here ≤ bits
   pub whole : (f : ℕ) → f < length line.plan.flows.items → (of_told here : WholeTime) (bits : ℕ) → flow_at told f ≡ flow.Told (Some (Whole of_told))
       → time_told of_told ≡ Some bits → flow_at times f ≡ flow.Told (Some (Whole here)) → (fewer : ℕ) × (time_told here ≡ Some fewer) × (fewer ≤ bits)
   pub met : (d : ℕ) → d < length line.plan.needs.items → (us : ℕ) (youngest : Option ℕ) → need_at told d ≡ need.Age (Some us) youngest

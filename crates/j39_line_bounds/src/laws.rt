@@ -19,7 +19,8 @@ pub fn times_bound_each_variant()
     ensures { TimesBoundEachVariant }
 {}
 
-/// Where a number is told, no possible variant is late, misses what it needs or has a larger one.
+/// Where a number is told, no possible variant has a larger one of its kind: where a flow is told to be in time or a need
+/// to be met, it is in each.
 pub fn told_numbers_bound_each_variant()
     ensures { ToldNumbersBoundEachVariant }
 {}
