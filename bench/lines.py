@@ -3,8 +3,8 @@
 
 Each of so many random plans (200) has up to five choices. The plan of each possible variant is written as a file and asked about by itself; the findings
 are put at their places in the line's file, each once, with the witness and the alternatives that are to stand behind ` in`, by sets of alternatives and
-none of the program's definitions; so are who stays and the worst times. J39PLAN names the program, else ./j39plan is asked. The status is 1 where an answer differs, which is
-shown.
+none of the program's definitions; so are who stays and the worst times. J39PLAN names the program, else ./j39plan is asked. The status is 1 where an
+answer differs, which is shown.
 """
 from __future__ import annotations
 
@@ -227,7 +227,6 @@ class Line:
             return ["ok " + " ".join(f"{len(self.tables[kind])} {kind}s" for kind in KINDS[:3]) + f" {len(self.choices)} choices"]
         lines = [line for _, _, some in sorted(best.values(), key=lambda one: one[0]) for line in some]
         return [*lines, f"findings {len(best)}"]
-
 
     def addresses(self) -> list[str]:
         """What `addresses` is to write of the line."""

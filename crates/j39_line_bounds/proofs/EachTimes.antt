@@ -1,5 +1,5 @@
 -- What is told of each possible variant, one after the other.
-use Rattle.std.proofs.Common.{◌≡◌, ◌≢◌, ◌⊎◌, ℕ, ◌+◌, ◌<◌, List, [], ◌∷◌, ◌++◌, true, false, Option, Some, None, inl, inr, get_or, length, map, take, refl, sym, ap, ◌∙◌, arith, subst}
+use Rattle.std.proofs.Common.{◌≡◌, ◌⊎◌, ℕ, ◌+◌, ◌<◌, List, [], ◌∷◌, ◌++◌, true, false, Option, Some, None, inl, inr, get_or, length, map, take, refl, sym, ap, ◌∙◌, arith, subst}
 use Rattle.std.specs.List.{range_with_len}
 use Rattle.std.specs.Option.{option_map}
 use Rattle.std.proofs.lemmas.Option.{none-some}
@@ -20,7 +20,7 @@ use Rattle.j39_line_findings.specs.There.{IsWhatIsThere}
 use Rattle.j39_line_findings.specs.declared.there.WhatIsThere.{WhatIsThere}
 use Rattle.j39_line_findings.proofs.EveryVariant.{every_variant}
 use Rattle.j39_line_findings.specs.AllVariants.{IsOneOf, all_variants}
-use Rattle.j39_line_bounds.specs.LineTimes.{AddsTimes, AreLineTimes, AreTimesOf, AreVariantTimes, AreWorst, BoundEachVariant, IsOfSomeVariant, IsTimesAmong, TimesBoundEachVariant, flow_at, flow_time, need_at, need_time}
+use Rattle.j39_line_bounds.specs.LineTimes.{AreLineTimes, AreTimesAmong, AreTimesOf, AreVariantTimes, AreWorst, BoundEachVariant, IsOfSomeVariant, IsTimesAmong, TimesBoundEachVariant, flow_at, flow_time, need_at, need_time}
 use Rattle.j39_line_bounds.specs.declared.times.FlowTime.TheVariants as flow
 use Rattle.j39_line_bounds.specs.declared.times.LineTimes.{LineTimes as Times}
 use Rattle.j39_line_bounds.specs.declared.times.NeedTime.TheVariants as need
@@ -82,37 +82,36 @@ module _ (line : ProductLine) where
   counted (w ∷ vs) v each more possible is (inr (here, (times, others, of_w, rest, same))) =
       inr (here, (times, others ++ more ∷ [], of_w, counted vs v others more possible is rest, ap (λ xs. xs ++ more ∷ []) same))
 
--- so far
-abbrev pub SoFar : ProductLine → List (List ℕ) → Times → Type 0
-SoFar line vs told = (each : List Times) × AreTimesOf line vs each × AreWorst line each told
+pub none_yet : (line : ProductLine) (told : Times) → AreWorst line [] told → AreTimesAmong line [] told
+none_yet line told are = record { each = []; are_each = tt; worst = are }
 
-longer : {V : Type 0} (f : V → List ℕ) (vs : List V) (k : ℕ) (d : V) (v : List ℕ) → k < length vs → d ≡ get_or vs k d → v ≡ f d
-    → map f (take (k + 1) vs) ≡ map f (take k vs) ++ v ∷ []
-longer f vs k d v below is same =
-    let more : map f (take (k + 1) vs) ≡ map f (take k vs) ++ f (get_or vs k d) ∷ [] =
+pub passed : (line : ProductLine) (vs : List (List ℕ)) (v : List ℕ) (told : Times) → is_possible line.nevers.items v ≡ false → AreTimesAmong line vs told
+    → AreTimesAmong line (vs ++ v ∷ []) told
+passed line vs v told never are = record {
+  each = are.each;
+  are_each = not_counted line vs v are.each never are.are_each;
+  worst = are.worst;
+}
+
+pub one_more : (line : ProductLine) (vs : List (List ℕ)) (v : List ℕ) (old here new : Times) → is_possible line.nevers.items v ≡ true
+    → AreVariantTimes line v here → ((each : List Times) → AreWorst line each old → AreWorst line (each ++ here ∷ []) new)
+    → AreTimesAmong line vs old → AreTimesAmong line (vs ++ v ∷ []) new
+one_more line vs v old here new possible is worse are = record {
+  each = are.each ++ here ∷ [];
+  are_each = counted line vs v are.each here possible is are.are_each;
+  worst = worse are.each are.worst;
+}
+
+-- the next one of these
+pub next_one : {V : Type 0} (line : ProductLine) (f : V → List ℕ) (vs : List V) (k : ℕ) (d : V) (v : List ℕ) (old new : Times) → k < length vs
+    → d ≡ get_or vs k d → v ≡ f d → AreTimesAmong line (map f (take k vs)) old
+    → ((ws : List (List ℕ)) → AreTimesAmong line ws old → AreTimesAmong line (ws ++ v ∷ []) new) → AreTimesAmong line (map f (take (k + 1) vs)) new
+next_one line f vs k d v old new below is same so_far add =
+    let longer : map f (take (k + 1) vs) ≡ map f (take k vs) ++ f (get_or vs k d) ∷ [] =
     ap (map f) (take_more vs k d below) ∙ map-append f (take k vs) (get_or vs k d ∷ []) in
     let here : v ≡ f (get_or vs k d) = same ∙ ap f is in
-    more ∙ ap (λ w. map f (take k vs) ++ w ∷ []) (sym here)
-
--- the next variant counts
-pub with_next : {V : Type 0} (line : ProductLine) (f : V → List ℕ) (vs : List V) (k : ℕ) (d : V) (v : List ℕ) (old new : Times) → k < length vs
-    → d ≡ get_or vs k d → v ≡ f d → SoFar line (map f (take k vs)) old → ((each : List Times) → AreWorst line each old → AddsTimes line v each old (Some new))
-    → SoFar line (map f (take (k + 1) vs)) new
-with_next line f vs k d v old new below is same so_far adds =
-    let added = adds so_far.0 so_far.2 in
-    subst (λ ws. SoFar line ws new) (sym (longer f vs k d v below is same))
-    (so_far.0 ++ added.1.0 ∷ [], counted line (map f (take k vs)) v so_far.0 added.1.0 added.0 added.1.1 so_far.1, added.1.2)
-
--- or isn't possible
-pub without_next : {V : Type 0} (line : ProductLine) (f : V → List ℕ) (vs : List V) (k : ℕ) (d : V) (v : List ℕ) (old : Times) → k < length vs
-    → d ≡ get_or vs k d → v ≡ f d → timing_of line.plan ≢ None → SoFar line (map f (take k vs)) old
-    → ((each : List Times) → AreWorst line each old → AddsTimes line v each old None) → SoFar line (map f (take (k + 1) vs)) old
-without_next line f vs k d v old below is same timed so_far adds = elim (adds so_far.0 so_far.2) [
-  | inl never ↦
-      subst (λ ws. SoFar line ws old) (sym (longer f vs k d v below is same))
-      (so_far.0, not_counted line (map f (take k vs)) v so_far.0 never so_far.1, so_far.2)
-  | inr none ↦ absurd (timed none)
-]
+    let all : map f (take (k + 1) vs) ≡ map f (take k vs) ++ v ∷ [] = longer ∙ ap (λ w. map f (take k vs) ++ w ∷ []) (sym here) in
+    subst (λ ws. AreTimesAmong line ws new) (sym all) (add (map f (take k vs)) so_far)
 
 -- ---- of the line
 

@@ -1,5 +1,5 @@
 -- Times of the flows, ages of what is needed, and the load of a line of vehicles: the greatest of its possible variants.
-use Rattle.std.specs.Prelude.{◌≡◌, ◌⊎◌, ℕ, ◌<◌, ◌≤◌, ◌==◌, List, [], ◌∷◌, ◌++◌, Bool, true, false, ◌&&◌, ◌||◌, if◌then◌else◌, is_some, length, nat_lt, slice_index_or, Option, Some, None}
+use Rattle.std.specs.Prelude.{◌≡◌, ◌≢◌, ◌⊎◌, ℕ, ◌<◌, ◌≤◌, ◌==◌, List, [], ◌∷◌, Bool, true, false, ◌&&◌, ◌||◌, if◌then◌else◌, is_some, length, nat_lt, slice_index_or, Option, Some, None}
 use Rattle.std.specs.List.{position, slice_get}
 use Rattle.std.specs.Option.{option_and_then, option_map, option_map_or}
 use Rattle.j39_load.specs.Ages.{has_several, least_age, youngest_flow}
@@ -155,17 +155,15 @@ AreTimesOf line (variant ∷ variants) each =
     ⊎ ((is_possible line.nevers.items variant ≡ true)
     × ((times : LineTimes) × (others : List LineTimes) × AreVariantTimes line variant times × AreTimesOf line variants others × (each ≡ times ∷ others)))
 
--- of one variant more, which counts where it is possible
-abbrev pub AddsTimes : ProductLine → List ℕ → List LineTimes → LineTimes → Option LineTimes → Type 0
-AddsTimes line variant each so_far None = (is_possible line.nevers.items variant ≡ false) ⊎ (timing_of line.plan ≡ None)
-AddsTimes line variant each so_far (Some told) = (is_possible line.nevers.items variant ≡ true)
-    × ((times : LineTimes) × AreVariantTimes line variant times × AreWorst line (each ++ times ∷ []) told)
-
--- what is told of a line: the worst of its possible variants
-pub record AreLineTimes (line : ProductLine) (told : LineTimes) : Type 0 where
+-- what is told of some variants: the worst of those that are possible
+pub record AreTimesAmong (line : ProductLine) (variants : List (List ℕ)) (told : LineTimes) : Type 0 where
   pub each : List LineTimes
-  pub are_each : AreTimesOf line (all_variants line.choices.items) each
+  pub are_each : AreTimesOf line variants each
   pub worst : AreWorst line each told
+
+-- and of a line
+abbrev pub AreLineTimes : ProductLine → LineTimes → Type 0
+AreLineTimes line = AreTimesAmong line (all_variants line.choices.items)
 
 -- ---- laws
 
@@ -188,3 +186,27 @@ pub record BoundEachVariant (line : ProductLine) (told : LineTimes) : Type 0 whe
 
 abbrev pub TimesBoundEachVariant : Type 0
 TimesBoundEachVariant = (line : ProductLine) (told : LineTimes) → AreLineTimes line told → BoundEachVariant line told
+
+-- where a number is told, that of one variant is no more: a flow within so many bits is never late, and waits for no more; one that is late
+-- with so many isn't late with more, nor with none; long messages are whole in as many; a need is met, and what it is for is no older
+pub record BoundNumbers (line : ProductLine) (told times : LineTimes) : Type 0 where
+  pub never_late : (f : ℕ) → f < length line.plan.flows.items → (bits : ℕ) → flow_at told f ≡ flow.Told (Some (Within bits))
+      → flow_at times f ≢ flow.Told (Some Late)
+  pub never_beyond : (f : ℕ) → f < length line.plan.flows.items → (bits more : ℕ) → flow_at told f ≡ flow.Told (Some (Within bits))
+      → flow_at times f ≢ flow.Told (Some (Beyond more))
+  pub delays : (f : ℕ) → f < length line.plan.flows.items → (bits here : ℕ) → flow_at told f ≡ flow.Told (Some (Within bits))
+      → flow_at times f ≡ flow.Told (Some (Within here)) → here ≤ bits
+  pub never_unknown : (f : ℕ) → f < length line.plan.flows.items → (bits : ℕ) → flow_at told f ≡ flow.Told (Some (Beyond bits))
+      → flow_at times f ≢ flow.Told (Some Late)
+  pub late_delays : (f : ℕ) → f < length line.plan.flows.items → (bits here : ℕ) → flow_at told f ≡ flow.Told (Some (Beyond bits))
+      → flow_at times f ≡ flow.Told (Some (Beyond here)) → here ≤ bits
+  pub whole : (f : ℕ) → f < length line.plan.flows.items → (of_told here : WholeTime) (bits : ℕ) → flow_at told f ≡ flow.Told (Some (Whole of_told))
+      → time_told of_told ≡ Some bits → flow_at times f ≡ flow.Told (Some (Whole here)) → (fewer : ℕ) × (time_told here ≡ Some fewer) × (fewer ≤ bits)
+  pub met : (d : ℕ) → d < length line.plan.needs.items → (us : ℕ) (youngest : Option ℕ) → need_at told d ≡ need.Age (Some us) youngest
+      → need_at times d ≢ need.Unmet
+  pub ages : (d : ℕ) → d < length line.plan.needs.items → (us : ℕ) (age youngest other : Option ℕ) → need_at told d ≡ need.Age (Some us) youngest
+      → need_at times d ≡ need.Age age other → (fewer : ℕ) × (age ≡ Some fewer) × (fewer ≤ us)
+
+abbrev pub ToldNumbersBoundEachVariant : Type 0
+ToldNumbersBoundEachVariant = (line : ProductLine) (told : LineTimes) → AreLineTimes line told → (variant : List ℕ) → IsPossible line variant
+    → (times : LineTimes) × AreVariantTimes line variant times × BoundNumbers line told times

@@ -5,6 +5,9 @@ mod laws;
 mod standing;
 mod times;
 
-pub use laws::{standings_are_exact, times_bound_each_variant, units_have_one_standing};
+pub use laws::{
+    standings_are_exact, times_bound_each_variant, told_numbers_bound_each_variant,
+    units_have_one_standing,
+};
 pub use standing::{LineStanding, line_standings};
 pub use times::{FlowTime, LineTimes, NeedTime, line_times};

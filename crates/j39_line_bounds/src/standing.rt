@@ -2,15 +2,14 @@
 ghost use Rattle.std.specs.Prelude.{◌≡◌, ◌∷◌, ◌++◌, [], ℕ, List, IfOk, length, map};
 ghost use Rattle.std.specs.List.{range_with_len};
 ghost use Rattle.j39_findings.specs.Standing.{stays_of};
-ghost use Rattle.j39_line_findings.specs.MissedNeeds.{is_unit_there};
 ghost use Rattle.j39_line_bounds.specs.LineStandings.{AreLineStandings, AreStandingsAmong};
 ghost use Rattle.j39_line_bounds.specs.declared.standing.LineStanding.TheVariants.{NoVariant};
 ghost use Rattle.j39_line_bounds.specs.inside.StandingSteps.{IsPossibleOf, standing_at, standing_with, stays_in_variant, with_variant};
 
 use j39_findings::Standing;
-use j39_line_findings::all_variants;
+use j39_line_findings::{all_variants, is_unit_there};
 use j39_network::UnitPlan;
-use j39_variants::{ProductLine, is_in, is_possible, plan_of};
+use j39_variants::{ProductLine, is_possible, plan_of};
 use std::alloc::{AllocError, Global};
 
 /// What is told of a unit of a line.
@@ -22,15 +21,6 @@ pub enum LineStanding {
     Stays,
     /// In a possible variant that has it it may move.
     MayMove,
-}
-
-fn is_unit_there(line: &ProductLine, variant: &[usize], place: usize) -> bool
-    ensures { result ≡ is_unit_there line.now variant.now place }
-{
-    match line.lists.units.get(place) {
-        Some(list) => is_in(variant, list),
-        None => false,
-    }
 }
 
 // Whether a unit stays in a variant in whose plan these do; none where it isn't there.

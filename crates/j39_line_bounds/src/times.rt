@@ -1,17 +1,16 @@
 //! Times of the flows, ages of what is needed, and the load of a line of vehicles: the greatest of its possible
 //! variants.
-ghost use Rattle.std.specs.Prelude.{◌≡◌, ◌≢◌, ◌∷◌, ◌++◌, [], List, IfOk, None, Some, length, map};
+ghost use Rattle.std.specs.Prelude.{◌≡◌, ◌≢◌, ◌∷◌, ◌++◌, [], ℕ, List, IfOk, None, Some, length, map};
 ghost use Rattle.std.specs.List.{range_with_len};
 ghost use Rattle.j39_load.specs.BusTimes.{timing_of};
-ghost use Rattle.j39_line_findings.specs.There.{place_in_file};
 ghost use Rattle.j39_variants.specs.VariantPlans.{IsVariantPlan};
 ghost use Rattle.j39_variants.specs.declared.line.ProductLine.{ProductLine as ALine};
 ghost use Rattle.j39_line_bounds.specs.declared.times.LineTimes.{LineTimes as Times};
-ghost use Rattle.j39_line_bounds.specs.LineTimes.{AddsTimes, AreLineTimes, AreVariantTimes, AreWorst, flow_at, need_at, worse, youngest_here};
+ghost use Rattle.j39_line_bounds.specs.LineTimes.{AreLineTimes, AreTimesAmong, AreVariantTimes, AreWorst, flow_at, need_at, worse, youngest_here};
 ghost use Rattle.j39_line_bounds.specs.LineTimes.{age_here, of_degree, badness_known, delay_badness, flow_badness, flow_time};
 ghost use Rattle.j39_line_bounds.specs.LineTimes.{is_less_bad, need_badness, need_time, place_of, time_told};
 
-use j39_line_findings::{WhatIsThere, all_variants, is_need_asked_for};
+use j39_line_findings::{WhatIsThere, all_variants, is_need_asked_for, place_in_file};
 use j39_load::{Delay, LoadAnswer, WholeTime, has_several, least_age, timing_of, youngest_flow};
 use j39_network::{NeedPlan, Plan, Timing, is_met};
 use j39_variants::{ProductLine, is_possible, plan_of};
@@ -45,6 +44,28 @@ pub struct LineTimes {
     pub needs: Vec<NeedTime>,
     /// Bits in a second.
     pub load: u64,
+}
+
+impl LineTimes {
+    /// What is told of the flow at a place of the file.
+    pub fn flow(&self, place: usize) -> FlowTime
+        ensures { result ≡ flow_at self.now place }
+    {
+        match self.flows.get(place) {
+            Some(time) => *time,
+            None => FlowTime::NoVariant,
+        }
+    }
+
+    /// What is told of the need at a place of the file.
+    pub fn need(&self, place: usize) -> NeedTime
+        ensures { result ≡ need_at self.now place }
+    {
+        match self.needs.get(place) {
+            Some(time) => *time,
+            None => NeedTime::NoVariant,
+        }
+    }
 }
 
 // How bad a time is, and how long it is.
@@ -134,15 +155,6 @@ fn flow_time(there: &[usize], delays: &[Option<Delay>], flow: usize) -> FlowTime
             Some(delay) => FlowTime::Told(*delay),
             None => FlowTime::Told(None),
         },
-    }
-}
-
-fn place_in_file(places: &[usize], place: usize) -> usize
-    ensures { result ≡ place_in_file places.now place }
-{
-    match places.get(place) {
-        Some(found) => *found,
-        None => 0,
     }
 }
 
@@ -238,7 +250,7 @@ fn variant_times(
     timing: Timing,
     plan: &Plan,
 ) -> Result<LineTimes, AllocError>
-    ensures { IsVariantPlan line.now variant.now plan.now → timing_of plan.now ≡ Some timing → IfOk result (AreVariantTimes line.now variant.now) }
+    ensures { IfOk result (λ times. IsVariantPlan line.now variant.now plan.now → timing_of plan.now ≡ Some timing → AreVariantTimes line.now variant.now times) }
 {
     let there = WhatIsThere::new(alloc, line, variant)?;
     let answer = LoadAnswer::new(alloc, timing, plan)?;
@@ -277,24 +289,6 @@ fn worse_need(one: NeedTime, other: NeedTime) -> NeedTime
     }
 }
 
-fn flow_at(times: &LineTimes, place: usize) -> FlowTime
-    ensures { result ≡ flow_at times.now place }
-{
-    match times.flows.get(place) {
-        Some(time) => *time,
-        None => FlowTime::NoVariant,
-    }
-}
-
-fn need_at(times: &LineTimes, place: usize) -> NeedTime
-    ensures { result ≡ need_at times.now place }
-{
-    match times.needs.get(place) {
-        Some(time) => *time,
-        None => NeedTime::NoVariant,
-    }
-}
-
 fn worse_flows(
     alloc: Global,
     one: &LineTimes,
@@ -303,7 +297,7 @@ fn worse_flows(
     ensures { IfOk result (λ v. v.items ≡ map (λ f. worse flow_badness (flow_at one.now f) (flow_at other.now f)) (range_with_len 0 (length one.now.flows.items))) }
 {
     (0..one.flows.len())
-        .map(|place| worse_flow(flow_at(one, place), flow_at(other, place)))
+        .map(|place| worse_flow(one.flow(place), other.flow(place)))
         .collect(alloc)
 }
 
@@ -315,7 +309,7 @@ fn worse_needs(
     ensures { IfOk result (λ v. v.items ≡ map (λ d. worse need_badness (need_at one.now d) (need_at other.now d)) (range_with_len 0 (length one.now.needs.items))) }
 {
     (0..one.needs.len())
-        .map(|place| worse_need(need_at(one, place), need_at(other, place)))
+        .map(|place| worse_need(one.need(place), other.need(place)))
         .collect(alloc)
 }
 
@@ -356,31 +350,43 @@ fn times_with(
     alloc: Global,
     line: &ProductLine,
     variant: &[usize],
-    so_far: &LineTimes,
-) -> Result<Option<LineTimes>, AllocError>
-    ensures { IfOk result (λ more. (each : List Times) → AreWorst line.now each so_far.now → AddsTimes line.now variant.now each so_far.now more) }
+    so_far: LineTimes,
+) -> Result<LineTimes, AllocError>
+    ensures { IfOk result (λ times. (variants : List (List ℕ)) → timing_of line.now.plan ≢ None → AreTimesAmong line.now variants so_far
+        → AreTimesAmong line.now (variants ++ variant.now ∷ []) times) }
 {
     if !is_possible(&line.nevers, variant) {
-        return Ok(None);
+        return Ok(so_far);
     }
     let plan = plan_of(alloc, line, variant)?;
     let Some(timing) = timing_of(&plan) else {
-        return Ok(None);
+        return Ok(so_far);
     };
     let here = variant_times(alloc, line, variant, timing, &plan)?;
-    Ok(Some(worse(alloc, so_far, &here)?))
+    let times = worse(alloc, &so_far, &here)?;
+    Ok(times)
+}
+
+// What is told of these variants.
+fn times_among(
+    alloc: Global,
+    line: &ProductLine,
+    variants: &[Vec<usize>],
+) -> Result<LineTimes, AllocError>
+    ensures { IfOk result (λ times. timing_of line.now.plan ≢ None → AreTimesAmong line.now (map (λ v. v.items) variants.now) times) }
+{
+    let mut times = nothing(alloc, line)?;
+    for variant in variants {
+        times = times_with(alloc, line, variant, times)?;
+    }
+    Ok(times)
 }
 
 /// What is told of each flow and each need of a line whose bus is known, and its load.
 pub fn line_times(alloc: Global, line: &ProductLine) -> Result<LineTimes, AllocError>
-    ensures { timing_of line.now.plan ≢ None → IfOk result (AreLineTimes line.now) }
+    ensures { IfOk result (λ times. timing_of line.now.plan ≢ None → AreLineTimes line.now times) }
 {
     let variants = all_variants(alloc, &line.choices)?;
-    let mut times = nothing(alloc, line)?;
-    for variant in &variants {
-        if let Some(more) = times_with(alloc, line, variant, &times)? {
-            times = more;
-        }
-    }
+    let times = times_among(alloc, line, &variants)?;
     Ok(times)
 }

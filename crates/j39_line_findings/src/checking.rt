@@ -66,7 +66,8 @@ fn is_any_faulty(
     Ok(false)
 }
 
-fn is_any_possible(line: &ProductLine, variants: &[Vec<usize>]) -> bool
+/// Whether one of these variants is possible.
+pub fn is_any_possible(line: &ProductLine, variants: &[Vec<usize>]) -> bool
     ensures { result ≡ list_any (λ v. is_possible line.now.nevers.items v.items) variants.now }
 {
     variants

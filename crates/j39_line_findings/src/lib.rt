@@ -14,15 +14,15 @@ mod there;
 mod told;
 mod witnessed;
 
-pub use checking::{LineAnswer, check_line};
+pub use checking::{LineAnswer, check_line, is_any_possible};
 pub use enumeration::{VARIANT_LIMIT, all_variants, combinations};
 pub use found::line_findings;
 pub use full::{FullAlternatives, alternatives_of};
 pub use laws::line_findings_are_exact;
 pub use line_finding::LineFinding;
-pub use missed_needs::is_need_asked_for;
+pub use missed_needs::{is_need_asked_for, is_unit_there};
 pub use part::LinePart;
 pub use rank::Rank;
-pub use there::WhatIsThere;
+pub use there::{WhatIsThere, place_in_file};
 pub use told::Telling;
 pub use witnessed::Witnessed;

@@ -14,7 +14,8 @@ pub(crate) fn is_in_at(variant: &[usize], lists: &[Vec<Alternative>], place: usi
     }
 }
 
-pub(crate) fn is_unit_there(line: &ProductLine, variant: &[usize], unit: usize) -> bool
+/// Whether a unit is there in a variant.
+pub fn is_unit_there(line: &ProductLine, variant: &[usize], unit: usize) -> bool
     ensures { result ≡ is_unit_there line.now variant.now unit }
 {
     is_in_at(variant, &line.lists.units, unit)

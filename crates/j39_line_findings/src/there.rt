@@ -153,7 +153,7 @@ impl WhatIsThere {
 }
 
 /// The place in the file of what has a place in the plan of a variant.
-pub(crate) fn place_in_file(places: &[usize], place: usize) -> usize
+pub fn place_in_file(places: &[usize], place: usize) -> usize
     ensures { result ≡ place_in_file places.now place }
 {
     match places.get(place) {

@@ -1,2 +1,3 @@
 pub mod CertifiedVariants
 pub mod HiddenLines
+pub mod LineTimings

@@ -1,9 +1,9 @@
 -- The text that the load command writes for a plan file, also of a line of vehicles.
-use Rattle.std.specs.Prelude.{◌≡◌, ◌≢◌, ◌⊎◌, ℕ, ◌==◌, List, [], ◌++◌, if◌then◌else◌, length, Some, None}
+use Rattle.std.specs.Prelude.{◌≡◌, ◌≢◌, ◌⊎◌, ℕ, ◌==◌, List, [], ◌++◌, if◌then◌else◌, length, Option, Some, None}
 use Rattle.j39_load.specs.BusTimes.{timing_of}
 use Rattle.j39_network.specs.declared.plan.timing.Timing.{Timing}
 use Rattle.j39_variants.specs.declared.line.ProductLine.{ProductLine}
-use Rattle.j39_line_bounds.specs.LineTimes.{AreLineTimes}
+use Rattle.j39_line_bounds.specs.LineTimes.{AreLineTimes, BoundEachVariant}
 use Rattle.j39_line_bounds.specs.declared.times.LineTimes.{LineTimes}
 use Rattle.j39_line_findings.specs.AllVariants.{all_variants}
 use Rattle.j39_line_findings.specs.FullVariants.{alternatives_of}
@@ -19,20 +19,31 @@ use Rattle.j39_plan_text.specs.PlanText.{IsReportedText}
 use Rattle.j39_stream.specs.declared.verdict.Verdict.{Verdict}
 use Rattle.j39_stream.specs.declared.verdict.Verdict.TheVariants.{Done, Findings}
 
--- the times of a line in no possible variant of which a finding hides them, and behind them the findings of which they don't tell
+-- whether anything is found
+abbrev pub line_load_verdict : List Witnessed → Verdict
+line_load_verdict told = if length told == 0 then Done else Findings
+
+-- the times of a line in no possible variant of which a finding hides them, which bound those of each, and behind them the findings of which
+-- they don't tell
 pub record IsTimesReport (line : ProductLine) (timing : Timing) (text : List ℕ) (verdict : Verdict) : Type 0 where
   pub shown : AreAllShown (hides Times) line
   pub times : LineTimes
   pub are_times : AreLineTimes line times
+  pub bounds : BoundEachVariant line times
   pub told : List Witnessed
   pub are_told : AreLineFindings line told
   pub text_is : text ≡ times_text line.plan timing times ++ untold_of_line_text line (alternatives_of line) (all_variants line.choices.items) told
-  pub verdict_is : verdict ≡ (if length told == 0 then Done else Findings)
+  pub verdict_is : verdict ≡ line_load_verdict told
 
 -- what is written for a line of vehicles of whose bus this is known, with the verdict: as check does, where a finding hides the times
 abbrev pub IsLineLoadReport : ProductLine → Timing → List ℕ → Verdict → Type 0
 IsLineLoadReport line timing text verdict =
     IsTimesReport line timing text verdict ⊎ (IsHiddenReport (hides Times) line text × (verdict ≡ Findings))
+
+-- what is known of the bus of a line that has choices
+abbrev pub TellsLineTiming : ProductLine → Option Timing → Type 0
+TellsLineTiming line None = (line.choices.items ≡ []) ⊎ (timing_of line.plan ≡ None)
+TellsLineTiming line (Some timing) = (line.choices.items ≢ []) × (timing_of line.plan ≡ Some timing)
 
 -- of its one plan where it has no choices, or nothing is known of its bus
 abbrev pub IsPlanOrLineLoad : ProductLine → List ℕ → Verdict → Type 0

@@ -1,11 +1,10 @@
 //! Findings of possible variants for which check's answer is written.
 ghost use Rattle.std.specs.Prelude.{◌≡◌, IfOk, map};
 ghost use Rattle.std.specs.List.{list_any};
-ghost use Rattle.j39_variants.specs.Variants.{is_possible};
 ghost use Rattle.j39_line_text.specs.Hindrances.{IsHidingAnswer, TellsWhetherAnyIsHidden, TellsWhetherHidden, hides};
 
 use j39_findings::{Finding, check};
-use j39_line_findings::{LineAnswer, VARIANT_LIMIT, all_variants, combinations};
+use j39_line_findings::{LineAnswer, VARIANT_LIMIT, all_variants, combinations, is_any_possible};
 use j39_plan_text::{hides_times, is_of_addresses};
 use j39_variants::{ProductLine, is_possible, plan_of};
 use std::alloc::{AllocError, Global};
@@ -50,14 +49,6 @@ fn is_hidden(
     let plan = plan_of(alloc, line, variant)?;
     let findings = check(alloc, &plan)?;
     Ok(is_any_hiding(asked, &findings))
-}
-
-fn is_any_possible(line: &ProductLine, variants: &[Vec<usize>]) -> bool
-    ensures { result ≡ list_any (λ v. is_possible line.now.nevers.items v.items) variants.now }
-{
-    variants
-        .iter()
-        .any(|variant| is_possible(&line.nevers, variant))
 }
 
 // Whether one of these variants is.

@@ -2,7 +2,7 @@
 ghost use Rattle.std.specs.Prelude.{◌≡◌, IfOk, Some};
 ghost use Rattle.j39_load.specs.BusTimes.{timing_of};
 ghost use Rattle.j39_line_text.specs.Hindrances.{AreAllShown, hides};
-ghost use Rattle.j39_line_text.specs.LineLoadText.{IsLineLoadReport, IsLineLoadText, IsTimesReport};
+ghost use Rattle.j39_line_text.specs.LineLoadText.{IsLineLoadReport, IsLineLoadText, IsTimesReport, TellsLineTiming, line_load_verdict};
 ghost use Rattle.j39_line_text.specs.declared.hindrances.Asked.TheVariants.{Times};
 ghost use Rattle.j39_stream.specs.CommandEnds.{AnswersWhole, IsOfAny};
 ghost use Rattle.j39_stream.specs.Streams.{plan_limits};
@@ -11,8 +11,8 @@ use crate::hindrances::{Asked, check_for};
 use crate::line_report::{faulty_text, many_variants, no_variant_text};
 use crate::time_lines::write_times;
 use crate::witness_lines::write_untold;
-use j39_line_bounds::line_times;
-use j39_line_findings::{LineAnswer, line_findings};
+use j39_line_bounds::{line_times, times_bound_each_variant};
+use j39_line_findings::{LineAnswer, Witnessed, line_findings};
 use j39_load::timing_of;
 use j39_network::Timing;
 use j39_plan_text::{LineReport, load_report, report_text};
@@ -21,24 +21,31 @@ use j39_text::TextBuffer;
 use j39_variants::ProductLine;
 use std::alloc::{AllocError, Global};
 
+fn verdict_of(told: &[Witnessed]) -> Verdict
+    ensures { result ≡ line_load_verdict told.now }
+{
+    if told.is_empty() {
+        Verdict::Done
+    } else {
+        Verdict::Findings
+    }
+}
+
 // What is told of the times of a line, where nothing stands in its way, and behind it the findings of which this says nothing.
 fn times_report(
     alloc: Global,
     line: &ProductLine,
     timing: Timing,
 ) -> Result<(TextBuffer, Verdict), AllocError>
-    ensures { timing_of line.now.plan ≡ Some timing → AreAllShown (hides Times) line.now → IfOk result (λ report. IsTimesReport line.now timing report.0 report.1) }
+    ensures { IfOk result (λ report. timing_of line.now.plan ≡ Some timing → AreAllShown (hides Times) line.now → IsTimesReport line.now timing report.0 report.1) }
 {
+    times_bound_each_variant();
     let times = line_times(alloc, line)?;
     let told = line_findings(alloc, line)?;
     let mut text = TextBuffer::new(alloc);
     write_times(&mut text, &line.plan, timing, &times)?;
     write_untold(alloc, &mut text, line, &told)?;
-    if told.is_empty() {
-        Ok((text, Verdict::Done))
-    } else {
-        Ok((text, Verdict::Findings))
-    }
+    Ok((text, verdict_of(&told)))
 }
 
 // What is written of the load of a line of vehicles, with the verdict.
@@ -47,7 +54,7 @@ fn line_load(
     line: &ProductLine,
     timing: Timing,
 ) -> Result<(TextBuffer, Verdict), AllocError>
-    ensures { timing_of line.now.plan ≡ Some timing → IfOk result (λ report. IsLineLoadReport line.now timing report.0 report.1) }
+    ensures { IfOk result (λ report. timing_of line.now.plan ≡ Some timing → IsLineLoadReport line.now timing report.0 report.1) }
 {
     let answer = check_for(alloc, Asked::Times, line)?;
     match answer {
@@ -59,12 +66,25 @@ fn line_load(
             let text = no_variant_text(alloc)?;
             Ok((text, Verdict::Findings))
         }
-        LineAnswer::Clean => times_report(alloc, line, timing),
+        LineAnswer::Clean => {
+            let report = times_report(alloc, line, timing)?;
+            Ok(report)
+        }
         LineAnswer::Faulty => {
             let text = faulty_text(alloc, line)?;
             Ok((text, Verdict::Findings))
         }
     }
+}
+
+// What is known of the bus of a line, where it has choices.
+fn line_timing(line: &ProductLine) -> Option<Timing>
+    ensures { TellsLineTiming line.now result }
+{
+    if !line.has_choices() {
+        return None;
+    }
+    timing_of(&line.plan)
 }
 
 // What is reported of the load of a line, of its one plan where it has no choices or nothing is known of its bus.
@@ -80,12 +100,16 @@ impl LineReport for TimesReport {
         alloc: Global,
         line: ProductLine,
     ) -> Result<(TextBuffer, Verdict), AllocError> {
-        if line.has_choices() {
-            if let Some(timing) = timing_of(&line.plan) {
-                return line_load(alloc, &line, timing);
+        match line_timing(&line) {
+            Some(timing) => {
+                let report = line_load(alloc, &line, timing)?;
+                Ok(report)
+            }
+            None => {
+                let report = load_report(alloc, &line.plan)?;
+                Ok(report)
             }
         }
-        load_report(alloc, &line.plan)
     }
 }
 

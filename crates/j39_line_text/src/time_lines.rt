@@ -1,7 +1,6 @@
 //! The lines that tell of the times of a line of vehicles.
-ghost use Rattle.std.specs.Prelude.{◌≡◌, ◌++◌, OnOk};
+ghost use Rattle.std.specs.Prelude.{◌≡◌, ◌++◌, ◌*◌, OnOk};
 ghost use Rattle.j39_load.specs.LineLists.{lines_of_each};
-ghost use Rattle.j39_line_bounds.specs.LineTimes.{flow_at, need_at};
 ghost use Rattle.j39_line_text.specs.TimeLines.{flow_time_text, line_flow_line, line_need_line, need_time_text, times_text, youngest_text};
 
 use j39_line_bounds::{FlowTime, LineTimes, NeedTime};
@@ -26,24 +25,6 @@ fn write_flow_time(
     }
 }
 
-fn flow_at(times: &LineTimes, place: usize) -> FlowTime
-    ensures { result ≡ flow_at times.now place }
-{
-    match times.flows.get(place) {
-        Some(time) => *time,
-        None => FlowTime::NoVariant,
-    }
-}
-
-fn need_at(times: &LineTimes, place: usize) -> NeedTime
-    ensures { result ≡ need_at times.now place }
-{
-    match times.needs.get(place) {
-        Some(time) => *time,
-        None => NeedTime::NoVariant,
-    }
-}
-
 #[tactic(auto, unfolding(crate::specs::TimeLines::line_flow_line))]
 fn write_flow_line(
     text: &mut TextBuffer,
@@ -56,7 +37,7 @@ fn write_flow_line(
     ensures { OnOk result (text.new ≡ text.old ++ line_flow_line plan.now timing times.now place flow.now) }
 {
     write_flow(text, plan, place, flow)?;
-    write_flow_time(text, timing, flow, flow_at(times, place))?;
+    write_flow_time(text, timing, flow, times.flow(place))?;
     text.end_line()
 }
 
@@ -85,10 +66,12 @@ fn write_youngest(text: &mut TextBuffer, youngest: Option<usize>) -> Result<(), 
     }
 }
 
+// How old it is, of so many milliseconds.
 #[tactic(auto, unfolding(crate::specs::TimeLines::need_time_text))]
-fn write_need_time(text: &mut TextBuffer, limit: u32, time: NeedTime) -> Result<(), AllocError>
-    ensures { OnOk result (text.new ≡ text.old ++ need_time_text limit time) }
+fn write_need_time(text: &mut TextBuffer, within: u16, time: NeedTime) -> Result<(), AllocError>
+    ensures { OnOk result (text.new ≡ text.old ++ need_time_text (1000 * within) time) }
 {
+    let limit = 1_000 * u32::from(within);
     match time {
         NeedTime::NoVariant => text.word(" no variant"),
         NeedTime::Unmet => write_time(text, " unmet of ", u128::from(limit)),
@@ -114,7 +97,7 @@ fn write_need_line(
         return Ok(());
     };
     write_need(text, plan, place, need)?;
-    write_need_time(text, 1_000 * u32::from(within), need_at(times, place))?;
+    write_need_time(text, within, times.need(place))?;
     text.end_line()
 }
 

@@ -1,0 +1,56 @@
+-- What a number that is told says of each variant.
+use Rattle.std.proofs.Common.{◌≡◌, ℕ, ◌≤◌, false, Option, Some, None, refl, subst}
+use Rattle.std.proofs.lemmas.Bool.{ltb-false, true≢false}
+use Rattle.j39_load.specs.declared.waits.delay.Delay.TheVariants.{Within, Beyond, Late, Whole}
+use Rattle.j39_variants.specs.declared.line.ProductLine.{ProductLine}
+use Rattle.j39_line_bounds.specs.LineTimes.{AreNoWorse, BoundNumbers, ToldNumbersBoundEachVariant, badness_known, flow_at, flow_badness, is_less_bad, need_at, need_badness, of_degree, time_told}
+use Rattle.j39_line_bounds.specs.declared.times.Badness.{Badness}
+use Rattle.j39_line_bounds.specs.declared.times.FlowTime.TheVariants as flow
+use Rattle.j39_line_bounds.specs.declared.times.LineTimes.{LineTimes as Times}
+use Rattle.j39_line_bounds.specs.declared.times.NeedTime.TheVariants as need
+use Rattle.j39_line_bounds.proofs.EachTimes.{bound}
+
+no_more : (a b : ℕ) → is_less_bad (of_degree 1 a) (of_degree 1 b) ≡ false → b ≤ a
+no_more a b no_worse = ltb-false a b no_worse
+
+no_later : (a b : ℕ) → is_less_bad (of_degree 2 a) (of_degree 2 b) ≡ false → b ≤ a
+no_later a b no_worse = ltb-false a b no_worse
+
+known : (s t : Option ℕ) (a : ℕ) → s ≡ Some a → is_less_bad (badness_known s) (badness_known t) ≡ false → (b : ℕ) × (t ≡ Some b) × (b ≤ a)
+known s None a is no_worse = absurd (true≢false (subst (λ x. is_less_bad (badness_known x) (of_degree 3 0) ≡ false) is no_worse))
+known s (Some b) a is no_worse = (b, refl, no_more a b (subst (λ x. is_less_bad (badness_known x) (of_degree 1 b) ≡ false) is no_worse))
+
+of_both : {T : Type 0} (bad : T → Badness) (x y p q : T) → x ≡ p → y ≡ q → is_less_bad (bad x) (bad y) ≡ false → is_less_bad (bad p) (bad q) ≡ false
+of_both bad x y p q is here no_worse =
+    subst (λ z. is_less_bad (bad p) (bad z) ≡ false) here (subst (λ z. is_less_bad (bad z) (bad y) ≡ false) is no_worse)
+
+module _ (line : ProductLine) (told times : Times) (are : AreNoWorse line times told) where
+  numbers : BoundNumbers line told times
+  numbers = record {
+    never_late = λ f below a is here.
+        true≢false (of_both flow_badness (flow_at told f) (flow_at times f) (flow.Told (Some (Within a))) (flow.Told (Some Late)) is here (are.flows f below));
+    never_beyond = λ f below a b is here.
+        true≢false
+        (of_both flow_badness (flow_at told f) (flow_at times f) (flow.Told (Some (Within a))) (flow.Told (Some (Beyond b))) is here (are.flows f below));
+    delays = λ f below a b is here.
+        no_more a b
+        (of_both flow_badness (flow_at told f) (flow_at times f) (flow.Told (Some (Within a))) (flow.Told (Some (Within b))) is here (are.flows f below));
+    never_unknown = λ f below a is here.
+        true≢false (of_both flow_badness (flow_at told f) (flow_at times f) (flow.Told (Some (Beyond a))) (flow.Told (Some Late)) is here (are.flows f below));
+    late_delays = λ f below a b is here.
+        no_later a b
+        (of_both flow_badness (flow_at told f) (flow_at times f) (flow.Told (Some (Beyond a))) (flow.Told (Some (Beyond b))) is here (are.flows f below));
+    whole = λ f below w v a is is_known here.
+        known (time_told w) (time_told v) a is_known
+        (of_both flow_badness (flow_at told f) (flow_at times f) (flow.Told (Some (Whole w))) (flow.Told (Some (Whole v))) is here (are.flows f below));
+    met = λ d below a y is here.
+        true≢false (of_both need_badness (need_at told d) (need_at times d) (need.Age (Some a) y) need.Unmet is here (are.needs d below));
+    ages = λ d below a age y x is here.
+        known (Some a) age a refl
+        (of_both need_badness (need_at told d) (need_at times d) (need.Age (Some a) y) (need.Age age x) is here (are.needs d below));
+  }
+
+pub numbers_bound : ToldNumbersBoundEachVariant
+numbers_bound line told are v is =
+    let one = (bound line told are).each v is in
+    (one.0, one.1, numbers line told one.0 one.2)
