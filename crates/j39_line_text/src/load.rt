@@ -78,6 +78,7 @@ fn line_load(
 }
 
 // What is known of the bus of a line, where it has choices.
+#[tactic(auto, using(crate::proofs::LineTimings::told_timing))]
 fn line_timing(line: &ProductLine) -> Option<Timing>
     ensures { TellsLineTiming line.now result }
 {
