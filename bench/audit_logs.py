@@ -1,8 +1,8 @@
 #!/usr/bin/env python3
-"""Compares which flows `audit` tells as near or silent, at which lines and by how much, with a reference in Python: audit_logs.py [LOGS [SEED]]
+"""Compares which flows `audit` tells as near or silent, and which units as deaf, with a reference in Python: audit_logs.py [LOGS [SEED]]
 
-Each of so many random logs (200) is of a random plan of five units: frames that keep their distances or don't, claims of these units and of others, messages
-that may be of several flows, clocks that are set back, quiet seconds, lines that are bad or without a time. The reference follows pages, not the program.
+Each of so many random logs (200) is of a random plan of five units: frames that keep their distances or don't, claims of these units and of others, requests
+for claims, messages that may be of several flows, clocks that are set back, quiet seconds, lines that are bad or without a time. The reference follows pages, not the program.
 J39PLAN names the program, else ./j39plan is asked. The status is 1 where an answer differs, which is shown.
 """
 
@@ -22,6 +22,7 @@ CLAIM, REQUEST, TRANSPORT, PACKETS = 60928, 59904, 60416, 60160
 ALL, NULL, POOL = 255, 254, range(128, 248)
 BIT, SECOND = 4, 1_000_000
 FRAME_BYTES, LONGEST = 8, 1785
+CLAIMS_ASKED, LONGEST_ANSWER_MS = bytes([0x00, 0xEE, 0x00]), 250
 
 
 class Unit(NamedTuple):
@@ -139,6 +140,8 @@ def random_line(dice: random.Random, plan: Plan, at: int) -> Line:
         return Frame(time, 6, 0, 0, dice.choice([128, 130, 129]), bytes(8))
     if kind < 0.91:
         return random_claim(dice, plan, time)
+    if kind < 0.93:
+        return Frame(time, 6, REQUEST, dice.choice([ALL, ALL, 0, 3, 128, 129]), dice.choice([NULL, NULL, 0, 3, 128]), CLAIMS_ASKED)
     if kind < 0.96:
         return Frame(time, 6, *dice.choice([(PACKETS, ALL, 0), (65000, ALL, 3), (65000, ALL, 0)]), bytes(8))
     return dice.choice([("junk", "bad"), ("(1.0) can0 XYZ#00", "bad"), (f"({at // SECOND}.{at % SECOND:06d}) can0 123#00", "skipped"), ("", "empty")])
@@ -190,7 +193,7 @@ class Addresses:
 
 
 class Reference:
-    """What is told of the flows of a plan by a log, whose lines' times may differ by so many microseconds."""
+    """What is told of the flows and units of a plan by a log, whose lines' times may differ by so many microseconds."""
 
     def __init__(self, plan: Plan, is_part: bool, stamps: int) -> None:
         self.plan, self.is_part, self.stamps = plan, is_part, stamps
@@ -202,6 +205,7 @@ class Reference:
         self.earliest: dict[int, int | None] = {}
         self.latest: dict[int, tuple[int, int]] = {}  # the latest moment of the newest message of a flow, and its line
         self.shown: dict[int, tuple[int, int | None]] = {}  # the line of the last frame of a unit, and its idle mark
+        self.asked: dict[int, tuple[int, int]] = {}  # when the request for claims to a unit ended at the latest, and its line
 
     def longest(self, ms: int) -> int:
         return whole(1001 * ms * (SECOND + self.plan.drift), SECOND)
@@ -219,8 +223,8 @@ class Reference:
         is_judged = not self.is_part and is_of_one_sort and all(self.plan.units[end].claims for end in ends)
         return self.longest(flow.pause) if flow.pause and is_judged else None
 
-    def tell(self, word: str, flow: int, line: int, by: int) -> None:
-        self.told.setdefault((word, flow), []).append((line, by))
+    def tell(self, word: str, place: int, line: int, by: int) -> None:
+        self.told.setdefault((word, place), []).append((line, by))
 
     # ---- ends of pauses
 
@@ -248,6 +252,7 @@ class Reference:
         self.latest, self.shown = {}, {}
 
     def take_bad(self) -> None:
+        self.asked = {}
         self.end_all()
         self.take_skipped()
 
@@ -270,9 +275,13 @@ class Reference:
                 self.end(place)
             if len(flows) == 1:
                 self.take_message(line, frame.time, flows[0], frame.pgn != TRANSPORT)
+            if frame.pgn == REQUEST and frame.data == CLAIMS_ASKED:
+                self.ask(line, frame.time + self.stamps, frame.source, frame.to)
             if sender is not None:
                 self.shown[sender] = line, self.idle
+                self.take_sign(sender)
         if is_claim:
+            self.asked.pop(-1 if claimant is None else claimant, None)
             self.addresses.claims.append((claimant, frame.source))
             self.addresses.recent.append((claimant, frame.source))
 
@@ -286,6 +295,8 @@ class Reference:
             self.earliest = {}
         elif is_quiet:
             self.forget()
+        if time is None or is_back or is_quiet:
+            self.asked = {}
         self.greatest = time if time is None or is_back or self.greatest is None else max(self.greatest, time)
         if is_back or is_quiet:
             self.addresses.recent = []
@@ -310,6 +321,21 @@ class Reference:
             if unit in (flow.sender, flow.to):
                 self.end(place)
         self.shown.pop(unit, None)
+
+    def ask(self, line: int, latest: int, source: int, to: int) -> None:
+        """A request for claims asks each unit that surely takes it, and that may not be the one that asks."""
+        for place, unit in enumerate(self.plan.units):
+            is_sure = self.addresses.sender(to) == place and (self.addresses.last(place) == to or not unit.moves)
+            is_asked = unit.claims and not self.is_part and not self.addresses.may_be(place, source) and (to == ALL or is_sure)
+            if is_asked and place not in self.asked:
+                self.asked[place] = latest, line
+
+    def take_sign(self, sender: int) -> None:
+        """A unit that sends is deaf where the bus was idle behind the time in which it had to answer."""
+        latest, line = self.asked.get(sender, (0, 0))
+        if line and self.idle is not None and self.idle > latest + self.longest(LONGEST_ANSWER_MS):
+            self.tell("deaf", sender, line, 0)
+            del self.asked[sender]
 
     def flows_of(self, sender: int, frame: Frame) -> list[int]:
         """The flows of which a frame, or what it announces, may be a message: the nearest ones."""
@@ -359,8 +385,9 @@ class Reference:
         self.latest[place] = latest, line
 
     def lines(self) -> list[str]:
-        """What is told, by words and then by flows."""
-        found = []
+        """What is told, by words and then by units or flows."""
+        deaf = [(unit.label, told) for place, unit in enumerate(self.plan.units) if (told := self.told.get(("deaf", place)))]
+        found = [f"deaf unit {label} times {len(told)} first {told[0][0]}" for label, told in deaf]
         for word in ("near", "silent"):
             for place, flow in enumerate(self.plan.flows):
                 if told := self.told.get((word, place)):
@@ -395,12 +422,12 @@ def answered(plan: Plan, lines: list[Line], is_part: bool, stamps: int, folder: 
     answer = ran.stdout.splitlines()
     if ran.returncode > 1 or not answer or not answer[-1].startswith("deviations "):
         raise SystemExit(f"audit answers {ran.stdout}{ran.stderr}")
-    return [line for line in answer if line.startswith(("near flow ", "silent flow "))]
+    return [line for line in answer if line.startswith(("deaf unit ", "near flow ", "silent flow "))]
 
 
 def main(words: list[str]) -> int:
     count, seed = int(words[0]) if words else 200, int(words[1]) if words[1:] else 1
-    differences, told = 0, {"near": 0, "silent": 0}
+    differences, told = 0, {"deaf": 0, "near": 0, "silent": 0}
     with tempfile.TemporaryDirectory(prefix="j39plan-audits-") as folder:
         for number in range(count):
             dice = random.Random(f"{seed} {number}")
@@ -412,7 +439,7 @@ def main(words: list[str]) -> int:
             if want != have:
                 differences += 1
                 print(f"log {number} of seed {seed}: audit tells {have}, the reference {want}")
-    print(f"logs {count} near {told['near']} silent {told['silent']} differences {differences}")
+    print(f"logs {count} deaf {told['deaf']} near {told['near']} silent {told['silent']} differences {differences}")
     return int(differences > 0)
 
 

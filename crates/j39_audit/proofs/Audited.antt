@@ -1,5 +1,5 @@
 -- What is written of a log that was read is its text.
-use Rattle.std.proofs.Common.{◌≡◌, ℕ, List, Bool, true, false, cond, refl, sym, ap, subst, ◌∙◌}
+use Rattle.std.proofs.Common.{◌≡◌, ℕ, List, Bool, true, false, cond, sym, ap, subst, ◌∙◌}
 use Rattle.j39_id.specs.Lines.{lines}
 use Rattle.j39_log.specs.declared.line_counts.LineCounts.{LineCounts}
 use Rattle.j39_network.specs.declared.plan.Plan.{Plan}
@@ -8,9 +8,7 @@ use Rattle.j39_audit.specs.AuditText.{IsAudit, IsAuditedLog, Look, AuditPast, ac
 use Rattle.j39_audit.specs.Counting.{key_of}
 use Rattle.j39_audit.specs.Settings.{AreMoving, Settings}
 use Rattle.j39_audit.specs.declared.audit_log.AuditLog.{AuditLog}
-use Rattle.j39_audit.specs.declared.mark.Mark.{Mark}
 use Rattle.j39_audit.specs.inside.Auditing.{HasAuditedWhole, IsAuditReport, RecallsAudit, tallied}
-use Rattle.j39_audit.specs.inside.Recalling.{settings_of}
 
 both : {X : Type 0} {a b c d : X} (test : Bool) → a ≡ b → c ≡ d → cond test a c ≡ cond test b d
 both true same other = same

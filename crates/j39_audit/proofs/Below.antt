@@ -1,7 +1,6 @@
 -- What is so at the places below a number: at none, at one more, and at all where one is found.
-use Rattle.std.proofs.Common.{◌≡◌, ℕ, zero, suc, ◌+◌, ◌<◌, ◌≤◌, ◌||◌, ◌++◌, [], List, Bool, true, false, Option, Some, None, refl, sym, ap, ◌∙◌, subst, add-one, arith, inl, inr}
+use Rattle.std.proofs.Common.{◌≡◌, ℕ, zero, suc, ◌+◌, ◌<◌, ◌||◌, ◌++◌, [], List, Bool, true, false, Some, None, refl, ap, ◌∙◌, subst, add-one, arith, inl, inr}
 use Rattle.std.proofs.lemmas.Bool.{cases_lt}
-use Rattle.std.specs.Option.{option_or}
 use Rattle.j39_audit.specs.Below.{any_below, each_below, first_below, sum_below}
 
 -- ---- lists

@@ -1,8 +1,8 @@
 -- A text to which the lists of the places below a number were added.
-use Rattle.std.proofs.Common.{◌≡◌, ℕ, ◌+◌, ◌++◌, [], List, sym, ap, ◌∙◌, append_assoc}
+use Rattle.std.proofs.Common.{◌≡◌, ℕ, ◌+◌, ◌++◌, List, sym, ap, ◌∙◌, append_assoc}
 use Rattle.std.proofs.lemmas.List.{append-nil}
 use Rattle.j39_audit.specs.Below.{each_below, sum_below}
-use Rattle.j39_audit.proofs.Below.{each_more, each_none, sum_more, sum_none}
+use Rattle.j39_audit.proofs.Below.{each_more, each_none, sum_more}
 
 pub text_none : (text : List ℕ) (list : ℕ → List ℕ) → text ≡ text ++ each_below list 0
 text_none text list = sym (ap (λ (t : List ℕ). text ++ t) (each_none list) ∙ append-nil text)

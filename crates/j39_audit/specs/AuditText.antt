@@ -1,5 +1,5 @@
 -- The text that the audit command writes for a plan and a log.
-use Rattle.std.specs.Prelude.{◌≡◌, ℕ, ◌+◌, ◌⊎◌, ◌==◌, nat_lt, Bool, true, false, if◌then◌else◌, List, [], ◌∷◌, ◌++◌, length, codes, slice_index_or, Option, Some, None}
+use Rattle.std.specs.Prelude.{◌≡◌, ℕ, ◌+◌, ◌⊎◌, ◌==◌, nat_lt, Bool, true, false, if◌then◌else◌, List, [], ◌∷◌, ◌++◌, length, codes, slice_index_or, Option, None}
 use Rattle.std.specs.List.{slice_get}
 use Rattle.std.specs.Option.{option_map_or}
 use Rattle.j39_id.specs.FrameLine.{Spells, HasLineFault}
@@ -20,7 +20,7 @@ use Rattle.j39_text.specs.Labels.{group_label, unit_label}
 use Rattle.j39_text.specs.Texts.{field, place_field}
 use Rattle.j39_tp.specs.declared.packet.Packet.{Packet}
 use Rattle.j39_stream.specs.declared.verdict.Verdict.{Verdict}
-use Rattle.j39_stream.specs.declared.verdict.Verdict.TheVariants.{Done, Findings, Refused, Unreadable}
+use Rattle.j39_stream.specs.declared.verdict.Verdict.TheVariants.{Done, Findings}
 use Rattle.j39_audit.specs.Asking.{Asking, all_forgotten, asking_behind, nobody_asked as no_asking}
 use Rattle.j39_audit.specs.Below.{each_below, sum_below}
 use Rattle.j39_audit.specs.Breaks.{breaks, line_time, newest_behind}

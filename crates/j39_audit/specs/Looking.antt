@@ -1,5 +1,5 @@
 -- What is noted at a frame.
-use Rattle.std.specs.Prelude.{◌≡◌, ℕ, nat_le, nat_lt, ◌==◌, ◌||◌, ◌&&◌, not, Bool, true, false, if◌then◌else◌, List, [], ◌∷◌, ◌++◌, length, Option, Some, None, is_some}
+use Rattle.std.specs.Prelude.{ℕ, nat_le, nat_lt, ◌==◌, ◌||◌, ◌&&◌, not, Bool, true, false, if◌then◌else◌, List, [], ◌∷◌, ◌++◌, length, Option, Some, None, is_some}
 use Rattle.std.specs.List.{slice_get}
 use Rattle.std.specs.Option.{option_map_or}
 use Rattle.j39_id.specs.Addresses.{is_address, null_address}
@@ -14,8 +14,7 @@ use Rattle.j39_follow.specs.Who.{unit_of_name}
 use Rattle.j39_log.specs.LogFrames.{IsPacket}
 use Rattle.j39_tp.specs.declared.packet.Packet.{Packet}
 use Rattle.j39_tp.specs.declared.packet.Packet.TheVariants.{Rts, Bam}
-use Rattle.j39_audit.specs.Breaks.{breaks}
-use Rattle.j39_audit.specs.Claiming.{HeardClaims, Heard, Knowledge, broken_off, has_strangers, is_address_of, knowledge, sender_at, with_claim}
+use Rattle.j39_audit.specs.Claiming.{HeardClaims, Heard, Knowledge, has_strangers, is_address_of, knowledge, sender_at, with_claim}
 use Rattle.j39_audit.specs.Counting.{Noted}
 use Rattle.j39_audit.specs.SentMessages.{SentMessage, deviation, first_group, flows_noted, noted_at, requests_noted}
 use Rattle.j39_audit.specs.Settings.{Settings}

@@ -1,15 +1,16 @@
 -- A unit that is asked for claims is told as deaf exactly where it doesn't claim.
-use Rattle.std.proofs.Common.{◌≡◌, ◌↔◌, ℕ, zero, suc, ◌+◌, ◌*◌, ◌<◌, ◌≤◌, ◌⊎◌, ◌||◌, ◌&&◌, ◌++◌, ◌==◌, ◌∷◌, [], Bool, true, false, cond, List, Option, Some, None, refl, sym, ap, subst, ◌∙◌, arith, inl, inr}
+use Rattle.std.proofs.Common.{◌≡◌, ℕ, zero, suc, ◌+◌, ◌*◌, ◌<◌, ◌≤◌, ◌⊎◌, Bool, true, false, cond, Option, Some, None, refl, sym, ap, subst, ◌∙◌, arith, inl, inr}
+use Rattle.std.specs.Prelude.{nat_lt}
 use Rattle.std.specs.Option.{option_or}
-use Rattle.std.proofs.lemmas.Bool.{cases_Bool, cases_eq, cases_lt, true≢false}
-use Rattle.j39_id.specs.declared.frame.Frame.{Frame}
+use Rattle.std.proofs.lemmas.Bool.{cases_Bool, cases_eq, cases_lt, ltb-true, true≢false}
 use Rattle.j39_network.specs.declared.plan.timing.Timing.{Timing}
 use Rattle.j39_timing.specs.Errors.{Damaged, IsBusWithErrors}
 use Rattle.j39_timing.specs.Messages.{frame_end}
 use Rattle.j39_timing.specs.TimedFrames.{Schedule}
-use Rattle.j39_audit.specs.Asking.{is_overdue}
+use Rattle.j39_audit.specs.Asking.{is_overdue, longest_answer_ms}
+use Rattle.j39_audit.specs.MessageStreams.{longest_us}
 use Rattle.j39_audit.specs.declared.asking.ClaimRequest.{ClaimRequest}
-use Rattle.j39_audit_laws.specs.Answering.{AnswersInTime, EndsBetween, IsAnswerWithin, IsDeafAt, IsStillAsked, UnitLines, is_late, is_told_deaf, request_at, request_before, request_kept, request_next}
+use Rattle.j39_audit_laws.specs.Answering.{AnswersInTime, AnswersRequests, AreLinesOfUnit, EndsBetween, IsAnswerWithin, IsDeafAt, IsStillAsked, UnitLines, is_late, is_told_deaf, request_at, request_before, request_kept, request_next}
 use Rattle.j39_audit_laws.specs.LogBounds.{IsMarkedBound, IsTimedBound, Lines}
 use Rattle.j39_audit_laws.specs.MarkRecords.{AreFew, KeepsTime}
 use Rattle.j39_audit_laws.proofs.OnBus.{at_most}
@@ -17,7 +18,7 @@ use Rattle.j39_audit_laws.proofs.OnLogs.{marked}
 
 -- ---- one line
 
-is_there : Option ClaimRequest → Bool
+abbrev is_there : Option ClaimRequest → Bool
 is_there None = false
 is_there (Some r) = true
 
@@ -147,7 +148,7 @@ module _ (t : Timing) (l : UnitLines) where
   pub is_deaf : (n : ℕ) → IsDeafAt t l n → is_told_deaf t l n ≡ true
   is_deaf n is = late_some t (request_at t l n) (l.signs n) is.request is.idle (asked_still n is.request is.unanswered) is.sign is.overdue
 
-  pub not_deaf : (n : ℕ) → AnswersInTime t l n → is_told_deaf t l n ≡ false
+  not_deaf : (n : ℕ) → AnswersInTime t l n → is_told_deaf t l n ≡ false
   not_deaf n answers = elim (cases_Bool (is_told_deaf t l n)) [
     | inr not ↦ not
     | inl told ↦
@@ -159,22 +160,51 @@ module _ (t : Timing) (l : UnitLines) where
 
 -- ---- on a bus
 
-pub answered_between : (s : Schedule) (d : Damaged) (log : Lines) (ms g p of moment idle : ℕ) → log.us ≤ 8 → KeepsTime log.us log.clock
-    → IsBusWithErrors s d → ((q : ℕ) → q < s.count → s.bits q ≤ 160) → AreFew d log.few → IsTimedBound s log g moment
-    → IsAnswerWithin s log.us ms g p → IsMarkedBound s log 0 of idle → moment + 1001 * ms < idle → EndsBetween s g p of
-answered_between s d log ms g p of moment idle fast keeps bus short seldom timed answer mark late =
-    let bits = bus.positive p answer.known in
-    let queued = bus.queued_first p answer.known in
-    let behind = answer.behind in (
-      omega (arith, bits, queued, behind),
-      elim (cases_lt (frame_end s p) (frame_end s of)) [
-        | inl less ↦ less
-        | inr later ↦
-            let bound = marked s d log fast keeps bus short seldom 0 0 (λ k. true) s.queued (λ k. 0) (λ k. record { lower = None; upper = 0 })
-            (λ q in_q is. omega arith) (λ q in_q is. omega arith) of idle mark p answer.known refl (omega (arith, later)) in
-            let since = at_most log.us log.clock keeps (frame_end s g) (s.queued p) (1000 * ms) behind answer.within in
-            let at = timed.at.1 in
-            let is = timed.is in
-            absurd (omega (arith, bound, since, at, is, late))
-      ],
-    )
+-- the clock of the plan may differ more, so that more time is left
+overdue_by : (t : Timing) (moment idle : ℕ) → nat_lt (moment + longest_us t longest_answer_ms) idle ≡ true → moment + 1001 * longest_answer_ms < idle
+overdue_by t moment idle is =
+    let long : 1001 * longest_answer_ms ≤ longest_us t longest_answer_ms = omega arith in
+    let late = ltb-true (moment + longest_us t longest_answer_ms) idle is in
+    omega (arith, long, late)
+
+module _ (s : Schedule) (d : Damaged) (log : Lines) (fast : log.us ≤ 8) (keeps : KeepsTime log.us log.clock) (bus : IsBusWithErrors s d)
+    (short : (q : ℕ) → q < s.count → s.bits q ≤ 160) (seldom : AreFew d log.few) where
+  -- an answer ends before each frame from a mark on that is later than it had to be queued
+  between : (ms g p of moment idle : ℕ) → IsTimedBound s log g moment → IsAnswerWithin s log.us ms g p → IsMarkedBound s log 0 of idle
+      → moment + 1001 * ms < idle → EndsBetween s g p of
+  between ms g p of moment idle timed answer mark late =
+      let bits = bus.positive p answer.known in
+      let queued = bus.queued_first p answer.known in
+      let behind = answer.behind in (
+        omega (arith, bits, queued, behind),
+        elim (cases_lt (frame_end s p) (frame_end s of)) [
+          | inl less ↦ less
+          | inr later ↦
+              let bound = marked s d log fast keeps bus short seldom 0 0 (λ k. true) s.queued (λ k. 0) (λ k. record { lower = None; upper = 0 })
+              (λ q in_q is. omega arith) (λ q in_q is. omega arith) of idle mark p answer.known refl (omega (arith, later)) in
+              let since = at_most log.us log.clock keeps (frame_end s g) (s.queued p) (1000 * ms) behind answer.within in
+              let at = timed.at.1 in
+              let is = timed.is in
+              absurd (omega (arith, bound, since, at, is, late))
+        ],
+      )
+
+  module _ (t : Timing) (l : UnitLines) (n : ℕ) (is_claim : ℕ → Bool) (frame : ℕ → ℕ) (lines : AreLinesOfUnit s log l n is_claim frame)
+      (answers : AnswersRequests s log.us longest_answer_ms l n is_claim frame) where
+    answered : (k : ℕ) (r : ClaimRequest) (idle : Option ℕ) → k ≤ n → l.asks k ≡ Some r → l.signs n ≡ Some idle → is_overdue t r idle ≡ true
+        → (m : ℕ) × (k < m) × (m ≤ n) × (l.forgets m ≡ true)
+    answered k r None less asks sign overdue = absurd (true≢false (sym overdue))
+    answered k r (Some idle) less asks sign overdue =
+        let (p, known, claims, when) = answers k r less asks in
+        elim when [
+          | inl within ↦ lines.claim p k known claims less
+              (between longest_answer_ms (frame k) p (frame n) r.moment idle (lines.request k r less asks) within (lines.mark idle sign)
+              (overdue_by t r.moment idle overdue))
+          | inr before ↦ lines.claim p k known claims less before
+        ]
+
+pub who_answers : (s : Schedule) (d : Damaged) (log : Lines) (t : Timing) (l : UnitLines) (n : ℕ) (is_claim : ℕ → Bool) (frame : ℕ → ℕ)
+    → log.us ≤ 8 → KeepsTime log.us log.clock → IsBusWithErrors s d → ((q : ℕ) → q < s.count → s.bits q ≤ 160) → AreFew d log.few
+    → AreLinesOfUnit s log l n is_claim frame → AnswersRequests s log.us longest_answer_ms l n is_claim frame → is_told_deaf t l n ≡ false
+who_answers s d log t l n is_claim frame fast keeps bus short seldom lines answers =
+    not_deaf t l n (answered s d log fast keeps bus short seldom t l n is_claim frame lines answers)

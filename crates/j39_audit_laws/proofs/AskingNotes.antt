@@ -1,5 +1,5 @@
 -- What is kept of who is asked for claims, and noted, at a frame.
-use Rattle.std.proofs.Common.{◌≡◌, ◌≢◌, ◌==◌, ◌||◌, ◌&&◌, ◌++◌, ℕ, Bool, true, false, cond, List, Option, Some, None, refl, sym, ap, ◌∙◌, inl, inr, eq-eqb}
+use Rattle.std.proofs.Common.{◌≡◌, ◌≢◌, ◌||◌, ◌&&◌, ◌++◌, ℕ, Bool, true, false, cond, List, Option, Some, None, refl, sym, ap, ◌∙◌, inl, inr, eq-eqb}
 use Rattle.std.specs.Option.{option_or}
 use Rattle.std.proofs.lemmas.Bool.{cases_Bool, cases_eq, ne_eqb}
 use Rattle.std.proofs.lemmas.List.{append-nil}
@@ -11,7 +11,7 @@ use Rattle.j39_audit.specs.Counting.{Noted}
 use Rattle.j39_audit.specs.Looking.{claimant, is_claim}
 use Rattle.j39_audit.specs.Settings.{Settings}
 use Rattle.j39_audit.specs.declared.asking.ClaimRequest.{ClaimRequest}
-use Rattle.j39_audit_laws.specs.Answering.{KeepsRequests, NotesTheDeaf, asks_at, deaf_there, forgets_at, is_late, request_kept, request_next, sign_at}
+use Rattle.j39_audit_laws.specs.Answering.{KeepsRequests, NotesTheDeaf, asks_at, deaf_of, deaf_there, forgets_at, is_late, request_kept, request_next, sign_at}
 
 -- ---- where a request says no more
 
@@ -124,13 +124,18 @@ noted_at_request : (s : Settings) (k : Knowledge) (f : Frame) (time : Option ℕ
 noted_at_request s k f None line a = refl
 noted_at_request s k f (Some time) line a = refl
 
+noted_by : (t : Timing) (unit idle : Option ℕ) (a : Asking) → (with_sign_of (Some t) unit idle a).deaf ≡ a.deaf ++ deaf_of t unit idle a.asked
+noted_by t None idle a = sym (append-nil a.deaf)
+noted_by t (Some u) idle a = noted_here t idle a u (a.asked u)
+
 pub notes_the_deaf : NotesTheDeaf
 unfolding asking_behind
-notes_the_deaf s t k broken anew time f line idle a u timing =
+notes_the_deaf s t k broken anew time f line unit idle a timing =
     let b = asked_behind s k broken anew time f line a in
-    let next = request_next (forgets_at s broken anew f u) (asks_at s k time f line u) (a.asked u) in
-    ap (λ (o : Option Timing). (with_sign_of o (Some u) idle b).deaf) timing ∙ noted_here t idle b u (b.asked u)
-    ∙ ap (λ (o : Option ClaimRequest). b.deaf ++ deaf_there u (is_late t o (Some idle)) o) (behind s k broken anew time f line a u)
-    ∙ ap (λ (l : List Noted). l ++ deaf_there u (is_late t next (Some idle)) next)
+    let next : ℕ → Option ClaimRequest = λ u. request_next (forgets_at s broken anew f u) (asks_at s k time f line u) (a.asked u) in
+    let table : b.asked ≡ next = λ i u. behind s k broken anew time f line a u i in
+    ap (λ (o : Option Timing). (with_sign_of o unit idle b).deaf) timing ∙ noted_by t unit idle b
+    ∙ ap (λ (asked : ℕ → Option ClaimRequest). b.deaf ++ deaf_of t unit idle asked) table
+    ∙ ap (λ (l : List Noted). l ++ deaf_of t unit idle next)
     (noted_at_request s k f time line (answered_at s f (asked_before anew broken a)) ∙ noted_answered (is_claim f) (claimant s f).unit (asked_before anew broken a)
     ∙ noted_before anew broken a)

@@ -12,6 +12,7 @@ use Rattle.j39_audit.specs.SentMessages.{noted_at}
 use Rattle.j39_audit.specs.Settings.{Settings, logger_error}
 use Rattle.j39_audit.specs.declared.asking.ClaimRequest.{ClaimRequest}
 use Rattle.j39_audit.specs.declared.mark.Word.TheVariants.{Deaf}
+use Rattle.j39_audit_laws.specs.LogBounds.{IsMarkedBound, IsTimedBound, Lines}
 use Rattle.j39_timing.specs.Messages.{frame_end}
 use Rattle.j39_timing.specs.TimedFrames.{Schedule}
 
@@ -54,16 +55,19 @@ KeepsRequests = (s : Settings) (t : Timing) (k : Knowledge) (broken anew : Bool)
     (a : Asking) (u : ℕ) → s.plan.timing ≡ Some t → (asking_behind s k broken anew time f line unit idle a).asked u
     ≡ request_kept t (request_next (forgets_at s broken anew f u) (asks_at s k time f line u) (a.asked u)) (sign_at unit idle u)
 
--- and of the unit for which it counts it is noted, at the line of the request, where this is late
+-- and of the unit for which it counts, if it does, it is noted, at the line of the request, where this is late; and nothing else is
 abbrev pub deaf_there : ℕ → Bool → Option ClaimRequest → List Noted
 deaf_there u true (Some r) = noted_at r.line Deaf u 0 ∷ []
 deaf_there u _ _ = []
 
+abbrev pub deaf_of : Timing → Option ℕ → Option ℕ → (ℕ → Option ClaimRequest) → List Noted
+deaf_of t None idle request = []
+deaf_of t (Some u) idle request = deaf_there u (is_late t (request u) (Some idle)) (request u)
+
 abbrev pub NotesTheDeaf : Type 0
-NotesTheDeaf = (s : Settings) (t : Timing) (k : Knowledge) (broken anew : Bool) (time : Option ℕ) (f : Frame) (line : ℕ) (idle : Option ℕ)
-    (a : Asking) (u : ℕ) → s.plan.timing ≡ Some t → (asking_behind s k broken anew time f line (Some u) idle a).deaf
-    ≡ a.deaf ++ deaf_there u (is_late t (request_next (forgets_at s broken anew f u) (asks_at s k time f line u) (a.asked u)) (Some idle))
-    (request_next (forgets_at s broken anew f u) (asks_at s k time f line u) (a.asked u))
+NotesTheDeaf = (s : Settings) (t : Timing) (k : Knowledge) (broken anew : Bool) (time : Option ℕ) (f : Frame) (line : ℕ) (unit idle : Option ℕ)
+    (a : Asking) → s.plan.timing ≡ Some t → (asking_behind s k broken anew time f line unit idle a).deaf
+    ≡ a.deaf ++ deaf_of t unit idle (λ u. request_next (forgets_at s broken anew f u) (asks_at s k time f line u) (a.asked u))
 
 -- ---- lines behind one another
 
@@ -108,6 +112,21 @@ pub record IsAnswerWithin (s : Schedule) (us ms g p : ℕ) : Type 0 where
   pub behind : frame_end s g ≤ s.queued p
   pub within : s.queued p * us ≤ frame_end s g * us + 1000 * ms
 
--- and ends behind it, and before a frame
+-- it ends behind a frame g, and before another one
 abbrev pub EndsBetween : Schedule → ℕ → ℕ → ℕ → Type 0
 EndsBetween s g p of = (frame_end s g < frame_end s p) × (frame_end s p < frame_end s of)
+
+-- the first lines up to n of a log tell of a unit what its bus carried: line k that of frame k of these
+pub record AreLinesOfUnit (s : Schedule) (log : Lines) (l : UnitLines) (n : ℕ) (is_claim : ℕ → Bool) (frame : ℕ → ℕ) : Type 0 where
+  -- by when a request ended is told by its line
+  pub request : (k : ℕ) (r : ClaimRequest) → k ≤ n → l.asks k ≡ Some r → IsTimedBound s log (frame k) r.moment
+  -- that the bus was idle by two lines that show it, no later than line n
+  pub mark : (idle : ℕ) → l.signs n ≡ Some (Some idle) → IsMarkedBound s log 0 (frame n) idle
+  -- a claim of the unit that ends between a line and line n has a line between, or one is bad there
+  pub claim : (p k : ℕ) → p < s.count → is_claim p ≡ true → k ≤ n → EndsBetween s (frame k) p (frame n)
+      → (m : ℕ) × (k < m) × (m ≤ n) × (l.forgets m ≡ true)
+
+-- behind each request up to line n it claims: within so many milliseconds, or, where it was off, before its frame of line n
+abbrev pub AnswersRequests : Schedule → ℕ → ℕ → UnitLines → ℕ → (ℕ → Bool) → (ℕ → ℕ) → Type 0
+AnswersRequests s us ms l n is_claim frame = (k : ℕ) (r : ClaimRequest) → k ≤ n → l.asks k ≡ Some r
+    → (p : ℕ) × (p < s.count) × (is_claim p ≡ true) × (IsAnswerWithin s us ms (frame k) p ⊎ EndsBetween s (frame k) p (frame n))

@@ -2,16 +2,17 @@
 ghost use Rattle.std.specs.Prelude.{◌≡◌, ◌↔◌, ◌+◌, ◌-◌, ◌*◌, ◌<◌, ◌≤◌, ℕ, Bool, true, false, List, Option, Some};
 ghost use Rattle.j39_audit.specs.Near.{IsTooNear, is_too_near};
 ghost use Rattle.j39_audit.specs.Silence.{IsTooFar, is_silent};
+ghost use Rattle.j39_audit.specs.Asking.{longest_answer_ms};
 ghost use Rattle.j39_audit.specs.Settings.{AreMoving, Settings};
 ghost use Rattle.j39_audit.specs.declared.window.Window.{Window as AWindow};
 ghost use Rattle.j39_audit.specs.declared.mark.Word.TheVariants.{Address, Cannot, Layout, NoFlow, Priority, Urgent};
 ghost use Rattle.j39_audit.specs.declared.mark.Word.TheVariants.{Nobody, Short, Stranger};
-ghost use Rattle.j39_audit_laws.specs.Answering.{AnswersInTime, EndsBetween, IsAnswerWithin, IsDeafAt, KeepsRequests, NotesTheDeaf, UnitLines};
+ghost use Rattle.j39_audit_laws.specs.Answering.{AnswersRequests, AreLinesOfUnit, IsDeafAt, KeepsRequests, NotesTheDeaf, UnitLines};
 ghost use Rattle.j39_audit_laws.specs.Answering.{is_told_deaf};
 ghost use Rattle.j39_audit_laws.specs.AuditedRuns.{ArePartsKept, IsNotWrittenOf};
 ghost use Rattle.j39_audit_laws.specs.ExactClocks.{ExactClocks};
 ghost use Rattle.j39_audit_laws.specs.FoundLines.{FoundAreListed, LinesAreOfLog};
-ghost use Rattle.j39_audit_laws.specs.LogBounds.{AreOfLog, IsMarkedBound, IsTimedBound, Lines};
+ghost use Rattle.j39_audit_laws.specs.LogBounds.{AreOfLog, IsMarkedBound, Lines};
 ghost use Rattle.j39_audit_laws.specs.OneAudit.{AuditHasOneText};
 ghost use Rattle.j39_audit_laws.specs.OwnPart.{AlwaysCan, AreItsOwn, ClaimsItsOwn, IsNotNamed, LooksAsPlanned, SentBy};
 ghost use Rattle.j39_audit_laws.specs.OwnPart.{WaitsForPlanned};
@@ -190,7 +191,8 @@ pub fn no_stream_is_told_wrongly()
 {}
 
 /// Of each unit the request for claims behind a frame that is kept is told by the one before it (`kept`), and where a frame
-/// counts for a unit whose request is overdue by then, that is noted at the line of the request (`noted`).
+/// counts for a unit whose request is overdue by then, that is noted at the line of the request, and nothing else is
+/// (`noted`).
 pub fn the_deaf_are_noted()
     ensures kept { KeepsRequests }
     ensures noted { NotesTheDeaf }
@@ -202,12 +204,13 @@ pub fn deaf_is_exact()
     ensures { (t : Timings) (l : UnitLines) (n : ℕ) → (is_told_deaf t l n ≡ true) ↔ IsDeafAt t l n }
 {}
 
-/// Who claims within 250 ms when it is asked is never told as deaf, whatever others do: its claim ended behind the request
-/// and before each frame by which the request is overdue (`between`), by exact clocks of the unit and the bus, and one of
-/// the logger that may differ by a thousandth; and where such a claim is behind each request, it isn't told (`told`).
+/// Who claims within 250 ms when it is asked, or, where it was off, before it sends again, is never told as deaf, whatever
+/// others do and however long its claims wait for them: on each such bus, by exact clocks of the unit and the bus, and one
+/// of the logger that may differ by a thousandth.
 pub fn who_answers_is_not_deaf()
-    ensures between { (s : Schedule) (d : Damaged) (log : Lines) (ms g p of moment idle : ℕ) → log.us ≤ 8 → KeepsTime log.us log.clock
-        → IsBusWithErrors s d → ((q : ℕ) → q < s.count → s.bits q ≤ 160) → AreFew d log.few → IsTimedBound s log g moment
-        → IsAnswerWithin s log.us ms g p → IsMarkedBound s log 0 of idle → moment + 1001 * ms < idle → EndsBetween s g p of }
-    ensures told { (t : Timings) (l : UnitLines) (n : ℕ) → AnswersInTime t l n → is_told_deaf t l n ≡ false }
+    ensures { (s : Schedule) (d : Damaged) (log : Lines) (t : Timings) (l : UnitLines) (n : ℕ) (is_claim : ℕ → Bool) (frame : ℕ → ℕ)
+        → log.us ≤ 8 → KeepsTime log.us log.clock
+        → IsBusWithErrors s d → ((p : ℕ) → p < s.count → s.bits p ≤ 160) → AreFew d log.few
+        → AreLinesOfUnit s log l n is_claim frame → AnswersRequests s log.us longest_answer_ms l n is_claim frame
+        → is_told_deaf t l n ≡ false }
 {}

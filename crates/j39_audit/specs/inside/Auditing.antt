@@ -1,7 +1,5 @@
 -- What an audit keeps of the lines that were read.
-use Rattle.std.specs.Prelude.{◌≡◌, ◌≤◌, ℕ, if◌then◌else◌, List, length, Option, Some, None}
-use Rattle.std.specs.declared.alloc.Global.{Global}
-use Rattle.std.specs.declared.vec.Vec.{Vec}
+use Rattle.std.specs.Prelude.{◌≡◌, ◌≤◌, ℕ, if◌then◌else◌, List, length, Option}
 use Rattle.std.specs.Io.KnownBytes.{Consumes, IsAtEnd}
 use Rattle.j39_id.specs.Lines.{Line, lines}
 use Rattle.j39_id.specs.declared.frame.Frame.{Frame}

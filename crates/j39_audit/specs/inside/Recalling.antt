@@ -1,11 +1,11 @@
 -- What an audit keeps of what came so far.
-use Rattle.std.specs.Prelude.{◌≡◌, ℕ, ◌++◌, ◌*◌, ◌^◌, ◌≤◌, ◌<◌, ◌==◌, ◌&&◌, Bool, false, IfSome, List, length, slice_index_or, unwrap_or, nat_eq, Option, Some, None}
+use Rattle.std.specs.Prelude.{◌≡◌, ℕ, ◌++◌, ◌^◌, ◌<◌, Bool, false, IfSome, List, length, slice_index_or, unwrap_or, Option, None}
 use Rattle.std.specs.HashMap.{get}
 use Rattle.std.specs.Option.{option_copied}
 use Rattle.j39_network.specs.declared.plan.Plan.{Plan}
 use Rattle.j39_audit.specs.Asking.{Asking}
 use Rattle.j39_audit.specs.Claiming.{HeardClaims, Knowledge, knowledge}
-use Rattle.j39_audit.specs.Counting.{Key, Noted, is_same_key, key_of, never, told_at}
+use Rattle.j39_audit.specs.Counting.{Key, Noted, is_same_key, never, told_at}
 use Rattle.j39_audit.specs.Moments.{Moments}
 use Rattle.j39_audit.specs.SentMessages.{SentMessage}
 use Rattle.j39_audit.specs.Settings.{Settings}
@@ -15,7 +15,6 @@ use Rattle.j39_audit.specs.declared.asking.ClaimRequest.{ClaimRequest}
 use Rattle.j39_audit.specs.declared.basis.Basis.{Basis}
 use Rattle.j39_audit.specs.declared.earliest.Earliest.{Earliest}
 use Rattle.j39_audit.specs.declared.known.Known.{Known}
-use Rattle.j39_audit.specs.declared.mark.Mark.{Mark}
 use Rattle.j39_audit.specs.declared.messages.UnitMessage.{UnitMessage}
 use Rattle.j39_audit.specs.declared.moments.Moments.{Moments as KeptMoments}
 use Rattle.j39_audit.specs.Pauses.{unclear_behind}

@@ -8,7 +8,9 @@ pub returns-in_err-log : goal.returns-in_err-log
 returns-in_err-log g c = not_read _ (search rules) (search rules) (search rules)
 
 pub returns-in_err-read_log : goal.returns-in_err-read_log
-returns-in_err-read_log g c = not_read _ (search rules) (search rules) (search rules)
+returns-in_err-read_log g c =
+    not_read _ (search rules) (search (rules, c.read_log.ensures.long, c.in_err-read_log.was, c.from_residual-in_err-read_log.ensures.1))
+    (search (rules, c.read_log.ensures.device, c.in_err-read_log.was, c.from_residual-in_err-read_log.ensures.1))
 
 pub returns : goal.returns
 returns g c =

@@ -1,9 +1,9 @@
-use Rattle.std.proofs.Common.{◌≡◌, ◌&&◌, ◌||◌, ◌∷◌, not, [], List, length, refl, sym, ap, subst, ◌∙◌}
+use Rattle.std.proofs.Common.{◌&&◌, ◌||◌, ◌∷◌, not, [], List, length, refl, sym, ap, subst, ◌∙◌}
 use Rattle.std.specs.Prelude.{OnOk}
 use Rattle.std.proofs.lemmas.Option.{slice_get_read}
 use Rattle.j39_network.specs.declared.plan.request_plan.RequestPlan.{RequestPlan}
 use Rattle.j39_audit.specs.Counting.{Noted}
-use Rattle.j39_audit.specs.SentMessages.{asks_by_plan, is_near, marked}
+use Rattle.j39_audit.specs.SentMessages.{asks_by_plan, is_near}
 use Rattle.j39_audit.specs.declared.mark.Mark.{Mark}
 use Rattle.j39_audit.specs.declared.mark.Word.TheVariants.{Asked}
 use Rattle.j39_audit.specs.inside.Recalling.{Notes, known_by, sent_as, settings_of}

@@ -1,4 +1,4 @@
-use Rattle.std.proofs.Common.{◌≡◌, ◌==◌, ◌&&◌, ◌||◌, not, ℕ, Bool, true, false, [], List, cond, eq-eqb, if◌then◌else◌, refl, sym, ap, subst, ◌∙◌}
+use Rattle.std.proofs.Common.{◌&&◌, ◌||◌, not, Bool, [], List, cond, eq-eqb, sym, ap, subst, ◌∙◌}
 use Rattle.std.specs.Prelude.{OnOk, count_by}
 use Rattle.std.proofs.lemmas.Bool.{ne_eqb}
 use Rattle.j39_network.specs.declared.plan.request_plan.RequestPlan.{RequestPlan}

@@ -1,4 +1,4 @@
-use Rattle.std.proofs.Common.{◌≡◌, ◌∷◌, [], List, Bool, ap, subst, ◌∙◌}
+use Rattle.std.proofs.Common.{◌∷◌, [], Bool, ap, subst, ◌∙◌}
 use Rattle.j39_audit.specs.Looking.{counted, noted_if}
 use Rattle.j39_audit.specs.SentMessages.{noted_at}
 use Rattle.j39_audit.specs.declared.mark.Mark.{Mark}

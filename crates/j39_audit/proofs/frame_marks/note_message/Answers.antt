@@ -1,4 +1,4 @@
-use Rattle.std.proofs.Common.{Option, ap, subst}
+use Rattle.std.proofs.Common.{Option, subst}
 use Rattle.j39_audit.specs.Looking.{mark_noted}
 use Rattle.j39_audit.specs.declared.mark.Mark.{Mark}
 use Rattle.j39_audit.specs.inside.Recalling.{Notes}

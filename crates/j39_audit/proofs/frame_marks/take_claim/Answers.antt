@@ -1,9 +1,8 @@
-use Rattle.std.proofs.Common.{◌≡◌, ◌∙◌, ℕ, List, Option, true, sym, ap, subst}
+use Rattle.std.proofs.Common.{◌≡◌, ◌∙◌, ℕ, Option, ap, subst}
 use Rattle.std.proofs.lemmas.Result.{IfOk-weaker}
 use Rattle.j39_follow.specs.Who.{unit_of_name}
-use Rattle.j39_audit.specs.Claiming.{HeardClaims, with_claim}
-use Rattle.j39_audit.specs.Counting.{Noted}
-use Rattle.j39_audit.specs.Looking.{claim_noted, claims_behind, frame_noted}
+use Rattle.j39_audit.specs.Claiming.{with_claim}
+use Rattle.j39_audit.specs.Looking.{claim_noted}
 use Rattle.j39_audit.specs.inside.Recalling.{KnowsClaims, Notes, settings_of}
 use Rattle.j39_audit.proofs.frame_marks.take_claim.Goals as goal
 

@@ -1,4 +1,4 @@
-use Rattle.std.proofs.Common.{◌≡◌, ◌<◌, true, false, length, sym, ap, ◌∙◌, arith, None}
+use Rattle.std.proofs.Common.{◌≡◌, length, sym, ap, ◌∙◌, arith}
 use Rattle.j39_audit.specs.Below.{first_below}
 use Rattle.j39_audit.specs.SentMessages.{first_group, is_group}
 use Rattle.j39_audit.specs.inside.Recalling.{sent_as, settings_of}

@@ -5,7 +5,6 @@ use Rattle.std.specs.Option.{option_copied}
 use Rattle.std.proofs.lemmas.List.{append-nil, length-append, length-drop, length-take-le, take-append-drop, take_rest}
 use Rattle.j39_id.specs.Lines.{Line, Pending, behind_all, tells, told}
 use Rattle.j39_id.proofs.CutLines.{behind_all-append, told-append}
-use Rattle.j39_audit.specs.Settings.{Settings}
 use Rattle.j39_audit.specs.inside.Auditing.{HasAudited, IsWithinLines}
 use Rattle.j39_audit.proofs.reading.read_piece.Goals as goal
 

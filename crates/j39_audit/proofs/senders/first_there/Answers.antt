@@ -1,4 +1,4 @@
-use Rattle.std.proofs.Common.{◌≡◌, ◌<◌, length, sym, ap, ◌∙◌, arith}
+use Rattle.std.proofs.Common.{◌≡◌, length, sym, ap, ◌∙◌, arith}
 use Rattle.j39_audit.specs.Below.{first_below}
 use Rattle.j39_audit.specs.Claiming.{first_there, may_be}
 use Rattle.j39_audit.specs.inside.Recalling.{known_by, settings_of}

@@ -1,8 +1,8 @@
-use Rattle.std.proofs.Common.{◌≡◌, ◌<◌, ℕ, Bool, Option, Some, None, eqb, length, refl, sym, ap, ◌∙◌, arith}
+use Rattle.std.proofs.Common.{◌≡◌, ℕ, Option, Some, None, eqb, length, refl, sym, ap, ◌∙◌, arith}
 use Rattle.std.specs.Option.{option_eq}
 use Rattle.j39_audit.specs.Below.{any_below}
 use Rattle.j39_audit.specs.Claiming.{is_at, is_claimed_last}
-use Rattle.j39_audit.specs.inside.Recalling.{known_by, last_in}
+use Rattle.j39_audit.specs.inside.Recalling.{known_by}
 use Rattle.j39_audit.proofs.Below.{any_here, any_more, any_none}
 use Rattle.j39_audit.proofs.senders.is_claimed.Goals as goal
 

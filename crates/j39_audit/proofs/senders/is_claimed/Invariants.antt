@@ -1,7 +1,7 @@
 use Rattle.std.proofs.Common.{◌≡◌, false}
 use Rattle.j39_audit.specs.Below.{any_below}
 use Rattle.j39_audit.specs.Claiming.{is_at}
-use Rattle.j39_audit.specs.inside.Recalling.{known_by, settings_of}
+use Rattle.j39_audit.specs.inside.Recalling.{known_by}
 use Rattle.j39_audit.proofs.senders.is_claimed.Given as goal
 
 abbrev pub invariant-loop-unit : goal.invariant-loop-unit

@@ -1,8 +1,7 @@
-use Rattle.std.proofs.Common.{◌≡◌, ◌≤◌, ◌*◌, ◌++◌}
+use Rattle.std.proofs.Common.{◌≡◌, ◌≤◌, ◌++◌}
 use Rattle.j39_audit.specs.AuditText.{line_of_mark, lines_told, mark_at}
 use Rattle.j39_audit.specs.Below.{each_below, sum_below}
 use Rattle.j39_audit.specs.inside.Auditing.{tallied}
-use Rattle.j39_audit.specs.inside.Recalling.{settings_of}
 use Rattle.j39_audit.proofs.summary.write_subject_lines.Given as goal
 
 abbrev pub invariant-loop-group : goal.invariant-loop-group

@@ -1,4 +1,4 @@
-use Rattle.std.proofs.Common.{◌≡◌, ◌≤◌, ◌++◌, ℕ, refl, sym, ap, ◌∙◌, arith}
+use Rattle.std.proofs.Common.{◌≡◌, ◌++◌, ℕ, sym, ap, ◌∙◌, arith}
 use Rattle.j39_audit.specs.AuditText.{subjects, subject_count, subject_lines, word_count, word_lines}
 use Rattle.j39_audit.specs.Below.{each_below, sum_below}
 use Rattle.j39_audit.specs.inside.Auditing.{tallied}

@@ -1,4 +1,4 @@
-use Rattle.std.proofs.Common.{◌≡◌, ℕ, Bool, Option, cond, sym, ap, subst, ◌∙◌}
+use Rattle.std.proofs.Common.{◌≡◌, ℕ, Option, sym, ap, subst, ◌∙◌}
 use Rattle.j39_follow.specs.Who.{unit_of_name}
 use Rattle.j39_audit.specs.Asking.{answered}
 use Rattle.j39_audit.specs.inside.Recalling.{RecallsAsking, settings_of}

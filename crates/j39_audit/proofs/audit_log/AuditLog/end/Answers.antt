@@ -1,4 +1,4 @@
-use Rattle.std.proofs.Common.{sym, subst}
+use Rattle.std.proofs.Common.{subst}
 use Rattle.std.proofs.lemmas.Result.{IfOk-weaker}
 use Rattle.j39_audit.specs.Moments.{all_pauses_ended}
 use Rattle.j39_audit.specs.Settings.{Settings}

@@ -1,11 +1,11 @@
-use Rattle.std.proofs.Common.{◌≡◌, ◌+◌, ℕ, List, Option, refl, sym, ap, subst, ◌∙◌}
+use Rattle.std.proofs.Common.{◌+◌, ℕ, List, Option, ap, ◌∙◌}
 use Rattle.std.specs.Option.{option_copied}
 use Rattle.std.specs.declared.alloc.Global.{Global}
 use Rattle.std.specs.declared.vec.Vec.{Vec}
 use Rattle.j39_log.specs.declared.line_counts.LineCounts.{LineCounts}
 use Rattle.j39_follow.specs.LogLines.{interface_behind}
 use Rattle.j39_follow.specs.inside.FollowedSoFar.{interface_of}
-use Rattle.j39_audit.specs.AuditText.{AuditPast, past_with_frame}
+use Rattle.j39_audit.specs.AuditText.{past_with_frame}
 use Rattle.j39_audit.proofs.audit_log.AuditLog.take_frame_line.Goals as goal
 
 pub returns-clause-frame : goal.returns-clause-frame

@@ -1,4 +1,4 @@
-use Rattle.std.proofs.Common.{◌≡◌, ◌<◌, ◌≤◌, ℕ, Bool, None, false, Vec, Global, length, slice_index_or, sym, ap, ◌∙◌, arith, inl, inr}
+use Rattle.std.proofs.Common.{Bool, None, false, Vec, Global, length, slice_index_or, ap, ◌∙◌, arith, inl, inr}
 use Rattle.std.proofs.lemmas.Bool.{cases_lt}
 use Rattle.std.proofs.lemmas.List.{get_or_past}
 use Rattle.j39_audit.specs.Settings.{moves}

@@ -1,6 +1,6 @@
-use Rattle.std.proofs.Common.{◌≡◌, ◌≢◌, ◌<◌, ◌≤◌, ℕ, Bool, Option, None, Some, true, false, Vec, Global, length, slice_index_or, refl, sym, ap, subst, ◌∙◌, arith, inl, inr}
+use Rattle.std.proofs.Common.{◌≡◌, ◌<◌, ℕ, Bool, Option, None, false, Vec, Global, length, slice_index_or, sym, ap, subst, ◌∙◌, arith, inl, inr}
 use Rattle.std.proofs.lemmas.Bool.{cases_eq}
-use Rattle.j39_audit.specs.Claiming.{HeardClaims, with_claim}
+use Rattle.j39_audit.specs.Claiming.{with_claim}
 use Rattle.j39_audit.specs.Settings.{moves}
 use Rattle.j39_audit.specs.inside.Recalling.{KnowsClaims, last_in, settings_of, taken_in}
 use Rattle.j39_audit.proofs.Knowing.{heard_here, heard_none, heard_other, taken_here, taken_other}

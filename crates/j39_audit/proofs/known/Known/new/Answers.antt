@@ -1,6 +1,4 @@
-use Rattle.std.proofs.Common.{◌≡◌, ◌∙◌, ◌&&◌, ℕ, Bool, List, true, false, Option, None, cond, refl, arith}
-use Rattle.j39_id.specs.Addresses.{is_address}
-use Rattle.j39_audit.specs.Claiming.{Heard, newest_of}
+use Rattle.std.proofs.Common.{arith}
 use Rattle.j39_audit.specs.Settings.{moves}
 use Rattle.j39_audit.specs.inside.Recalling.{settings_of}
 use Rattle.j39_audit.proofs.Knowing.{none_heard, none_taken}

@@ -1,5 +1,5 @@
 use Rattle.std.proofs.Common.{◌≡◌, ℕ, length, sym, subst, arith}
-use Rattle.j39_audit.specs.Moments.{Moments, pauses_ended}
+use Rattle.j39_audit.specs.Moments.{pauses_ended}
 use Rattle.j39_audit.specs.inside.Recalling.{RecallsMoments, settings_of}
 use Rattle.j39_audit.proofs.Pausing.{ended_more, ended_none}
 use Rattle.j39_audit.proofs.moments.Moments.end_flows.Goals as goal

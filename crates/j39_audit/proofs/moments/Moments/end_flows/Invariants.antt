@@ -1,4 +1,3 @@
-use Rattle.std.proofs.Common.{◌≡◌}
 use Rattle.j39_audit.specs.Moments.{Moments, pauses_ended}
 use Rattle.j39_audit.specs.inside.Recalling.{AreNear, RecallsMoments, settings_of}
 use Rattle.j39_audit.proofs.moments.Moments.end_flows.Given as goal

@@ -1,4 +1,4 @@
-use Rattle.std.proofs.Common.{◌≡◌, ◌<◌, ℕ, List, None, length, refl, sym, subst, ◌∙◌}
+use Rattle.std.proofs.Common.{◌<◌, List, None, length, refl, sym, subst, ◌∙◌}
 use Rattle.j39_audit.specs.Counting.{Noted}
 use Rattle.j39_audit.specs.inside.Recalling.{AreCounted, far_ahead, settings_of}
 use Rattle.j39_audit.proofs.Pausing.{none_ended, none_is}

@@ -1,5 +1,5 @@
 use Rattle.std.proofs.Common.{◌≡◌, ℕ, length, sym, subst, arith}
-use Rattle.j39_audit.specs.Moments.{Moments, listed_pauses_ended}
+use Rattle.j39_audit.specs.Moments.{listed_pauses_ended}
 use Rattle.j39_audit.specs.inside.Recalling.{RecallsMoments, settings_of}
 use Rattle.j39_audit.proofs.Pausing.{listed_more, listed_none}
 use Rattle.j39_audit.proofs.moments.Moments.end_listed.Goals as goal
