@@ -5,6 +5,7 @@ pub mod Numbers
 pub mod Splits
 pub mod StepLists
 pub mod TextWords
-pub mod UnitNames
-pub mod WrittenSteps
 pub mod UnitIndexes
+pub mod UnitNames
+pub mod WordTables
+pub mod WrittenSteps

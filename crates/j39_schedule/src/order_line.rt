@@ -1,5 +1,5 @@
 //! Reading a line of a schedule.
-ghost use Rattle.std.specs.Prelude.{◌≡◌, None, Some, IfOk, IfErr};
+ghost use Rattle.std.specs.Prelude.{◌≡◌, [], ◌∷◌, None, Some, IfOk, IfErr};
 ghost use Rattle.j39_id.specs.Lines.{Short};
 ghost use Rattle.j39_schedule.specs.Schedule.{line_order, order_of, unit_named, words_of};
 ghost use Rattle.j39_schedule.specs.Scheduling.{IsReadAs};
@@ -29,6 +29,36 @@ fn unit(units: &Units, label: &[u8]) -> Result<usize, Unread>
     }
 }
 
+// What a word orders with one value.
+fn of_one(units: &Units, word: OrderWord, a: &[u8]) -> Result<Option<Step>, Unread>
+    ensures { IsReadAs (order_of units.now (order_word word) (a.now ∷ [])) result }
+{
+    match word {
+        OrderWord::OfUnit(order) => Ok(Some(order.step(unit(units, a)?))),
+        OrderWord::Late => Ok(Some(Step::LateSender(unit(units, a)?))),
+        _ => Err(Unread::Fault(LineFault::WordCount)),
+    }
+}
+
+// What a word orders with two values.
+fn of_two(
+    alloc: Global,
+    units: &Units,
+    word: OrderWord,
+    a: &[u8],
+    b: &[u8],
+) -> Result<Option<Step>, Unread>
+    ensures { IsReadAs (order_of units.now (order_word word) (a.now ∷ b.now ∷ [])) result }
+{
+    match word {
+        OrderWord::OfUnit(_) => Err(Unread::Fault(LineFault::WordCount)),
+        OrderWord::OfUnits(order) => Ok(Some(order.step(unit(units, a)?, unit(units, b)?))),
+        OrderWord::Late => Ok(Some(Step::LateReceiver(unit(units, a)?, unit(units, b)?))),
+        OrderWord::Begin => begin(alloc, units.plan(), a, b),
+        OrderWord::Send => send(alloc, units.plan(), a, b),
+    }
+}
+
 /// What a word orders with these values.
 fn order_of(
     alloc: Global,
@@ -38,37 +68,10 @@ fn order_of(
 ) -> Result<Option<Step>, Unread>
     ensures { IsReadAs (order_of units.now (order_word word) (words_of values.now)) result }
 {
-    match (word, values_of(values)) {
-        (OrderWord::Up, Values::One(a)) => Ok(Some(Step::Up(unit(units, a)?))),
-        (OrderWord::Down, Values::One(a)) => Ok(Some(Step::Down(unit(units, a)?))),
-        (OrderWord::Give, Values::Two(a, b)) => Ok(Some(Step::Give(
-            unit(units, a)?,
-            unit(units, b)?,
-        ))),
-        (OrderWord::Ask, Values::One(a)) => Ok(Some(Step::Ask(unit(units, a)?))),
-        (OrderWord::Begin, Values::Two(number, digits)) => begin(
-            alloc,
-            units.plan(),
-            number,
-            digits,
-        ),
-        (OrderWord::Send, Values::Two(number, digits)) => send(alloc, units.plan(), number, digits),
-        (OrderWord::Emit, Values::One(a)) => Ok(Some(Step::Emit(unit(units, a)?))),
-        (OrderWord::Take, Values::Two(a, b)) => Ok(Some(Step::Take(
-            unit(units, a)?,
-            unit(units, b)?,
-        ))),
-        (OrderWord::Lose, Values::Two(a, b)) => Ok(Some(Step::Lose(
-            unit(units, a)?,
-            unit(units, b)?,
-        ))),
-        (OrderWord::Late, Values::One(a)) => Ok(Some(Step::LateSender(unit(units, a)?))),
-        (OrderWord::Late, Values::Two(a, b)) => Ok(Some(Step::LateReceiver(
-            unit(units, a)?,
-            unit(units, b)?,
-        ))),
-        (OrderWord::Rest, Values::One(a)) => Ok(Some(Step::Rest(unit(units, a)?))),
-        _ => Err(Unread::Fault(LineFault::WordCount)),
+    match values_of(values) {
+        Values::One(a) => of_one(units, word, a),
+        Values::Two(a, b) => of_two(alloc, units, word, a, b),
+        Values::None | Values::More => Err(Unread::Fault(LineFault::WordCount)),
     }
 }
 

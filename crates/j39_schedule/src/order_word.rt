@@ -1,43 +1,101 @@
 //! The words that orders begin with.
 ghost use Rattle.std.specs.Prelude.{◌≡◌, option_map};
-ghost use Rattle.j39_schedule.specs.Schedule.{order_named};
-ghost use Rattle.j39_schedule.specs.inside.OrderWords.{order_word};
+ghost use Rattle.j39_schedule.specs.Schedule.{as_ordered, does, order_named};
+ghost use Rattle.j39_schedule.specs.inside.OrderWords.{beside, order_word, unit_step, units_step};
+
+use j39_network::Step;
+
+/// An order for a unit.
+#[derive(Clone, Copy)]
+pub enum UnitOrder {
+    Up,
+    Down,
+    Ask,
+    Emit,
+    Rest,
+}
+
+impl UnitOrder {
+    /// The step that is ordered of this unit.
+    pub fn step(self, unit: usize) -> Step
+        ensures step { result ≡ unit_step self unit }
+        ensures without_bytes { as_ordered result ≡ does result }
+    {
+        match self {
+            UnitOrder::Up => Step::Up(unit),
+            UnitOrder::Down => Step::Down(unit),
+            UnitOrder::Ask => Step::Ask(unit),
+            UnitOrder::Emit => Step::Emit(unit),
+            UnitOrder::Rest => Step::Rest(unit),
+        }
+    }
+}
+
+/// An order for two units.
+#[derive(Clone, Copy)]
+pub enum UnitsOrder {
+    Give,
+    Take,
+    Lose,
+}
+
+impl UnitsOrder {
+    /// The step that is ordered of these units.
+    pub fn step(self, from: usize, to: usize) -> Step
+        ensures step { result ≡ units_step self from to }
+        ensures without_bytes { as_ordered result ≡ does result }
+    {
+        match self {
+            UnitsOrder::Give => Step::Give(from, to),
+            UnitsOrder::Take => Step::Take(from, to),
+            UnitsOrder::Lose => Step::Lose(from, to),
+        }
+    }
+}
 
 /// A word that an order begins with.
 #[derive(Clone, Copy)]
 pub enum OrderWord {
-    Up,
-    Down,
-    Give,
-    Ask,
+    OfUnit(UnitOrder),
+    OfUnits(UnitsOrder),
     Begin,
     Send,
-    Emit,
-    Take,
-    Lose,
     Late,
-    Rest,
+}
+
+// Each word, with what begins with it.
+const WORDS: [(&str, OrderWord); 11] = [
+    ("up", OrderWord::OfUnit(UnitOrder::Up)),
+    ("down", OrderWord::OfUnit(UnitOrder::Down)),
+    ("give", OrderWord::OfUnits(UnitsOrder::Give)),
+    ("ask", OrderWord::OfUnit(UnitOrder::Ask)),
+    ("begin", OrderWord::Begin),
+    ("send", OrderWord::Send),
+    ("emit", OrderWord::OfUnit(UnitOrder::Emit)),
+    ("take", OrderWord::OfUnits(UnitsOrder::Take)),
+    ("lose", OrderWord::OfUnits(UnitsOrder::Lose)),
+    ("late", OrderWord::Late),
+    ("rest", OrderWord::OfUnit(UnitOrder::Rest)),
+];
+
+// What stands beside a text in a table.
+#[tactic(auto, unfolding(crate::specs::inside::OrderWords::beside))]
+fn beside(words: &[(&str, OrderWord)], text: &[u8]) -> Option<OrderWord>
+    ensures { result ≡ beside words.now text.now }
+{
+    for named in words {
+        if named.0.as_bytes() == text {
+            return Some(named.1);
+        }
+    }
+    None
 }
 
 impl OrderWord {
     /// The order word that is spelled so.
-    #[tactic(auto, unfolding(crate::specs::Schedule::order_named))]
     pub fn spelled(text: &[u8]) -> Option<Self>
         ensures { option_map order_word result ≡ order_named text.now }
     {
-        match text {
-            b"up" => Some(OrderWord::Up),
-            b"down" => Some(OrderWord::Down),
-            b"give" => Some(OrderWord::Give),
-            b"ask" => Some(OrderWord::Ask),
-            b"begin" => Some(OrderWord::Begin),
-            b"send" => Some(OrderWord::Send),
-            b"emit" => Some(OrderWord::Emit),
-            b"take" => Some(OrderWord::Take),
-            b"lose" => Some(OrderWord::Lose),
-            b"late" => Some(OrderWord::Late),
-            b"rest" => Some(OrderWord::Rest),
-            _ => None,
-        }
+        beside(&WORDS, text)
     }
 }
