@@ -1,0 +1,15 @@
+mod AllFrames
+mod Buffering
+mod Delays
+mod Findings
+mod FlowDelays
+mod FlowLoads
+mod Frames
+mod Groups
+mod Loads
+mod Places
+mod PlanFrames
+mod Shares
+mod Staying
+mod Sublists
+mod UnitLoads

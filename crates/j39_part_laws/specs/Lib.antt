@@ -1,0 +1,5 @@
+pub mod Delays
+pub mod Loads
+pub mod Parts
+pub mod Shares
+pub mod Sublists
