@@ -1,10 +1,10 @@
 -- Frames of units that keep no order wait no longer in a part.
-use Rattle.std.proofs.Common.{◌≡◌, ℕ, ◌+◌, ◌^◌, ◌<◌, ◌≤◌, min, Bool, true, false, ◌||◌, ◌==◌, nat_lt, if◌then◌else◌, get_or}
+use Rattle.std.proofs.Common.{◌≡◌, ◌≢◌, ◌⊎◌, ℕ, ◌+◌, ◌^◌, ◌<◌, ◌≤◌, min, Bool, true, false, ◌||◌, ◌==◌, nat_lt, if◌then◌else◌, get_or}
 use Rattle.std.proofs.Common.{List, [], ◌∷◌, Option, Some, None, option_map, refl, sym, ◌∙◌, ap, subst, inl, inr, arith, slice_index_or}
 use Rattle.std.specs.Bool.{MatchBool}
 use Rattle.std.specs.List.{filter_map}
 use Rattle.std.specs.Option.{option_map_or}
-use Rattle.std.proofs.lemmas.Bool.{cases_Bool, cases_lt, eq-eqb, eqb-true, false≢true, lt-ltb, ltb-true, or_cases, or_left, or_right}
+use Rattle.std.proofs.lemmas.Bool.{cases_Bool, cases_eq, cases_lt, eq-eqb, eqb-true, false≢true, lt-ltb, ltb-true, ne_eqb, or_cases, or_left, or_right}
 use Rattle.std.proofs.lemmas.List.{get_or_past}
 use Rattle.std.proofs.lemmas.List.FromFn.{get_or-map-range_with_len, length-map-range_with_len}
 use Rattle.std.proofs.lemmas.Option.{none-some, same_Some, slice_get-get_or}
@@ -19,6 +19,7 @@ use Rattle.j39_load.specs.Demands.{demands_of}
 use Rattle.j39_load.specs.LineLists.{lines_of_each}
 use Rattle.j39_load.specs.Loads.{longest_wait}
 use Rattle.j39_timing.specs.declared.stream.Stream.{Stream}
+use Rattle.j39_part_laws.specs.Loads.{counting}
 use Rattle.j39_part_laws.specs.Parts.{AreSome}
 use Rattle.j39_part_laws.specs.Shares.{AsksNoMore, WaitNoLonger}
 use Rattle.j39_part_laws.specs.Sublists.{IsSub}
@@ -76,8 +77,9 @@ module _ (unit : ℕ → ℕ) (Twins : ℕ → ℕ → Type 0) (one_twin : (m n 
       get_or_past (leasts_of all) u None (omega (arith, size, above))
 
   -- the same frames, where the last identifier counts that unplanned ones may have
-  unplanned_alike : (timing : Timing) (x y : FlowFrames) → AreFrames unit Twins x y → AreFrames unit Twins (with_unplanned timing x) (with_unplanned timing y)
-  unplanned_alike timing x y are = record {
+  unplanned_alike : (timing : Timing) (unplanned : ℕ) (range : unplanned ≤ 1000) (busier : timing.unplanned ≤ unplanned) (x y : FlowFrames)
+      → AreFrames unit Twins x y → AreFrames unit Twins (with_unplanned timing x) (with_unplanned (counting timing unplanned range) y)
+  unplanned_alike timing unplanned range busier x y are = record {
     frames = are.frames;
     bits = are.bits;
     positive = are.positive;
@@ -85,7 +87,8 @@ module _ (unit : ℕ → ℕ) (Twins : ℕ → ℕ → Type 0) (one_twin : (m n 
     wanted = are.wanted;
     least = are.least;
     greatest = are.greatest;
-    last = either (timing.unplanned == 0);
+    last = either (cases_eq unplanned 0);
+    below = at_most (timing.unplanned == 0);
     sender = are.sender;
     receiver = are.receiver;
     few_sender = are.few_sender;
@@ -94,11 +97,22 @@ module _ (unit : ℕ → ℕ) (Twins : ℕ → ℕ → Type 0) (one_twin : (m n 
     want = are.want;
   }
     where
-      either : (b : Bool) → (if b then x.last_ident else 2 ^ 29) ≤ (if b then y.last_ident else 2 ^ 29)
-      either true = are.last
-      either false = omega arith
+      at_most : (b : Bool) → (if b then x.last_ident else 2 ^ 29) ≤ 2 ^ 29
+      at_most true = are.below
+      at_most false = omega arith
 
-  module _ (timing : Timing) (all others : List (Option FlowFrames)) (place : ℕ → ℕ) (are : AreSome place (AreFramesWhere unit Twins Always) all others) where
+      either : (unplanned ≡ 0) ⊎ (unplanned ≢ 0)
+          → (if timing.unplanned == 0 then x.last_ident else 2 ^ 29) ≤ (if unplanned == 0 then y.last_ident else 2 ^ 29)
+      either (inl none) =
+          let neither : timing.unplanned ≡ 0 = omega (arith, none, busier) in
+          rw (eq-eqb timing.unplanned 0 neither, eq-eqb unplanned 0 none) are.last
+      either (inr some) = rw (ne_eqb unplanned 0 some) (at_most (timing.unplanned == 0))
+
+  module _ (timing : Timing) (unplanned : ℕ) (range : unplanned ≤ 1000) (busier : timing.unplanned ≤ unplanned) (all others : List (Option FlowFrames)) (place : ℕ → ℕ)
+      (are : AreSome place (AreFramesWhere unit Twins Always) all others) where
+    abbrev busy : Timing
+    busy = counting timing unplanned range
+
     -- ---- queue groups
 
     own_least_there : (u j k : ℕ) (x y : Option FlowFrames) → AreFramesWhere unit Twins Always x y → IsSub IsNoLess (own_least u j x) (own_least (unit u) k y)
@@ -184,18 +198,18 @@ module _ (unit : ℕ → ℕ) (Twins : ℕ → ℕ → Type 0) (one_twin : (m n 
             )
       ]
 
-      streams_there : IsSub Asks (streams_with timing (leasts_of all) all own level) (streams_with timing (leasts_of others) others there higher)
-      streams_there = sub_append Asks (damage_streams timing) (damage_streams timing) (filter_map (stream_with (leasts_of all) own level) all)
+      streams_there : IsSub Asks (streams_with timing (leasts_of all) all own level) (streams_with busy (leasts_of others) others there higher)
+      streams_there = sub_append Asks (damage_streams timing) (damage_streams busy) (filter_map (stream_with (leasts_of all) own level) all)
           (filter_map (stream_with (leasts_of others) there higher) others)
-          (damage_asks unit Twins one_twin timing (demands_of all) (demands_of others))
+          (damage_asks unit Twins one_twin timing unplanned range (demands_of all) (demands_of others))
           (sub_filter (AreFramesWhere unit Twins Always) Asks (stream_with (leasts_of all) own level) (stream_with (leasts_of others) there higher)
           stream_there all others (sub_of_some place (AreFramesWhere unit Twins Always) all others are))
 
-      waits_there : WaitNoLonger (demands_of all) (demands_of others) (blocking_with timing own) (blocking_with timing there)
-          (streams_with timing (leasts_of all) all own level) (streams_with timing (leasts_of others) others there higher)
-      waits_there = are_bounded (demands_of all) (demands_of others) (blocking_with timing own) (blocking_with timing there)
-          (streams_with timing (leasts_of all) all own level) (streams_with timing (leasts_of others) others there higher)
-          (let same = are_own.bits in omega (arith, same)) streams_there
+      waits_there : WaitNoLonger (demands_of all) (demands_of others) (blocking_with timing own) (blocking_with busy there)
+          (streams_with timing (leasts_of all) all own level) (streams_with busy (leasts_of others) others there higher)
+      waits_there = are_bounded (demands_of all) (demands_of others) (blocking_with timing own) (blocking_with busy there)
+          (streams_with timing (leasts_of all) all own level) (streams_with busy (leasts_of others) others there higher)
+          (let same = are_own.bits in omega (arith, same, busier)) streams_there
 
     -- ---- levels
 
@@ -221,23 +235,23 @@ module _ (unit : ℕ → ℕ) (Twins : ℕ → ℕ → Type 0) (one_twin : (m n 
     -- ---- waits
 
     group_wait : (own there : FlowFrames) → AreFrames unit Twins own there → (wait : Option ℕ) (b : ℕ)
-        → IsQueueGroupWait timing (leasts_of all) all own wait → IsQueueGroupWait timing (leasts_of others) others there (Some b)
+        → IsQueueGroupWait timing (leasts_of all) all own wait → IsQueueGroupWait busy (leasts_of others) others there (Some b)
         → (a : ℕ) × (wait ≡ Some a) × (a ≤ b)
     group_wait own there are_own wait b here whole =
-        let alike = unplanned_alike timing own there are_own in
+        let alike = unplanned_alike timing unplanned range busier own there are_own in
         let up = here.of_queue_group.least whole.level
-        (level_here (with_unplanned timing own) (with_unplanned timing there) alike whole.level whole.of_queue_group.is) in
-        let bound = waits_there (with_unplanned timing own) (with_unplanned timing there) alike here.level whole.level up in
+        (level_here (with_unplanned timing own) (with_unplanned busy there) alike whole.level whole.of_queue_group.is) in
+        let bound = waits_there (with_unplanned timing own) (with_unplanned busy there) alike here.level whole.level up in
         let fits = whole.least_wait in
         go wait here.least_wait bound fits
       where
         go : (w : Option ℕ)
             → IsWaitWith timing (demands_of all) (streams_with timing (leasts_of all) all (with_unplanned timing own) here.level) (blocking_with timing own) w
-            → WaitNoLonger (demands_of all) (demands_of others) (blocking_with timing own) (blocking_with timing there)
+            → WaitNoLonger (demands_of all) (demands_of others) (blocking_with timing own) (blocking_with busy there)
             (streams_with timing (leasts_of all) all (with_unplanned timing own) here.level)
-            (streams_with timing (leasts_of others) others (with_unplanned timing there) whole.level)
-            → IsWaitWith timing (demands_of others) (streams_with timing (leasts_of others) others (with_unplanned timing there) whole.level)
-            (blocking_with timing there) (Some b)
+            (streams_with busy (leasts_of others) others (with_unplanned busy there) whole.level)
+            → IsWaitWith busy (demands_of others) (streams_with busy (leasts_of others) others (with_unplanned busy there) whole.level)
+            (blocking_with busy there) (Some b)
             → (a : ℕ) × (w ≡ Some a) × (a ≤ b)
         go None none bound fits =
             let above = bound.least (longest_wait timing + 1) b none fits.1 in
@@ -246,7 +260,7 @@ module _ (unit : ℕ → ℕ) (Twins : ℕ → ℕ → Type 0) (one_twin : (m n 
         go (Some a) is_a bound fits = (a, refl, bound.least a b is_a.2 fits.1)
 
     pub buffered_no_longer : (x y : Option FlowFrames) → AreFramesWhere unit Twins Always x y → (wait : Option ℕ) (b : ℕ) → IsBufferedFor timing all x wait
-        → IsBufferedFor timing others y (Some b) → (a : ℕ) × (wait ≡ Some a) × (a ≤ b)
+        → IsBufferedFor busy others y (Some b) → (a : ℕ) × (wait ≡ Some a) × (a ≤ b)
     buffered_no_longer None y alike wait b here whole = (0, here, omega arith)
     buffered_no_longer (Some x) None alike wait b here whole = absurd alike
     buffered_no_longer (Some x) (Some y) alike wait b here whole = elim (cases_Bool (keep_order x)) [
@@ -255,6 +269,6 @@ module _ (unit : ℕ → ℕ) (Twins : ℕ → ℕ → Type 0) (one_twin : (m n 
       | inr unordered ↦
           group_wait x y alike.0 wait b
           (subst (λ t. MatchBool t (wait ≡ Some 0) (IsQueueGroupWait timing (leasts_of all) all x wait)) unordered here)
-          (subst (λ t. MatchBool t (Some b ≡ Some 0) (IsQueueGroupWait timing (leasts_of others) others y (Some b)))
+          (subst (λ t. MatchBool t (Some b ≡ Some 0) (IsQueueGroupWait busy (leasts_of others) others y (Some b)))
           (same_order unit Twins one_twin x y alike.0 ∙ unordered) whole)
     ]

@@ -21,6 +21,7 @@ use Rattle.j39_load.specs.Twins.{are_twins, is_same, may_precede}
 use Rattle.j39_load.proofs.BufferingDelays.{buffered_read, one_each}
 use Rattle.j39_timing.specs.Traffic.{delay_of}
 use Rattle.j39_part_laws.specs.Delays.{IsNoLater}
+use Rattle.j39_part_laws.specs.Loads.{counting}
 use Rattle.j39_part_laws.specs.Parts.{AreSome}
 use Rattle.j39_part_laws.specs.Shares.{WaitNoLonger}
 use Rattle.j39_part_laws.specs.Sublists.{IsSub}
@@ -32,8 +33,12 @@ same_length : (waits : List (Option ℕ)) (all : List (Option FlowFrames)) → l
 same_length waits all = one_each (λ (p : ℕ) (x : Option FlowFrames). option_map (later_frames (buffered_for waits p)) x) 0 all
 
 module _ (unit : ℕ → ℕ) (Twins : ℕ → ℕ → Type 0) (one_twin : (m n o : ℕ) → Twins m n → Twins m o → n ≡ o)
-    (timing : Timing) (all others : List (Option FlowFrames)) (place : ℕ → ℕ) (are : AreSome place (AreFramesWhere unit Twins (Always unit Twins one_twin)) all others)
-    (vs ws : List (Option ℕ)) (here : AreBufferingDelays timing all vs) (whole : AreBufferingDelays timing others ws) where
+    (timing : Timing) (unplanned : ℕ) (range : unplanned ≤ 1000) (busier : timing.unplanned ≤ unplanned) (all others : List (Option FlowFrames)) (place : ℕ → ℕ)
+    (are : AreSome place (AreFramesWhere unit Twins (Always unit Twins one_twin)) all others)
+    (vs ws : List (Option ℕ)) (here : AreBufferingDelays timing all vs) (whole : AreBufferingDelays (counting timing unplanned range) others ws) where
+  abbrev busy : Timing
+  busy = counting timing unplanned range
+
   abbrev Alike : Option FlowFrames → Option FlowFrames → Type 0
   Alike = AreFramesWhere unit Twins (Always unit Twins one_twin)
 
@@ -46,9 +51,9 @@ module _ (unit : ℕ → ℕ) (Twins : ℕ → ℕ → Type 0) (one_twin : (m n 
       let is_y : slice_index_or others (place j) None ≡ there.value = get_or_from_slice_get others (place j) there.value None there.value_is in
       let wait = here.each j (slice_get_within all j x at) in
       let longer = whole.each (place j) (slice_get_within others (place j) there.value there.value_is) in
-      buffered_no_longer unit Twins one_twin timing all others place are x there.value there.meets (slice_index_or vs j None) b
+      buffered_no_longer unit Twins one_twin timing unplanned range busier all others place are x there.value there.meets (slice_index_or vs j None) b
       (subst (λ o. IsBufferedFor timing all o (slice_index_or vs j None)) is_x wait)
-      (subst (λ w. IsBufferedFor timing others there.value w) known (subst (λ o. IsBufferedFor timing others o (slice_index_or ws (place j) None)) is_y longer))
+      (subst (λ w. IsBufferedFor busy others there.value w) known (subst (λ o. IsBufferedFor busy others o (slice_index_or ws (place j) None)) is_y longer))
 
   -- ---- those of which no wait is known
 
@@ -123,6 +128,7 @@ module _ (unit : ℕ → ℕ) (Twins : ℕ → ℕ → Type 0) (one_twin : (m n 
     least = alike.least;
     greatest = alike.greatest;
     last = alike.last;
+    below = alike.below;
     sender = alike.sender;
     receiver = alike.receiver;
     few_sender = alike.few_sender;
@@ -140,9 +146,9 @@ module _ (unit : ℕ → ℕ) (Twins : ℕ → ℕ → Type 0) (one_twin : (m n 
     known_ordered : (k : ℕ) (y : FlowFrames) → slice_get others k ≡ Some (Some y) → keep_order y ≡ true → slice_index_or ws k None ≡ None → ⊥
     known_ordered k y at keeps none =
         let is_y : slice_index_or others k None ≡ Some y = get_or_from_slice_get others k (Some y) None at in
-        let wait = subst (λ o. IsBufferedFor timing others o (slice_index_or ws k None)) is_y (whole.each k (slice_get_within others k (Some y) at)) in
+        let wait = subst (λ o. IsBufferedFor busy others o (slice_index_or ws k None)) is_y (whole.each k (slice_get_within others k (Some y) at)) in
         let zero_wait = subst (λ b. MatchBool b (slice_index_or ws k None ≡ Some 0)
-        (IsQueueGroupWait timing (leasts_of others) others y (slice_index_or ws k None))) keeps wait in
+        (IsQueueGroupWait busy (leasts_of others) others y (slice_index_or ws k None))) keeps wait in
         none-some 0 (sym none ∙ zero_wait)
 
     -- nothing goes before of which no wait is known
@@ -210,13 +216,13 @@ module _ (unit : ℕ → ℕ) (Twins : ℕ → ℕ → Type 0) (one_twin : (m n 
     module _ (i : ℕ) (same : own.stream ≡ there.stream) where
       abbrev Bound : Type 0
       Bound = WaitNoLonger (demands_of (buffered vs all)) (demands_of (buffered ws others)) (blocking timing own.greatest_ident)
-          (blocking timing there.greatest_ident) (streams_before timing i own (buffered vs all)) (streams_before timing (place i) there (buffered ws others))
+          (blocking busy there.greatest_ident) (streams_before timing i own (buffered vs all)) (streams_before busy (place i) there (buffered ws others))
 
       bound : Bound
-      bound = waits_there unit Twins one_twin timing own there are_own (buffered vs all) (buffered ws others) place buffered_some i
+      bound = waits_there unit Twins one_twin timing unplanned range busier own there are_own (buffered vs all) (buffered ws others) place buffered_some i
 
       -- where some wait is in time there one is in time here
-      some_here : (most high w : ℕ) → high ≤ most → IsInTime timing (buffered ws others) (place i) there high w
+      some_here : (most high w : ℕ) → high ≤ most → IsInTime busy (buffered ws others) (place i) there high w
           → HasNoneWithin timing (buffered vs all) i own most → ⊥
       some_here most high w more room never =
           let needs = bound.needs w in
@@ -225,13 +231,13 @@ module _ (unit : ℕ → ℕ) (Twins : ℕ → ℕ → Type 0) (one_twin : (m n 
           let within = room.within in
           never w (record { demand_fits = omega (arith, needs, fits); within = omega (arith, late, within, more) })
 
-      shorter : (most high a b : ℕ) → IsDelayWithin timing (buffered vs all) i own most a → IsDelayWithin timing (buffered ws others) (place i) there high b → a ≤ b
+      shorter : (most high a b : ℕ) → IsDelayWithin timing (buffered vs all) i own most a → IsDelayWithin busy (buffered ws others) (place i) there high b → a ≤ b
       shorter most high a b (v, fits, none, is_a) (w, room, least_w, is_b) =
           let less = bound.least v w none room.demand_fits in
           let late = ap (λ (s : _). delay_of s w) same in
           omega (arith, is_a, is_b, less, late)
 
-      short_no_later : (limit : ℕ) (d e : Delay) → IsShortDelay timing (buffered vs all) i own limit d → IsShortDelay timing (buffered ws others) (place i) there limit e
+      short_no_later : (limit : ℕ) (d e : Delay) → IsShortDelay timing (buffered vs all) i own limit d → IsShortDelay busy (buffered ws others) (place i) there limit e
           → IsNoLater (Some d) (Some e)
       short_no_later limit (Long n) e here told = absurd here
       short_no_later limit (Whole n) e here told = absurd here
@@ -249,13 +255,13 @@ module _ (unit : ℕ → ℕ) (Twins : ℕ → ℕ → Type 0) (one_twin : (m n 
 
   wait_no_later : (x y : FlowFrames) → AreFrames unit Twins x y → keep_order y ≡ true
       → option_map_or (λ (n : ℕ). nat_lt n y.greatest_ident) (least_unbounded ws others) false ≡ false → (i : ℕ) (v : Option ℕ) (b : ℕ)
-      → IsWaitOf timing (buffered vs all) i x v → IsWaitOf timing (buffered ws others) (place i) y (Some b) → (a : ℕ) × (v ≡ Some a) × (a ≤ b)
+      → IsWaitOf timing (buffered vs all) i x v → IsWaitOf busy (buffered ws others) (place i) y (Some b) → (a : ℕ) × (v ≡ Some a) × (a ≤ b)
   wait_no_later x y alike ordered passed i None b none (short, fits, least_w) =
-      let bound = waits_there unit Twins one_twin timing x y alike (buffered vs all) (buffered ws others) place (buffered_some x y alike ordered passed) i in
+      let bound = waits_there unit Twins one_twin timing unplanned range busier x y alike (buffered vs all) (buffered ws others) place (buffered_some x y alike ordered passed) i in
       let above = bound.least (longest_wait timing + 1) b none fits in
       absurd (omega (arith, above, short))
   wait_no_later x y alike ordered passed i (Some a) b is_a (short, fits, least_w) =
-      let bound = waits_there unit Twins one_twin timing x y alike (buffered vs all) (buffered ws others) place (buffered_some x y alike ordered passed) i in
+      let bound = waits_there unit Twins one_twin timing unplanned range busier x y alike (buffered vs all) (buffered ws others) place (buffered_some x y alike ordered passed) i in
       (a, refl, bound.least a b is_a.2 fits)
 
   -- ---- any flow whose messages go in one frame each
@@ -303,21 +309,21 @@ module _ (unit : ℕ → ℕ) (Twins : ℕ → ℕ → Type 0) (one_twin : (m n 
       let late = ap (λ (s : _). delay_of s w) same in
       rw (is_a) (judged_no_later x y same limit (delay_of x.stream a) (delay_of y.stream w) (omega (arith, below, late)))
 
-  pub frame_no_later : (bp bw : Buffering) → IsBuffering timing all bp → IsBuffering timing others bw → bp.waits ≡ vs → bw.waits ≡ ws
+  pub frame_no_later : (bp bw : Buffering) → IsBuffering timing all bp → IsBuffering busy others bw → bp.waits ≡ vs → bw.waits ≡ ws
       → (i : ℕ) (x y : FlowFrames) → slice_get all i ≡ Some (Some x) → AreFrames unit Twins x y → x.stream ≡ y.stream → (limit : ℕ) (d e : Delay)
-      → IsFrameDelay timing bp i x limit d → IsFrameDelay timing bw (place i) y limit e → IsNoLater (Some d) (Some e)
+      → IsFrameDelay timing bp i x limit d → IsFrameDelay busy bw (place i) y limit e → IsNoLater (Some d) (Some e)
   frame_no_later bp bw is_p is_w waits_p waits_w i x y at alike same limit d e told there = elim (cases_Bool (keep_order x)) [
     | inr unordered ↦
         let there_un = same_order unit Twins one_twin x y alike ∙ unordered in
         let is_d : d ≡ any_delay x limit (slice_index_or vs i None) =
-        subst (λ zs. d ≡ any_delay x limit (slice_index_or zs i None)) waits_p (in_any bp i x d unordered told) in
+        subst (λ zs. d ≡ any_delay x limit (slice_index_or zs i None)) waits_p (in_any timing bp i x d unordered told) in
         let is_e : e ≡ any_delay y limit (slice_index_or ws (place i) None) =
-        subst (λ zs. e ≡ any_delay y limit (slice_index_or zs (place i) None)) waits_w (in_any bw (place i) y e there_un there) in
+        subst (λ zs. e ≡ any_delay y limit (slice_index_or zs (place i) None)) waits_w (in_any busy bw (place i) y e there_un there) in
         subst (λ k. IsNoLater (Some k) (Some e)) (sym is_d) (subst (λ k. IsNoLater (Some (any_delay x limit (slice_index_or vs i None))) (Some k)) (sym is_e)
         (any_no_later x y same limit (slice_index_or vs i None) (slice_index_or ws (place i) None) (known_here i (Some x) at)))
     | inl keeps ↦
         let there_keeps = same_order unit Twins one_twin x y alike ∙ keeps in
-        elim (in_order bw (place i) y e there_keeps there) [
+        elim (in_order busy bw (place i) y e there_keeps there) [
           | inl late ↦ subst (λ k. IsNoLater (Some d) (Some k)) (sym late) (d, refl)
           | inr (unpassed, short) ↦
               let passed : option_map_or (λ (n : ℕ). nat_lt n y.greatest_ident) (least_unbounded ws others) false ≡ false =
@@ -333,41 +339,41 @@ module _ (unit : ℕ → ℕ) (Twins : ℕ → ℕ → Type 0) (one_twin : (m n 
               (d ≡ any_delay x limit (slice_index_or bp.waits i None))) keeps told) in
               short_no_later x y alike there_keeps passed i same limit d e
               (subst (λ fs. IsShortDelay timing fs i x limit d) (is_p.frames ∙ ap (λ zs. buffered zs all) waits_p) short_p)
-              (subst (λ fs. IsShortDelay timing fs (place i) y limit e) (is_w.frames ∙ ap (λ zs. buffered zs others) waits_w) short)
+              (subst (λ fs. IsShortDelay busy fs (place i) y limit e) (is_w.frames ∙ ap (λ zs. buffered zs others) waits_w) short)
         ]
   ]
     where
-      in_any : (buffering : Buffering) (k : ℕ) (f : FlowFrames) (c : Delay) → keep_order f ≡ false → IsFrameDelay timing buffering k f limit c
+      in_any : (bus : Timing) (buffering : Buffering) (k : ℕ) (f : FlowFrames) (c : Delay) → keep_order f ≡ false → IsFrameDelay bus buffering k f limit c
           → c ≡ any_delay f limit (slice_index_or buffering.waits k None)
-      in_any buffering k f c unordered is = subst (λ t. MatchBool t
-          (MatchBool (may_be_passed buffering f.greatest_ident) (c ≡ Late) (IsShortDelay timing buffering.frames k f limit c))
+      in_any bus buffering k f c unordered is = subst (λ t. MatchBool t
+          (MatchBool (may_be_passed buffering f.greatest_ident) (c ≡ Late) (IsShortDelay bus buffering.frames k f limit c))
           (c ≡ any_delay f limit (slice_index_or buffering.waits k None))) unordered is
 
-      in_order : (buffering : Buffering) (k : ℕ) (f : FlowFrames) (c : Delay) → keep_order f ≡ true → IsFrameDelay timing buffering k f limit c
-          → (c ≡ Late) ⊎ ((may_be_passed buffering f.greatest_ident ≡ false) × IsShortDelay timing buffering.frames k f limit c)
-      in_order buffering k f c keeps is =
-          let inner : MatchBool (may_be_passed buffering f.greatest_ident) (c ≡ Late) (IsShortDelay timing buffering.frames k f limit c) =
-          subst (λ t. MatchBool t (MatchBool (may_be_passed buffering f.greatest_ident) (c ≡ Late) (IsShortDelay timing buffering.frames k f limit c))
+      in_order : (bus : Timing) (buffering : Buffering) (k : ℕ) (f : FlowFrames) (c : Delay) → keep_order f ≡ true → IsFrameDelay bus buffering k f limit c
+          → (c ≡ Late) ⊎ ((may_be_passed buffering f.greatest_ident ≡ false) × IsShortDelay bus buffering.frames k f limit c)
+      in_order bus buffering k f c keeps is =
+          let inner : MatchBool (may_be_passed buffering f.greatest_ident) (c ≡ Late) (IsShortDelay bus buffering.frames k f limit c) =
+          subst (λ t. MatchBool t (MatchBool (may_be_passed buffering f.greatest_ident) (c ≡ Late) (IsShortDelay bus buffering.frames k f limit c))
           (c ≡ any_delay f limit (slice_index_or buffering.waits k None))) keeps is in
           elim (cases_Bool (may_be_passed buffering f.greatest_ident)) [
-            | inl passed ↦ inl (subst (λ t. MatchBool t (c ≡ Late) (IsShortDelay timing buffering.frames k f limit c)) passed inner)
-            | inr open_way ↦ inr (open_way, subst (λ t. MatchBool t (c ≡ Late) (IsShortDelay timing buffering.frames k f limit c)) open_way inner)
+            | inl passed ↦ inl (subst (λ t. MatchBool t (c ≡ Late) (IsShortDelay bus buffering.frames k f limit c)) passed inner)
+            | inr open_way ↦ inr (open_way, subst (λ t. MatchBool t (c ≡ Late) (IsShortDelay bus buffering.frames k f limit c)) open_way inner)
           ]
 
   -- ---- any frames, as far as their waits are told
 
-  pub wait_in_no_later : (bp bw : Buffering) → IsBuffering timing all bp → IsBuffering timing others bw → bp.waits ≡ vs → bw.waits ≡ ws
+  pub wait_in_no_later : (bp bw : Buffering) → IsBuffering timing all bp → IsBuffering busy others bw → bp.waits ≡ vs → bw.waits ≡ ws
       → (i : ℕ) (x y : FlowFrames) → slice_get all i ≡ Some (Some x) → AreFrames unit Twins x y → (v : Option ℕ) (b : ℕ)
-      → IsWaitIn timing bp i x v → IsWaitIn timing bw (place i) y (Some b) → (a : ℕ) × (v ≡ Some a) × (a ≤ b)
+      → IsWaitIn timing bp i x v → IsWaitIn busy bw (place i) y (Some b) → (a : ℕ) × (v ≡ Some a) × (a ≤ b)
   wait_in_no_later bp bw is_p is_w waits_p waits_w i x y at alike v b told there = elim (cases_Bool (keep_order x)) [
     | inr unordered ↦
         let there_un = same_order unit Twins one_twin x y alike ∙ unordered in
-        let known = in_any bw (place i) y (Some b) there_un there in
+        let known = in_any busy bw (place i) y (Some b) there_un there in
         let (a, is_a, below) = known_here i (Some x) at b (subst (λ zs. slice_index_or zs (place i) None ≡ Some b) waits_w (sym known)) in
-        (a, in_any bp i x v unordered told ∙ subst (λ zs. slice_index_or zs i None ≡ Some a) (sym waits_p) is_a, below)
+        (a, in_any timing bp i x v unordered told ∙ subst (λ zs. slice_index_or zs i None ≡ Some a) (sym waits_p) is_a, below)
     | inl keeps ↦
         let there_keeps = same_order unit Twins one_twin x y alike ∙ keeps in
-        let (unpassed, wait) = in_order bw (place i) y b there_keeps there in
+        let (unpassed, wait) = in_order busy bw (place i) y b there_keeps there in
         let passed : option_map_or (λ (n : ℕ). nat_lt n y.greatest_ident) (least_unbounded ws others) false ≡ false =
         subst (λ zs. option_map_or (λ (n : ℕ). nat_lt n y.greatest_ident) (least_unbounded zs others) false ≡ false) waits_w
         (subst (λ o. option_map_or (λ (n : ℕ). nat_lt n y.greatest_ident) o false ≡ false) is_w.least_unbounded unpassed) in
@@ -381,22 +387,22 @@ module _ (unit : ℕ → ℕ) (Twins : ℕ → ℕ → Type 0) (one_twin : (m n 
         (v ≡ slice_index_or bp.waits i None)) keeps told) in
         wait_no_later x y alike there_keeps passed i v b
         (subst (λ fs. IsWaitOf timing fs i x v) (is_p.frames ∙ ap (λ zs. buffered zs all) waits_p) wait_p)
-        (subst (λ fs. IsWaitOf timing fs (place i) y (Some b)) (is_w.frames ∙ ap (λ zs. buffered zs others) waits_w) wait)
+        (subst (λ fs. IsWaitOf busy fs (place i) y (Some b)) (is_w.frames ∙ ap (λ zs. buffered zs others) waits_w) wait)
   ]
     where
-      in_any : (buffering : Buffering) (k : ℕ) (f : FlowFrames) (w : Option ℕ) → keep_order f ≡ false → IsWaitIn timing buffering k f w
+      in_any : (bus : Timing) (buffering : Buffering) (k : ℕ) (f : FlowFrames) (w : Option ℕ) → keep_order f ≡ false → IsWaitIn bus buffering k f w
           → w ≡ slice_index_or buffering.waits k None
-      in_any buffering k f w unordered is = subst (λ t. MatchBool t
-          (MatchBool (may_be_passed buffering f.greatest_ident) (w ≡ None) (IsWaitOf timing buffering.frames k f w))
+      in_any bus buffering k f w unordered is = subst (λ t. MatchBool t
+          (MatchBool (may_be_passed buffering f.greatest_ident) (w ≡ None) (IsWaitOf bus buffering.frames k f w))
           (w ≡ slice_index_or buffering.waits k None)) unordered is
 
-      in_order : (buffering : Buffering) (k : ℕ) (f : FlowFrames) (n : ℕ) → keep_order f ≡ true → IsWaitIn timing buffering k f (Some n)
-          → (may_be_passed buffering f.greatest_ident ≡ false) × IsWaitOf timing buffering.frames k f (Some n)
-      in_order buffering k f n keeps is =
-          let inner : MatchBool (may_be_passed buffering f.greatest_ident) (Some n ≡ None) (IsWaitOf timing buffering.frames k f (Some n)) =
-          subst (λ t. MatchBool t (MatchBool (may_be_passed buffering f.greatest_ident) (Some n ≡ None) (IsWaitOf timing buffering.frames k f (Some n)))
+      in_order : (bus : Timing) (buffering : Buffering) (k : ℕ) (f : FlowFrames) (n : ℕ) → keep_order f ≡ true → IsWaitIn bus buffering k f (Some n)
+          → (may_be_passed buffering f.greatest_ident ≡ false) × IsWaitOf bus buffering.frames k f (Some n)
+      in_order bus buffering k f n keeps is =
+          let inner : MatchBool (may_be_passed buffering f.greatest_ident) (Some n ≡ None) (IsWaitOf bus buffering.frames k f (Some n)) =
+          subst (λ t. MatchBool t (MatchBool (may_be_passed buffering f.greatest_ident) (Some n ≡ None) (IsWaitOf bus buffering.frames k f (Some n)))
           (Some n ≡ slice_index_or buffering.waits k None)) keeps is in
           elim (cases_Bool (may_be_passed buffering f.greatest_ident)) [
-            | inl passed ↦ absurd (none-some n (sym (subst (λ t. MatchBool t (Some n ≡ None) (IsWaitOf timing buffering.frames k f (Some n))) passed inner)))
-            | inr open_way ↦ (open_way, subst (λ t. MatchBool t (Some n ≡ None) (IsWaitOf timing buffering.frames k f (Some n))) open_way inner)
+            | inl passed ↦ absurd (none-some n (sym (subst (λ t. MatchBool t (Some n ≡ None) (IsWaitOf bus buffering.frames k f (Some n))) passed inner)))
+            | inr open_way ↦ (open_way, subst (λ t. MatchBool t (Some n ≡ None) (IsWaitOf bus buffering.frames k f (Some n))) open_way inner)
           ]

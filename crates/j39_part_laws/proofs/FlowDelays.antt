@@ -17,7 +17,7 @@ use Rattle.std.proofs.lemmas.Bool.{and_from, and_parts, cases_Bool, false≢true
 use Rattle.std.proofs.Common.{◌+◌, ◌-◌, ◌*◌, arith, true, false, inl, inr, nat_le, if◌then◌else◌}
 use Rattle.j39_load.specs.AnyQueues.{Buffering, IsBuffering}
 use Rattle.j39_load.specs.Asked.{announcements_of_unit, Asked, asked_of, frames_asked, frames_of_flow, frames_of_request, own_frames, packets_of_unit, singles_of_flow}
-use Rattle.j39_load.specs.Delays.{HasDelayBy, IsDelayOf, IsFrameDelay}
+use Rattle.j39_load.specs.Delays.{HasDelay, HasDelayBy, IsDelayOf, IsFrameDelay}
 use Rattle.j39_load.specs.Loads.{loads_of}
 use Rattle.std.proofs.lemmas.Bool.{eq-eqb, le-leb, leb-true}
 use Rattle.std.proofs.lemmas.Option.{get_or_from_slice_get, none-some, slice_get_within}
@@ -36,7 +36,8 @@ use Rattle.j39_part_laws.proofs.Frames.{AreBroadcast}
 use Rattle.j39_part_laws.proofs.Shares.{mul-mono}
 use Rattle.j39_part_laws.proofs.UnitLoads.{UnitsAlike}
 use Rattle.j39_part_laws.specs.Delays.{DelaysNoLater, IsNoLater, IsWholeNoLater}
-use Rattle.j39_part_laws.specs.Loads.{HasGoodNumbers}
+use Rattle.j39_part_laws.specs.Loads.{counting, HasGoodNumbers}
+use Rattle.j39_part_laws.proofs.Busier.{same_asked}
 use Rattle.j39_part_laws.specs.Parts.{AreSome, IsPartAt, Places}
 use Rattle.j39_part_laws.proofs.AllFrames.{append_front, flows_some, frames_place, frames_some}
 use Rattle.j39_part_laws.proofs.Buffering.{Always}
@@ -93,8 +94,12 @@ still_keeps_up unit b c alike s t within told =
     and_from (nat_le s.time b.apart) (nat_le (b.jitter + s.time) (b.apart + own_time b s)) (le-leb s.time b.apart (omega (arith, low, time, apart)))
     (le-leb (b.jitter + s.time) (b.apart + own_time b s) (omega (arith, next, own, others, apart, late)))
 
-module _ (at : Places) (part whole : Plan) (is : IsPartAt at part whole) (good : HasGoodNumbers whole) (timing : Timing) (stays told : UnitPlan → Bool)
+module _ (at : Places) (part whole : Plan) (is : IsPartAt at part whole) (good : HasGoodNumbers whole) (timing : Timing) (unplanned : ℕ) (range : unplanned ≤ 1000) (busier : timing.unplanned ≤ unplanned)
+    (stays told : UnitPlan → Bool)
     (decides : DecidesWhoStays whole stays) (tells_who : DecidesWhoStays part told) where
+  abbrev busy : Timing
+  busy = counting timing unplanned range
+
   abbrev ls : List (Option FlowLoad)
   ls = loads_of timing part told
 
@@ -121,7 +126,7 @@ module _ (at : Places) (part whole : Plan) (is : IsPartAt at part whole) (good :
       (slice_get-map frames_of_flow ls f ∙ ap (option_map frames_of_flow) its ∙ ap (λ m. Some (own_frames m)) short)
 
   module _ (f : ℕ) (below : f < length part.flows.items) (bp bw : Buffering) (is_p : IsBuffering timing (frames_asked asked) bp)
-      (is_w : IsBuffering timing (frames_asked asked_there) bw) where
+      (is_w : IsBuffering busy (frames_asked asked_there) bw) where
     load_there : (o k : Option FlowLoad) → slice_get ls f ≡ Some o → slice_get asked_there.flows (at.flow f) ≡ Some k → LoadsAlike at o k
     load_there o k at_o at_k =
         let its = (flows_some at part whole is good stays told decides tells_who timing).each f o at_o in
@@ -131,7 +136,7 @@ module _ (at : Places) (part whole : Plan) (is : IsPartAt at part whole) (good :
     -- ---- long messages to all
 
     turn_by : (u packets : ℕ) → u < length lus_here → (l : UnitLoad) → slice_get lus_here u ≡ Some (Some l) → 1 ≤ l.flows → packets ≤ l.all_packets
-        → (tp tw : Option Turn) → (y : Option UnitLoad) → UnitsAlike at (Some l) y → IsTurnBy timing asked bp u (Some l) tp → IsTurnBy timing asked_there bw (at.unit u) y tw
+        → (tp tw : Option Turn) → (y : Option UnitLoad) → UnitsAlike at (Some l) y → IsTurnBy timing asked bp u (Some l) tp → IsTurnBy busy asked_there bw (at.unit u) y tw
         → IsKnownTurn packets tp tw
     turn_by u packets few l at_l some has tp tw None alike here there t known = absurd alike
     turn_by u packets few l at_l some has tp tw (Some k) alike (ap_here, sp, wa, ws, is_p_turn) (None, sw, wa_there, ws_there, is_w_turn) t known =
@@ -139,14 +144,14 @@ module _ (at : Places) (part whole : Plan) (is : IsPartAt at part whole) (good :
     turn_by u packets few l at_l some has tp tw (Some k) alike (ap_here, sp, wa, ws, is_p_turn) (Some aw, None, wa_there, ws_there, is_w_turn) t known =
         absurd (none-some t (sym is_w_turn ∙ known))
     turn_by u packets few l at_l some has tp tw (Some k) alike (ap_here, sp, wa, ws, is_p_turn) (Some aw, Some sw, wa_there, ws_there, is_w_turn) t known =
-        let (a, is_a, a_less) = wait_in_no_later at.unit (AreTwinNumbers at) (one_twin at) timing (frames_asked asked) (frames_asked asked_there) place all_some bp.waits bw.waits
+        let (a, is_a, a_less) = wait_in_no_later at.unit (AreTwinNumbers at) (one_twin at) timing unplanned range busier (frames_asked asked) (frames_asked asked_there) place all_some bp.waits bw.waits
         is_p.bounded is_w.bounded bp bw is_p is_w refl refl (2 * length ls + (length lus_here + u)) l.announcements k.announcements
         (announcements_at at part whole is good stays told decides tells_who timing u l at_l) alike.announcements.0 ap_here aw wa
-        (subst (λ p. IsWaitIn timing bw p k.announcements (Some aw)) (sym (announcements_place_there at part whole is good stays told decides tells_who timing u few)) wa_there) in
-        let (s, is_s, s_less) = wait_in_no_later at.unit (AreTwinNumbers at) (one_twin at) timing (frames_asked asked) (frames_asked asked_there) place all_some bp.waits bw.waits
+        (subst (λ p. IsWaitIn busy bw p k.announcements (Some aw)) (sym (announcements_place_there at part whole is good stays told decides tells_who timing u few)) wa_there) in
+        let (s, is_s, s_less) = wait_in_no_later at.unit (AreTwinNumbers at) (one_twin at) timing unplanned range busier (frames_asked asked) (frames_asked asked_there) place all_some bp.waits bw.waits
         is_p.bounded is_w.bounded bp bw is_p is_w refl refl (2 * length ls + u) l.packets k.packets
         (packets_at at part whole is good stays told decides tells_who timing u l at_l) alike.packets.0 sp sw ws
-        (subst (λ p. IsWaitIn timing bw p k.packets (Some sw)) (sym (packets_place_there at part whole is good stays told decides tells_who timing u few)) ws_there) in
+        (subst (λ p. IsWaitIn busy bw p k.packets (Some sw)) (sym (packets_place_there at part whole is good stays told decides tells_who timing u few)) ws_there) in
         let bits = alike.packets.0.bits in
         let first_bits = alike.announcements.0.bits in
         let one : packet_time timing l s ≤ packet_time timing k sw = omega (arith, s_less, bits) in
@@ -167,7 +172,7 @@ module _ (at : Places) (part whole : Plan) (is : IsPartAt at part whole) (good :
         ]
 
     whole_no_later : (l : FlowLoad) → slice_get ls f ≡ Some (Some l) → (b c : Broadcast) → l.messages ≡ ToAll b → AreBroadcast at.unit b c → (v w : WholeTime)
-        → IsWholeTime timing asked bp b v → IsWholeTime timing asked_there bw c w → IsWholeNoLater v w
+        → IsWholeTime timing asked bp b v → IsWholeTime busy asked_there bw c w → IsWholeNoLater v w
     whole_no_later l at_l b c to_all alike v w (tp, turn_p, is_v) (tw, turn_w, is_w_time) =
         let (flow, flow_at) = flow_is in
         let is_l : load_of_flow timing part told flow ≡ Some l =
@@ -179,8 +184,8 @@ module _ (at : Places) (part whole : Plan) (is : IsPartAt at part whole) (good :
         let few = slice_get_within lus_here b.sender (Some unit) at_u in
         let known = turn_by b.sender b.packets few unit at_u by_b.flows by_b.packets tp tw its.value its.meets
         (subst (λ o. IsTurnBy timing asked bp b.sender o tp) (get_or_from_slice_get lus_here b.sender (Some unit) None at_u) turn_p)
-        (subst (λ o. IsTurnBy timing asked_there bw (at.unit b.sender) o tw) (get_or_from_slice_get asked_there.units (at.unit b.sender) its.value None its.value_is)
-        (subst (λ s. IsTurn timing asked_there bw s tw) alike.sender turn_w)) in
+        (subst (λ o. IsTurnBy busy asked_there bw (at.unit b.sender) o tw) (get_or_from_slice_get asked_there.units (at.unit b.sender) its.value None its.value_is)
+        (subst (λ s. IsTurn busy asked_there bw s tw) alike.sender turn_w)) in
         record {
           frames = ap (λ (x : WholeTime). x.frames) is_v ∙ ap frames_to_all (sym alike.packets) ∙ sym (ap (λ (x : WholeTime). x.frames) is_w_time);
           limit = ap (λ (x : WholeTime). x.limit) is_v ∙ sym alike.deadline ∙ sym (ap (λ (x : WholeTime). x.limit) is_w_time);
@@ -213,7 +218,7 @@ module _ (at : Places) (part whole : Plan) (is : IsPartAt at part whole) (good :
             ap (λ o. option_map_or (keeps_up b) o false) is_m ∙ still_keeps_up at.unit b c alike m t within_t told_each
 
     by_to_one : (x y : FlowFrames) → x.stream ≡ y.stream → (limit high : ℕ) (d e : Delay) → IsDelayOf timing asked bp f (ToOne x) limit d
-        → IsDelayOf timing asked_there bw (at.flow f) (ToOne y) high e → IsNoLater (Some d) (Some e)
+        → IsDelayOf busy asked_there bw (at.flow f) (ToOne y) high e → IsNoLater (Some d) (Some e)
     by_to_one x y same limit high (Within m) e here there = absurd here
     by_to_one x y same limit high (Beyond m) e here there = absurd here
     by_to_one x y same limit high Late e here there = absurd here
@@ -225,7 +230,7 @@ module _ (at : Places) (part whole : Plan) (is : IsPartAt at part whole) (good :
     by_to_one x y same limit high (Long m) (Long n) here there = ap (λ k. Some (Long k)) (here ∙ ap (λ (s : _). s.frames) same ∙ sym there)
 
     by_to_all : (l : FlowLoad) → slice_get ls f ≡ Some (Some l) → (b c : Broadcast) → l.messages ≡ ToAll b → AreBroadcast at.unit b c → (limit high : ℕ) (d e : Delay)
-        → IsDelayOf timing asked bp f (ToAll b) limit d → IsDelayOf timing asked_there bw (at.flow f) (ToAll c) high e → IsNoLater (Some d) (Some e)
+        → IsDelayOf timing asked bp f (ToAll b) limit d → IsDelayOf busy asked_there bw (at.flow f) (ToAll c) high e → IsNoLater (Some d) (Some e)
     by_to_all l at_l b c to_all alike limit high (Within m) e here there = absurd here
     by_to_all l at_l b c to_all alike limit high (Beyond m) e here there = absurd here
     by_to_all l at_l b c to_all alike limit high Late e here there = absurd here
@@ -237,12 +242,12 @@ module _ (at : Places) (part whole : Plan) (is : IsPartAt at part whole) (good :
     by_to_all l at_l b c to_all alike limit high (Whole v) (Whole w) here there = (v, refl, whole_no_later l at_l b c to_all alike v w here there)
 
     by_messages : (l k : FlowLoad) → slice_get ls f ≡ Some (Some l) → l.limit ≡ k.limit → (a c : Messages) → l.messages ≡ a → MessagesAlike at a c → (d e : Delay)
-        → IsDelayOf timing asked bp f a l.limit d → IsDelayOf timing asked_there bw (at.flow f) c k.limit e → IsNoLater (Some d) (Some e)
+        → IsDelayOf timing asked bp f a l.limit d → IsDelayOf busy asked_there bw (at.flow f) c k.limit e → IsNoLater (Some d) (Some e)
     by_messages l k its limit (Short x) (Short y) short alike d e here there =
-        frame_no_later at.unit (AreTwinNumbers at) (one_twin at) timing (frames_asked asked) (frames_asked asked_there) place all_some bp.waits bw.waits
+        frame_no_later at.unit (AreTwinNumbers at) (one_twin at) timing unplanned range busier (frames_asked asked) (frames_asked asked_there) place all_some bp.waits bw.waits
         is_p.bounded is_w.bounded bp bw is_p is_w refl refl f x y (own_at f l x its short) alike.0 alike.1 k.limit d e
         (subst (λ n. IsFrameDelay timing bp f x n d) limit here)
-        (subst (λ n. IsFrameDelay timing bw n y k.limit e) (sym (flow_place at part whole is good timing stays told decides tells_who f below)) there)
+        (subst (λ n. IsFrameDelay busy bw n y k.limit e) (sym (flow_place at part whole is good timing stays told decides tells_who f below)) there)
     by_messages l k its limit (ToOne x) (ToOne y) to_one alike d e here there = by_to_one x y alike.1 l.limit k.limit d e here there
     by_messages l k its limit (ToAll b) (ToAll c) to_all alike d e here there = by_to_all l its b c to_all alike l.limit k.limit d e here there
     by_messages l k its limit (Short x) (ToOne y) short alike d e here there = absurd alike
@@ -252,7 +257,7 @@ module _ (at : Places) (part whole : Plan) (is : IsPartAt at part whole) (good :
     by_messages l k its limit (ToAll x) (Short y) short alike d e here there = absurd alike
     by_messages l k its limit (ToAll x) (ToOne y) short alike d e here there = absurd alike
 
-    no_later : (here there : Option Delay) → HasDelayBy timing asked bp f here → HasDelayBy timing asked_there bw (at.flow f) there → IsNoLater here there
+    no_later : (here there : Option Delay) → HasDelayBy timing asked bp f here → HasDelayBy busy asked_there bw (at.flow f) there → IsNoLater here there
     no_later None None none none_there = refl
     no_later (Some d) None (l, at_l, here) none_there = absurd (load_there (Some l) None at_l none_there)
     no_later None (Some e) none (k, at_k, there) = absurd (load_there None (Some k) none at_k)
@@ -260,5 +265,7 @@ module _ (at : Places) (part whole : Plan) (is : IsPartAt at part whole) (good :
         let alike = load_there (Some l) (Some k) at_l at_k in
         by_messages l k at_l alike.limit l.messages k.messages refl alike.messages d e here there
 
-  pub delays_no_later : DelaysNoLater at part whole timing told stays
-  delays_no_later f below here there (bp, is_p, by_p) (bw, is_w, by_w) = no_later f below bp bw is_p is_w here there by_p by_w
+  pub delays_no_later : DelaysNoLater at part whole timing busy told stays
+  delays_no_later f below here there (bp, is_p, by_p) has_there =
+      let (bw, is_w, by_w) = subst (λ a. HasDelay busy a (at.flow f) there) (same_asked timing unplanned range whole stays) has_there in
+      no_later f below bp bw is_p is_w here there by_p by_w

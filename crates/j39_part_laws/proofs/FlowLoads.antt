@@ -1,5 +1,5 @@
 -- What a flow of a part asks of the bus it asks in the whole.
-use Rattle.std.proofs.Common.{◌≡◌, ℕ, zero, suc, ◌+◌, ◌%◌, ◌<◌, ◌≤◌, Bool, true, false, not, ◌&&◌, if◌then◌else◌}
+use Rattle.std.proofs.Common.{◌≡◌, ℕ, zero, suc, ◌+◌, ◌^◌, ◌%◌, ◌<◌, ◌≤◌, Bool, true, false, not, ◌&&◌, if◌then◌else◌}
 use Rattle.std.proofs.Common.{List, [], ◌∷◌, length, Option, Some, None, option_map, refl, sym, ◌∙◌, ap, subst, inl, inr, arith}
 use Rattle.std.specs.Int.{div_ceil}
 use Rattle.std.specs.List.{slice_get}
@@ -34,7 +34,7 @@ use Rattle.j39_part_laws.specs.Loads.{HasGoodNumbers}
 use Rattle.j39_load.proofs.Milliseconds.{some_bits}
 use Rattle.j39_part_laws.proofs.Frames.{AreBroadcast, AreFrames}
 use Rattle.j39_part_laws.proofs.Groups.{bad_pgn, same_load}
-use Rattle.j39_part_laws.proofs.PlanFrames.{any_few, any_in, AreTwinNumbers, greatest_ident_in, greatest_in, ident-mono, IsAmong, least_ident_in, unit_at_place, there_too}
+use Rattle.j39_part_laws.proofs.PlanFrames.{any_few, any_in, AreTwinNumbers, destination_few, few_ident, greatest_few, greatest_ident_in, greatest_in, ident-mono, IsAmong, least_ident_in, unit_at_place, there_too}
 
 abbrev pub Alike : Places → FlowFrames → FlowFrames → Type 0
 Alike at = AreFrames at.unit (AreTwinNumbers at)
@@ -145,6 +145,8 @@ module _ (at : Places) (part whole : Plan) (is : IsPartAt at part whole) (good :
       least = least_ident group.priority group.pgn;
       greatest = greatest_ident group.priority group.pgn;
       last = greatest_ident group.priority group.pgn;
+      below = few_ident group.priority group.pgn _ _ group.priority_range page (destination_few at part whole is stays told decides tells_who flow.to)
+          (greatest_few at part whole is stays told decides tells_who flow.sender);
       sender = sender_any;
       receiver = refl;
       few_sender = any_few at part whole is stays told decides tells_who flow.sender among.sender_in;
@@ -178,6 +180,15 @@ module _ (at : Places) (part whole : Plan) (is : IsPartAt at part whole) (good :
           let answers = ident-mono timing.transport_priority 60416 _ _ _ _ sender receiver in
           omega (arith, asks, answers)
 
+      session_few : (packet_frames timing us told flow v pace packets).last_ident ≤ 2 ^ 29
+      session_few =
+          let receiver = greatest_few at part whole is stays told decides tells_who v in
+          let sender = greatest_few at part whole is stays told decides tells_who flow.sender in
+          let urgent = timing.transport_priority_range in
+          let asks = few_ident timing.transport_priority 60416 _ _ urgent (omega arith) receiver sender in
+          let answers = few_ident timing.transport_priority 60416 _ _ urgent (omega arith) sender receiver in
+          omega (arith, asks, answers)
+
       packets_alike : Alike at (packet_frames timing us told flow v pace packets) (packet_frames timing ws stays there (at.unit v) pace packets)
       packets_alike = record {
         frames = let same = ap (λ (s : _). s.frames) packets_same in omega (arith, same);
@@ -188,6 +199,7 @@ module _ (at : Places) (part whole : Plan) (is : IsPartAt at part whole) (good :
         least = least_ident timing.transport_priority 60160;
         greatest = greatest_ident timing.transport_priority 60160;
         last = session_last;
+        below = session_few;
         sender = sender_any;
         receiver = any_in at part whole is stays told decides tells_who v in_units;
         few_sender = any_few at part whole is stays told decides tells_who flow.sender among.sender_in;
@@ -323,6 +335,7 @@ module _ (at : Places) where
     least = omega arith;
     greatest = omega arith;
     last = omega arith;
+    below = omega arith;
     sender = refl;
     receiver = refl;
     few_sender = λ u its. absurd (none-some u its);

@@ -1,5 +1,5 @@
 -- Frames that ask no more than others, and the waits among them.
-use Rattle.std.proofs.Common.{◌≡◌, ℕ, ◌+◌, ◌*◌, ◌<◌, ◌≤◌, ◌⊎◌, Bool, true, false, not, ◌||◌, ◌==◌, nat_le, nat_lt, if◌then◌else◌, is_some}
+use Rattle.std.proofs.Common.{◌≡◌, ℕ, ◌+◌, ◌*◌, ◌^◌, ◌<◌, ◌≤◌, ◌⊎◌, Bool, true, false, not, ◌||◌, ◌==◌, nat_le, nat_lt, if◌then◌else◌, is_some}
 use Rattle.std.proofs.Common.{List, [], ◌∷◌, ◌++◌, length, map, get_or, Option, Some, None, option_map, refl, sym, ◌∙◌, ap, subst, inl, inr, arith}
 use Rattle.std.specs.List.{range_with_len, slice_get}
 use Rattle.std.specs.Option.{option_and_then, option_map_or}
@@ -22,6 +22,7 @@ use Rattle.j39_load.proofs.Milliseconds.{some_inside}
 use Rattle.j39_timing.specs.Waits.{Demand}
 use Rattle.j39_timing.specs.declared.stream.Stream.{Stream}
 use Rattle.j39_timing.specs.declared.wants.Want.{Want}
+use Rattle.j39_part_laws.specs.Loads.{counting}
 use Rattle.j39_part_laws.specs.Parts.{AreSome}
 use Rattle.j39_part_laws.specs.Shares.{AsksNoMore, DemandsNoMore, IsWantedNoMore, WaitNoLonger, WantsNoMore}
 use Rattle.j39_part_laws.specs.Sublists.{IsSub}
@@ -115,6 +116,7 @@ pub record AreFrames (unit : ℕ → ℕ) (Twins : ℕ → ℕ → Type 0) (x y 
   pub least : y.least_ident ≤ x.least_ident
   pub greatest : x.greatest_ident ≤ y.greatest_ident
   pub last : x.last_ident ≤ y.last_ident
+  pub below : x.last_ident ≤ 2 ^ 29
   pub sender : y.any_sender ≡ option_map unit x.any_sender
   pub receiver : y.any_receiver ≡ option_map unit x.any_receiver
   pub few_sender : (u : ℕ) → x.any_sender ≡ Some u → unit u < 128
@@ -258,21 +260,23 @@ module _ (unit : ℕ → ℕ) (Twins : ℕ → ℕ → Type 0) (one_twin : (m n 
 
   -- ---- what goes before some frames, and how long they wait
 
-  blocking-mono : (timing : Timing) (a b : ℕ) → a ≤ b → blocking timing a ≤ blocking timing b
-  blocking-mono timing a b ab = elim (cases_Bool (nat_le (unplanned_idents timing) a)) [
+  blocking-mono : (timing : Timing) (unplanned : ℕ) (range : unplanned ≤ 1000) (busier : timing.unplanned ≤ unplanned) (a b : ℕ) → a ≤ b
+      → blocking timing a ≤ blocking (counting timing unplanned range) b
+  blocking-mono timing unplanned range busier a b ab = elim (cases_Bool (nat_le (unplanned_idents timing) a)) [
     | inl before ↦
         let low = leb-true (unplanned_idents timing) a before in
         let after : nat_le (unplanned_idents timing) b ≡ true = le-leb (unplanned_idents timing) b (omega (arith, low, ab)) in
-        rw (before, after) (omega arith)
+        rw (before, after) (omega (arith, busier))
     | inr none ↦ rw (none) (either (nat_le (unplanned_idents timing) b))
   ]
     where
-      either : (t : Bool) → longest_frame 8 * (1 + 0) ≤ longest_frame 8 * (1 + (if t then timing.unplanned else 0))
+      either : (t : Bool) → longest_frame 8 * (1 + 0) ≤ longest_frame 8 * (1 + (if t then unplanned else 0))
       either true = omega arith
       either false = omega arith
 
-  pub damage_asks : (timing : Timing) (ds es : List Demand) → IsSub (AsksNoMore ds es) (damage_streams timing) (damage_streams timing)
-  damage_asks timing ds es = go timing.errors
+  pub damage_asks : (timing : Timing) (unplanned : ℕ) (range : unplanned ≤ 1000) (ds es : List Demand)
+      → IsSub (AsksNoMore ds es) (damage_streams timing) (damage_streams (counting timing unplanned range))
+  damage_asks timing unplanned range ds es = go timing.errors
     where
       one : (rate : ErrorRate) (bits : ℕ) → AsksNoMore ds es (damage_stream timing rate bits) (damage_stream timing rate bits)
       one rate bits = record {
@@ -286,8 +290,11 @@ module _ (unit : ℕ → ℕ) (Twins : ℕ → ℕ → Type 0) (one_twin : (m n 
       go None = tt
       go (Some rate) = inl (one rate (longest_frame 8), inl (one rate error_frame, tt))
 
-  module _ (timing : Timing) (own there : FlowFrames) (are_own : AreFrames unit Twins own there) (all others : List (Option FlowFrames)) (place : ℕ → ℕ)
+  module _ (timing : Timing) (unplanned : ℕ) (range : unplanned ≤ 1000) (busier : timing.unplanned ≤ unplanned) (own there : FlowFrames) (are_own : AreFrames unit Twins own there) (all others : List (Option FlowFrames)) (place : ℕ → ℕ)
       (are : AreSome place (AreFramesWhere unit Twins (λ y. may_precede there y ≡ true)) all others) (i : ℕ) where
+    abbrev busy : Timing
+    busy = counting timing unplanned range
+
     abbrev Goes : FlowFrames → Type 0
     Goes y = may_precede there y ≡ true
 
@@ -315,11 +322,11 @@ module _ (unit : ℕ → ℕ) (Twins : ℕ → ℕ → Type 0) (one_twin : (m n 
           rw (other, apart_there) (one_line x y alike.0 alike.1)
     ]
 
-    streams_there : IsSub Asks (streams_before timing i own all) (streams_before timing (place i) there others)
+    streams_there : IsSub Asks (streams_before timing i own all) (streams_before busy (place i) there others)
     streams_there =
-        sub_append Asks (damage_streams timing) (damage_streams timing) (lines_of_each (going_before i own) 0 all)
+        sub_append Asks (damage_streams timing) (damage_streams busy) (lines_of_each (going_before i own) 0 all)
         (lines_of_each (going_before (place i) there) 0 others)
-        (damage_asks timing (demands_of all) (demands_of others))
+        (damage_asks timing unplanned range (demands_of all) (demands_of others))
         (sub_lines Asks (going_before i own) (going_before (place i) there) all others place 0 0 are.rises (λ j x at.
         let its = are.each j x at in
         let near : j ≡ 0 + j = omega arith in
@@ -332,8 +339,8 @@ module _ (unit : ℕ → ℕ) (Twins : ℕ → ℕ → Type 0) (one_twin : (m n 
         }))
 
     -- no more room is needed, and no least wait is longer
-    pub waits_there : WaitNoLonger (demands_of all) (demands_of others) (blocking timing own.greatest_ident) (blocking timing there.greatest_ident)
-        (streams_before timing i own all) (streams_before timing (place i) there others)
-    waits_there = are_bounded (demands_of all) (demands_of others) (blocking timing own.greatest_ident) (blocking timing there.greatest_ident)
-        (streams_before timing i own all) (streams_before timing (place i) there others)
-        (blocking-mono timing own.greatest_ident there.greatest_ident are_own.greatest) streams_there
+    pub waits_there : WaitNoLonger (demands_of all) (demands_of others) (blocking timing own.greatest_ident) (blocking busy there.greatest_ident)
+        (streams_before timing i own all) (streams_before busy (place i) there others)
+    waits_there = are_bounded (demands_of all) (demands_of others) (blocking timing own.greatest_ident) (blocking busy there.greatest_ident)
+        (streams_before timing i own all) (streams_before busy (place i) there others)
+        (blocking-mono timing unplanned range busier own.greatest_ident there.greatest_ident are_own.greatest) streams_there

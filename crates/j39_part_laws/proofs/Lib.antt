@@ -1,5 +1,6 @@
 mod AllFrames
 mod Buffering
+mod Busier
 mod Delays
 mod Findings
 mod FlowDelays

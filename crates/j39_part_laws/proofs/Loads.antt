@@ -1,5 +1,5 @@
 -- A part asks no more of its bus.
-use Rattle.std.proofs.Common.{◌≡◌, ℕ, ◌<◌, ◌≤◌, Bool, true, List, length, map, Option, Some, None, refl, arith}
+use Rattle.std.proofs.Common.{◌≡◌, ℕ, ◌<◌, ◌≤◌, Bool, true, List, length, map, Option, Some, None, refl, sym, subst, arith}
 use Rattle.std.specs.List.{slice_get}
 use Rattle.std.specs.Option.{option_map_or}
 use Rattle.std.proofs.lemmas.Bool.{lt-ltb}
@@ -15,7 +15,8 @@ use Rattle.j39_load.specs.declared.loads.unit_load.UnitLoad.{UnitLoad}
 use Rattle.j39_load.specs.Asked.{asked_of, frames_asked, frames_of_flow, total_load}
 use Rattle.j39_load.specs.Loads.{load_of_flow}
 use Rattle.j39_load.specs.Twins.{may_precede}
-use Rattle.j39_part_laws.specs.Loads.{AskNoMore, HasGoodNumbers, WaitNoLongerThan}
+use Rattle.j39_part_laws.specs.Loads.{AskNoMore, AskNoMoreThan, counting, HasGoodNumbers, WaitNoLongerThan}
+use Rattle.j39_part_laws.proofs.Busier.{same_asked}
 use Rattle.j39_part_laws.specs.Parts.{AreSome, IsPartAt, Places}
 use Rattle.j39_part_laws.proofs.AllFrames.{flows_some, frames_place, frames_some, requests_some, units_some}
 use Rattle.j39_part_laws.proofs.FlowLoads.{FramesAlike, LoadsAlike}
@@ -39,16 +40,17 @@ some_counted at Counts place all others are = record {
       record { value = there.value; value_is = there.value_is; meets = where_counted at Counts x there.value there.meets };
 }
 
-module _ (at : Places) (timing : Timing) (all others : List (Option FlowFrames)) (place : ℕ → ℕ) (are : AreSome place (FramesAlike at) all others) where
+module _ (at : Places) (timing : Timing) (unplanned : ℕ) (range : unplanned ≤ 1000) (busier : timing.unplanned ≤ unplanned)
+    (all others : List (Option FlowFrames)) (place : ℕ → ℕ) (are : AreSome place (FramesAlike at) all others) where
   wait_no_longer : (i : ℕ) (own : FlowFrames) (there : Option FlowFrames) → slice_get others (place i) ≡ Some there → FramesAlike at (Some own) there
-      → WaitNoLongerThan timing all others i (place i) own
+      → WaitNoLongerThan timing (counting timing unplanned range) all others i (place i) own
   wait_no_longer i own None stands alike = absurd alike
   wait_no_longer i own (Some there) stands alike =
-      let waits = waits_there at.unit (AreTwinNumbers at) (one_twin at) timing own there alike.0 all others place
+      let waits = waits_there at.unit (AreTwinNumbers at) (one_twin at) timing unplanned range busier own there alike.0 all others place
       (some_counted at (λ y. may_precede there y ≡ true) place all others are) i in
       record { there = there; stands = stands; needs = waits.needs; least = waits.least }
 
-  pub waits : (i : ℕ) (own : FlowFrames) → slice_get all i ≡ Some (Some own) → WaitNoLongerThan timing all others i (place i) own
+  pub waits : (i : ℕ) (own : FlowFrames) → slice_get all i ≡ Some (Some own) → WaitNoLongerThan timing (counting timing unplanned range) all others i (place i) own
   waits i own its = let there = are.each i (Some own) its in wait_no_longer i own there.value there.value_is there.meets
 
 -- ---- loads
@@ -89,14 +91,17 @@ module _ (at : Places) (part whole : Plan) (is : IsPartAt at part whole) (good :
       let frames = length-map (map (load_of_flow timing part told) part.flows.items) frames_of_flow in
       rw (lt-ltb f (length (map frames_of_flow (map (load_of_flow timing part told) part.flows.items))) (omega (arith, below, loads, frames))) refl
 
-  pub ask_no_more : AskNoMore at part whole timing told stays
-  ask_no_more =
+  pub ask_no_more : (unplanned : ℕ) (range : unplanned ≤ 1000) → timing.unplanned ≤ unplanned
+      → AskNoMore at part whole timing (counting timing unplanned range) told stays
+  ask_no_more unplanned range busier =
       let are = frames_some at part whole is good stays told decides tells_who timing in
-      record {
+      subst (AskNoMoreThan at (length part.flows.items) timing (counting timing unplanned range) (asked_of timing part told))
+      (sym (same_asked timing unplanned range whole stays))
+      (record {
         place = frames_place at part whole is good stays told decides tells_who timing;
         rises = are.rises;
         of_flow = flow_place;
-        waits = waits at timing (frames_asked (asked_of timing part told)) (frames_asked (asked_of timing whole stays))
+        waits = waits at timing unplanned range busier (frames_asked (asked_of timing part told)) (frames_asked (asked_of timing whole stays))
             (frames_place at part whole is good stays told decides tells_who timing) are;
         load = load_no_more;
-      }
+      })

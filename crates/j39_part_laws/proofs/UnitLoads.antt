@@ -31,7 +31,7 @@ use Rattle.j39_part_laws.specs.Parts.{IsPartAt, IsRequest, Places}
 use Rattle.j39_part_laws.specs.Sublists.{IsSub}
 use Rattle.j39_part_laws.proofs.FlowLoads.{Alike, FramesAlike, LoadsAlike, MessagesAlike}
 use Rattle.j39_part_laws.proofs.Frames.{AreBroadcast, AreOfUnit}
-use Rattle.j39_part_laws.proofs.PlanFrames.{any_few, any_in, greatest_ident_in, IsAmong, least_ident_in}
+use Rattle.j39_part_laws.proofs.PlanFrames.{any_few, any_in, destination_few, few_ident, greatest_few, greatest_ident_in, IsAmong, least_ident_in}
 use Rattle.j39_part_laws.proofs.Shares.{ceil-mono, sum-no-more}
 use Rattle.j39_part_laws.proofs.Sublists.{sub_filter}
 
@@ -154,9 +154,9 @@ module _ (at : Places) (part whole : Plan) (is : IsPartAt at part whole) (stays 
   among_all : (u : ℕ) → u < length us → IsAmong (length us) ToAllUnits u
   among_all u within = record { sender_in = within; receiver_in = λ v its. absurd cc }
 
-  frames_there : (pgn u gaps fewer place there : ℕ) → u < length us → fewer ≤ gaps → 1 ≤ fewer → AreOfUnit at.unit place there
+  frames_there : (pgn u gaps fewer place there : ℕ) → pgn < 131072 → u < length us → fewer ≤ gaps → 1 ≤ fewer → AreOfUnit at.unit place there
       → Alike at (broadcast_frames timing us told pgn u gaps place) (broadcast_frames timing ws stays pgn (at.unit u) fewer there)
-  frames_there pgn u gaps fewer place there within less some wanted =
+  frames_there pgn u gaps fewer place there page within less some wanted =
       let gap : 0 < bits_at_least timing timing.broadcast_gap =
       some_bits timing timing.broadcast_gap (let least = timing.broadcast_gap_least in omega (arith, least)) in
       let one : 1 * bits_at_least timing timing.broadcast_gap ≤ fewer * bits_at_least timing timing.broadcast_gap = mul-le-mul_right (bits_at_least timing timing.broadcast_gap) some in
@@ -170,6 +170,8 @@ module _ (at : Places) (part whole : Plan) (is : IsPartAt at part whole) (stays 
         least = least_ident_in at part whole is stays told decides tells_who timing.transport_priority pgn u ToAllUnits (among_all u within);
         greatest = greatest;
         last = greatest;
+        below = few_ident timing.transport_priority pgn 255 _ timing.transport_priority_range page (omega arith)
+            (greatest_few at part whole is stays told decides tells_who u);
         sender = any_in at part whole is stays told decides tells_who u within;
         receiver = refl;
         few_sender = any_few at part whole is stays told decides tells_who u within;
@@ -185,12 +187,12 @@ module _ (at : Places) (part whole : Plan) (is : IsPartAt at part whole) (stays 
   unit_there u within few few_there (b ∷ bs) [] sub each = absurd sub
   unit_there u within few few_there (b ∷ bs) (c ∷ cs) sub each = record {
     packets = (
-      frames_there 60160 u 1 1 u (at.unit u) within (omega arith) (omega arith)
+      frames_there 60160 u 1 1 u (at.unit u) (omega arith) within (omega arith) (omega arith)
           (record { u = u; few = few; few_there = few_there; either = inl (refl, refl) }),
       omega arith,
     );
     announcements = (
-      frames_there 60416 u (least_packets (b ∷ bs)) (least_packets (c ∷ cs)) (128 + u) (128 + at.unit u) within
+      frames_there 60416 u (least_packets (b ∷ bs)) (least_packets (c ∷ cs)) (128 + u) (128 + at.unit u) (omega arith) within
           (least-mono at.unit (b ∷ bs) (c ∷ cs) sub) (some_least (c ∷ cs) each)
           (record { u = u; few = few; few_there = few_there; either = inr (refl, refl) }),
       omega arith,
@@ -235,6 +237,8 @@ module _ (at : Places) (part whole : Plan) (is : IsPartAt at part whole) (stays 
               least = least;
               greatest = greatest;
               last = greatest;
+              below = few_ident 6 59904 _ _ (omega arith) (omega arith) (destination_few at part whole is stays told decides tells_who request.to)
+                  (greatest_few at part whole is stays told decides tells_who request.sender);
               sender = ap (any_unit ws) stands.sender ∙ any_in at part whole is stays told decides tells_who request.sender among.sender_in;
               receiver = refl;
               few_sender = any_few at part whole is stays told decides tells_who request.sender among.sender_in;

@@ -30,7 +30,7 @@ IsNoLater delay (Some (Beyond b)) = (a : ℕ) × ((delay ≡ Some (Within a)) �
 IsNoLater delay (Some (Long n)) = delay ≡ Some (Long n)
 IsNoLater delay (Some (Whole b)) = (a : WholeTime) × (delay ≡ Some (Whole a)) × IsWholeNoLater a b
 
--- so it is of each flow of the part, by who stays in the part and who in the whole
-abbrev pub DelaysNoLater : Places → Plan → Plan → Timing → (UnitPlan → Bool) → (UnitPlan → Bool) → Type 0
-DelaysNoLater at part whole timing told stays = (f : ℕ) → f < length part.flows.items → (here there : Option Delay)
-    → HasDelay timing (asked_of timing part told) f here → HasDelay timing (asked_of timing whole stays) (at.flow f) there → IsNoLater here there
+-- so it is of each flow of the part, by who stays in the part and who in the whole, and by what is known of the bus of either
+abbrev pub DelaysNoLater : Places → Plan → Plan → Timing → Timing → (UnitPlan → Bool) → (UnitPlan → Bool) → Type 0
+DelaysNoLater at part whole timing busy told stays = (f : ℕ) → f < length part.flows.items → (here there : Option Delay)
+    → HasDelay timing (asked_of timing part told) f here → HasDelay busy (asked_of busy whole stays) (at.flow f) there → IsNoLater here there

@@ -1,5 +1,5 @@
 //! What is wrong with a part of a plan is wrong with the whole.
-ghost use Rattle.std.specs.Prelude.{Bool};
+ghost use Rattle.std.specs.Prelude.{ℕ, ◌≤◌, Bool};
 ghost use Rattle.j39_findings.specs.Findings.{Holds};
 ghost use Rattle.j39_findings.specs.Standing.{DecidesWhoStays};
 ghost use Rattle.j39_findings.specs.declared.checking.finding.Finding.{Finding};
@@ -7,7 +7,7 @@ ghost use Rattle.j39_network.specs.declared.plan.Plan.{Plan};
 ghost use Rattle.j39_network.specs.declared.plan.timing.Timing.{Timing};
 ghost use Rattle.j39_network.specs.declared.plan.unit_plan.UnitPlan.{UnitPlan};
 ghost use Rattle.j39_part_laws.specs.Delays.{DelaysNoLater};
-ghost use Rattle.j39_part_laws.specs.Loads.{AskNoMore, HasGoodNumbers};
+ghost use Rattle.j39_part_laws.specs.Loads.{AskNoMore, HasGoodNumbers, counting};
 ghost use Rattle.j39_part_laws.specs.Parts.{HoldsThere, IsPartAt, Places, StayThere};
 ghost use Rattle.j39_part_laws.specs.Shares.{AreBounded};
 
@@ -30,17 +30,21 @@ pub fn less_asked_waits_no_longer()
 {}
 
 /// Of a whole in which no bad number of a group is found each part asks no more of the bus: no frame of it waits longer,
-/// and its load is no greater. (Frames that share an identifier are told by the places of their units, which are others
-/// in a part: with such a number two flows could share one there alone.)
+/// and its load is no greater. On the bus of the whole as many frames may come that aren't planned, or more. (Frames that
+/// share an identifier are told by the places of their units, which are others in a part: with such a number two flows
+/// could share one there alone.)
 pub fn parts_ask_no_more()
     ensures { (at : Places) (part whole : Plan) → IsPartAt at part whole → HasGoodNumbers whole → (timing : Timing)
-        (stays told : UnitPlan → Bool) → DecidesWhoStays whole stays → DecidesWhoStays part told
-        → AskNoMore at part whole timing told stays }
+        (unplanned : ℕ) (range : unplanned ≤ 1000) → timing.unplanned ≤ unplanned → (stays told : UnitPlan → Bool)
+        → DecidesWhoStays whole stays → DecidesWhoStays part told
+        → AskNoMore at part whole timing (counting timing unplanned range) told stays }
 {}
 
 /// A delay that is told of the whole, in which no bad number of a group is found, bounds that of the flow in each part.
+/// So does the time in which long messages to all are whole, and each of them keeps it where each does in the whole.
 pub fn delays_hold_in_parts()
     ensures { (at : Places) (part whole : Plan) → IsPartAt at part whole → HasGoodNumbers whole → (timing : Timing)
-        (stays told : UnitPlan → Bool) → DecidesWhoStays whole stays → DecidesWhoStays part told
-        → DelaysNoLater at part whole timing told stays }
+        (unplanned : ℕ) (range : unplanned ≤ 1000) → timing.unplanned ≤ unplanned → (stays told : UnitPlan → Bool)
+        → DecidesWhoStays whole stays → DecidesWhoStays part told
+        → DelaysNoLater at part whole timing (counting timing unplanned range) told stays }
 {}
