@@ -1,12 +1,14 @@
 mod AllFrames
 mod Buffering
 mod Busier
+mod ByAbsence
 mod Delays
 mod Findings
 mod FlowDelays
 mod FlowLoads
 mod Frames
 mod Groups
+mod LoadFindings
 mod Loads
 mod Places
 mod PlanFrames

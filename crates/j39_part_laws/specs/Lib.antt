@@ -1,3 +1,4 @@
+pub mod ByAbsence
 pub mod Delays
 pub mod Loads
 pub mod Parts

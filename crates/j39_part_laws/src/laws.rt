@@ -6,9 +6,10 @@ ghost use Rattle.j39_findings.specs.declared.checking.finding.Finding.{Finding};
 ghost use Rattle.j39_network.specs.declared.plan.Plan.{Plan};
 ghost use Rattle.j39_network.specs.declared.plan.timing.Timing.{Timing};
 ghost use Rattle.j39_network.specs.declared.plan.unit_plan.UnitPlan.{UnitPlan};
+ghost use Rattle.j39_part_laws.specs.ByAbsence.{AreFoundThere, OnlyAbsenceStays};
 ghost use Rattle.j39_part_laws.specs.Delays.{DelaysNoLater};
 ghost use Rattle.j39_part_laws.specs.Loads.{AskNoMore, HasGoodNumbers, counting};
-ghost use Rattle.j39_part_laws.specs.Parts.{HoldsThere, IsPartAt, Places, StayThere};
+ghost use Rattle.j39_part_laws.specs.Parts.{HoldsThere, IsPart, IsPartAt, Places, StayThere};
 ghost use Rattle.j39_part_laws.specs.Shares.{AreBounded};
 
 /// Each finding of a part of a plan is one of the whole, at its places there, but for those that come by taking away.
@@ -47,4 +48,16 @@ pub fn delays_hold_in_parts()
         (unplanned : ℕ) (range : unplanned ≤ 1000) → timing.unplanned ≤ unplanned → (stays told : UnitPlan → Bool)
         → DecidesWhoStays whole stays → DecidesWhoStays part told
         → DelaysNoLater at part whole timing (counting timing unplanned range) told stays }
+{}
+
+/// Each finding on the load of a part is one of the whole, in which no bad number of a group is found, at its places
+/// there, but for what is too old. On a live bus fewer claims count in the part.
+pub fn loads_of_parts_are_found_in_wholes()
+    ensures { (at : Places) (part whole : Plan) → IsPartAt at part whole → HasGoodNumbers whole
+        → AreFoundThere at part whole }
+{}
+
+/// Where only absence is found of a plan and of its load, only absence is found of each part.
+pub fn only_absence_is_found_of_parts()
+    ensures { (part whole : Plan) → IsPart part whole → OnlyAbsenceStays part whole }
 {}
