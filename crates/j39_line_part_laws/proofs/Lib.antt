@@ -1,0 +1,4 @@
+mod Boxes
+mod Parts
+mod Picking
+mod Possible
