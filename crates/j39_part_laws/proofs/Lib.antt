@@ -1,14 +1,14 @@
 mod AllFrames
 mod Buffering
 mod Busier
-mod ByAbsence
+pub mod ByAbsence
 mod Delays
-mod Findings
+pub mod Findings
 mod FlowDelays
 mod FlowLoads
 mod Frames
 mod Groups
-mod LoadFindings
+pub mod LoadFindings
 mod Loads
 mod Places
 mod PlanFrames

@@ -229,7 +229,7 @@ module _ (at : Places) (part whole : Plan) (is : IsPartAt at part whole) (good :
   all_there = all_findings whole busy load_there es
 
   -- the delay of the same flow in the whole
-  delay_there : (f : ℕ) (d : Option Delay) → slice_get ds f ≡ Some d → (e : Option Delay) × (slice_get es (at.flow f) ≡ Some e) × IsNoLater d e
+  delay_there : (f : ℕ) (d : Option Delay) → slice_get ds f ≡ Some d → (e : Option Delay) × (slice_get es (at.flow f) ≡ Some e) × IsNoLater d e × (f < length part.flows.items)
   delay_there f d at_f =
       let below = slice_get_within ds f d at_f in
       let count = here.waits.count in
@@ -247,6 +247,7 @@ module _ (at : Places) (part whole : Plan) (is : IsPartAt at part whole) (good :
         subst (λ x. IsNoLater x (slice_index_or es (at.flow f) None)) is_d
             (delays_no_later at part whole is good timing unplanned range busier stays told there.standing here.standing f within
             (slice_index_or ds f None) (slice_index_or es (at.flow f) None) (here.waits.each f below) (there.waits.each (at.flow f) among)),
+        within,
       )
     where
       value_of : {A : Type 0} (xs : List A) (k : ℕ) → k < length xs → (x : A) × (slice_get xs k ≡ Some x)
@@ -254,27 +255,29 @@ module _ (at : Places) (part whole : Plan) (is : IsPartAt at part whole) (good :
       value_of (x ∷ xs) zero less = (x, refl)
       value_of (x ∷ xs) (suc k) less = value_of xs k (omega (arith, less))
 
-  unpaced_found : (finding : LoadFinding) → Contains (lines_of_each without_period 0 ds) finding → IsFoundThere at all_there finding
+  unpaced_found : (finding : LoadFinding) → Contains (lines_of_each without_period 0 ds) finding → IsFoundThere at part all_there finding
   unpaced_found finding found =
       let its = told_at without_period 0 ds finding found in
       let (none, is_it) = of_unpaced (0 + its.k) its.value finding its.told in
-      let (e, at_e, no_later) = delay_there its.k its.value its.value_is in
+      let (e, at_e, no_later, inside) = delay_there its.k its.value its.value_is in
       let no_delay = unpaced_there e (subst (λ d. IsNoLater d e) none no_later) in
       let zero_there : 0 + at.flow its.k ≡ at.flow its.k = omega arith in
       let zero_here : 0 + its.k ≡ its.k = omega arith in
       let told_there : Contains (without_period (0 + at.flow its.k) e) (NoPeriod (at.flow its.k)) =
       subst (λ x. Contains (without_period (0 + at.flow its.k) x) (NoPeriod (at.flow its.k))) (sym no_delay)
       (subst (λ n. Contains (NoPeriod n ∷ []) (NoPeriod (at.flow its.k))) (sym zero_there) (itself (NoPeriod (at.flow its.k)))) in
-      subst (IsFoundThere at all_there) (sym (is_it ∙ ap NoPeriod zero_here))
-      (Contains-append_left (load_findings busy load_there es) (old_needs busy whole.requests.items whole.flows.items es whole.needs.items) (NoPeriod (at.flow its.k))
-      (Contains-append_left (lines_of_each without_period 0 es) (overload busy load_there ++ lines_of_each lateness 0 es) (NoPeriod (at.flow its.k))
-      (line_told without_period 0 es (at.flow its.k) e (NoPeriod (at.flow its.k)) at_e told_there)))
+      subst (IsFoundThere at part all_there) (sym (is_it ∙ ap NoPeriod zero_here)) (
+        inside,
+        Contains-append_left (load_findings busy load_there es) (old_needs busy whole.requests.items whole.flows.items es whole.needs.items) (NoPeriod (at.flow its.k))
+            (Contains-append_left (lines_of_each without_period 0 es) (overload busy load_there ++ lines_of_each lateness 0 es) (NoPeriod (at.flow its.k))
+            (line_told without_period 0 es (at.flow its.k) e (NoPeriod (at.flow its.k)) at_e told_there)),
+      )
 
-  overload_found : (finding : LoadFinding) → Contains (overload timing load_here) finding → IsFoundThere at all_there finding
+  overload_found : (finding : LoadFinding) → Contains (overload timing load_here) finding → IsFoundThere at part all_there finding
   overload_found finding found =
       let (above, is_it) = of_overload timing load_here finding found in
       let more = (ask_no_more at part whole is good timing stays told there.standing here.standing unplanned range busier).load in
-      subst (IsFoundThere at all_there) (sym is_it) (
+      subst (IsFoundThere at part all_there) (sym is_it) (
         load_there,
         more,
         Contains-append_left (load_findings busy load_there es) (old_needs busy whole.requests.items whole.flows.items es whole.needs.items) (Overload load_there)
@@ -283,25 +286,27 @@ module _ (at : Places) (part whole : Plan) (is : IsPartAt at part whole) (good :
             (overload_there busy load_there (omega (arith, above, more))))),
       )
 
-  late_found : (finding : LoadFinding) → Contains (lines_of_each lateness 0 ds) finding → IsFoundThere at all_there finding
+  late_found : (finding : LoadFinding) → Contains (lines_of_each lateness 0 ds) finding → IsFoundThere at part all_there finding
   late_found finding found =
       let its = told_at lateness 0 ds finding found in
       let is_it = of_late (0 + its.k) its.value finding its.told in
-      let (e, at_e, no_later) = delay_there its.k its.value its.value_is in
+      let (e, at_e, no_later, inside) = delay_there its.k its.value its.value_is in
       let zero_there : at.flow its.k ≡ 0 + at.flow its.k = omega arith in
       let zero_here : 0 + its.k ≡ its.k = omega arith in
       let late = late_there (0 + its.k) (at.flow its.k) its.value e no_later finding its.told in
-      subst (IsFoundThere at all_there) (sym (is_it ∙ ap LateFlow zero_here))
-      (Contains-append_left (load_findings busy load_there es) (old_needs busy whole.requests.items whole.flows.items es whole.needs.items) (LateFlow (at.flow its.k))
-      (Contains-append_right (lines_of_each without_period 0 es) (overload busy load_there ++ lines_of_each lateness 0 es) (LateFlow (at.flow its.k))
-      (Contains-append_right (overload busy load_there) (lines_of_each lateness 0 es) (LateFlow (at.flow its.k))
-      (line_told lateness 0 es (at.flow its.k) e (LateFlow (at.flow its.k)) at_e
-      (subst (λ n. Contains (lateness n e) (LateFlow (at.flow its.k))) zero_there late)))))
+      subst (IsFoundThere at part all_there) (sym (is_it ∙ ap LateFlow zero_here)) (
+        inside,
+        Contains-append_left (load_findings busy load_there es) (old_needs busy whole.requests.items whole.flows.items es whole.needs.items) (LateFlow (at.flow its.k))
+            (Contains-append_right (lines_of_each without_period 0 es) (overload busy load_there ++ lines_of_each lateness 0 es) (LateFlow (at.flow its.k))
+            (Contains-append_right (overload busy load_there) (lines_of_each lateness 0 es) (LateFlow (at.flow its.k))
+            (line_told lateness 0 es (at.flow its.k) e (LateFlow (at.flow its.k)) at_e
+            (subst (λ n. Contains (lateness n e) (LateFlow (at.flow its.k))) zero_there late)))),
+      )
 
-  found_there : (finding : LoadFinding) → Contains (all_findings part timing load_here ds) finding → IsFoundThere at all_there finding
+  found_there : (finding : LoadFinding) → Contains (all_findings part timing load_here ds) finding → IsFoundThere at part all_there finding
   found_there finding found =
       elim (Contains-append_cases (load_findings timing load_here ds) (old_needs timing part.requests.items part.flows.items ds part.needs.items) finding found) [
-        | inr old ↦ let (d, is_it) = of_old timing part ds finding old in subst (IsFoundThere at all_there) (sym is_it) tt
+        | inr old ↦ let (d, is_it) = of_old timing part ds finding old in subst (IsFoundThere at part all_there) (sym is_it) tt
         | inl others ↦ elim (Contains-append_cases (lines_of_each without_period 0 ds) (overload timing load_here ++ lines_of_each lateness 0 ds) finding others) [
           | inl unpaced ↦ unpaced_found finding unpaced
           | inr more ↦ elim (Contains-append_cases (overload timing load_here) (lines_of_each lateness 0 ds) finding more) [
@@ -313,10 +318,10 @@ module _ (at : Places) (part whole : Plan) (is : IsPartAt at part whole) (good :
 
 module _ (at : Places) (part whole : Plan) (is : IsPartAt at part whole) (good : HasGoodNumbers whole) (here there : List LoadFinding) where
   by_timing : (o : Option Timing) → AreLoadFindings part (option_map (with_claims part) o) here → AreLoadFindings whole (option_map (with_claims whole) o) there
-      → (finding : LoadFinding) → Contains here finding → IsFoundThere at there finding
+      → (finding : LoadFinding) → Contains here finding → IsFoundThere at part there finding
   by_timing None none_here none_there finding found = absurd (none_of finding (subst (λ l. Contains l finding) none_here found))
   by_timing (Some timing) (told, ds, asks, is_here) (stays, es, asks_there, is_there) finding found =
-      subst (λ l. IsFoundThere at l finding) (sym is_there)
+      subst (λ l. IsFoundThere at part l finding) (sym is_there)
       (found_there at part whole is good (with_claims part timing) (unplanned_of whole timing) (few_unplanned whole timing) (unplanned_there at part whole is timing)
       told stays ds es asks asks_there finding (subst (λ l. Contains l finding) is_here found))
 
