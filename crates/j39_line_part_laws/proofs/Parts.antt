@@ -120,37 +120,37 @@ module _ (line : ProductLine) (v w : List ℕ) (covered : IsCoveredBy line v w) 
   fewer_of : (lists : List (Vec Alternative Global)) → KeepAll lists v w → AreFewer (flags v lists) (flags w lists)
   fewer_of lists = fewer lists v w
 
-  units_fewer : AreFewer (flags v line.lists.units.items) (flags w line.lists.units.items)
+  pub units_fewer : AreFewer (flags v line.lists.units.items) (flags w line.lists.units.items)
   units_fewer = fewer_of line.lists.units.items (λ c p at. let (q, at_q, covers) = covered c p at in (q, at_q, keep_units line _ _ covers))
 
-  groups_fewer : AreFewer (flags v line.lists.groups.items) (flags w line.lists.groups.items)
+  pub groups_fewer : AreFewer (flags v line.lists.groups.items) (flags w line.lists.groups.items)
   groups_fewer = fewer_of line.lists.groups.items (λ c p at. let (q, at_q, covers) = covered c p at in (q, at_q, keep_groups line _ _ covers))
 
-  flows_fewer : AreFewer (flags v line.lists.flows.items) (flags w line.lists.flows.items)
+  pub flows_fewer : AreFewer (flags v line.lists.flows.items) (flags w line.lists.flows.items)
   flows_fewer = fewer_of line.lists.flows.items (λ c p at. let (q, at_q, covers) = covered c p at in (q, at_q, keep_flows line _ _ covers))
 
-  requests_fewer : AreFewer (flags v line.lists.requests.items) (flags w line.lists.requests.items)
+  pub requests_fewer : AreFewer (flags v line.lists.requests.items) (flags w line.lists.requests.items)
   requests_fewer = fewer_of line.lists.requests.items (λ c p at. let (q, at_q, covers) = covered c p at in (q, at_q, keep_requests line _ _ covers))
 
-  abbrev unit_place : ℕ → ℕ
+  abbrev pub unit_place : ℕ → ℕ
   unit_place = thin (flags v line.lists.units.items) (flags w line.lists.units.items)
 
-  abbrev group_place : ℕ → ℕ
+  abbrev pub group_place : ℕ → ℕ
   group_place = thin (flags v line.lists.groups.items) (flags w line.lists.groups.items)
 
-  abbrev flow_here : FlowPlan → Option FlowPlan
+  abbrev pub flow_here : FlowPlan → Option FlowPlan
   flow_here = moved_flow (unit_places line v) (group_places line v)
 
-  abbrev flow_in : FlowPlan → Option FlowPlan
+  abbrev pub flow_in : FlowPlan → Option FlowPlan
   flow_in = moved_flow (unit_places line w) (group_places line w)
 
-  abbrev request_here : RequestPlan → Option RequestPlan
+  abbrev pub request_here : RequestPlan → Option RequestPlan
   request_here = moved_request (unit_places line v) (group_places line v)
 
-  abbrev request_in : RequestPlan → Option RequestPlan
+  abbrev pub request_in : RequestPlan → Option RequestPlan
   request_in = moved_request (unit_places line w) (group_places line w)
 
-  abbrev at : Places
+  abbrev pub at : Places
   at = record {
     unit = unit_place;
     group = group_place;
@@ -159,14 +159,14 @@ module _ (line : ProductLine) (v w : List ℕ) (covered : IsCoveredBy line v w) 
         (kept request_in (flags w line.lists.requests.items) line.plan.requests.items);
   }
 
-  units_there : (i p : ℕ) → place_at (unit_places line v) i ≡ Some p → place_at (unit_places line w) i ≡ Some (unit_place p)
+  pub units_there : (i p : ℕ) → place_at (unit_places line v) i ≡ Some p → place_at (unit_places line w) i ≡ Some (unit_place p)
   units_there = place_there (flags v line.lists.units.items) (flags w line.lists.units.items) units_fewer
 
-  groups_there : (i p : ℕ) → place_at (group_places line v) i ≡ Some p → place_at (group_places line w) i ≡ Some (group_place p)
+  pub groups_there : (i p : ℕ) → place_at (group_places line v) i ≡ Some p → place_at (group_places line w) i ≡ Some (group_place p)
   groups_there = place_there (flags v line.lists.groups.items) (flags w line.lists.groups.items) groups_fewer
 
   module _ (part whole : Plan) (here : IsVariantPlan line v part) (there : IsVariantPlan line w whole) where
-    is_part_at : IsPartAt at part whole
+    pub is_part_at : IsPartAt at part whole
     is_part_at = record {
       units = subst (λ xs. AreSome at.unit IsSame xs whole.units.items) (sym here.has_units)
           (subst (AreSome at.unit IsSame (picked (flags v line.lists.units.items) line.plan.units.items)) (sym there.has_units)

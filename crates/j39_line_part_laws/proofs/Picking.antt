@@ -100,7 +100,7 @@ pub record IsCopied {X : Type 0} (C : X → X → Type 0) (xs : List X) (i : ℕ
   pub value_is : slice_get xs i ≡ Some value
   pub copies : C value copy
 
-copy_of : {X : Type 0} (C : X → X → Type 0) (xs ys : List X) → AllZip C xs ys → (i : ℕ) (y : X) → slice_get ys i ≡ Some y → IsCopied C xs i y
+pub copy_of : {X : Type 0} (C : X → X → Type 0) (xs ys : List X) → AllZip C xs ys → (i : ℕ) (y : X) → slice_get ys i ≡ Some y → IsCopied C xs i y
 copy_of C [] [] zip i y at = absurd (no_value i y at)
 copy_of C [] (z ∷ ys) zip i y at = absurd zip
 copy_of C (x ∷ xs) [] zip i y at = absurd zip
