@@ -20,7 +20,7 @@ use Rattle.j39_network.specs.declared.plan.request_plan.RequestPlan.{RequestPlan
 use Rattle.j39_network.specs.declared.plan.unit_plan.UnitPlan.{UnitPlan}
 use Rattle.j39_variants.specs.declared.line.ProductLine.{ProductLine}
 use Rattle.j39_part_laws.specs.ByAbsence.{comes_by_absence, IsFoundThere}
-use Rattle.j39_part_laws.specs.Parts.{HoldsThere, IsPartAt, Places}
+use Rattle.j39_part_laws.specs.PlanParts.{HoldsThere, IsPartAt, Places}
 use Rattle.j39_part_laws.proofs.Findings.{holds_there}
 use Rattle.j39_part_laws.proofs.LoadFindings.{are_found_there}
 use Rattle.j39_line_findings.specs.InFile.{amount_of, finding_in_file, load_finding_in_file, rank_by, rank_of}

@@ -13,13 +13,13 @@ use Rattle.j39_variants.specs.declared.line.Alternative.{Alternative}
 use Rattle.j39_variants.specs.declared.line.ProductLine.{ProductLine}
 use Rattle.j39_variants.specs.VariantPlans.{flags, flow_between, group_places, IsCopyOfGroup, IsVariantPlan, moved_flow, moved_receivers, moved_request, picked, place_at}
 use Rattle.j39_variants.specs.VariantPlans.{request_between, unit_places}
-use Rattle.j39_part_laws.specs.Parts.{AreSome, IsFlow, IsGroup, IsPart, IsPartAt, IsRequest, IsSame, Places, to_in}
+use Rattle.j39_part_laws.specs.PlanParts.{AreSome, IsFlowThere, IsGroupThere, IsPlanPart, IsPartAt, IsRequestThere, IsSame, Places, to_in}
 use Rattle.j39_line_part_laws.specs.Covering.{IsCoveredBy}
 use Rattle.j39_line_part_laws.proofs.Boxes.{AreFewer, fewer, keep_flows, keep_groups, keep_requests, keep_units, KeepAll}
 use Rattle.j39_line_part_laws.proofs.Picking.{kept, place_there, some_copied, some_kept, some_picked, thin}
 
 -- two copies of one group
-copies_alike : (g h k : GroupPlan) → IsCopyOfGroup g h → IsCopyOfGroup g k → IsGroup h k
+copies_alike : (g h k : GroupPlan) → IsCopyOfGroup g h → IsCopyOfGroup g k → IsGroupThere h k
 copies_alike g h k one other = record {
   label = ap (λ l. l.bytes) (other.label ∙ sym one.label);
   pgn = other.pgn ∙ sym one.pgn;
@@ -87,7 +87,7 @@ module _ (at : Places) (us ws gs hs : List (Option ℕ)) (units : (i p : ℕ) �
       go None is_o none = absurd (none-some y none)
       go (Some p) is_o its = ap (option_map One) (units u p is_o) ∙ ap (λ z. Some (to_in at z)) (same_Some (One p) y its)
 
-  pub flow_there : (f y : FlowPlan) → moved_flow us gs f ≡ Some y → (z : FlowPlan) × (moved_flow ws hs f ≡ Some z) × IsFlow at y z
+  pub flow_there : (f y : FlowPlan) → moved_flow us gs f ≡ Some y → (z : FlowPlan) × (moved_flow ws hs f ≡ Some z) × IsFlowThere at y z
   flow_there f y moved =
       let its = flow_of f (place_at gs f.group) (place_at us f.sender) (moved_receivers us f.to) y moved in
       let group = groups f.group y.group its.group in
@@ -100,7 +100,7 @@ module _ (at : Places) (us ws gs hs : List (Option ℕ)) (units : (i p : ℕ) �
         record { group = refl; sender = refl; to = refl; pace = its.pace; pause = its.pause; on_request = its.on_request },
       )
 
-  pub request_there : (r y : RequestPlan) → moved_request us gs r ≡ Some y → (z : RequestPlan) × (moved_request ws hs r ≡ Some z) × IsRequest at y z
+  pub request_there : (r y : RequestPlan) → moved_request us gs r ≡ Some y → (z : RequestPlan) × (moved_request ws hs r ≡ Some z) × IsRequestThere at y z
   request_there r y moved =
       let its = request_of r (place_at gs r.group) (place_at us r.sender) (moved_receivers us r.to) y moved in
       let group = groups r.group y.group its.group in
@@ -171,17 +171,17 @@ module _ (line : ProductLine) (v w : List ℕ) (covered : IsCoveredBy line v w) 
       units = subst (λ xs. AreSome at.unit IsSame xs whole.units.items) (sym here.has_units)
           (subst (AreSome at.unit IsSame (picked (flags v line.lists.units.items) line.plan.units.items)) (sym there.has_units)
           (some_picked (flags v line.lists.units.items) (flags w line.lists.units.items) line.plan.units.items units_fewer));
-      groups = some_copied IsCopyOfGroup IsGroup copies_alike at.group (picked (flags v line.lists.groups.items) line.plan.groups.items)
+      groups = some_copied IsCopyOfGroup IsGroupThere copies_alike at.group (picked (flags v line.lists.groups.items) line.plan.groups.items)
           (picked (flags w line.lists.groups.items) line.plan.groups.items) part.groups.items whole.groups.items
           (some_picked (flags v line.lists.groups.items) (flags w line.lists.groups.items) line.plan.groups.items groups_fewer) here.has_groups there.has_groups;
-      flows = subst (λ xs. AreSome at.flow (IsFlow at) xs whole.flows.items) (sym here.has_flows)
-          (subst (AreSome at.flow (IsFlow at) (filter_map flow_here (picked (flags v line.lists.flows.items) line.plan.flows.items))) (sym there.has_flows)
-          (some_kept (IsFlow at) flow_here flow_in
+      flows = subst (λ xs. AreSome at.flow (IsFlowThere at) xs whole.flows.items) (sym here.has_flows)
+          (subst (AreSome at.flow (IsFlowThere at) (filter_map flow_here (picked (flags v line.lists.flows.items) line.plan.flows.items))) (sym there.has_flows)
+          (some_kept (IsFlowThere at) flow_here flow_in
           (flow_there at (unit_places line v) (unit_places line w) (group_places line v) (group_places line w) units_there groups_there)
           (flags v line.lists.flows.items) (flags w line.lists.flows.items) line.plan.flows.items flows_fewer));
-      requests = subst (λ xs. AreSome at.request (IsRequest at) xs whole.requests.items) (sym here.has_requests)
-          (subst (AreSome at.request (IsRequest at) (filter_map request_here (picked (flags v line.lists.requests.items) line.plan.requests.items))) (sym there.has_requests)
-          (some_kept (IsRequest at) request_here request_in
+      requests = subst (λ xs. AreSome at.request (IsRequestThere at) xs whole.requests.items) (sym here.has_requests)
+          (subst (AreSome at.request (IsRequestThere at) (filter_map request_here (picked (flags v line.lists.requests.items) line.plan.requests.items))) (sym there.has_requests)
+          (some_kept (IsRequestThere at) request_here request_in
           (request_there at (unit_places line v) (unit_places line w) (group_places line v) (group_places line w) units_there groups_there)
           (flags v line.lists.requests.items) (flags w line.lists.requests.items) line.plan.requests.items requests_fewer));
       keep_free = here.has_keep_free ∙ sym there.has_keep_free;
@@ -191,5 +191,5 @@ module _ (line : ProductLine) (v w : List ℕ) (covered : IsCoveredBy line v w) 
     }
 
 pub is_part : (line : ProductLine) (v w : List ℕ) (part whole : Plan) → IsCoveredBy line v w → IsVariantPlan line v part → IsVariantPlan line w whole
-    → IsPart part whole
+    → IsPlanPart part whole
 is_part line v w part whole covered here there = (at line v w covered, is_part_at line v w covered part whole here there)

@@ -5,7 +5,7 @@ use Rattle.std.proofs.lemmas.Bool.{false≢true}
 use Rattle.std.proofs.lemmas.Option.{none-some, same_Some}
 use Rattle.j39_search.specs.ListPlaces.{ValueAt}
 use Rattle.j39_variants.specs.VariantPlans.{picked, place_at, places}
-use Rattle.j39_part_laws.specs.Parts.{AreSome, IsSame}
+use Rattle.j39_part_laws.specs.PlanParts.{AreSome, IsSame}
 use Rattle.j39_line_part_laws.proofs.Boxes.{AreFewer}
 
 -- where what is picked by the first flags stands among what is picked by the second

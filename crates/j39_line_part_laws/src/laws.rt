@@ -5,7 +5,7 @@ ghost use Rattle.j39_line_findings.specs.declared.line_finding.LineFinding.{Line
 ghost use Rattle.j39_line_part_laws.specs.Covering.{IsCoveredBy};
 ghost use Rattle.j39_line_part_laws.specs.FoundOfCovering.{AreFoundOfCovering, OnlyAbsenceIsTold};
 ghost use Rattle.j39_network.specs.declared.plan.Plan.{Plan};
-ghost use Rattle.j39_part_laws.specs.Parts.{IsPart};
+ghost use Rattle.j39_part_laws.specs.PlanParts.{IsPlanPart};
 ghost use Rattle.j39_variants.specs.VariantPlans.{IsVariantPlan};
 ghost use Rattle.j39_variants.specs.Variants.{IsVariant, is_possible};
 ghost use Rattle.j39_variants.specs.declared.line.ProductLine.{ProductLine};
@@ -14,7 +14,7 @@ ghost use Rattle.j39_variants.specs.declared.line.ProductLine.{ProductLine};
 /// the other one's.
 pub fn covered_variants_are_parts()
     ensures { (line : ProductLine) (v w : List ℕ) (part whole : Plan) → IsCoveredBy line v w
-        → IsVariantPlan line v part → IsVariantPlan line w whole → IsPart part whole }
+        → IsVariantPlan line v part → IsVariantPlan line w whole → IsPlanPart part whole }
 {}
 
 /// And where it is possible, so is the other one.

@@ -22,8 +22,8 @@ use Rattle.j39_load.specs.Broadcasts.{broadcast_by, broadcasts_by, unit_load, ea
 use Rattle.j39_load.specs.Loads.{load_of_flow, loads_of}
 use Rattle.j39_load.specs.RequestLoads.{load_of_request, request_loads_of}
 use Rattle.j39_load.proofs.PositivePeriods.{broadcasts_paced, every_flow, HasPackets}
-use Rattle.j39_part_laws.specs.Loads.{HasGoodNumbers}
-use Rattle.j39_part_laws.specs.Parts.{AreSome, IsFlow, IsPartAt, IsRequest, Places}
+use Rattle.j39_part_laws.specs.PartLoads.{HasGoodNumbers}
+use Rattle.j39_part_laws.specs.PlanParts.{AreSome, IsFlowThere, IsPartAt, IsRequestThere, Places}
 use Rattle.j39_part_laws.specs.Sublists.{IsSub}
 use Rattle.j39_part_laws.proofs.FlowLoads.{flow_alike, flows_alike, FramesAlike, LoadsAlike, singles_there}
 use Rattle.j39_part_laws.proofs.PlanFrames.{there_too, unit_at_place}
@@ -152,14 +152,14 @@ module _ (at : Places) (part whole : Plan) (is : IsPartAt at part whole) (good :
   ks = loads_of timing whole stays
 
   pub flows_some : AreSome at.flow (LoadsAlike at) ls ks
-  flows_some = some_map (IsFlow at) (LoadsAlike at) (load_of_flow timing part told) (load_of_flow timing whole stays) at.flow part.flows.items whole.flows.items
+  flows_some = some_map (IsFlowThere at) (LoadsAlike at) (load_of_flow timing part told) (load_of_flow timing whole stays) at.flow part.flows.items whole.flows.items
       is.flows (flow_alike at part whole is good stays told decides tells_who timing)
 
   pub flows_sub : IsSub (LoadsAlike at) ls ks
   flows_sub = sub_of (LoadsAlike at) ls ks at.flow flows_some.rises flows_some.each
 
   pub requests_some : AreSome at.request (RequestsAlike at) (request_loads_of timing part told) (request_loads_of timing whole stays)
-  requests_some = some_map (IsRequest at) (RequestsAlike at) (load_of_request timing part.units.items told) (load_of_request timing whole.units.items stays)
+  requests_some = some_map (IsRequestThere at) (RequestsAlike at) (load_of_request timing part.units.items told) (load_of_request timing whole.units.items stays)
       at.request part.requests.items whole.requests.items is.requests (request_there at part whole is stays told decides tells_who timing)
 
   units_from : (xs ys : List (Option FlowLoad)) → IsSub (LoadsAlike at) xs ys → ((u : ℕ) → All HasPackets (broadcasts_by u ys))

@@ -19,8 +19,8 @@ use Rattle.j39_load.specs.Demands.{demands_of}
 use Rattle.j39_load.specs.LineLists.{lines_of_each}
 use Rattle.j39_load.specs.Loads.{longest_wait}
 use Rattle.j39_timing.specs.declared.stream.Stream.{Stream}
-use Rattle.j39_part_laws.specs.Loads.{counting}
-use Rattle.j39_part_laws.specs.Parts.{AreSome}
+use Rattle.j39_part_laws.specs.PartLoads.{counting}
+use Rattle.j39_part_laws.specs.PlanParts.{AreSome}
 use Rattle.j39_part_laws.specs.Shares.{AsksNoMore, WaitNoLonger}
 use Rattle.j39_part_laws.specs.Sublists.{IsSub}
 use Rattle.j39_part_laws.proofs.Frames.{AreFrames, AreFramesWhere, asks_no_more, damage_asks, same_order}

@@ -19,7 +19,7 @@ use Rattle.j39_load.specs.Asked.{asked_by, asked_of}
 use Rattle.j39_load.specs.Broadcasts.{broadcasts_by, known_unit_load, unit_loads_of}
 use Rattle.j39_load.specs.Loads.{flow_load, has_short, is_always_short, limit_by, load_of_flow, load_of_messages, loads_of, long_messages, single_frames, time_limit}
 use Rattle.j39_load.specs.RequestLoads.{load_of_request, request_load, request_loads_of}
-use Rattle.j39_part_laws.specs.Loads.{counting}
+use Rattle.j39_part_laws.specs.PartLoads.{counting}
 
 map_same : {A B : Type 0} (f g : A → B) → ((x : A) → f x ≡ g x) → (xs : List A) → map f xs ≡ map g xs
 map_same f g same [] = refl

@@ -12,7 +12,7 @@ use Rattle.j39_network.specs.declared.plan.Plan.{Plan}
 use Rattle.j39_load.specs.declared.findings.load_finding.LoadFinding.{LoadFinding}
 use Rattle.j39_load.specs.declared.findings.load_finding.LoadFinding.TheVariants.{NoPeriod, Overload, LateFlow, NeedTooOld}
 use Rattle.j39_part_laws.specs.ByAbsence.{comes_by_absence, IsFoundThere, load_comes_by_absence, OnlyAbsenceStays}
-use Rattle.j39_part_laws.specs.Parts.{HoldsThere, IsPart, Places}
+use Rattle.j39_part_laws.specs.PlanParts.{HoldsThere, IsPlanPart, Places}
 use Rattle.j39_part_laws.proofs.Findings.{holds_there}
 use Rattle.j39_part_laws.proofs.LoadFindings.{are_found_there}
 
@@ -43,7 +43,7 @@ module _ (at : Places) (whole : Plan) (only : (finding : Finding) → Holds whol
   by_absence (SilentInPool u) found = only (SilentInPool (at.unit u)) found
   by_absence (FlowContested f) found = only (FlowContested (at.flow f)) found
 
-pub only_absence_stays : (part whole : Plan) → IsPart part whole → OnlyAbsenceStays part whole
+pub only_absence_stays : (part whole : Plan) → IsPlanPart part whole → OnlyAbsenceStays part whole
 only_absence_stays part whole (at, is) here there are are_there only = record {
   plans = λ finding found. by_absence at whole only.plans finding (holds_there at part whole is finding found);
   loads = λ finding found. by_load finding (are_found_there at part whole is (λ g bad. false≢true (only.plans (BadPgn g) bad)) here there are are_there finding found);

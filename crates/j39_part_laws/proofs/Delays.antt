@@ -20,9 +20,9 @@ use Rattle.j39_load.specs.Loads.{longest_wait}
 use Rattle.j39_load.specs.Twins.{are_twins, is_same, may_precede}
 use Rattle.j39_load.proofs.BufferingDelays.{buffered_read, one_each}
 use Rattle.j39_timing.specs.Traffic.{delay_of}
-use Rattle.j39_part_laws.specs.Delays.{IsNoLater}
-use Rattle.j39_part_laws.specs.Loads.{counting}
-use Rattle.j39_part_laws.specs.Parts.{AreSome}
+use Rattle.j39_part_laws.specs.PartDelays.{IsNoLater}
+use Rattle.j39_part_laws.specs.PartLoads.{counting}
+use Rattle.j39_part_laws.specs.PlanParts.{AreSome}
 use Rattle.j39_part_laws.specs.Shares.{WaitNoLonger}
 use Rattle.j39_part_laws.specs.Sublists.{IsSub}
 use Rattle.j39_part_laws.proofs.Buffering.{Always, buffered_no_longer, IsNoLess, least_sub}

@@ -29,7 +29,7 @@ use Rattle.j39_search.proofs.Members.{all_at}
 use Rattle.j39_signal.specs.Places.{SharesBit, WidthFits}
 use Rattle.j39_signal.specs.Selectors.{DifferInValue}
 use Rattle.j39_part_laws.proofs.Groups.{bad_pgn, may_be_one_frame, one_frame, outside, overlap, records, selector_outside, text_outside, width}
-use Rattle.j39_part_laws.specs.Parts.{HoldsThere, IsFlow, IsGroup, IsPartAt, IsRequest, IsSame, Places, to_in}
+use Rattle.j39_part_laws.specs.PlanParts.{HoldsThere, IsFlowThere, IsGroupThere, IsPartAt, IsRequestThere, IsSame, Places, to_in}
 use Rattle.j39_part_laws.proofs.Places.{pair_same, pair_there, value_same, value_there}
 use Rattle.j39_part_laws.proofs.Staying.{stay_there}
 use Rattle.j39_part_laws.proofs.Sublists.{more_meet, sub_of_some}
@@ -41,40 +41,40 @@ module _ (at : Places) (part whole : Plan) (is : IsPartAt at part whole) where
   units_there : (R : UnitPlan → UnitPlan → Type 0) (i j : ℕ) → PairAt R part.units.items i j → PairAt R whole.units.items (at.unit i) (at.unit j)
   units_there = pair_same at.unit part.units.items whole.units.items is.units
 
-  group_there : (P Q : GroupPlan → Type 0) → ((g h : GroupPlan) → IsGroup g h → P g → Q h) → (i : ℕ) → ValueAt P part.groups.items i
+  group_there : (P Q : GroupPlan → Type 0) → ((g h : GroupPlan) → IsGroupThere g h → P g → Q h) → (i : ℕ) → ValueAt P part.groups.items i
       → ValueAt Q whole.groups.items (at.group i)
-  group_there = value_there at.group IsGroup part.groups.items whole.groups.items is.groups
+  group_there = value_there at.group IsGroupThere part.groups.items whole.groups.items is.groups
 
   -- ---- flows
 
-  flow_there : (P Q : FlowPlan → Type 0) → ((f h : FlowPlan) → IsFlow at f h → P f → Q h) → (i : ℕ) → ValueAt P part.flows.items i
+  flow_there : (P Q : FlowPlan → Type 0) → ((f h : FlowPlan) → IsFlowThere at f h → P f → Q h) → (i : ℕ) → ValueAt P part.flows.items i
       → ValueAt Q whole.flows.items (at.flow i)
-  flow_there = value_there at.flow (IsFlow at) part.flows.items whole.flows.items is.flows
+  flow_there = value_there at.flow (IsFlowThere at) part.flows.items whole.flows.items is.flows
 
   -- the group that a flow sends
-  sent_there : (P Q : GroupPlan → Type 0) → ((g h : GroupPlan) → IsGroup g h → P g → Q h) → (f h : FlowPlan) → IsFlow at f h
+  sent_there : (P Q : GroupPlan → Type 0) → ((g h : GroupPlan) → IsGroupThere g h → P g → Q h) → (f h : FlowPlan) → IsFlowThere at f h
       → ValueAt P part.groups.items f.group → ValueAt Q whole.groups.items h.group
   sent_there P Q over f h stands sent = subst (ValueAt Q whole.groups.items) (sym stands.group) (group_there P Q over f.group sent)
 
-  sends_there : (g x : GroupPlan) → IsGroup g x → (f h : FlowPlan) → IsFlow at f h → Sends part.groups.items g f → Sends whole.groups.items x h
+  sends_there : (g x : GroupPlan) → IsGroupThere g x → (f h : FlowPlan) → IsFlowThere at f h → Sends part.groups.items g f → Sends whole.groups.items x h
   sends_there g x same = sent_there (λ sent. sent.label.bytes ≡ g.label.bytes) (λ sent. sent.label.bytes ≡ x.label.bytes)
       (λ sent there one label. one.label ∙ label ∙ sym same.label)
 
-  to_one_there : (f h : FlowPlan) → IsFlow at f h → CannotGoToOne part.groups.items f → CannotGoToOne whole.groups.items h
+  to_one_there : (f h : FlowPlan) → IsFlowThere at f h → CannotGoToOne part.groups.items f → CannotGoToOne whole.groups.items h
   to_one_there f h stands ((receiver, to), sent) = ((at.unit receiver, stands.to ∙ ap (to_in at) to), sent_there IsOneFrameToAll IsOneFrameToAll one_frame f h stands sent)
 
-  to_self_there : (f h : FlowPlan) → IsFlow at f h → GoesToItsSender f → GoesToItsSender h
+  to_self_there : (f h : FlowPlan) → IsFlowThere at f h → GoesToItsSender f → GoesToItsSender h
   to_self_there f h stands to = stands.to ∙ ap (to_in at) to ∙ ap One (sym stands.sender)
 
-  one_flow_there : (f k x y : FlowPlan) → IsFlow at f x → IsFlow at k y → AreOneFlow f k → AreOneFlow x y
+  one_flow_there : (f k x y : FlowPlan) → IsFlowThere at f x → IsFlowThere at k y → AreOneFlow f k → AreOneFlow x y
   one_flow_there f k x y one other (group, sender, to) = (
     one.group ∙ ap at.group group ∙ sym other.group,
     one.sender ∙ ap at.unit sender ∙ sym other.sender,
     one.to ∙ ap (to_in at) to ∙ sym other.to,
   )
 
-  module _ (g h v w : GroupPlan) (same : IsGroup g v) (also : IsGroup h w) where
-    receivers_there : (f k x y : FlowPlan) → IsFlow at f x → IsFlow at k y → DoReceiversMeet g h f k → DoReceiversMeet v w x y
+  module _ (g h v w : GroupPlan) (same : IsGroupThere g v) (also : IsGroupThere h w) where
+    receivers_there : (f k x y : FlowPlan) → IsFlowThere at f x → IsFlowThere at k y → DoReceiversMeet g h f k → DoReceiversMeet v w x y
     receivers_there f k x y one other (inl to) = inl (one.to ∙ ap (to_in at) to)
     receivers_there f k x y one other (inr (inl to)) = inr (inl (other.to ∙ ap (to_in at) to))
     receivers_there f k x y one other (inr (inr (inl equal))) = inr (inr (inl (one.to ∙ ap (to_in at) equal ∙ sym other.to)))
@@ -109,7 +109,7 @@ module _ (at : Places) (part whole : Plan) (is : IsPartAt at part whole) where
 
   -- ---- requests
 
-  one_number_there : (r s x y : RequestPlan) → IsRequest at r x → IsRequest at s y → AskForOneNumber part.groups.items r s
+  one_number_there : (r s x y : RequestPlan) → IsRequestThere at r x → IsRequestThere at s y → AskForOneNumber part.groups.items r s
       → AskForOneNumber whole.groups.items x y
   one_number_there r s x y one other asked =
       subst (ValueAt (λ g. ValueAt (λ h. g.pgn ≡ h.pgn) whole.groups.items y.group) whole.groups.items) (sym one.group)
@@ -117,7 +117,7 @@ module _ (at : Places) (part whole : Plan) (is : IsPartAt at part whole) where
       (λ g v same found. subst (ValueAt (λ h. v.pgn ≡ h.pgn) whole.groups.items) (sym other.group)
       (group_there (λ h. g.pgn ≡ h.pgn) (λ h. v.pgn ≡ h.pgn) (λ h w also number. same.pgn ∙ number ∙ sym also.pgn) s.group found)) r.group asked)
 
-  ask_the_same_there : (r s x y : RequestPlan) → IsRequest at r x → IsRequest at s y → AskTheSame part.groups.items r s → AskTheSame whole.groups.items x y
+  ask_the_same_there : (r s x y : RequestPlan) → IsRequestThere at r x → IsRequestThere at s y → AskTheSame part.groups.items r s → AskTheSame whole.groups.items x y
   ask_the_same_there r s x y one other (number, sender, to) = (
     one_number_there r s x y one other number,
     one.sender ∙ ap at.unit sender ∙ sym other.sender,
@@ -172,7 +172,7 @@ module _ (at : Places) (part whole : Plan) (is : IsPartAt at part whole) where
   holds_there (SameFixedAddress i j) found = units_there HaveSameFixedAddress i j found
   holds_there (TooFewAddresses n) found = too_few_there n found
   holds_there (BadPgn g) found = group_there HasBadPgn HasBadPgn bad_pgn g found
-  holds_there (SamePgn g h) found = pair_there at.group IsGroup part.groups.items whole.groups.items is.groups
+  holds_there (SamePgn g h) found = pair_there at.group IsGroupThere part.groups.items whole.groups.items is.groups
       (HaveSamePgn part.groups.items part.flows.items) (HaveSamePgn whole.groups.items whole.flows.items)
       (λ x y z w one other. same_pgn_there x y z w one other) g h found
   holds_there (SignalWidth g s) found = group_there _ _ (λ x y same. width x y same s (λ signal. ¬ WidthFits signal)) g found
@@ -180,7 +180,7 @@ module _ (at : Places) (part whole : Plan) (is : IsPartAt at part whole) where
   holds_there (SignalOverlap g s t) found = group_there _ _ (λ x y same. overlap x y same s t SharesBit) g found
   holds_there (FlowToOne f) found = flow_there _ _ to_one_there f found
   holds_there (FlowToSelf f) found = flow_there _ _ to_self_there f found
-  holds_there (FlowRepeated f h) found = pair_there at.flow (IsFlow at) part.flows.items whole.flows.items is.flows AreOneFlow AreOneFlow
+  holds_there (FlowRepeated f h) found = pair_there at.flow (IsFlowThere at) part.flows.items whole.flows.items is.flows AreOneFlow AreOneFlow
       (λ x y z w one other. one_flow_there x y z w one other) f h found
   holds_there (KeptAddress i) found = subst (λ kept. ValueAt (PrefersKept kept) whole.units.items (at.unit i)) is.keep_free
       (unit_there (PrefersKept part.keep_free) i found)
@@ -192,7 +192,7 @@ module _ (at : Places) (part whole : Plan) (is : IsPartAt at part whole) where
   holds_there (RequestUnheard r) found = tt
   holds_there (AnswerAstray r) found = tt
   holds_there (WhenOutside g) found = group_there _ _ selector_outside g found
-  holds_there (RequestRepeated r s) found = pair_there at.request (IsRequest at) part.requests.items whole.requests.items is.requests
+  holds_there (RequestRepeated r s) found = pair_there at.request (IsRequestThere at) part.requests.items whole.requests.items is.requests
       (AskTheSame part.groups.items) (AskTheSame whole.groups.items) (λ x y z w one other. ask_the_same_there x y z w one other) r s found
   holds_there (SilentAddress u v) found = units_there HaveSilentAddress u v found
   holds_there (SilentInPool u) found = subst (λ n. ValueAt (IsSilentInPool whole.keep_free n) whole.units.items (at.unit u)) is.strangers

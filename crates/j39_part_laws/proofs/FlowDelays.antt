@@ -35,10 +35,10 @@ use Rattle.j39_part_laws.proofs.FlowLoads.{flow_sender}
 use Rattle.j39_part_laws.proofs.Frames.{AreBroadcast}
 use Rattle.j39_part_laws.proofs.Shares.{mul-mono}
 use Rattle.j39_part_laws.proofs.UnitLoads.{UnitsAlike}
-use Rattle.j39_part_laws.specs.Delays.{DelaysNoLater, IsNoLater, IsWholeNoLater}
-use Rattle.j39_part_laws.specs.Loads.{counting, HasGoodNumbers}
+use Rattle.j39_part_laws.specs.PartDelays.{DelaysNoLater, IsNoLater, IsWholeNoLater}
+use Rattle.j39_part_laws.specs.PartLoads.{counting, HasGoodNumbers}
 use Rattle.j39_part_laws.proofs.Busier.{same_asked}
-use Rattle.j39_part_laws.specs.Parts.{AreSome, IsPartAt, Places}
+use Rattle.j39_part_laws.specs.PlanParts.{AreSome, IsPartAt, Places}
 use Rattle.j39_part_laws.proofs.AllFrames.{append_front, flows_some, frames_place, frames_some}
 use Rattle.j39_part_laws.proofs.Buffering.{Always}
 use Rattle.j39_part_laws.proofs.Delays.{frame_no_later}

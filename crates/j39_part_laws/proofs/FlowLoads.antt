@@ -29,8 +29,8 @@ use Rattle.j39_load.specs.Asked.{frames_of_flow, own_frames, singles_of_flow, wa
 use Rattle.j39_load.specs.Loads.{any_unit, bits_at_least, bits_at_most, broadcast_of, destination_at, flow_load, greatest_address, group_ident, has_short, is_always_short, least_address}
 use Rattle.j39_load.specs.Loads.{load_of, load_of_flow, load_of_messages, long_messages, messages_of, of_unit, packet_frames, single_frames, singles_of, twin_ident}
 use Rattle.j39_tp.specs.Chunks.{packets_of}
-use Rattle.j39_part_laws.specs.Parts.{IsFlow, IsPartAt, Places, to_in}
-use Rattle.j39_part_laws.specs.Loads.{HasGoodNumbers}
+use Rattle.j39_part_laws.specs.PlanParts.{IsFlowThere, IsPartAt, Places, to_in}
+use Rattle.j39_part_laws.specs.PartLoads.{HasGoodNumbers}
 use Rattle.j39_load.proofs.Milliseconds.{some_bits}
 use Rattle.j39_part_laws.proofs.Frames.{AreBroadcast, AreFrames}
 use Rattle.j39_part_laws.proofs.Groups.{bad_pgn, same_load}
@@ -98,7 +98,7 @@ module _ (at : Places) (part whole : Plan) (is : IsPartAt at part whole) (good :
       }
 
   -- a flow, and the one that it is in the whole
-  module _ (flow there : FlowPlan) (stands : IsFlow at flow there) (among : IsAmong (length us) flow.to flow.sender) (pace : Pace) (group : GroupPlan)
+  module _ (flow there : FlowPlan) (stands : IsFlowThere at flow there) (among : IsAmong (length us) flow.to flow.sender) (pace : Pace) (group : GroupPlan)
       (page : group.pgn < 131072) (low : pf_of group.pgn < 240 → group.pgn % 256 ≡ 0) where
     flow_twin : (m : ℕ) → twin_ident group flow ≡ Some m → (n : ℕ) × (twin_ident group there ≡ Some n) × AreTwinNumbers at m n
     flow_twin m = go group.when
@@ -274,7 +274,7 @@ module _ (at : Places) (part whole : Plan) (is : IsPartAt at part whole) (good :
           missing (x ∷ xs) zero below none = cc
           missing (x ∷ xs) (suc k) below none = missing xs k (omega (arith, below)) none
 
-  pub flow_alike : (i : ℕ) (flow there : FlowPlan) → slice_get part.flows.items i ≡ Some flow → IsFlow at flow there
+  pub flow_alike : (i : ℕ) (flow there : FlowPlan) → slice_get part.flows.items i ≡ Some flow → IsFlowThere at flow there
       → LoadsAlike at (load_of_flow timing part told flow) (load_of_flow timing whole stays there)
   flow_alike i flow there here stands = go flow.pace refl
     where

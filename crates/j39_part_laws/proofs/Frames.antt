@@ -22,8 +22,8 @@ use Rattle.j39_load.proofs.Milliseconds.{some_inside}
 use Rattle.j39_timing.specs.Waits.{Demand}
 use Rattle.j39_timing.specs.declared.stream.Stream.{Stream}
 use Rattle.j39_timing.specs.declared.wants.Want.{Want}
-use Rattle.j39_part_laws.specs.Loads.{counting}
-use Rattle.j39_part_laws.specs.Parts.{AreSome}
+use Rattle.j39_part_laws.specs.PartLoads.{counting}
+use Rattle.j39_part_laws.specs.PlanParts.{AreSome}
 use Rattle.j39_part_laws.specs.Shares.{AsksNoMore, DemandsNoMore, IsWantedNoMore, WaitNoLonger, WantsNoMore}
 use Rattle.j39_part_laws.specs.Sublists.{IsSub}
 use Rattle.j39_part_laws.proofs.Places.{apart}

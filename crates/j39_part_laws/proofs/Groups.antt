@@ -29,7 +29,7 @@ use Rattle.j39_network.specs.declared.plan.to.To.TheVariants.{All as ToAllUnits,
 use Rattle.j39_signal.specs.declared.selector.Selector.{Selector}
 use Rattle.j39_timing.specs.FrameBits.{longest_frame}
 use Rattle.j39_tp.specs.Chunks.{packets_of}
-use Rattle.j39_part_laws.specs.Parts.{IsGroup}
+use Rattle.j39_part_laws.specs.PlanParts.{IsGroupThere}
 
 abbrev Ends : ℕ → ℕ → SignalParts → Type 0
 Ends length most signal = ¬ IsInside (room_of_signal length most signal) signal
@@ -37,7 +37,7 @@ Ends length most signal = ¬ IsInside (room_of_signal length most signal) signal
 abbrev Lies : ℕ → ℕ → TextPlan → Type 0
 Lies length most text = (length + 1 < text.byte) ⊎ (most < last_byte text)
 
-module _ (g h : GroupPlan) (is : IsGroup g h) where
+module _ (g h : GroupPlan) (is : IsGroupThere g h) where
   pub bad_pgn : HasBadPgn g → HasBadPgn h
   bad_pgn bad = rw (is.pgn, is.private) bad
 

@@ -25,9 +25,9 @@ use Rattle.j39_load.specs.declared.waits.delay.Delay.TheVariants.{Beyond, Late, 
 use Rattle.j39_load.specs.declared.waits.whole_time.WholeTime.{WholeTime}
 use Rattle.j39_load.specs.inside.FewClaims.{few_unplanned}
 use Rattle.j39_part_laws.specs.ByAbsence.{AreFoundThere, IsFoundThere}
-use Rattle.j39_part_laws.specs.Delays.{IsNoLater, IsWholeNoLater}
-use Rattle.j39_part_laws.specs.Loads.{counting, HasGoodNumbers}
-use Rattle.j39_part_laws.specs.Parts.{IsPartAt, IsSame, Places}
+use Rattle.j39_part_laws.specs.PartDelays.{IsNoLater, IsWholeNoLater}
+use Rattle.j39_part_laws.specs.PartLoads.{counting, HasGoodNumbers}
+use Rattle.j39_part_laws.specs.PlanParts.{IsPartAt, IsSame, Places}
 use Rattle.j39_part_laws.proofs.FlowDelays.{delays_no_later}
 use Rattle.j39_part_laws.proofs.Loads.{ask_no_more}
 use Rattle.j39_part_laws.proofs.Shares.{sum-no-more}

@@ -15,9 +15,9 @@ use Rattle.j39_load.specs.declared.loads.unit_load.UnitLoad.{UnitLoad}
 use Rattle.j39_load.specs.Asked.{asked_of, frames_asked, frames_of_flow, total_load}
 use Rattle.j39_load.specs.Loads.{load_of_flow}
 use Rattle.j39_load.specs.Twins.{may_precede}
-use Rattle.j39_part_laws.specs.Loads.{AskNoMore, AskNoMoreThan, counting, HasGoodNumbers, WaitNoLongerThan}
+use Rattle.j39_part_laws.specs.PartLoads.{AskNoMore, AskNoMoreThan, counting, HasGoodNumbers, WaitNoLongerThan}
 use Rattle.j39_part_laws.proofs.Busier.{same_asked}
-use Rattle.j39_part_laws.specs.Parts.{AreSome, IsPartAt, Places}
+use Rattle.j39_part_laws.specs.PlanParts.{AreSome, IsPartAt, Places}
 use Rattle.j39_part_laws.proofs.AllFrames.{flows_some, frames_place, frames_some, requests_some, units_some}
 use Rattle.j39_part_laws.proofs.FlowLoads.{FramesAlike, LoadsAlike}
 use Rattle.j39_part_laws.proofs.Frames.{AreFramesWhere, waits_there}

@@ -3,7 +3,7 @@ use Rattle.std.proofs.Common.{◌≡◌, ◌≢◌, ℕ, zero, suc, ◌<◌, ◌
 use Rattle.std.specs.List.{slice_get}
 use Rattle.std.proofs.lemmas.Bool.{cases_lt}
 use Rattle.j39_search.specs.ListPlaces.{ValueAt, PairAt}
-use Rattle.j39_part_laws.specs.Parts.{AreSome, IsSame}
+use Rattle.j39_part_laws.specs.PlanParts.{AreSome, IsSame}
 
 -- which of two numbers is the smaller one
 pub ordered : (i j : ℕ) → i ≢ j → (i < j) ⊎ (j < i)

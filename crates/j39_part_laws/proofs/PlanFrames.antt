@@ -18,7 +18,7 @@ use Rattle.j39_network.specs.declared.plan.to.To.TheVariants.{All as ToAllUnits,
 use Rattle.j39_network.specs.declared.plan.unit_plan.UnitPlan.{UnitPlan}
 use Rattle.j39_load.specs.Loads.{any_unit, destination_at, greatest_address, is_any, least_address, may_move, of_unit}
 use Rattle.j39_load.proofs.Different.{tells}
-use Rattle.j39_part_laws.specs.Parts.{IsPartAt, Places, to_in}
+use Rattle.j39_part_laws.specs.PlanParts.{IsPartAt, Places, to_in}
 use Rattle.j39_part_laws.proofs.Places.{same_there}
 use Rattle.j39_part_laws.proofs.Staying.{stay_there}
 

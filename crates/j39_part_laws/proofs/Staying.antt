@@ -13,7 +13,7 @@ use Rattle.j39_network.specs.PlannedUnits.{planned_unit, units_of, unit_at}
 use Rattle.j39_network.specs.Staying.{EachOther, EachSmaller, IsAloneBeside, IsAloneThere, IsFirstThere, IsOutsidePool, Stays, StaysBeside}
 use Rattle.j39_network.specs.declared.plan.Plan.{Plan}
 use Rattle.j39_network.specs.declared.plan.unit_plan.UnitPlan.{UnitPlan}
-use Rattle.j39_part_laws.specs.Parts.{IsPartAt, IsSame, Places, StayThere}
+use Rattle.j39_part_laws.specs.PlanParts.{IsPartAt, IsSame, Places, StayThere}
 use Rattle.j39_part_laws.proofs.Places.{apart, same_there}
 
 -- ---- a list of units, and one in which each of them stands at some place

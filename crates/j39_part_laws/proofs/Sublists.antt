@@ -4,7 +4,7 @@ use Rattle.std.specs.List.{cons_option, filter_map, slice_get}
 use Rattle.std.proofs.lemmas.Option.{none-some, same_Some}
 use Rattle.j39_load.specs.LineLists.{lines_of_each}
 use Rattle.j39_search.specs.ListPlaces.{SoManyMeet, ValueAt}
-use Rattle.j39_part_laws.specs.Parts.{AreSome}
+use Rattle.j39_part_laws.specs.PlanParts.{AreSome}
 use Rattle.j39_part_laws.specs.Sublists.{IsSub}
 
 behind : {B : Type 0} (y : B) (ys : List B) (n : ℕ) (v : B) → 0 < n → slice_get (y ∷ ys) n ≡ Some v → slice_get ys (n - 1) ≡ Some v

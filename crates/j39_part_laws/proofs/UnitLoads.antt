@@ -27,7 +27,7 @@ use Rattle.j39_load.specs.Loads.{any_unit, bits_at_least}
 use Rattle.j39_load.proofs.Milliseconds.{some_bits, some_slow}
 use Rattle.j39_load.specs.RequestLoads.{load_of_request, request_load}
 use Rattle.j39_load.proofs.PositivePeriods.{HasPackets, some_announced}
-use Rattle.j39_part_laws.specs.Parts.{IsPartAt, IsRequest, Places}
+use Rattle.j39_part_laws.specs.PlanParts.{IsPartAt, IsRequestThere, Places}
 use Rattle.j39_part_laws.specs.Sublists.{IsSub}
 use Rattle.j39_part_laws.proofs.FlowLoads.{Alike, FramesAlike, LoadsAlike, MessagesAlike}
 use Rattle.j39_part_laws.proofs.Frames.{AreBroadcast, AreOfUnit}
@@ -205,7 +205,7 @@ module _ (at : Places) (part whole : Plan) (is : IsPartAt at part whole) (stays 
 
   -- ---- requests
 
-  pub request_there : (i : ℕ) (request there : RequestPlan) → slice_get part.requests.items i ≡ Some request → IsRequest at request there
+  pub request_there : (i : ℕ) (request there : RequestPlan) → slice_get part.requests.items i ≡ Some request → IsRequestThere at request there
       → RequestsAlike at (load_of_request timing us told request) (load_of_request timing ws stays there)
   request_there i request there here stands = go request.period refl
     where

@@ -8,7 +8,7 @@ use Rattle.j39_load.specs.BusTimes.{timing_of}
 use Rattle.j39_load.specs.LoadFindings.{AreLoadFindings}
 use Rattle.j39_load.specs.declared.findings.load_finding.LoadFinding.{LoadFinding}
 use Rattle.j39_load.specs.declared.findings.load_finding.LoadFinding.TheVariants.{NoPeriod, Overload, LateFlow, NeedTooOld}
-use Rattle.j39_part_laws.specs.Parts.{Places}
+use Rattle.j39_part_laws.specs.PlanParts.{Places}
 
 -- ---- on the load
 

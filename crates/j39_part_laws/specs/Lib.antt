@@ -1,6 +1,6 @@
 pub mod ByAbsence
-pub mod Delays
-pub mod Loads
-pub mod Parts
+pub mod PartDelays
+pub mod PartLoads
+pub mod PlanParts
 pub mod Shares
 pub mod Sublists

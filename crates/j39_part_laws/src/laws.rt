@@ -7,9 +7,9 @@ ghost use Rattle.j39_network.specs.declared.plan.Plan.{Plan};
 ghost use Rattle.j39_network.specs.declared.plan.timing.Timing.{Timing};
 ghost use Rattle.j39_network.specs.declared.plan.unit_plan.UnitPlan.{UnitPlan};
 ghost use Rattle.j39_part_laws.specs.ByAbsence.{AreFoundThere, OnlyAbsenceStays};
-ghost use Rattle.j39_part_laws.specs.Delays.{DelaysNoLater};
-ghost use Rattle.j39_part_laws.specs.Loads.{AskNoMore, HasGoodNumbers, counting};
-ghost use Rattle.j39_part_laws.specs.Parts.{HoldsThere, IsPart, IsPartAt, Places, StayThere};
+ghost use Rattle.j39_part_laws.specs.PartDelays.{DelaysNoLater};
+ghost use Rattle.j39_part_laws.specs.PartLoads.{AskNoMore, HasGoodNumbers, counting};
+ghost use Rattle.j39_part_laws.specs.PlanParts.{HoldsThere, IsPlanPart, IsPartAt, Places, StayThere};
 ghost use Rattle.j39_part_laws.specs.Shares.{AreBounded};
 
 /// Each finding of a part of a plan is one of the whole, at its places there, but for those that come by taking away.
@@ -59,5 +59,5 @@ pub fn loads_of_parts_are_found_in_wholes()
 
 /// Where only absence is found of a plan and of its load, only absence is found of each part.
 pub fn only_absence_is_found_of_parts()
-    ensures { (part whole : Plan) → IsPart part whole → OnlyAbsenceStays part whole }
+    ensures { (part whole : Plan) → IsPlanPart part whole → OnlyAbsenceStays part whole }
 {}

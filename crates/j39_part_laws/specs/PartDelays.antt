@@ -8,17 +8,17 @@ use Rattle.j39_load.specs.Delays.{HasDelay}
 use Rattle.j39_load.specs.declared.waits.delay.Delay.{Delay}
 use Rattle.j39_load.specs.declared.waits.delay.Delay.TheVariants.{Beyond, Late, Long, Whole, Within}
 use Rattle.j39_load.specs.declared.waits.whole_time.WholeTime.{WholeTime}
-use Rattle.j39_part_laws.specs.Parts.{Places}
+use Rattle.j39_part_laws.specs.PlanParts.{Places}
 
 -- where the second time is known the first is, and is no greater
-abbrev pub IsKnownWithin : Option ℕ → Option ℕ → Type 0
-IsKnownWithin a b = (n : ℕ) → b ≡ Some n → (m : ℕ) × (a ≡ Some m) × (m ≤ n)
+abbrev pub IsKnownNoLater : Option ℕ → Option ℕ → Type 0
+IsKnownNoLater a b = (n : ℕ) → b ≡ Some n → (m : ℕ) × (a ≡ Some m) × (m ≤ n)
 
 -- the same long messages to all, whole no later, and each of them if each was
 pub record IsWholeNoLater (a b : WholeTime) : Type 0 where
   pub frames : a.frames ≡ b.frames
   pub limit : a.limit ≡ b.limit
-  pub bits : IsKnownWithin a.bits b.bits
+  pub bits : IsKnownNoLater a.bits b.bits
   pub each : b.each ≡ true → a.each ≡ true
 
 -- where the second is told, the first is, and is no greater: it may be within the limit where that one is beyond

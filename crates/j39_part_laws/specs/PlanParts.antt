@@ -31,7 +31,7 @@ abbrev pub IsSame : {A : Type 0} → A → A → Type 0
 IsSame x y = x ≡ y
 
 -- the group stands there with all that it is, but for what is said of its signals
-pub record IsGroup (group there : GroupPlan) : Type 0 where
+pub record IsGroupThere (group there : GroupPlan) : Type 0 where
   pub label : there.label.bytes ≡ group.label.bytes
   pub pgn : there.pgn ≡ group.pgn
   pub priority : there.priority ≡ group.priority
@@ -56,7 +56,7 @@ to_in at All = All
 to_in at (One receiver) = One (at.unit receiver)
 
 -- the flow stands there with all that it is; what it names has its place in the whole
-pub record IsFlow (at : Places) (flow there : FlowPlan) : Type 0 where
+pub record IsFlowThere (at : Places) (flow there : FlowPlan) : Type 0 where
   pub group : there.group ≡ at.group flow.group
   pub sender : there.sender ≡ at.unit flow.sender
   pub to : there.to ≡ to_in at flow.to
@@ -65,7 +65,7 @@ pub record IsFlow (at : Places) (flow there : FlowPlan) : Type 0 where
   pub on_request : there.on_request ≡ flow.on_request
 
 -- and so does the request
-pub record IsRequest (at : Places) (request there : RequestPlan) : Type 0 where
+pub record IsRequestThere (at : Places) (request there : RequestPlan) : Type 0 where
   pub group : there.group ≡ at.group request.group
   pub sender : there.sender ≡ at.unit request.sender
   pub to : there.to ≡ to_in at request.to
@@ -75,16 +75,16 @@ pub record IsRequest (at : Places) (request there : RequestPlan) : Type 0 where
 
 pub record IsPartAt (at : Places) (part whole : Plan) : Type 0 where
   pub units : AreSome at.unit IsSame part.units.items whole.units.items
-  pub groups : AreSome at.group IsGroup part.groups.items whole.groups.items
-  pub flows : AreSome at.flow (IsFlow at) part.flows.items whole.flows.items
-  pub requests : AreSome at.request (IsRequest at) part.requests.items whole.requests.items
+  pub groups : AreSome at.group IsGroupThere part.groups.items whole.groups.items
+  pub flows : AreSome at.flow (IsFlowThere at) part.flows.items whole.flows.items
+  pub requests : AreSome at.request (IsRequestThere at) part.requests.items whole.requests.items
   pub keep_free : part.keep_free ≡ whole.keep_free
   pub strangers : part.strangers ≡ whole.strangers
   pub live : part.live ≡ whole.live
   pub timing : part.timing ≡ whole.timing
 
-abbrev pub IsPart : Plan → Plan → Type 0
-IsPart part whole = (at : Places) × IsPartAt at part whole
+abbrev pub IsPlanPart : Plan → Plan → Type 0
+IsPlanPart part whole = (at : Places) × IsPartAt at part whole
 
 -- ---- what is found of a part is found of the whole
 

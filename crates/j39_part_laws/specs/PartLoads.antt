@@ -9,7 +9,7 @@ use Rattle.j39_network.specs.declared.plan.unit_plan.UnitPlan.{UnitPlan}
 use Rattle.j39_load.specs.declared.frames.flow_frames.FlowFrames.{FlowFrames}
 use Rattle.j39_load.specs.Asked.{Asked, asked_of, frames_asked, total_load}
 use Rattle.j39_load.specs.Delays.{IsLeastWait, need_of}
-use Rattle.j39_part_laws.specs.Parts.{Places}
+use Rattle.j39_part_laws.specs.PlanParts.{Places}
 
 -- the same bus, on which so many frames come that aren't planned
 abbrev pub counting : Timing → (unplanned : ℕ) → unplanned ≤ 1000 → Timing
