@@ -1,0 +1,164 @@
+-- Who is in a box is in it with covering alternatives too.
+use Rattle.std.specs.declared.alloc.Global.{Global}
+use Rattle.std.proofs.Common.{◌≡◌, ℕ, zero, suc, Bool, true, false, not, ◌&&◌, ◌||◌, ◌==◌, List, [], ◌∷◌, Option, Some, None, Vec, refl, sym, ◌∙◌, ap, inl, inr}
+use Rattle.std.specs.List.{list_all, list_any, slice_get}
+use Rattle.std.specs.Option.{option_map_or}
+use Rattle.std.proofs.lemmas.Bool.{and_from, and_parts, eq-eqb, eqb-true, false≢true, or_cases, or_left, or_right}
+use Rattle.std.proofs.lemmas.Option.{same_Some}
+use Rattle.j39_variants.specs.declared.line.Alternative.{Alternative}
+use Rattle.j39_variants.specs.declared.line.ProductLine.{ProductLine}
+use Rattle.j39_variants.specs.VariantPlans.{flags}
+use Rattle.j39_variants.specs.Variants.{is_in, takes_alternative}
+use Rattle.j39_line_findings.specs.Boxes.{is_one_alternative, lets_in}
+use Rattle.j39_line_findings.specs.FullVariants.{alternative_at, do_keep, is_covered}
+
+-- ---- tests of all values, and of any
+
+pub record IsAtSome {X : Type 0} (p : X → Bool) (xs : List X) : Type 0 where
+  pub i : ℕ
+  pub value : X
+  pub value_is : slice_get xs i ≡ Some value
+  pub passes : p value ≡ true
+
+any_at : {X : Type 0} (p : X → Bool) (xs : List X) → list_any p xs ≡ true → IsAtSome p xs
+any_at p [] some = absurd (false≢true some)
+any_at p (x ∷ xs) some = elim (or_cases (p x) (list_any p xs) some) [
+  | inl here ↦ record { i = 0; value = x; value_is = refl; passes = here }
+  | inr later ↦
+      let its = any_at p xs later in
+      record { i = suc its.i; value = its.value; value_is = its.value_is; passes = its.passes }
+]
+
+at_any : {X : Type 0} (p : X → Bool) (xs : List X) (i : ℕ) (x : X) → slice_get xs i ≡ Some x → p x ≡ true → list_any p xs ≡ true
+at_any p [] zero x at passes = cc
+at_any p [] (suc i) x at passes = cc
+at_any p (y ∷ ys) zero x at passes = or_left (p y) (list_any p ys) (ap p (same_Some y x at) ∙ passes)
+at_any p (y ∷ ys) (suc i) x at passes = or_right (p y) (list_any p ys) (at_any p ys i x at passes)
+
+all_at : {X : Type 0} (p : X → Bool) (xs : List X) → list_all p xs ≡ true → (i : ℕ) (x : X) → slice_get xs i ≡ Some x → p x ≡ true
+all_at p [] all zero x at = cc
+all_at p [] all (suc i) x at = cc
+all_at p (y ∷ ys) all zero x at = ap p (sym (same_Some y x at)) ∙ (and_parts (p y) (list_all p ys) all).0
+all_at p (y ∷ ys) all (suc i) x at = all_at p ys (and_parts (p y) (list_all p ys) all).1 i x at
+
+at_all : {X : Type 0} (p : X → Bool) (xs : List X) → ((i : ℕ) (x : X) → slice_get xs i ≡ Some x → p x ≡ true) → list_all p xs ≡ true
+at_all p [] each = refl
+at_all p (x ∷ xs) each = and_from (p x) (list_all p xs) (each 0 x refl) (at_all p xs (λ i y at. each (suc i) y at))
+
+-- ---- a box
+
+leads : (a b : Bool) → (not a || b) ≡ true → a ≡ true → b ≡ true
+leads true b both is = both
+leads false b both is = absurd (false≢true is)
+
+-- the place that is taken of the choice of an alternative that is taken
+place_taken : (v : List ℕ) (b : Alternative) → takes_alternative v b ≡ true → slice_get v b.choice ≡ Some b.place
+place_taken v b takes = go (slice_get v b.choice) refl takes
+  where
+    go : (o : Option ℕ) → slice_get v b.choice ≡ o → option_map_or (λ place. place == b.place) o false ≡ true → slice_get v b.choice ≡ Some b.place
+    go None is_o never = absurd (false≢true never)
+    go (Some p) is_o same = is_o ∙ ap Some (eqb-true p b.place same)
+
+-- where the box has the one alternative it has the other
+abbrev Keeps : List Alternative → List ℕ → List ℕ → Type 0
+Keeps list v w = (c p : ℕ) → slice_get v c ≡ Some p
+    → (q : ℕ) × (slice_get w c ≡ Some q) × (lets_in list (alternative_at c p) ≡ true → lets_in list (alternative_at c q) ≡ true)
+
+module _ (list : List Alternative) (v w : List ℕ) (keeps : Keeps list v w) where
+  abbrev takes_one : List ℕ → Alternative → Alternative → Bool
+  takes_one x a b = (b.choice == a.choice) && takes_alternative x b
+
+  -- one that is named and taken has one of its choice that is named and taken by the other
+  other_taken : (a b : Alternative) (j : ℕ) → slice_get list j ≡ Some b → takes_one v a b ≡ true → list_any (takes_one w a) list ≡ true
+  other_taken a b j at_b both =
+      let (of_choice, takes) = and_parts (b.choice == a.choice) (takes_alternative v b) both in
+      let choice : b.choice ≡ a.choice = eqb-true b.choice a.choice of_choice in
+      let (q, at_q, kept) = keeps b.choice b.place (place_taken v b takes) in
+      let there = kept (or_right (not (list_any (λ d. d.choice == b.choice) list)) (list_any (λ d. is_one_alternative d (alternative_at b.choice b.place)) list)
+      (at_any (λ d. is_one_alternative d (alternative_at b.choice b.place)) list j b at_b
+      (and_from (b.choice == b.choice) (b.place == b.place) (eq-eqb b.choice b.choice refl) (eq-eqb b.place b.place refl)))) in
+      let named : list_any (λ d. d.choice == b.choice) list ≡ true = at_any (λ d. d.choice == b.choice) list j b at_b (eq-eqb b.choice b.choice refl) in
+      elim (or_cases (not (list_any (λ d. d.choice == b.choice) list)) (list_any (λ d. is_one_alternative d (alternative_at b.choice q)) list) there) [
+        | inl none ↦ absurd (false≢true (sym (ap not named) ∙ none))
+        | inr some ↦
+            let its = any_at (λ d. is_one_alternative d (alternative_at b.choice q)) list some in
+            let d = its.value in
+            let (one_choice, one_place) = and_parts (d.choice == b.choice) (d.place == q) its.passes in
+            let same_choice : d.choice ≡ b.choice = eqb-true d.choice b.choice one_choice in
+            let same_place : d.place ≡ q = eqb-true d.place q one_place in
+            let taken : takes_alternative w d ≡ true =
+            ap (λ o. option_map_or (λ place. place == d.place) o false) (ap (slice_get w) same_choice ∙ at_q) ∙ eq-eqb q d.place (sym same_place) in
+            at_any (takes_one w a) list its.i d its.value_is
+            (and_from (d.choice == a.choice) (takes_alternative w d) (eq-eqb d.choice a.choice (same_choice ∙ choice)) taken)
+      ]
+
+  pub in_box : is_in v list ≡ true → is_in w list ≡ true
+  in_box inside = at_all (λ a. list_any (takes_one w a) list) list (λ i a at_a.
+      let its = any_at (takes_one v a) list (all_at (λ b. list_any (takes_one v b) list) list inside i a at_a) in
+      other_taken a its.value its.i its.value_is its.passes)
+
+-- ---- all boxes
+
+-- each of the first flags is no other one, where it is set
+abbrev pub AreFewer : List Bool → List Bool → Type 0
+AreFewer [] [] = Unit {0}
+AreFewer [] (c ∷ cs) = ⊥
+AreFewer (b ∷ bs) [] = ⊥
+AreFewer (b ∷ bs) (c ∷ cs) = (b ≡ true → c ≡ true) × AreFewer bs cs
+
+abbrev pub KeepAll : List (Vec Alternative Global) → List ℕ → List ℕ → Type 0
+KeepAll lists v w = (c p : ℕ) → slice_get v c ≡ Some p
+    → (q : ℕ) × (slice_get w c ≡ Some q) × (do_keep lists (alternative_at c p) (alternative_at c q) ≡ true)
+
+first_keeps : (list : Vec Alternative Global) (lists : List (Vec Alternative Global)) (v w : List ℕ) → KeepAll (list ∷ lists) v w → Keeps list.items v w
+first_keeps list lists v w all c p at =
+    let (q, at_q, kept) = all c p at in (
+      q,
+      at_q,
+      leads (lets_in list.items (alternative_at c p)) (lets_in list.items (alternative_at c q))
+          (and_parts (not (lets_in list.items (alternative_at c p)) || lets_in list.items (alternative_at c q)) (do_keep lists (alternative_at c p) (alternative_at c q)) kept).0,
+    )
+
+others_keep : (list : Vec Alternative Global) (lists : List (Vec Alternative Global)) (v w : List ℕ) → KeepAll (list ∷ lists) v w → KeepAll lists v w
+others_keep list lists v w all c p at =
+    let (q, at_q, kept) = all c p at in (
+      q,
+      at_q,
+      (and_parts (not (lets_in list.items (alternative_at c p)) || lets_in list.items (alternative_at c q)) (do_keep lists (alternative_at c p) (alternative_at c q)) kept).1,
+    )
+
+pub fewer : (lists : List (Vec Alternative Global)) (v w : List ℕ) → KeepAll lists v w → AreFewer (flags v lists) (flags w lists)
+fewer [] v w all = tt
+fewer (list ∷ lists) v w all = (in_box list.items v w (first_keeps list lists v w all), fewer lists v w (others_keep list lists v w all))
+
+-- ---- what a variant that is covered keeps
+
+module _ (line : ProductLine) (a b : Alternative) (covers : is_covered line a b ≡ true) where
+  abbrev keep_others : Bool
+  keep_others = do_keep line.lists.requests.items a b && do_keep line.nevers.items b a
+
+  pub keep_units : do_keep line.lists.units.items a b ≡ true
+  keep_units = (and_parts (do_keep line.lists.units.items a b)
+      (do_keep line.lists.groups.items a b && (do_keep line.lists.flows.items a b && keep_others)) covers).0
+
+  behind_units : (do_keep line.lists.groups.items a b && (do_keep line.lists.flows.items a b && keep_others)) ≡ true
+  behind_units = (and_parts (do_keep line.lists.units.items a b)
+      (do_keep line.lists.groups.items a b && (do_keep line.lists.flows.items a b && keep_others)) covers).1
+
+  pub keep_groups : do_keep line.lists.groups.items a b ≡ true
+  keep_groups = (and_parts (do_keep line.lists.groups.items a b) (do_keep line.lists.flows.items a b && keep_others) behind_units).0
+
+  behind_groups : (do_keep line.lists.flows.items a b && keep_others) ≡ true
+  behind_groups = (and_parts (do_keep line.lists.groups.items a b) (do_keep line.lists.flows.items a b && keep_others) behind_units).1
+
+  pub keep_flows : do_keep line.lists.flows.items a b ≡ true
+  keep_flows = (and_parts (do_keep line.lists.flows.items a b) keep_others behind_groups).0
+
+  behind_flows : keep_others ≡ true
+  behind_flows = (and_parts (do_keep line.lists.flows.items a b) keep_others behind_groups).1
+
+  pub keep_requests : do_keep line.lists.requests.items a b ≡ true
+  keep_requests = (and_parts (do_keep line.lists.requests.items a b) (do_keep line.nevers.items b a) behind_flows).0
+
+  pub keep_nevers : do_keep line.nevers.items b a ≡ true
+  keep_nevers = (and_parts (do_keep line.lists.requests.items a b) (do_keep line.nevers.items b a) behind_flows).1

@@ -1,0 +1,10 @@
+-- Variants that cover others: they have all that these have.
+use Rattle.std.specs.Prelude.{◌≡◌, ℕ, List, true, Some}
+use Rattle.std.specs.List.{slice_get}
+use Rattle.j39_variants.specs.declared.line.ProductLine.{ProductLine}
+use Rattle.j39_line_findings.specs.FullVariants.{alternative_at, is_covered}
+
+-- each alternative that the first variant takes is covered by the one that the second takes of the same choice
+abbrev pub IsCoveredBy : ProductLine → List ℕ → List ℕ → Type 0
+IsCoveredBy line v w = (c p : ℕ) → slice_get v c ≡ Some p
+    → (q : ℕ) × (slice_get w c ≡ Some q) × (is_covered line (alternative_at c p) (alternative_at c q) ≡ true)

@@ -1,0 +1,371 @@
+-- What a flow of a part asks of the bus it asks in the whole.
+use Rattle.std.proofs.Common.{◌≡◌, ℕ, zero, suc, ◌+◌, ◌^◌, ◌%◌, ◌<◌, ◌≤◌, Bool, true, false, not, ◌&&◌, if◌then◌else◌}
+use Rattle.std.proofs.Common.{List, [], ◌∷◌, length, Option, Some, None, option_map, refl, sym, ◌∙◌, ap, subst, inl, inr, arith}
+use Rattle.std.specs.Int.{div_ceil}
+use Rattle.std.specs.List.{slice_get}
+use Rattle.std.proofs.lemmas.Bool.{cases_eq, cases_lt}
+use Rattle.std.proofs.lemmas.Option.{none-some, same_Some}
+use Rattle.j39_id.specs.Ident.{identifier_of}
+use Rattle.j39_id.specs.Pgn.{IsPgn, pf_of}
+use Rattle.j39_findings.specs.Findings.{HasBadPgn}
+use Rattle.j39_findings.specs.Standing.{DecidesWhoStays}
+use Rattle.j39_network.specs.declared.plan.Plan.{Plan}
+use Rattle.j39_network.specs.declared.plan.flow_plan.FlowPlan.{FlowPlan}
+use Rattle.j39_network.specs.declared.plan.group_plan.GroupPlan.{GroupPlan}
+use Rattle.j39_network.specs.declared.plan.pace.Pace.{Pace}
+use Rattle.j39_network.specs.declared.plan.timing.Timing.{Timing}
+use Rattle.j39_network.specs.declared.plan.to.To.{To}
+use Rattle.j39_network.specs.declared.plan.to.To.TheVariants.{All as ToAllUnits, One}
+use Rattle.j39_network.specs.declared.plan.unit_plan.UnitPlan.{UnitPlan}
+use Rattle.j39_search.proofs.Members.{all_at}
+use Rattle.j39_signal.specs.declared.selector.Selector.{Selector}
+use Rattle.j39_load.specs.declared.frames.broadcast.Broadcast.{Broadcast}
+use Rattle.j39_load.specs.declared.frames.flow_frames.FlowFrames.{FlowFrames}
+use Rattle.j39_load.specs.declared.frames.messages.Messages.{Messages}
+use Rattle.j39_load.specs.declared.frames.messages.Messages.TheVariants.{Short, ToAll, ToOne}
+use Rattle.j39_load.specs.declared.loads.flow_load.FlowLoad.{FlowLoad}
+use Rattle.std.specs.Option.{option_and_then}
+use Rattle.j39_load.specs.Asked.{frames_of_flow, own_frames, singles_of_flow, wanting}
+use Rattle.j39_load.specs.Loads.{any_unit, bits_at_least, bits_at_most, broadcast_of, destination_at, flow_load, greatest_address, group_ident, has_short, is_always_short, least_address}
+use Rattle.j39_load.specs.Loads.{load_of, load_of_flow, load_of_messages, long_messages, messages_of, of_unit, packet_frames, single_frames, singles_of, twin_ident}
+use Rattle.j39_tp.specs.Chunks.{packets_of}
+use Rattle.j39_part_laws.specs.PlanParts.{IsFlowThere, IsPartAt, Places, to_in}
+use Rattle.j39_part_laws.specs.PartLoads.{HasGoodNumbers}
+use Rattle.j39_load.proofs.Milliseconds.{some_bits}
+use Rattle.j39_part_laws.proofs.Frames.{AreBroadcast, AreFrames}
+use Rattle.j39_part_laws.proofs.Groups.{bad_pgn, same_load}
+use Rattle.j39_part_laws.proofs.PlanFrames.{any_few, any_in, AreTwinNumbers, destination_few, few_ident, greatest_few, greatest_ident_in, greatest_in, ident-mono, IsAmong, least_ident_in, unit_at_place, there_too}
+
+abbrev pub Alike : Places → FlowFrames → FlowFrames → Type 0
+Alike at = AreFrames at.unit (AreTwinNumbers at)
+
+abbrev pub SinglesAlike : Places → Option FlowFrames → Option FlowFrames → Type 0
+SinglesAlike at None y = Unit {0}
+SinglesAlike at (Some x) None = ⊥
+SinglesAlike at (Some x) (Some y) = Alike at x y × (x.stream ≡ y.stream)
+
+abbrev pub MessagesAlike : Places → Messages → Messages → Type 0
+MessagesAlike at (Short x) (Short y) = Alike at x y × (x.stream ≡ y.stream)
+MessagesAlike at (ToOne x) (ToOne y) = Alike at x y × (x.stream ≡ y.stream)
+MessagesAlike at (ToAll b) (ToAll c) = AreBroadcast at.unit b c
+MessagesAlike at _ _ = ⊥
+
+pub record LoadAlike (at : Places) (l k : FlowLoad) : Type 0 where
+  pub messages : MessagesAlike at l.messages k.messages
+  pub singles : SinglesAlike at l.singles k.singles
+  pub limit : l.limit ≡ k.limit
+  pub bits : l.bits_per_second ≡ k.bits_per_second
+
+abbrev pub LoadsAlike : Places → Option FlowLoad → Option FlowLoad → Type 0
+LoadsAlike at None None = Unit {0}
+LoadsAlike at None (Some k) = ⊥
+LoadsAlike at (Some l) None = ⊥
+LoadsAlike at (Some l) (Some k) = LoadAlike at l k
+
+module _ (at : Places) (part whole : Plan) (is : IsPartAt at part whole) (good : HasGoodNumbers whole) (stays told : UnitPlan → Bool)
+    (decides : DecidesWhoStays whole stays) (tells_who : DecidesWhoStays part told) (timing : Timing) where
+  abbrev us : List UnitPlan
+  us = part.units.items
+
+  abbrev ws : List UnitPlan
+  ws = whole.units.items
+
+  number_of : (g : ℕ) (group : GroupPlan) → slice_get part.groups.items g ≡ Some group
+      → (group.pgn < 131072) × (pf_of group.pgn < 240 → group.pgn % 256 ≡ 0)
+  number_of g group here =
+      let there = is.groups.each g group here in
+      let none : ¬ HasBadPgn group = λ bad. good (at.group g)
+      (record { value = there.value; value_is = there.value_is; meets = bad_pgn group there.value there.meets bad }) in (
+        elim (cases_lt group.pgn 131072) [ inl below ↦ below | inr above ↦ absurd (none (inl (inr (inl above)))) ],
+        λ pdu1. elim (cases_eq (group.pgn % 256) 0) [
+          | inl low ↦ low
+          | inr other ↦ absurd (none (inl (inl (λ (pgn : IsPgn group.pgn). other (pgn.low pdu1)))))
+        ],
+      )
+
+  among_flow : (i : ℕ) (flow : FlowPlan) → slice_get part.flows.items i ≡ Some flow → IsAmong (length us) flow.to flow.sender
+  among_flow i flow here = record {
+    sender_in = all_at (λ (f : FlowPlan). f.sender < length us) part.flows.items part.flow_senders i flow here;
+    receiver_in = all_at (λ (f : FlowPlan). (r : ℕ) → f.to ≡ One r → r < length us) part.flows.items part.flow_receivers i flow here;
+  }
+
+  among_few : (to : To) (u : ℕ) → IsAmong (length us) to u → IsAmong 128 to u
+  among_few to u among =
+      let few = part.unit_count in
+      record {
+        sender_in = let below = among.sender_in in omega (arith, below, few);
+        receiver_in = λ v is. let below = among.receiver_in v is in omega (arith, below, few);
+      }
+
+  -- a flow, and the one that it is in the whole
+  module _ (flow there : FlowPlan) (stands : IsFlowThere at flow there) (among : IsAmong (length us) flow.to flow.sender) (pace : Pace) (group : GroupPlan)
+      (page : group.pgn < 131072) (low : pf_of group.pgn < 240 → group.pgn % 256 ≡ 0) where
+    flow_twin : (m : ℕ) → twin_ident group flow ≡ Some m → (n : ℕ) × (twin_ident group there ≡ Some n) × AreTwinNumbers at m n
+    flow_twin m = go group.when
+      where
+        go : (w : Option Selector) → option_map (λ _. group_ident (λ u. u) group flow) w ≡ Some m
+            → (n : ℕ) × (option_map (λ _. group_ident (λ u. u) group there) w ≡ Some n) × AreTwinNumbers at m n
+        go None its = absurd (none-some m its)
+        go (Some s) its = (
+          group_ident (λ u. u) group there,
+          refl,
+          record {
+            priority = group.priority;
+            pgn = group.pgn;
+            to = flow.to;
+            sender = flow.sender;
+            page = page;
+            low = low;
+            among = among_few flow.to flow.sender among;
+            first = sym (same_Some (group_ident (λ u. u) group flow) m its);
+            second = ap (λ t. identifier_of group.priority group.pgn (destination_at (λ u. u) t) there.sender) stands.to
+                ∙ ap (λ s. identifier_of group.priority group.pgn (destination_at (λ u. u) (to_in at flow.to)) s) stands.sender;
+          },
+        )
+
+    sender_any : any_unit ws there.sender ≡ option_map at.unit (any_unit us flow.sender)
+    sender_any = ap (any_unit ws) stands.sender ∙ any_in at part whole is stays told decides tells_who flow.sender among.sender_in
+
+    least_ident : (priority pgn : ℕ) → identifier_of priority pgn (destination_at (of_unit ws (least_address stays)) there.to) (of_unit ws (least_address stays) there.sender)
+        ≤ identifier_of priority pgn (destination_at (of_unit us (least_address told)) flow.to) (of_unit us (least_address told) flow.sender)
+    least_ident priority pgn = rw (stands.to, stands.sender) (least_ident_in at part whole is stays told decides tells_who priority pgn flow.sender flow.to among)
+
+    greatest_ident : (priority pgn : ℕ)
+        → identifier_of priority pgn (destination_at (of_unit us (greatest_address told)) flow.to) (of_unit us (greatest_address told) flow.sender)
+        ≤ identifier_of priority pgn (destination_at (of_unit ws (greatest_address stays)) there.to) (of_unit ws (greatest_address stays) there.sender)
+    greatest_ident priority pgn = rw (stands.to, stands.sender) (greatest_ident_in at part whole is stays told decides tells_who priority pgn flow.sender flow.to among)
+
+    single_alike : Alike at (single_frames timing us told flow pace group) (single_frames timing ws stays there pace group)
+    single_alike = record {
+      frames = omega arith;
+      bits = refl;
+      positive = some_bits timing pace.period pace.period_positive;
+      period = omega arith;
+      wanted = tt;
+      least = least_ident group.priority group.pgn;
+      greatest = greatest_ident group.priority group.pgn;
+      last = greatest_ident group.priority group.pgn;
+      below = few_ident group.priority group.pgn _ _ group.priority_range page (destination_few at part whole is stays told decides tells_who flow.to)
+          (greatest_few at part whole is stays told decides tells_who flow.sender);
+      sender = sender_any;
+      receiver = refl;
+      few_sender = any_few at part whole is stays told decides tells_who flow.sender among.sender_in;
+      few_receiver = λ u its. absurd (none-some u its);
+      twin = flow_twin;
+      want = tt;
+    }
+
+    -- long messages to one unit
+    module _ (v : ℕ) (in_units : v < length us) (packets : ℕ) where
+      same_window : of_unit us (λ unit. unit.window) v ≡ of_unit ws (λ unit. unit.window) (at.unit v)
+      same_window =
+          let (unit, here) = unit_at_place at part whole is stays told decides tells_who v in_units in
+          rw (here, there_too at part whole is stays told decides tells_who v unit here) refl
+
+      packets_same : (packet_frames timing us told flow v pace packets).stream ≡ (packet_frames timing ws stays there (at.unit v) pace packets).stream
+      packets_same = ap (λ w. record {
+        frames = 2 + packets + div_ceil packets w;
+        period = bits_at_least timing pace.period;
+        bits = (packet_frames timing us told flow v pace packets).stream.bits;
+        jitter = bits_at_most timing pace.period + bits_at_most timing pace.jitter;
+        wanted = None;
+      }) same_window
+
+      session_last : (packet_frames timing us told flow v pace packets).last_ident ≤ (packet_frames timing ws stays there (at.unit v) pace packets).last_ident
+      session_last =
+          let receiver = greatest_in at part whole is stays told decides tells_who v in_units in
+          let sender : of_unit us (greatest_address told) flow.sender ≤ of_unit ws (greatest_address stays) there.sender =
+          rw (stands.sender) (greatest_in at part whole is stays told decides tells_who flow.sender among.sender_in) in
+          let asks = ident-mono timing.transport_priority 60416 _ _ _ _ receiver sender in
+          let answers = ident-mono timing.transport_priority 60416 _ _ _ _ sender receiver in
+          omega (arith, asks, answers)
+
+      session_few : (packet_frames timing us told flow v pace packets).last_ident ≤ 2 ^ 29
+      session_few =
+          let receiver = greatest_few at part whole is stays told decides tells_who v in
+          let sender = greatest_few at part whole is stays told decides tells_who flow.sender in
+          let urgent = timing.transport_priority_range in
+          let asks = few_ident timing.transport_priority 60416 _ _ urgent (omega arith) receiver sender in
+          let answers = few_ident timing.transport_priority 60416 _ _ urgent (omega arith) sender receiver in
+          omega (arith, asks, answers)
+
+      packets_alike : Alike at (packet_frames timing us told flow v pace packets) (packet_frames timing ws stays there (at.unit v) pace packets)
+      packets_alike = record {
+        frames = let same = ap (λ (s : _). s.frames) packets_same in omega (arith, same);
+        bits = refl;
+        positive = some_bits timing pace.period pace.period_positive;
+        period = omega arith;
+        wanted = tt;
+        least = least_ident timing.transport_priority 60160;
+        greatest = greatest_ident timing.transport_priority 60160;
+        last = session_last;
+        below = session_few;
+        sender = sender_any;
+        receiver = any_in at part whole is stays told decides tells_who v in_units;
+        few_sender = any_few at part whole is stays told decides tells_who flow.sender among.sender_in;
+        few_receiver = any_few at part whole is stays told decides tells_who v in_units;
+        twin = λ m its. absurd (none-some m its);
+        want = tt;
+      }
+
+    broadcast_alike : AreBroadcast at.unit (broadcast_of timing flow pace group) (broadcast_of timing there pace group)
+    broadcast_alike = record {
+      sender = stands.sender;
+      packets = refl;
+      least_packets = refl;
+      has_short = refl;
+      period = refl;
+      apart = refl;
+      jitter = refl;
+      deadline = refl;
+      positive = some_bits timing pace.period pace.period_positive;
+    }
+
+    long_alike : (to : To) → ((v : ℕ) → to ≡ One v → v < length us)
+        → MessagesAlike at (long_messages timing us told flow pace group to) (long_messages timing ws stays there pace group (to_in at to))
+    long_alike ToAllUnits known = broadcast_alike
+    long_alike (One v) known = (packets_alike v (known v refl) (packets_of group.most), packets_same v (known v refl) (packets_of group.most))
+
+    messages_alike : MessagesAlike at (messages_of timing us told flow pace group) (messages_of timing ws stays there pace group)
+    messages_alike = elim (is_always_short group) as (λ b. MessagesAlike at
+        (if b then Short (single_frames timing us told flow pace group) else long_messages timing us told flow pace group flow.to)
+        (if b then Short (single_frames timing ws stays there pace group) else long_messages timing ws stays there pace group there.to)) [
+          | true ↦ (single_alike, refl)
+          | false ↦ subst (λ t. MessagesAlike at (long_messages timing us told flow pace group flow.to) (long_messages timing ws stays there pace group t))
+              (sym stands.to) (long_alike flow.to among.receiver_in)
+        ]
+
+    singles_alike : SinglesAlike at (singles_of timing us told flow pace group) (singles_of timing ws stays there pace group)
+    singles_alike = elim (not (is_always_short group) && has_short group) as (λ b. SinglesAlike at
+        (if b then Some (single_frames timing us told flow pace group) else None) (if b then Some (single_frames timing ws stays there pace group) else None)) [
+          | true ↦ (single_alike, refl)
+          | false ↦ tt
+        ]
+
+    load_same : (a b : Messages) → MessagesAlike at a b → (period : ℕ) → load_of_messages timing a period ≡ load_of_messages timing b period
+    load_same (Short x) (Short y) alike period = ap (λ s. load_of timing s period) alike.1
+    load_same (Short x) (ToOne y) alike period = absurd alike
+    load_same (Short x) (ToAll c) alike period = absurd alike
+    load_same (ToOne x) (Short y) alike period = absurd alike
+    load_same (ToOne x) (ToOne y) alike period = ap (λ s. load_of timing s period) alike.1
+    load_same (ToOne x) (ToAll c) alike period = absurd alike
+    load_same (ToAll b) (Short y) alike period = absurd alike
+    load_same (ToAll b) (ToOne y) alike period = absurd alike
+    load_same (ToAll b) (ToAll c) alike period = refl
+
+    load_alike : LoadAlike at (flow_load timing us told flow pace group) (flow_load timing ws stays there pace group)
+    load_alike = record {
+      messages = messages_alike;
+      singles = singles_alike;
+      limit = refl;
+      bits = load_same (messages_of timing us told flow pace group) (messages_of timing ws stays there pace group) messages_alike pace.period;
+    }
+
+  group_is : (i : ℕ) (flow : FlowPlan) → slice_get part.flows.items i ≡ Some flow → (group : GroupPlan) × (slice_get part.groups.items flow.group ≡ Some group)
+  group_is i flow here = go (slice_get part.groups.items flow.group) refl
+    where
+      go : (o : Option GroupPlan) → slice_get part.groups.items flow.group ≡ o → (group : GroupPlan) × (slice_get part.groups.items flow.group ≡ Some group)
+      go (Some group) its = (group, its)
+      go None none = absurd (missing part.groups.items flow.group
+          (all_at (λ (f : FlowPlan). f.group < length part.groups.items) part.flows.items part.flow_groups i flow here) none)
+        where
+          missing : (xs : List GroupPlan) (k : ℕ) → k < length xs → slice_get xs k ≡ None → ⊥
+          missing [] k below none = omega (arith, below)
+          missing (x ∷ xs) zero below none = cc
+          missing (x ∷ xs) (suc k) below none = missing xs k (omega (arith, below)) none
+
+  pub flow_alike : (i : ℕ) (flow there : FlowPlan) → slice_get part.flows.items i ≡ Some flow → IsFlowThere at flow there
+      → LoadsAlike at (load_of_flow timing part told flow) (load_of_flow timing whole stays there)
+  flow_alike i flow there here stands = go flow.pace refl
+    where
+      go : (pace : Option Pace) → flow.pace ≡ pace → LoadsAlike at (load_of_flow timing part told flow) (load_of_flow timing whole stays there)
+      go None none = rw (stands.pace, none) tt
+      go (Some pace) paced =
+          let (group, sent) = group_is i flow here in
+          let other = is.groups.each flow.group group sent in
+          let number = number_of flow.group group sent in
+          rw (stands.pace, paced, stands.group, sent, other.value_is)
+          (subst (LoadAlike at (flow_load timing us told flow pace group)) (same_load group other.value other.meets timing ws stays there pace)
+          (load_alike flow there stands (among_flow i flow here) pace group number.0 number.1))
+
+  -- the unit of a long message to all is one of the part's
+  pub flow_sender : (i : ℕ) (flow : FlowPlan) → slice_get part.flows.items i ≡ Some flow → (l : FlowLoad) → load_of_flow timing part told flow ≡ Some l
+      → (b : Broadcast) → l.messages ≡ ToAll b → b.sender < length us
+  flow_sender i flow here l is_l b to_all = go flow.pace refl
+    where
+      F : Pace → Option FlowLoad
+      F pace = option_map (flow_load timing us told flow pace) (slice_get part.groups.items flow.group)
+
+      inj : (x y : Broadcast) → ToAll x ≡ ToAll y → x ≡ y
+      inj x y same = cc
+
+      by_to : (pace : Pace) (group : GroupPlan) (to : To) → long_messages timing us told flow pace group to ≡ ToAll b → flow.sender ≡ b.sender
+      by_to pace group ToAllUnits same = ap (λ (x : Broadcast). x.sender) (inj (broadcast_of timing flow pace group) b same)
+      by_to pace group (One v) same = cc
+
+      by_short : (pace : Pace) (group : GroupPlan) (short : Bool)
+          → (if short then Short (single_frames timing us told flow pace group) else long_messages timing us told flow pace group flow.to) ≡ ToAll b → flow.sender ≡ b.sender
+      by_short pace group true same = cc
+      by_short pace group false same = by_to pace group flow.to same
+
+      go : (pace : Option Pace) → flow.pace ≡ pace → b.sender < length us
+      go None none = absurd (none-some l (sym (ap (option_and_then F) none) ∙ is_l))
+      go (Some pace) paced =
+          let (group, sent) = group_is i flow here in
+          let same : flow_load timing us told flow pace group ≡ l =
+          same_Some _ l (sym (ap (option_and_then F) paced ∙ ap (option_map (flow_load timing us told flow pace)) sent) ∙ is_l) in
+          let sender = by_short pace group (is_always_short group) (ap (λ (x : FlowLoad). x.messages) same ∙ to_all) in
+          subst (λ n. n < length us) sender (among_flow i flow here).sender_in
+
+-- ---- frames of flows
+
+abbrev pub FramesAlike : Places → Option FlowFrames → Option FlowFrames → Type 0
+FramesAlike at None y = Unit {0}
+FramesAlike at (Some x) None = ⊥
+FramesAlike at (Some x) (Some y) = Alike at x y × (x.stream.jitter ≤ y.stream.jitter)
+
+module _ (at : Places) where
+  wanting_alike : (b c : Broadcast) → AreBroadcast at.unit b c → Alike at (wanting b) (wanting c)
+  wanting_alike b c are = record {
+    frames = omega arith;
+    bits = refl;
+    positive = omega arith;
+    period = omega arith;
+    wanted = tt;
+    least = omega arith;
+    greatest = omega arith;
+    last = omega arith;
+    below = omega arith;
+    sender = refl;
+    receiver = refl;
+    few_sender = λ u its. absurd (none-some u its);
+    few_receiver = λ u its. absurd (none-some u its);
+    twin = λ m its. absurd (none-some m its);
+    want = are;
+  }
+
+  own_alike : (a b : Messages) → MessagesAlike at a b → FramesAlike at (own_frames a) (own_frames b)
+  own_alike (Short x) (Short y) alike = let same = ap (λ (s : _). s.jitter) alike.1 in (alike.0, omega (arith, same))
+  own_alike (Short x) (ToOne y) alike = absurd alike
+  own_alike (Short x) (ToAll c) alike = absurd alike
+  own_alike (ToOne x) (Short y) alike = absurd alike
+  own_alike (ToOne x) (ToOne y) alike = let same = ap (λ (s : _). s.jitter) alike.1 in (alike.0, omega (arith, same))
+  own_alike (ToOne x) (ToAll c) alike = absurd alike
+  own_alike (ToAll b) (Short y) alike = absurd alike
+  own_alike (ToAll b) (ToOne y) alike = absurd alike
+  own_alike (ToAll b) (ToAll c) alike = (wanting_alike b c alike, omega arith)
+
+  pub flows_alike : (l k : Option FlowLoad) → LoadsAlike at l k → FramesAlike at (frames_of_flow l) (frames_of_flow k)
+  flows_alike None k alike = tt
+  flows_alike (Some l) None alike = absurd alike
+  flows_alike (Some l) (Some k) alike = own_alike l.messages k.messages alike.messages
+
+  pub singles_there : (l k : Option FlowLoad) → LoadsAlike at l k → FramesAlike at (singles_of_flow l) (singles_of_flow k)
+  singles_there None k alike = tt
+  singles_there (Some l) None alike = absurd alike
+  singles_there (Some l) (Some k) alike = go l.singles k.singles alike.singles
+    where
+      go : (x y : Option FlowFrames) → SinglesAlike at x y → FramesAlike at x y
+      go None y are = tt
+      go (Some x) None are = absurd are
+      go (Some x) (Some y) are = let same = ap (λ (s : _). s.jitter) are.1 in (are.0, omega (arith, same))

@@ -1,0 +1,18 @@
+mod AllFrames
+mod Buffering
+mod Busier
+pub mod ByAbsence
+mod Delays
+pub mod Findings
+mod FlowDelays
+mod FlowLoads
+mod Frames
+mod Groups
+pub mod LoadFindings
+mod Loads
+mod Places
+mod PlanFrames
+mod Shares
+mod Staying
+mod Sublists
+mod UnitLoads
