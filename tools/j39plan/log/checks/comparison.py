@@ -21,7 +21,7 @@ from j39plan.log.checks.queued import Begun, Queued
 from j39plan.log.checks.requests import Asked
 from j39plan.log.checks.transfers import WHOLE, Announcement, Cause, Pair, Route, Transfers, announcement_in, is_managing, pair_of, pgn_of
 from j39plan.log.checks.unplanned import Bounds, Unplanned
-from j39plan.log.clock import MILLISECOND, SECOND, Clock
+from j39plan.log.clock import DAY, MILLISECOND, SECOND, Clock
 from j39plan.log.reports import Acknowledgement, Claim, Frame, Message, Report, Request, Who
 from j39plan.log.serial_numbers import Renumbered
 from j39plan.plan.tables import Group, Tables
@@ -362,8 +362,22 @@ class Comparison:
             self.hands.stood_still(line, at, at - last)
             self.anew(line, at)
         self._at, self._line = at, line
-        if self._is_watched or self.transfers.waits or self.transfers.refused or self.claims.open or self.hands.ignition.gap or self.commanded.open:
+        if self._is_waiting():
             self.goes_by(at)
+
+    def _is_waiting(self) -> bool:
+        """Whether time has to go by for something that is waited for."""
+        return bool(self._is_watched or self.transfers.waits or self.transfers.refused or self.claims.open or self.hands.ignition.gap or self.commanded.open)
+
+    def calm(self) -> tuple[int, float]:
+        """The time of the last report; and how much later the next one may come, so that of a message that is as planned nothing changes but its flow's
+        count and distances, below 0 where more may."""
+        is_open = self.asked.open or self.others.open or self.damage.is_off or not self.hands.is_settled
+        return (0, -1) if self._at is None or is_open or self._is_waiting() else (self._at, min(self._gap, DAY))
+
+    def passed(self, line: int, at: int) -> None:
+        """Nothing but such messages came up to this line and time."""
+        self._at, self._line = at, line
 
     def watches(self) -> None:
         """From here on what is due is told as soon as it is, by the times of the log, and by `waits`."""
