@@ -290,7 +290,7 @@ class Logs(InFolder):
 
         again = [f"({100 + at}.0000001) can0 {line.split()[-1]}" for at, line in enumerate(text_of(LOG).splitlines()[::-1])]
         log = self.write("drive.log", text_of(LOG) + "\n".join([*again, "can0 0CF00400#FFFFFF0019FFFFFF", ""]))
-        warnings.simplefilter("ignore", j39plan.Notice)
+        self.enterContext(warnings.catch_warnings(action="ignore", category=j39plan.Notice))
         whole = j39plan.frame(self.plan, log)
         for rows in (1, 7):
             with unittest.mock.patch("j39plan.log.data_frames.ROWS", rows):

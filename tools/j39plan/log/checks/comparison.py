@@ -13,7 +13,7 @@ from j39plan.log.checks.damage import Damage
 from j39plan.log.checks.deviations import Found
 from j39plan.log.checks.distances import Distances, Heard, Rule, Tolerance, Way
 from j39plan.log.checks.feed import Noted
-from j39plan.log.checks.hands import Hands
+from j39plan.log.checks.hands import Hands, named
 from j39plan.log.checks.numbers import Numbers
 from j39plan.log.checks.other_requests import OtherRequests
 from j39plan.log.checks.premises import Beside
@@ -117,14 +117,21 @@ class Comparison:
         """Somebody whom the plan doesn't have sends something, as a message of a planned group."""
         former, what = self.hands.former(at, sender), f"sends {group}, a planned group" if group else "sends"
         if former is not None:
-            text = f"{former.spelled} claims address {former.address}, and its former address {sender.address} {what}: two boxes of one NAME?"
-            self.found.tell("two-boxes", text, line, at, unit=former.label)
+            self.goes_on(line, at, former, f"and its former address {sender.address} {what}")
             self.of_premises.left.add(sender.address)
             self.distances.touched(former.label or "", self._pgns, pgn, line, at)
         elif group:
             self.of_premises.sent.setdefault(sender.name or sender.address, {})[group] = None
         if sender.address in (NULL_ADDRESS, GLOBAL_ADDRESS) or self.is_unjudged and former is None:
             self.found.tell("stranger", f"{sender.spelled} {what}: no unit has it", line, at)
+
+    def goes_on(self, line: int, at: int | None, former: Who, what: str) -> None:
+        """An address goes on to send that a box has left for another one, or given up."""
+        if former.address is None:
+            text = f"{named(former)} could not claim an address, {what}: by the standard it sends no more"
+            self.found.tell("sends-on", text, line, at, unit=former.label)
+            return
+        self.found.tell("two-boxes", f"{former.spelled} claims address {former.address}, {what}: two boxes of one NAME?", line, at, unit=former.label)
 
     def message(self, line: int, at: int | None, message: Message) -> None:
         """A message of a planned group."""

@@ -17,6 +17,7 @@ MEANINGS = {
     "early-message": "of a live plan: how soon a unit announces a long message after a restart, where it was heard less than 1,650 ms before; so long "
                      "others may hold a session with a unit that went off",
     "two-boxes": "an address that a unit left 250 ms ago or longer goes on to send",
+    "sends-on": "the same of an address that a unit gave up by Cannot Claim, and that nobody claimed since",
     "not-defended": "a unit that is on (heard within a second, or two of its shortest periods) and has the smaller NAME doesn't defend its address "
                     "within 250 ms",
     "too-early": "a unit sends less than 250 ms after it claimed one of 128..247, unless it was asked for its claim, sent from there already, defends it, "
