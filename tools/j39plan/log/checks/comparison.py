@@ -7,6 +7,7 @@ from j39plan.j1939 import (
     ACKNOWLEDGEMENT, ADDRESS_CLAIMED, DATA_TRANSFER, CONNECTION_MANAGEMENT, FRAME_BYTES, GLOBAL_ADDRESS, NULL_ADDRESS, OTHER_SERVICES, PROPRIETARY,
     REQUEST, SERVICES, destination_in, identifier_of,
 )
+from j39plan.log.checks.busy import Busy
 from j39plan.log.checks.claims import Claims
 from j39plan.log.checks.commanded import Commanded
 from j39plan.log.checks.damage import Damage
@@ -72,7 +73,8 @@ class Comparison:
         self.distances = Distances(tables.flows, tolerance, settings.rule, bounds.waits, heard, found)
         self.claims, self.queued, self.commanded = Claims(tables.units, self.hands, found), Queued(), Commanded(tables.units, found)
         self.asked, self.damage = Asked(tables, tolerance, bounds.requests, found, self.hands.is_on), Damage(tables.timing, found)
-        self.transfers, self.unplanned = Transfers(tables.timing, found), Unplanned(tables, bounds.flows, found)
+        self.busy, self.unplanned = Busy(tables.timing), Unplanned(tables, bounds.flows, found)
+        self.transfers = Transfers(tables.timing, self.busy, found)
         labels = {pgn: groups[0].label for pgn, groups in self.groups.items() if len(groups) == 1}
         self.others = OtherRequests(labels, found, self.hands.is_on)
         self._begun: dict[Pair, Begun] = {}
@@ -306,7 +308,7 @@ class Comparison:
         waited = 0
         if announced.is_sound:
             self.transfers.announced(line, at, route, frame)
-            waited = self.queued.announced(sender.label, at, way, to.address is None) if sender.label and at is not None else 0
+            waited = self.busy.waited + self.queued.announced(sender.label, at, way, to.address is None) if sender.label and at is not None else 0
         if not is_planned:
             self.passes(line, at, frame.identifier, f"PGN {announced.pgn}", sender)
         if group is None:
@@ -359,6 +361,7 @@ class Comparison:
     def looks_at_time(self, line: int, at: int) -> None:
         """Time goes by. Where the clock was set, nothing at all came, or the interface was off, what is measured begins anew."""
         last, clock = self._at, self.clock
+        self.busy.comes(at)
         if clock.is_set or clock.is_back:
             self.hands.anew(line)
             self.anew(line, at)
@@ -384,7 +387,7 @@ class Comparison:
 
     def passed(self, line: int, at: int) -> None:
         """Nothing but such messages came up to this line and time."""
-        self._at, self._line = at, line
+        self._at, self._line, self.busy.last = at, line, at
 
     def watches(self) -> None:
         """From here on what is due is told as soon as it is, by the times of the log, and by `waits`."""

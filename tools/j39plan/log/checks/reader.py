@@ -48,7 +48,7 @@ class Reader:
     def take(self, lines: Iterator[str], most: int | None = None) -> None:
         """Takes the lines, so many of them at most. Messages that are as planned change nothing but counts and distances while all is calm."""
         plain_of, unheard, beside, comparison, heard = self._plain.get, self._unheard, self._beside, self._comparison, self._heard
-        see, comes, is_calm, last, calm = comparison.clock.see, comparison.distances.comes, False, 0, -1.0
+        see, comes, busy, is_calm, last, calm = comparison.clock.see, comparison.distances.comes, comparison.busy, False, 0, -1.0
         for line in islice(lines, most):
             words = line.split(" ", 2)
             head, _, data = words[-1].rpartition(" ")
@@ -63,6 +63,8 @@ class Reader:
             number = int(words[0])
             at = see(number, words[1])
             if at is not None and 0 <= at - last <= calm:
+                if at - last > busy.idle:
+                    busy.since = at
                 last = at
                 heard[plain.source] = number, at
                 plain.times[0] += 1
