@@ -150,6 +150,16 @@ class Units(Deviations):
         found = self.told((1, BRAKES), (2, EBC1), (3, moved), (3.24, EBC1))
         self.assertEqual(found[1:], ["L:4: address 11 sends EBC1, a planned group: no unit has it"])
 
+    def test_frames_after_cannot_claim(self) -> None:
+        """BRAKES gives its address back and sends on from it. Where somebody else has claimed that by then, the frames are of that one."""
+        gone, other = BRAKES.replace("EEFF0B", "EEFFFE"), "18EEFF0B#0100000000000000"
+        text = "BRAKES could not claim an address, and its former address 11 sends EBC1, a planned group: by the standard it sends no more"
+        self.assertEqual(self.told((1, BRAKES), (2, EBC1), (3, gone), (3.25, EBC1), (3.35, EBC1)), [f"L:4: {text}  (2 times)"])
+        self.assertEqual(self.told((1, BRAKES), (2, EBC1), (3, gone), (3.5, BRAKES), (3.6, EBC1)), [])
+        claims = "NAME 0000000000000001 (identity 1, manufacturer 0, function 0) claims address 11: no unit has it, and sends EBC1, a planned group"
+        self.assertEqual(self.told((1, BRAKES), (2, EBC1), (3, other), (3.001, gone), (3.35, EBC1)), [
+            f"L:3: {claims}", "L:3: NAME 0000000000000001 takes address 11 from BRAKES, which could not claim another", "L:4: BRAKES could not claim an address"])
+
 
 class Buses(Deviations):
     def test_nothing_at_all(self) -> None:

@@ -43,6 +43,13 @@ class OneOfSeveral(InFolder):
         self.assertIn(("2", "SPN190", "1600"), rows)
         self.assertEqual([(line, value) for line, name, value in rows if name == "SPN110"], [("5", "87"), ("6", "85")])
 
+    def test_signals_of_the_first_one(self) -> None:
+        """Where none is asked for the values are those of the first one alone, and the others are named."""
+        status, answer, said = run("signals.py", PLAN, self.log, "SPN190", "SPN110")
+        self.assertEqual([(row["line"], row["signal"], row["value"]) for row in csv.DictReader(io.StringIO(answer))],
+                         [("1", "SPN190", "800"), ("4", "SPN110", "86"), ("6", "SPN110", "85")])
+        self.assertEqual((status, said.splitlines()[-1]), (0, "signals: can0 is read, the first of the log; 5 lines of can1, can2 are passed over: --interface can1"))
+
     def test_a_pipe(self) -> None:
         """The same, each line as it comes."""
         words = [sys.executable, os.path.join(TOOLS, "signals.py"), "--interface", "can1", PLAN, "/dev/stdin", "SPN110"]

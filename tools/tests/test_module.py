@@ -8,6 +8,7 @@ import re
 import subprocess
 import sys
 import unittest
+import unittest.mock
 import warnings
 from decimal import Decimal
 
@@ -281,6 +282,24 @@ class Logs(InFolder):
         self.assertEqual(set(j39plan.frame(self.plan, LOG, "SPN190")["signal"]), {"SPN190"})
         with self.assertRaises(j39plan.Refused):
             j39plan.frame(self.plan, LOG, "SPN999999")
+
+    @unittest.skipUnless(importlib.util.find_spec("pandas"), "pandas isn't there: apt-get install python3-pandas")
+    def test_parts_of_a_table(self) -> None:
+        """A table is the same in however many parts its rows are taken, with senders, signals and times that only some of these have; and one without rows."""
+        import pandas
+
+        again = [f"({100 + at}.0000001) can0 {line.split()[-1]}" for at, line in enumerate(text_of(LOG).splitlines()[::-1])]
+        log = self.write("drive.log", text_of(LOG) + "\n".join([*again, "can0 0CF00400#FFFFFF0019FFFFFF", ""]))
+        self.enterContext(warnings.catch_warnings(action="ignore", category=j39plan.Notice))
+        whole = j39plan.frame(self.plan, log)
+        for rows in (1, 7):
+            with unittest.mock.patch("j39plan.log.data_frames.ROWS", rows):
+                pandas.testing.assert_frame_equal(j39plan.frame(self.plan, log), whole)
+        self.assertTrue(whole.index.hasnans and len(whole) > 14)
+        without = j39plan.frame(self.plan, self.write("timeless.log", "can0 0CF00400#FFFFFF0019FFFFFF\n"))
+        self.assertEqual((set(without.index.isna()), str(without.index.tz)), ({True}, "UTC"))
+        empty = j39plan.frame(self.plan, self.write("empty.log", "(1.0) can0 18FFFF55#00\n"))
+        self.assertEqual((len(empty), list(empty.columns)), (0, list(whole.columns)))
 
 
 class Documents(unittest.TestCase):

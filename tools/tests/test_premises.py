@@ -142,6 +142,21 @@ class Premises(InFolder):
         self.assertIn("L:2: " + near.format("9.999").replace("50", "10"), self.told(*self.broadcast("2.0", "2.009999", "2.1", "2.2"), plan=own))
         self.assertEqual(self.told(*self.broadcast("2.0", "2.01", "2.02", "2.11"), plan=own), [])
 
+    def test_packets_that_wait_for_the_bus(self) -> None:
+        """The bus is busy from 2.094 s on when the first packet comes at 2.1, so that may have waited 6 ms: the second one may come 44 ms after it. The
+        third one may be 200 ms after it by as much as it may have waited itself."""
+        def told(second: float, third: float, *busy: float) -> list[str]:
+            frames = self.broadcast("2.0", "2.1", f"{second:.6f}", f"{third:.6f}")
+            others = [(f"{since + number / 2000:.6f}", STRANGE) for since in busy for number in range(12)]
+            return [line for line in self.told(*sorted(frames + others)) if "apart" in line]
+
+        near, far = (f"VI from ENGINE to all: frames {{}} ms apart, {limit} ms are between two" for limit in ("at least 50", "at most 200"))
+        self.assertEqual(told(2.144, 2.3, 2.094), [])
+        self.assertEqual(told(2.143999, 2.3, 2.094), [f"L:15: {near.format('43.999')}"])
+        self.assertEqual(told(2.144, 2.3), [f"L:3: {near.format(44)}"])
+        self.assertEqual(told(2.15, 2.356, 2.35), [])
+        self.assertEqual(told(2.15, 2.356, 2.3512), [f"L:14: {far.format(206)}"])
+
     def test_the_priority_that_the_plan_has_of_others(self) -> None:
         """Where it is 3, 3 is none too small, and 2 is."""
         log = [("1.0", "0CFF10F9#00"), ("1.1", "08FF10F9#00"), ("9.0", ET1)]

@@ -26,18 +26,31 @@ def data_frame(rows: IO[bytes]) -> pandas.DataFrame:
     import pandas
 
     types = {word: "category" for word in ("time", *WORDS)} | NUMBERS
-    parts: list[Any] = []
+    parts: dict[str, list[Any]] = {}  # of each column
     for part in pandas.read_csv(rows, dtype=types, keep_default_na=False, na_values=[""], chunksize=ROWS):
-        times = part.pop("time").cat
-        moments = [nanoseconds(f"({time})") for time in times.categories]
-        part.index = pandas.DatetimeIndex(pandas.to_datetime(moments, unit="ns", utc=True).take(times.codes), name="time")
-        parts.append(part)
-    words = [word for word in WORDS if word in parts[0]]
-    for word in words:
-        known = sorted({text for part in parts for text in part[word].cat.categories})
-        for part in parts:
-            part[word] = part[word].cat.set_categories(known)
-    return parts[0] if len(parts) == 1 else pandas.concat(parts)
+        part["time"] = moments_of(part["time"])
+        for word in part:
+            parts.setdefault(word, []).append(part[word])
+    columns = {word: joined(parts.pop(word)) for word in [*parts]}  # one by one, so that the table is never there twice
+    index = pandas.DatetimeIndex(columns.pop("time"), name="time")
+    return pandas.DataFrame(columns, index=index, copy=False)
+
+
+def moments_of(times: pandas.Series[Any]) -> pandas.Series[Any]:
+    """Times as moments, in UTC."""
+    import pandas
+
+    known = pandas.to_datetime([nanoseconds(f"({time})") for time in times.cat.categories], unit="ns", utc=True)
+    return pandas.Series(known.take(times.cat.codes, fill_value=pandas.NaT), times.index)
+
+
+def joined(parts: list[Any]) -> Any:
+    """The parts of a column as one; categories stand in their order."""
+    import pandas
+
+    if isinstance(parts[0].dtype, pandas.CategoricalDtype):
+        return pandas.api.types.union_categoricals(parts, sort_categories=True)
+    return pandas.concat(parts, ignore_index=True).array
 
 
 def needed(module: str, where: str) -> None:

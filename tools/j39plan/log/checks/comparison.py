@@ -7,13 +7,14 @@ from j39plan.j1939 import (
     ACKNOWLEDGEMENT, ADDRESS_CLAIMED, DATA_TRANSFER, CONNECTION_MANAGEMENT, FRAME_BYTES, GLOBAL_ADDRESS, NULL_ADDRESS, OTHER_SERVICES, PROPRIETARY,
     REQUEST, SERVICES, destination_in, identifier_of,
 )
+from j39plan.log.checks.busy import Busy
 from j39plan.log.checks.claims import Claims
 from j39plan.log.checks.commanded import Commanded
 from j39plan.log.checks.damage import Damage
 from j39plan.log.checks.deviations import Found
 from j39plan.log.checks.distances import Distances, Heard, Rule, Tolerance, Way
 from j39plan.log.checks.feed import Noted
-from j39plan.log.checks.hands import Hands
+from j39plan.log.checks.hands import Hands, named
 from j39plan.log.checks.numbers import Numbers
 from j39plan.log.checks.other_requests import OtherRequests
 from j39plan.log.checks.premises import Beside
@@ -21,7 +22,7 @@ from j39plan.log.checks.queued import Begun, Queued
 from j39plan.log.checks.requests import Asked
 from j39plan.log.checks.transfers import WHOLE, Announcement, Cause, Pair, Route, Transfers, announcement_in, is_managing, pair_of, pgn_of
 from j39plan.log.checks.unplanned import Bounds, Unplanned
-from j39plan.log.clock import MILLISECOND, SECOND, Clock
+from j39plan.log.clock import DAY, MILLISECOND, SECOND, Clock
 from j39plan.log.reports import Acknowledgement, Claim, Frame, Message, Report, Request, Who
 from j39plan.log.serial_numbers import Renumbered
 from j39plan.plan.tables import Group, Tables
@@ -72,7 +73,8 @@ class Comparison:
         self.distances = Distances(tables.flows, tolerance, settings.rule, bounds.waits, heard, found)
         self.claims, self.queued, self.commanded = Claims(tables.units, self.hands, found), Queued(), Commanded(tables.units, found)
         self.asked, self.damage = Asked(tables, tolerance, bounds.requests, found, self.hands.is_on), Damage(tables.timing, found)
-        self.transfers, self.unplanned = Transfers(tables.timing, found), Unplanned(tables, bounds.flows, found)
+        self.busy, self.unplanned = Busy(tables.timing), Unplanned(tables, bounds.flows, found)
+        self.transfers = Transfers(tables.timing, self.busy, found)
         labels = {pgn: groups[0].label for pgn, groups in self.groups.items() if len(groups) == 1}
         self.others = OtherRequests(labels, found, self.hands.is_on)
         self._begun: dict[Pair, Begun] = {}
@@ -117,14 +119,21 @@ class Comparison:
         """Somebody whom the plan doesn't have sends something, as a message of a planned group."""
         former, what = self.hands.former(at, sender), f"sends {group}, a planned group" if group else "sends"
         if former is not None:
-            text = f"{former.spelled} claims address {former.address}, and its former address {sender.address} {what}: two boxes of one NAME?"
-            self.found.tell("two-boxes", text, line, at, unit=former.label)
+            self.goes_on(line, at, former, f"and its former address {sender.address} {what}")
             self.of_premises.left.add(sender.address)
             self.distances.touched(former.label or "", self._pgns, pgn, line, at)
         elif group:
             self.of_premises.sent.setdefault(sender.name or sender.address, {})[group] = None
         if sender.address in (NULL_ADDRESS, GLOBAL_ADDRESS) or self.is_unjudged and former is None:
             self.found.tell("stranger", f"{sender.spelled} {what}: no unit has it", line, at)
+
+    def goes_on(self, line: int, at: int | None, former: Who, what: str) -> None:
+        """An address goes on to send that a box has left for another one, or given up."""
+        if former.address is None:
+            text = f"{named(former)} could not claim an address, {what}: by the standard it sends no more"
+            self.found.tell("sends-on", text, line, at, unit=former.label)
+            return
+        self.found.tell("two-boxes", f"{former.spelled} claims address {former.address}, {what}: two boxes of one NAME?", line, at, unit=former.label)
 
     def message(self, line: int, at: int | None, message: Message) -> None:
         """A message of a planned group."""
@@ -299,7 +308,7 @@ class Comparison:
         waited = 0
         if announced.is_sound:
             self.transfers.announced(line, at, route, frame)
-            waited = self.queued.announced(sender.label, at, way, to.address is None) if sender.label and at is not None else 0
+            waited = self.busy.waited + self.queued.announced(sender.label, at, way, to.address is None) if sender.label and at is not None else 0
         if not is_planned:
             self.passes(line, at, frame.identifier, f"PGN {announced.pgn}", sender)
         if group is None:
@@ -352,6 +361,7 @@ class Comparison:
     def looks_at_time(self, line: int, at: int) -> None:
         """Time goes by. Where the clock was set, nothing at all came, or the interface was off, what is measured begins anew."""
         last, clock = self._at, self.clock
+        self.busy.comes(at)
         if clock.is_set or clock.is_back:
             self.hands.anew(line)
             self.anew(line, at)
@@ -362,8 +372,22 @@ class Comparison:
             self.hands.stood_still(line, at, at - last)
             self.anew(line, at)
         self._at, self._line = at, line
-        if self._is_watched or self.transfers.waits or self.transfers.refused or self.claims.open or self.hands.ignition.gap or self.commanded.open:
+        if self._is_waiting():
             self.goes_by(at)
+
+    def _is_waiting(self) -> bool:
+        """Whether time has to go by for something that is waited for."""
+        return bool(self._is_watched or self.transfers.waits or self.transfers.refused or self.claims.open or self.hands.ignition.gap or self.commanded.open)
+
+    def calm(self) -> tuple[int, float]:
+        """The time of the last report; and how much later the next one may come, so that of a message that is as planned nothing changes but its flow's
+        count and distances, below 0 where more may."""
+        is_open = self.asked.open or self.others.open or self.damage.is_off or not self.hands.is_settled
+        return (0, -1) if self._at is None or is_open or self._is_waiting() else (self._at, min(self._gap, DAY))
+
+    def passed(self, line: int, at: int) -> None:
+        """Nothing but such messages came up to this line and time."""
+        self._at, self._line, self.busy.last = at, line, at
 
     def watches(self) -> None:
         """From here on what is due is told as soon as it is, by the times of the log, and by `waits`."""

@@ -180,7 +180,8 @@ class Distances:
         if at is None:
             self.without_time = self.without_time or limits is not None
             return
-        if limits is None and self._usual is None or self.is_before(line):
+        since = self._since
+        if limits is None and self._usual is None or since is not None and line < since[0]:
             return
         before, track.line, track.at, track.waited = track.waited, line, at, waited
         if self._overdue and track.number in self._overdue:

@@ -30,6 +30,7 @@ ERROR_FLAG = 1 << 29
 # What parts words, words that may stand behind a frame, and digits.
 BLANKS, DIRECTIONS = b" \t\r\n", (b"R", b"T")
 HEX = b"0123456789ABCDEFabcdef"
+MARK = ord("#")
 
 # So much of a log is looked at at once.
 BLOCK = 1 << 16
@@ -92,11 +93,12 @@ class Feed:
         """What comes of a log, as soon as it is there, when its lines were looked at; one that is too long isn't."""
         number, rest, is_long = 1, b"", False
         while block := log.read1(BLOCK):
-            *lines, rest = (rest + block).split(b"\n")
+            whole = rest + block
+            *lines, rest = whole.split(b"\n")
             if lines and is_long:
                 number, is_long = number + 1, False
                 del lines[0]
-            self._take_all(number, lines)
+            self._take_all(number, whole[:len(whole) - len(rest)], lines)
             number += len(lines)
             if is_long or len(rest) >= LINE_MOST:
                 rest, is_long = b"", True
@@ -117,8 +119,22 @@ class Feed:
             self._beside.popleft()
         return self._beside[0] if self._beside and self._beside[0].line == line else None
 
-    def _take_all(self, number: int, lines: list[bytes]) -> None:
+    def _are_plain(self, block: bytes, lines: list[bytes]) -> bool:
+        """Whether all lines of a block are spelled alike but for digits, with a frame at the same place, of which nothing is noted."""
+        at = lines[0].rfind(b"#")
+        form = lines[0].translate(None, HEX) + b"\n"
+        if not form.endswith(b"#\n") or form.count(b"#") > 1 or block.translate(None, HEX) != form * len(lines):
+            return False
+        lengths = set(map(len, lines))
+        if min(lengths) < at + 2 or max(lengths) >= LINE_MOST or not all(length - at & 1 for length in lengths):
+            return False
+        return {line[at] for line in lines} == {MARK} and self._plain.issuperset({line[at - 8:at] for line in lines})
+
+    def _take_all(self, number: int, block: bytes, lines: list[bytes]) -> None:
         """Lines come. Most have a frame of which nothing is noted, and hexadecimal digits up to their end."""
+        if lines and not self._meter and self._are_plain(block, lines):
+            self._last = lines[-1]
+            return
         plain, meter, take = self._plain, self._meter, self._take
         for line in lines:
             at = line.rfind(b"#")

@@ -17,6 +17,7 @@ MEANINGS = {
     "early-message": "of a live plan: how soon a unit announces a long message after a restart, where it was heard less than 1,650 ms before; so long "
                      "others may hold a session with a unit that went off",
     "two-boxes": "an address that a unit left 250 ms ago or longer goes on to send",
+    "sends-on": "the same of an address that a unit gave up by Cannot Claim, and that nobody claimed since",
     "not-defended": "a unit that is on (heard within a second, or two of its shortest periods) and has the smaller NAME doesn't defend its address "
                     "within 250 ms",
     "too-early": "a unit sends less than 250 ms after it claimed one of 128..247, unless it was asked for its claim, sent from there already, defends it, "
@@ -54,8 +55,8 @@ MEANINGS = {
     "urgent": "a frame of no planned flow with a smaller priority number than `unplanned_priority`, claims, requests and services too",
     "unplanned": "more frames of no planned flow in a time as long as a flow's bound than `unplanned` says; whether a frame waited isn't known",
     "transport-priority": "a frame of a long message with a smaller priority number than `transport_priority`",
-    "packets-near": "packets of a long message to all nearer than `broadcast_gap`",
-    "packets-far": "packets of a long message to all further apart than `broadcast_gap_most`",
+    "packets-near": "packets of a long message to all nearer than `broadcast_gap`, but for how long the bus was busy before the first one",
+    "packets-far": "packets of a long message to all further apart than `broadcast_gap_most`, but for how long the bus was busy before the second one",
     "late-answer": "in a transfer, later than 200 ms: a clear to send, a packet after it, the acknowledgement",
     "damaged": "error frames of a protocol violation, no acknowledgement or a bus error: each without `errors`, else the most in a time of `every`",
     "overload": "an overload frame",

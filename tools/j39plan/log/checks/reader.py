@@ -5,6 +5,7 @@ from __future__ import annotations
 
 from collections.abc import Iterator
 from itertools import islice
+from operator import itemgetter
 from typing import NamedTuple
 
 from j39plan.j1939 import FRAME_BYTES
@@ -13,6 +14,9 @@ from j39plan.log.checks.feed import Feed
 from j39plan.log.checks.distances import Track
 from j39plan.log.reports import GROUP, KIND, Claim, Counts, Frame, Message, Who, below_of, report_of
 from j39plan.plan.tables import Tables
+
+# As whom somebody is heard: the unit, the box and the address.
+Source = tuple[str, str, int | None]
 
 # So many digits, and the end of the line, has the data of a frame at most; and so many meanings are kept.
 DIGITS, KEPT = 2 * FRAME_BYTES + 1, 4096
@@ -27,9 +31,7 @@ class Plain(NamedTuple):
     pgn: int
     sender: Who
     to: Who
-    key: str
-    box: str
-    address: int | None
+    source: Source
 
 
 class Reader:
@@ -40,41 +42,78 @@ class Reader:
         self._below = below_of(tables)
         self._unheard, self._beside = feed.noted
         self._plain: dict[str, Plain] = {}
+        self._heard: dict[Source, tuple[int, int]] = {}  # who was heard while all was calm: the line and the time of the last message of each
         self._frames: dict[str, Frame] = {}  # the last frame of no planned group, by its line without time and data
 
     def take(self, lines: Iterator[str], most: int | None = None) -> None:
-        """Takes the lines, so many of them at most."""
-        comparison, plain_of, unheard, beside = self._comparison, self._plain.get, self._unheard, self._beside
-        hands, asked, others = comparison.hands, comparison.asked, comparison.others
-        see, looks_at_time, comes, frame_of = comparison.clock.see, comparison.looks_at_time, comparison.distances.comes, self._frames.get
+        """Takes the lines, so many of them at most. Messages that are as planned change nothing but counts and distances while all is calm."""
+        plain_of, unheard, beside, comparison, heard = self._plain.get, self._unheard, self._beside, self._comparison, self._heard
+        see, comes, busy, is_calm, last, calm = comparison.clock.see, comparison.distances.comes, comparison.busy, False, 0, -1.0
         for line in islice(lines, most):
             words = line.split(" ", 2)
             head, _, data = words[-1].rpartition(" ")
-            plain = plain_of(head)
-            if plain is not None and len(data) <= DIGITS and (not unheard and not beside or self._is_before(int(words[0]))):
-                track, times, pgn, sender, to, key, box, address = plain
-                number = int(words[0])
-                at = see(number, words[1])
-                if at is not None:
-                    looks_at_time(number, at)
-                if hands.is_settled:
-                    hands.is_heard(number, at, key, box, address)
-                else:
-                    hands.sends(number, at, sender)
-                if asked.open or others.open:
-                    comparison.answers(number, at, sender, to, pgn)
-                times[0] += 1
-                comes(track, number, at)
-            elif not unheard and not beside and (frame := frame_of(head)) is not None:
-                number = int(words[0])
-                at = see(number, words[1])
-                if at is not None:
-                    looks_at_time(number, at)
-                comparison.frame(number, at, Frame(number, words[1], *frame[2:6], bytes.fromhex(data)))
-            elif line[0].isdigit():
-                self._report(line, lines, head)
+            plain = plain_of(head) if len(data) <= DIGITS else None
+            if plain is None or unheard or beside:
+                self._other(line, words, head, data, lines, plain)
+                is_calm = False
+                continue
+            if not is_calm:
+                last, calm = comparison.calm()
+                is_calm = True
+            number = int(words[0])
+            at = see(number, words[1])
+            if at is not None and 0 <= at - last <= calm:
+                if at - last > busy.idle:
+                    busy.since = at
+                last = at
+                heard[plain.source] = number, at
+                plain.times[0] += 1
+                comes(plain.track, number, at)
             else:
-                self._counts.take(line)
+                self._plainly(plain, number, at)
+                is_calm = False
+        self._was_heard()
+
+    def _was_heard(self) -> None:
+        """Whom messages came of while all was calm is heard, by the last one of each."""
+        if self._heard:
+            number, at = max(self._heard.values())
+            for source, one in sorted(self._heard.items(), key=itemgetter(1)):
+                self._comparison.hands.is_heard(*one, *source)
+            self._comparison.passed(number, at)
+            self._heard.clear()
+
+    def _plainly(self, plain: Plain, number: int, at: int | None) -> None:
+        """A message that is as planned."""
+        self._was_heard()
+        comparison, (_, times, pgn, sender, to, source) = self._comparison, plain
+        if at is not None:
+            comparison.looks_at_time(number, at)
+        if comparison.hands.is_settled:
+            comparison.hands.is_heard(number, at, *source)
+        else:
+            comparison.hands.sends(number, at, sender)
+        if comparison.asked.open or comparison.others.open:
+            comparison.answers(number, at, sender, to, pgn)
+        times[0] += 1
+        comparison.distances.comes(plain.track, number, at)
+
+    def _other(self, line: str, words: list[str], head: str, data: str, lines: Iterator[str], plain: Plain | None) -> None:
+        """Another line, or one beside which something is noted."""
+        self._was_heard()
+        comparison, is_noted = self._comparison, bool(self._unheard or self._beside)
+        if plain is not None and (not is_noted or self._is_before(int(words[0]))):
+            self._plainly(plain, int(words[0]), comparison.clock.see(int(words[0]), words[1]))
+        elif not is_noted and (frame := self._frames.get(head)) is not None:
+            number = int(words[0])
+            at = comparison.clock.see(number, words[1])
+            if at is not None:
+                comparison.looks_at_time(number, at)
+            comparison.frame(number, at, Frame(number, words[1], *frame[2:6], bytes.fromhex(data)))
+        elif line[0].isdigit():
+            self._report(line, lines, head)
+        else:
+            self._counts.take(line)
 
     def _is_before(self, line: int) -> bool:
         """Whether a line comes before all of which something is noted."""
@@ -101,4 +140,4 @@ class Reader:
         sender, to = message.sender, message.to
         if message.flow and sender.label and message.priority is None and self._comparison.hands.is_named(sender):
             pgn = self._comparison.planned[message.group].pgn
-            self._plain[head] = Plain(self._comparison.distances.track(message.flow), self._comparison.counted(message.flow), pgn, sender, to, *self._comparison.hands.source_of(sender), sender.address)
+            self._plain[head] = Plain(self._comparison.distances.track(message.flow), self._comparison.counted(message.flow), pgn, sender, to, (*self._comparison.hands.source_of(sender), sender.address))

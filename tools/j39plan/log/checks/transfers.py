@@ -4,6 +4,7 @@ from dataclasses import dataclass
 from typing import NamedTuple
 
 from j39plan.j1939 import CONNECTION_MANAGEMENT, DATA_TRANSFER, FRAME_BYTES, PACKET_BYTES, RESPONSE, WAIT, pgn_in
+from j39plan.log.checks.busy import Busy
 from j39plan.log.checks.deviations import Found
 from j39plan.log.clock import MILLISECOND, SECOND
 from j39plan.log.reports import Frame, Who
@@ -67,7 +68,8 @@ class Route(NamedTuple):
 @dataclass
 class Transfer:
     """A long message under way: its group, its bytes and the number of its packets, and how many may be cleared to send at once; which ones came,
-    whether it was cleared to send; when its last frame came, and whose answer is waited for since then, if one is."""
+    whether it was cleared to send; when its last frame came, how long that may have waited for the bus, and whose answer is waited for since then, if one
+    is."""
 
     route: Route
     pgn: int
@@ -75,6 +77,7 @@ class Transfer:
     count: int
     most: int
     at: int | None
+    waited: int
     is_broadcast: bool
     waits_for: str = ""
     came: int = 0
@@ -111,8 +114,8 @@ def pair_of(sender: Who, to: Who) -> Pair:
 class Transfers:
     """The long messages of a log. Their times and priorities are looked at only where the plan has `timing`."""
 
-    def __init__(self, timing: Timing | None, found: Found) -> None:
-        self._timing, self._found = timing, found
+    def __init__(self, timing: Timing | None, busy: Busy, found: Found) -> None:
+        self._timing, self._busy, self._found = timing, busy, found
         self._open: dict[Pair, Transfer] = {}
         self.refused: dict[Pair, list[Refusal]] = {}  # what may be tried again, and is then carried whole
         self.waits: dict[Pair, tuple[int, int | None]] = {}  # what came whole, by the line and time of its last packet, and isn't acknowledged yet
@@ -123,7 +126,7 @@ class Transfers:
         self._is_unanswered(pair)
         size, count = int.from_bytes(frame.data[1:3], "little"), frame.data[3]
         most = count if is_broadcast else min(count, frame.data[4] or count)
-        self._open[pair] = Transfer(route, pgn_of(frame), size, count, most, at, is_broadcast, "" if is_broadcast else "answer")
+        self._open[pair] = Transfer(route, pgn_of(frame), size, count, most, at, self._busy.waited, is_broadcast, "" if is_broadcast else "answer")
         self._look_at_priority(line, at, route, frame)
 
     def came(self, line: int, at: int | None, frame: Frame) -> bool:
@@ -193,6 +196,7 @@ class Transfers:
     def _packet(self, line: int, at: int | None, transfer: Transfer, frame: Frame) -> None:
         """A packet of a message."""
         before, transfer.at = transfer.at, at
+        waited, transfer.waited = transfer.waited, self._busy.waited
         transfer.came |= 1 << (frame.data[0] if frame.data else 0)
         if self._timing is None or at is None or before is None or at < before:
             return
@@ -200,9 +204,9 @@ class Transfers:
             if transfer.waits_for == "packet":
                 self._late(line, at, at - before, transfer, transfer.route.sender)
             transfer.waits_for = "answer"
-        elif at - before < self._timing.broadcast_gap * (MILLISECOND - self._timing.drift):
+        elif at - before + waited < self._timing.broadcast_gap * (MILLISECOND - self._timing.drift):
             self._pace("packets-near", line, at, at - before, transfer, f"at least {self._timing.broadcast_gap}")
-        elif at - before > self._timing.broadcast_gap_most * (MILLISECOND + self._timing.drift):
+        elif at - before - self._busy.waited > self._timing.broadcast_gap_most * (MILLISECOND + self._timing.drift):
             self._pace("packets-far", line, at, at - before, transfer, f"at most {self._timing.broadcast_gap_most}")
 
     def _pace(self, kind: str, line: int, at: int, distance: int, transfer: Transfer, limit: str) -> None:

@@ -45,8 +45,9 @@ def bounds_of(plan: str, tables: Tables) -> Bounds:
     greatest = {number: greatest_identifier(tables, number) for number in range(1, len(tables.flows) + 1)}
     without_order = {unit.label for unit in tables.units if unit.queue == "any"}
     flows = [Bound(number, within[number], IDENTIFIERS if tables.flows[number - 1].sender in without_order else greatest[number]) for number in sorted(short)]
-    waits = {number: wait_of(number, within, short, greatest, tables.flows[number - 1].sender in without_order) for number in greatest}
-    own = {number: wait - tables.flows[number - 1].jitter * MILLISECOND for number, wait in waits.items() if wait is not None}
+    queued = {number: bound - tables.flows[number - 1].jitter * MILLISECOND for number, bound in within.items()}
+    waits = {number: wait_of(number, queued, short, greatest, tables.flows[number - 1].sender in without_order) for number in greatest}
+    own = {number: wait for number, wait in waits.items() if wait is not None}
     asking = {request.sender for request in tables.requests} - without_order
     wait = least_behind(REQUESTS, {number: within[number] for number in short}, greatest)
     return Bounds(flows, own, {} if wait is None else dict.fromkeys(asking, wait))
@@ -59,7 +60,7 @@ def greatest_identifier(tables: Tables, number: int) -> int:
 
 
 def wait_of(number: int, within: dict[int, int], short: set[int], greatest: dict[int, int], has_no_order: bool) -> int | None:
-    """How long the first frame of a message waits at most. That of a group of several lengths may be a single one, which goes before the frames
+    """How long the first frame of a message waits at most, from when it is queued, by how long those of flows do. That of a group of several lengths may be a single one, which goes before the frames
     of each flow with a greater identifier, and so waits no longer than any of these; else the whole message's time is one."""
     if number in short:
         return within[number]
