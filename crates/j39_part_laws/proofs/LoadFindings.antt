@@ -42,7 +42,7 @@ pub record IsToldAt {X Y : Type 0} (tell : ℕ → X → List Y) (place : ℕ) (
   pub value_is : slice_get xs k ≡ Some value
   pub told : Contains (tell (place + k) value) line
 
-told_at : {X Y : Type 0} (tell : ℕ → X → List Y) (place : ℕ) (xs : List X) (line : Y) → Contains (lines_of_each tell place xs) line → IsToldAt tell place xs line
+pub told_at : {X Y : Type 0} (tell : ℕ → X → List Y) (place : ℕ) (xs : List X) (line : Y) → Contains (lines_of_each tell place xs) line → IsToldAt tell place xs line
 unfolding lines_of_each
 told_at tell place [] line found = let none = found.1 in absurd (omega (arith, none))
 told_at tell place (x ∷ xs) line found = elim (Contains-append_cases (tell place x) (lines_of_each tell (place + 1) xs) line found) [
@@ -55,7 +55,7 @@ told_at tell place (x ∷ xs) line found = elim (Contains-append_cases (tell pla
       record { k = suc its.k; value = its.value; value_is = its.value_is; told = subst (λ n. Contains (tell n its.value) line) same its.told }
 ]
 
-line_told : {X Y : Type 0} (tell : ℕ → X → List Y) (place : ℕ) (xs : List X) (k : ℕ) (x : X) (line : Y) → slice_get xs k ≡ Some x
+pub line_told : {X Y : Type 0} (tell : ℕ → X → List Y) (place : ℕ) (xs : List X) (k : ℕ) (x : X) (line : Y) → slice_get xs k ≡ Some x
     → Contains (tell (place + k) x) line → Contains (lines_of_each tell place xs) line
 unfolding lines_of_each
 line_told tell place [] zero x line at told = cc
