@@ -10,10 +10,10 @@ use Rattle.j39_variants.specs.declared.line.ProductLine.{ProductLine}
 use Rattle.j39_variants.specs.Variants.{IsVariant, size_at, takes_alternative}
 use Rattle.j39_line_findings.specs.FullVariants.{alternative_at, alternatives_of, alternatives_of_choice, compared, does_leave, does_need_let_in, full_alternatives, is_full_among}
 use Rattle.j39_part_laws.proofs.LoadFindings.{line_told, told_at}
+use Rattle.j39_part_laws.proofs.Places.{no_value, value_at}
 use Rattle.j39_line_part_laws.specs.Covering.{HasFullCover, IsCoveredBy, IsFull}
 use Rattle.j39_line_part_laws.proofs.Boxes.{at_all}
 use Rattle.j39_line_part_laws.proofs.Full.{best_of, IsBest, none_better}
-use Rattle.j39_line_part_laws.proofs.PlacesInFile.{value_at}
 
 -- ---- lists
 
@@ -40,8 +40,7 @@ in_range f a (suc n) (suc k) below =
 
 -- what passes a test stands among those that pass it
 any_filter : {X : Type 0} (f p : X → Bool) (xs : List X) (i : ℕ) (x : X) → slice_get xs i ≡ Some x → f x ≡ true → p x ≡ true → list_any p (filter f xs) ≡ true
-any_filter f p [] zero x at passes holds = cc
-any_filter f p [] (suc i) x at passes holds = cc
+any_filter f p [] i x at passes holds = absurd (no_value i x at)
 any_filter f p (y ∷ ys) zero x at passes holds =
     let same : x ≡ y = sym (same_Some y x at) in
     ap (λ b. list_any p (cond b (y ∷ filter f ys) (filter f ys))) (subst (λ z. f z ≡ true) same passes) ∙ or_left (p y) (list_any p (filter f ys)) (subst (λ z. p z ≡ true) same holds)
@@ -52,8 +51,7 @@ any_filter f p (y ∷ ys) (suc i) x at passes holds = by (f y) (any_filter f p y
     by false rest = rest
 
 of_filter : {X : Type 0} (f : X → Bool) (xs : List X) (i : ℕ) (x : X) → slice_get (filter f xs) i ≡ Some x → (j : ℕ) × (slice_get xs j ≡ Some x)
-of_filter f [] zero x at = cc
-of_filter f [] (suc i) x at = cc
+of_filter f [] i x at = absurd (no_value i x at)
 of_filter {X = X} f (y ∷ ys) i x at = by (f y) i at (λ k found. of_filter f ys k x found)
   where
     by : (b : Bool) (k : ℕ) → slice_get (cond b (y ∷ filter f ys) (filter f ys)) k ≡ Some x
@@ -89,13 +87,8 @@ module _ (line : ProductLine) where
       (omega (arith, choice, inside), omega (arith, place, below, many, size_same))
 
   among : (c m : ℕ) → c < length choices → m < size c → (i : ℕ) × (slice_get alternatives i ≡ Some (alternative_at c m))
-  among c m below inside = go (pair choices c below)
+  among c m below inside = go (value_at choices c below)
     where
-      pair : (xs : List Choice) (k : ℕ) → k < length xs → (x : Choice) × (slice_get xs k ≡ Some x)
-      pair [] k less = absurd (omega (arith, less))
-      pair (x ∷ xs) zero less = (x, refl)
-      pair (x ∷ xs) (suc k) less = pair xs k (omega (arith, less))
-
       go : (choice : Choice) × (slice_get choices c ≡ Some choice) → (i : ℕ) × (slice_get alternatives i ≡ Some (alternative_at c m))
       go (choice, at) =
           let many = size_is c choice at in
@@ -131,8 +124,7 @@ module _ (line : ProductLine) where
   length-build c (p ∷ v) = ap suc (length-build (c + 1) v)
 
   build_at : (c : ℕ) (v : List ℕ) (k p : ℕ) → slice_get v k ≡ Some p → slice_get (build c v) k ≡ Some (full_place (c + k) p)
-  build_at c [] zero p at = cc
-  build_at c [] (suc k) p at = cc
+  build_at c [] k p at = absurd (no_value k p at)
   build_at c (x ∷ v) zero p at = ap (λ n. Some (full_place c n)) (same_Some x p at) ∙ ap (λ n. Some (full_place n p)) (let e : c ≡ c + 0 = omega arith in e)
   build_at c (x ∷ v) (suc k) p at = build_at (c + 1) v k p at ∙ ap (λ n. Some (full_place n p)) (let e : c + 1 + k ≡ c + suc k = omega arith in e)
 
@@ -214,8 +206,7 @@ module _ (line : ProductLine) where
               where
                 all_pass : (xs : List Alternative) (i : ℕ) (x : Alternative) → slice_get xs i ≡ Some x
                     → (j : ℕ) × (slice_get (filter (does_need_let_in line None) xs) j ≡ Some x)
-                all_pass [] zero x at = cc
-                all_pass [] (suc i) x at = cc
+                all_pass [] i x at = absurd (no_value i x at)
                 all_pass (y ∷ ys) zero x at = (0, at)
                 all_pass (y ∷ ys) (suc i) x at = let (j, found) = all_pass ys i x at in (suc j, found)
 
