@@ -11,7 +11,7 @@ use Rattle.j39_variants.specs.Variants.{IsVariant, size_at, takes_alternative}
 use Rattle.j39_line_findings.specs.FullVariants.{alternative_at, alternatives_of, alternatives_of_choice, compared, does_leave, does_need_let_in, full_alternatives, is_full_among}
 use Rattle.j39_part_laws.proofs.LoadFindings.{line_told, told_at}
 use Rattle.j39_part_laws.proofs.Places.{no_value, value_at}
-use Rattle.j39_line_part_laws.specs.Covering.{HasFullCover, IsCoveredBy, IsFull}
+use Rattle.j39_line_part_laws.specs.Covering.{HasFullCover, IsCoveredBy, IsFullVariant}
 use Rattle.j39_line_part_laws.proofs.Boxes.{at_all}
 use Rattle.j39_line_part_laws.proofs.Full.{best_of, IsBest, none_better}
 
@@ -172,7 +172,7 @@ module _ (line : ProductLine) where
           (none_better line c (full_place c p) d.place (best.best d.place (omega (arith, inside, sizes))))
     ]
 
-    is_full : IsFull line w
+    is_full : IsFullVariant line w
     is_full = at_all (λ a. list_any (λ b. (b.choice == a.choice) && takes_alternative w b) (full_alternatives line alternatives None)) (full_alternatives line alternatives None)
         (λ i a at_a.
         let (j, at_j) = of_filter (is_full_among line alternatives None these) these i a at_a in

@@ -11,9 +11,9 @@ IsCoveredBy line v w = (c p : ℕ) → slice_get v c ≡ Some p
     → (q : ℕ) × (slice_get w c ≡ Some q) × (is_covered line (alternative_at c p) (alternative_at c q) ≡ true)
 
 -- a variant that takes full alternatives alone
-abbrev pub IsFull : ProductLine → List ℕ → Type 0
-IsFull line variant = is_in variant (full_alternatives line (alternatives_of line) None) ≡ true
+abbrev pub IsFullVariant : ProductLine → List ℕ → Type 0
+IsFullVariant line variant = is_in variant (full_alternatives line (alternatives_of line) None) ≡ true
 
 -- the variant is covered by a full one
 abbrev pub HasFullCover : ProductLine → List ℕ → Type 0
-HasFullCover line v = (w : List ℕ) × IsVariant line.choices.items w × IsFull line w × IsCoveredBy line v w
+HasFullCover line v = (w : List ℕ) × IsVariant line.choices.items w × IsFullVariant line w × IsCoveredBy line v w

@@ -9,7 +9,7 @@ use Rattle.j39_variants.specs.declared.line.ProductLine.{ProductLine}
 use Rattle.j39_line_findings.specs.LineAnswers.{IsPossible}
 use Rattle.j39_line_findings.specs.LineFindingLaws.{IsFound}
 use Rattle.j39_line_findings.specs.LineFound.{AreVariantFindings}
-use Rattle.j39_line_part_laws.specs.Covering.{IsFull}
+use Rattle.j39_line_part_laws.specs.Covering.{IsFullVariant}
 use Rattle.j39_line_findings.specs.declared.line_finding.LineFinding.{LineFinding}
 use Rattle.j39_line_findings.specs.declared.line_finding.LineFinding.TheVariants.{OfPlan, OfLoad}
 
@@ -41,5 +41,5 @@ IsAbsenceAlone line variant = (findings : List LineFinding) × AreVariantFinding
 
 -- where it is so with each possible variant that is full, it is with all that is found of any possible one
 abbrev pub FullVariantsSuffice : ProductLine → Type 0
-FullVariantsSuffice line = ((w : List ℕ) → IsPossible line w → IsFull line w → IsAbsenceAlone line w) → (v : List ℕ) → IsPossible line v
+FullVariantsSuffice line = ((w : List ℕ) → IsPossible line w → IsFullVariant line w → IsAbsenceAlone line w) → (v : List ℕ) → IsPossible line v
     → (findings : List LineFinding) → AreVariantFindings line v findings → OnlyAbsenceIsTold findings
