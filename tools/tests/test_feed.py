@@ -13,6 +13,7 @@ from j39plan.log.checks.comparison import Comparison, Settings
 from j39plan.log.checks.deviations import Deviation, Found
 from j39plan.log.checks.distances import SILENCE, Rule, Tolerance
 from j39plan.log.checks.feed import Feed, Noted
+from j39plan.log.checks.meter import Meter
 from j39plan.log.checks.reader import Reader
 from j39plan.log.checks.unplanned import bounds_of
 from j39plan.log.files import LINE_MOST
@@ -46,8 +47,8 @@ class Told(NamedTuple):
 
 
 def told(log: io.BytesIO) -> Told:
-    """What is noted of a log, which is handed on as it is."""
-    feed, data = Feed(TABLES.timing), log.getvalue()
+    """What is noted of a log, which is handed on as it is. With a meter each line is looked at by itself."""
+    feed, data = Feed(TABLES.timing, Meter() if isinstance(log, LineByLine) else None), log.getvalue()
     assert b"".join(feed.pieces(log)) == data
     beside = list(feed.noted[1])
     return Told(list(feed.unheard(math.inf)), beside, feed.unread, feed.last_time)
