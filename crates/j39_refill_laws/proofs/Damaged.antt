@@ -1,10 +1,10 @@
 -- A bus with damaged frames on which units refill a buffer is one of a schedule with refills, in which attempts and error frames are frames.
-use Rattle.std.proofs.Common.{◌≡◌, ℕ, ◌+◌, ◌-◌, ◌<◌, ◌⊎◌, ◌∙◌, refl, sym, subst, arith, inl, inr}
-use Rattle.std.proofs.lemmas.Bool.{le-ltb, lt-ltb}
+use Rattle.std.proofs.Common.{◌≡◌, ℕ, ◌+◌, ◌<◌, ◌⊎◌, ◌∙◌, refl, sym, subst, arith, inl, inr}
+use Rattle.std.proofs.lemmas.Bool.{lt-ltb}
 use Rattle.j39_timing.specs.AnyOrder.{Controllers}
 use Rattle.j39_timing.specs.Errors.{Damaged, with_errors}
 use Rattle.j39_timing.specs.TimedFrames.{Schedule, Waits}
-use Rattle.j39_timing.proofs.ErrorFrames.{AreApart, IsFrame, OnBus, Takes, all, alone, as_waiting, attempt_waits, both_frames, damaged_on_bus, error_at}
+use Rattle.j39_timing.proofs.ErrorFrames.{AreApart, IsFrame, OnBus, Takes, all, alone, as_waiting, attempt_waits, both_frames, damaged_on_bus, error_at, error_told}
 use Rattle.j39_timing.proofs.ErrorFrames.{error_waits, first_of_all, frame_at, frame_on_bus, frame_or_least, kinds, positive, queued_first, taken}
 use Rattle.j39_refill_laws.specs.Refill.{IsLegalWithRefill, IsRefilling}
 use Rattle.j39_refill_laws.specs.RefillErrors.{IsLegalWithRefillAndErrors, MayHoldBack, error_units}
@@ -22,12 +22,7 @@ module _ (s : Schedule) (controllers : Controllers) (d : Damaged) (own : ℕ) wh
   unit_of_frame = units_with_damage s controllers d own
 
   unit_of_error : (e : ℕ) → e < d.count → units.unit (s.count + (d.count + e)) ≡ controllers.unit (d.frame e)
-  unit_of_error e below =
-      let behind = le-ltb (s.count + (d.count + e)) s.count (omega arith) in
-      let back : s.count + (d.count + e) - s.count ≡ d.count + e = omega arith in
-      let later = le-ltb (d.count + e) d.count (omega arith) in
-      let last : d.count + e - d.count ≡ e = omega arith in
-      rw (behind, back, later, last) refl
+  unit_of_error e below = error_told s d controllers.unit (λ e. own) (λ e. controllers.unit (d.frame e)) e below
 
   module _ (refill : ℕ → ℕ) (legal : IsLegalWithRefillAndErrors s controllers d refill) where
     apart : AreApart s d

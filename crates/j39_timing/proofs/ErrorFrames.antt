@@ -3,7 +3,7 @@ use Rattle.std.proofs.Common.{◌≡◌, ℕ, ◌+◌, ◌-◌, ◌<◌, ◌≤�
 use Rattle.std.proofs.lemmas.Bool.{cases_lt, le-ltb, lt-ltb}
 use Rattle.j39_timing.specs.TimedFrames.{Schedule, IsOnBusAt, Waits}
 use Rattle.j39_timing.specs.AnyOrder.{Controllers, IsFromOrdered, MayArbitrate}
-use Rattle.j39_timing.specs.Errors.{Damaged, IsDamagedAt, with_errors}
+use Rattle.j39_timing.specs.Errors.{Damaged, IsDamagedAt, at_place, with_errors}
 
 -- one frame or one damaged attempt at a time, whichever goes first
 pub record AreApart (s : Schedule) (d : Damaged) : Type 0 where
@@ -54,34 +54,41 @@ module _ (s : Schedule) (d : Damaged) where
         ident = rw (front) refl;
       }
 
-  pub attempt_at : (e : ℕ) → e < d.count → IsAttempt (s.count + e) e
-  attempt_at e below =
+  -- what is told of an attempt stands at its place, and what is told of its error frame at that
+  pub attempt_told : (frame attempt error : ℕ → ℕ) (e : ℕ) → e < d.count → at_place s d frame attempt error (s.count + e) ≡ attempt e
+  attempt_told frame attempt error e below =
       let behind = le-ltb (s.count + e) s.count (omega arith) in
       let back : s.count + e - s.count ≡ e = omega arith in
       let front = lt-ltb e d.count below in
-      record {
-        below = below;
-        place = refl;
-        queued = rw (behind, back, front) refl;
-        start = rw (behind, back, front) refl;
-        bits = rw (behind, back, front) refl;
-        ident = rw (behind, back, front) refl;
-      }
+      rw (behind, back, front) refl
 
-  pub error_at : (e : ℕ) → e < d.count → IsError (s.count + (d.count + e)) e
-  error_at e below =
+  pub error_told : (frame attempt error : ℕ → ℕ) (e : ℕ) → e < d.count → at_place s d frame attempt error (s.count + (d.count + e)) ≡ error e
+  error_told frame attempt error e below =
       let behind = le-ltb (s.count + (d.count + e)) s.count (omega arith) in
       let back : s.count + (d.count + e) - s.count ≡ d.count + e = omega arith in
       let later = le-ltb (d.count + e) d.count (omega arith) in
       let last : d.count + e - d.count ≡ e = omega arith in
-      record {
-        below = below;
-        place = refl;
-        queued = rw (behind, back, later, last) refl;
-        start = rw (behind, back, later, last) refl;
-        bits = rw (behind, back, later, last) refl;
-        ident = rw (behind, back, later) refl;
-      }
+      rw (behind, back, later, last) refl
+
+  pub attempt_at : (e : ℕ) → e < d.count → IsAttempt (s.count + e) e
+  attempt_at e below = record {
+    below = below;
+    place = refl;
+    queued = attempt_told s.queued d.begin d.begin e below;
+    start = attempt_told s.start d.begin (λ e. d.begin e + d.sent e) e below;
+    bits = attempt_told s.bits d.sent d.error e below;
+    ident = attempt_told s.ident (λ e. 0) (λ e. 0) e below;
+  }
+
+  pub error_at : (e : ℕ) → e < d.count → IsError (s.count + (d.count + e)) e
+  error_at e below = record {
+    below = below;
+    place = refl;
+    queued = error_told s.queued d.begin d.begin e below;
+    start = error_told s.start d.begin (λ e. d.begin e + d.sent e) e below;
+    bits = error_told s.bits d.sent d.error e below;
+    ident = error_told s.ident (λ e. 0) (λ e. 0) e below;
+  }
 
   pub kinds : (p : ℕ) → p < all.count → IsFrame p ⊎ (((e : ℕ) × IsAttempt p e) ⊎ ((e : ℕ) × IsError p e))
   kinds p below = elim (cases_lt p s.count) [
