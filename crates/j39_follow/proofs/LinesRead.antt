@@ -1,7 +1,8 @@
 -- A log that is followed line after line.
-use Rattle.std.proofs.Common.{◌≡◌, ◌+◌, ℕ, Bool, List, [], ◌∷◌, ◌++◌, length, Bor, Option, Some, None, refl, sym, ap, subst, ◌∙◌}
+use Rattle.std.proofs.Common.{◌≡◌, ◌+◌, ℕ, Bool, true, false, List, [], ◌∷◌, ◌++◌, length, Bor, Option, Some, None, refl, sym, ap, subst, ◌∙◌}
 use Rattle.std.specs.Prelude.{IfNone, IfSome}
 use Rattle.std.specs.Option.{option_copied}
+use Rattle.std.proofs.lemmas.Bool.{false≢true}
 use Rattle.std.proofs.lemmas.List.{length_push}
 use Rattle.j39_id.specs.Lines.{Line, Short, lines}
 use Rattle.j39_id.specs.declared.line_error.LineError.{LineError}
@@ -11,11 +12,19 @@ use Rattle.j39_log.specs.LineCounting.{counted_over, no_lines}
 use Rattle.j39_log.specs.declared.line_counts.LineCounts.{LineCounts}
 use Rattle.j39_follow.specs.FollowText.{AreUnitLines, FollowedPast, FollowsLines, FollowsShort, IsFollowedLog, frames_seen, line_passed_over}
 use Rattle.j39_follow.specs.FollowText.{nothing_followed, one_line_more}
-use Rattle.j39_follow.specs.LogLines.{IsInterface, NamesInterface}
+use Rattle.j39_follow.specs.LogLines.{IsElsewhere, IsInterface, NamesInterface}
 use Rattle.j39_follow.specs.declared.unit_report.UnitReport.{UnitReport}
 use Rattle.j39_follow.specs.inside.FollowedSoFar.{HasFollowedLines, LeadsToPast, RecallsPast, behind_reports}
 use Rattle.j39_follow.specs.inside.LinesFollowed.{line_more}
 use Rattle.j39_follow.proofs.Addresses.Standing.{unit_lines}
+
+-- ---- a line of another interface
+
+-- one of which the test says that it isn't is none
+pub not_elsewhere : (test : Bool) (kept known : Option (List ℕ)) (part : List ℕ) (named : Option (List ℕ)) → test ≡ false
+    → (IsElsewhere kept part named → test ≡ true) → kept ≡ known → IsElsewhere known part named → ⊥
+not_elsewhere test kept known part named isnt told same there =
+    false≢true (sym isnt ∙ told (subst (λ (i : Option (List ℕ)). IsElsewhere i part named) (sym same) there))
 
 -- ---- a line that spells no frame
 

@@ -1,12 +1,11 @@
 -- A bus can keep to a plan in the plan's own words on which a single frame is sent, a request, a long message to one unit and one to all, one frame
 -- behind the other.
-use Rattle.std.proofs.Common.{◌≡◌, ℕ, zero, suc, ◌+◌, ◌*◌, ◌^◌, ◌<◌, ◌≤◌, Bool, true, not, if◌then◌else◌, ltb, length, Option, Some, eqb, cond, ◌-◌, false}
+use Rattle.std.proofs.Common.{◌≡◌, ℕ, zero, suc, ◌+◌, ◌*◌, ◌^◌, ◌<◌, ◌≤◌, Bool, true, if◌then◌else◌, ltb, length, Some, ◌-◌}
 use Rattle.std.proofs.Common.{refl, sym, ap, ◌∙◌, subst, inl, inr, arith}
 use Rattle.std.proofs.Math.Nat.{mul-le-mul_right}
-use Rattle.std.proofs.lemmas.Bool.{cases_lt, eq-eqb, eqb-true, le-ltb, lt-ltb, true≢false}
+use Rattle.std.proofs.lemmas.Bool.{cases_lt, le-ltb, lt-ltb}
 use Rattle.std.proofs.lemmas.Option.{same_Some, slice_get_within}
 use Rattle.std.specs.List.{slice_get}
-use Rattle.std.specs.Option.{option_map_or}
 use Rattle.j39_id.specs.Ident.{identifier_of}
 use Rattle.j39_id.specs.Pgn.{IsPgn}
 use Rattle.j39_network.specs.PlannedUnits.{units_of}
@@ -14,27 +13,27 @@ use Rattle.j39_network.specs.declared.plan.Plan.{Plan}
 use Rattle.j39_network.specs.declared.plan.flow_plan.FlowPlan.{FlowPlan}
 use Rattle.j39_network.specs.declared.plan.group_plan.GroupPlan.{GroupPlan}
 use Rattle.j39_network.specs.declared.plan.pace.Pace.{Pace}
-use Rattle.j39_network.specs.declared.plan.queue.Queue.{Queue}
 use Rattle.j39_network.specs.declared.plan.request_plan.RequestPlan.{RequestPlan}
 use Rattle.j39_network.specs.declared.plan.timing.Timing.{Timing}
 use Rattle.j39_network.specs.declared.plan.to.To.{To}
 use Rattle.j39_network.specs.declared.plan.to.To.TheVariants.{All, One}
 use Rattle.j39_network.specs.declared.plan.unit_plan.UnitPlan.{UnitPlan}
 use Rattle.j39_search.proofs.Members.{all_at}
-use Rattle.j39_load.specs.KeepsBroadcasts.{KeepsBroadcasts, KeepsTurns}
 use Rattle.j39_load.specs.KeepsPlan.{KeepsQueues, KeepsToPlan}
 use Rattle.j39_load.specs.KeptTogether.{CanSendAll, HasBeenSent}
-use Rattle.j39_load.specs.Loads.{bits_per_ms, is_any}
+use Rattle.j39_load.specs.Loads.{bits_per_ms}
 use Rattle.j39_load.specs.Ranks.{AreHeldApart}
-use Rattle.j39_load.specs.SentFrames.{Broadcasts, IsBroadcastFrame, FrameSources, Held, IsFrameOf, IsPart, IsSentByUnit, IsRequestFrame, IsSessionFrame}
+use Rattle.j39_load.specs.SentFrames.{Broadcasts, FrameSources, Held, IsFrameOf, IsPart, IsSentByUnit, IsRequestFrame, IsSessionFrame}
 use Rattle.j39_load.specs.Clocks.{bit_time}
 use Rattle.j39_load.specs.SentFrames.{IsSingleFrame, IsWithinUnitMs, Part, SendsPart, Source, goes_to, part_identifier}
 use Rattle.j39_load.specs.SentFrames.{Announcing, Carrying, Single, First, InSession, Asking, RequestToSend, Packet, ClearToSend, EndAcknowledged}
-use Rattle.j39_load.proofs.KeepingApart as alone
+use Rattle.j39_load.proofs.KeepingApart.{few_bits}
+use Rattle.j39_load.proofs.KeepingOneToAll as one
+use Rattle.j39_load.proofs.KeepingOneToAll.{OneToAll}
+use Rattle.j39_load.proofs.KeepingPlanned.{keeps_queues, slots_kept, planned_address, planned_apart, planned_controllers, planned_held, planned_single}
 use Rattle.j39_load.proofs.KeepingFrames.{one_to}
-use Rattle.j39_load.proofs.Milliseconds.{at_once, in_ms_behind, in_unit_ms, own_ms}
-use Rattle.j39_load.proofs.Slots.{ends_before, slots, slots_any_order, slots_legal}
-use Rattle.j39_timing.specs.AnyOrder.{Controllers}
+use Rattle.j39_load.proofs.Milliseconds.{at_once, in_unit_ms, own_ms}
+use Rattle.j39_load.proofs.Slots.{ends_before, slots}
 use Rattle.j39_timing.specs.Rounds.{all_planned}
 use Rattle.j39_timing.specs.TimedFrames.{Schedule}
 use Rattle.j39_world.specs.HeldAddresses.{ArePlannedApart}
@@ -109,10 +108,10 @@ module _ (plan : Plan) (timing : Timing) (apart : ArePlannedApart (units_of plan
     (shortest : third.length ≤ 7 * more) (longest : 7 * more < third.most + 7)
     (fits : (6 + (packets + more)) * (160 + timing.broadcast_gap * bits_per_ms timing.bitrate) * bit_time timing.bitrate ≤ 1000 * its_pace.period) where
   abbrev address : ℕ → ℕ
-  address = alone.address plan timing apart f flow pace group its paced of short 0
+  address = planned_address plan apart
 
   abbrev held : Held
-  held = alone.held plan timing apart f flow pace group its paced of short 0
+  held = planned_held plan apart
 
   abbrev u : ℕ
   u = other.sender
@@ -141,17 +140,6 @@ module _ (plan : Plan) (timing : Timing) (apart : ArePlannedApart (units_of plan
   abbrev bus : Schedule
   bus = slots width n (λ p. ident_of (choice packets p))
 
-  -- one message to all
-  abbrev messages_to_all : Broadcasts
-  messages_to_all = record {
-    count = λ x. cond (eqb x w) 1 0;
-    flow = λ x m. h;
-    release = λ x m. 4 * width;
-    wanted = λ x m. 4 * width;
-    announced = λ x m. 4 * width;
-    packets = λ x m. more;
-  }
-
   -- a single frame and a request have their releases where they are queued, the long message where it begins
   abbrev release_of : ℕ → Choice → ℕ
   release_of p Alone = p * width
@@ -160,8 +148,40 @@ module _ (plan : Plan) (timing : Timing) (apart : ArePlannedApart (units_of plan
   release_of p Announces = p * width
   release_of p (Sends k) = p * width
 
+  -- one message to all
+  abbrev to_all_of : OneToAll plan timing
+  to_all_of = record {
+    f = h;
+    flow = to_all;
+    pace = h_pace;
+    group = third;
+    its = h_is;
+    paced = h_paced;
+    of = third_is;
+    long = h_long;
+    to_all = goes_to_all;
+    packets = more;
+    two = two;
+    shortest = shortest;
+    longest = longest;
+    width = width;
+    wide = omega arith;
+    count = n;
+    ident = λ p. ident_of (choice packets p);
+    source = λ p. source_of f g r w (choice packets p);
+    release = λ p. release_of p (choice packets p);
+    slot_of = slot_of packets;
+    slot_told = slot_told packets f g r w;
+    first = 4;
+    announced = λ x m. refl;
+    carried = λ x m k. omega arith;
+  }
+
+  abbrev messages_to_all : Broadcasts
+  messages_to_all = one.messages plan timing apart to_all_of
+
   abbrev sent : FrameSources
-  sent = record { source = λ p. source_of f g r w (choice packets p); release = λ p. release_of p (choice packets p); broadcasts = messages_to_all }
+  sent = one.sent plan timing apart to_all_of
 
   sends : other.sender < length plan.units.items
   sends = all_at (λ (h : FlowPlan). h.sender < length plan.units.items) plan.flows.items plan.flow_senders g other other_is
@@ -179,21 +199,8 @@ module _ (plan : Plan) (timing : Timing) (apart : ArePlannedApart (units_of plan
   -- ---- each frame
 
   single : (p : ℕ) → bus.ident p ≡ ident_of Alone → IsSingleFrame plan timing bus held f (p * width) p
-  single p is = record {
-    flow = flow;
-    its = its;
-    pace = pace;
-    paced = paced;
-    group = group;
-    of = of;
-    short = short;
-    length = omega arith;
-    release_first = omega arith;
-    jitter_at_most = at_once timing pace.jitter (p * width);
-    sender_named = λ t queued. alone.sender_named plan timing apart f flow pace group its paced of short 0;
-    receiver_named = λ t w queued goes. alone.receiver_named plan timing apart f flow pace group its paced of short 0 w goes;
-    identifier = λ t queued. is;
-  }
+  single p is =
+      planned_single plan timing apart f flow pace group its paced of short bus (p * width) p (omega arith) (omega arith) (at_once timing pace.jitter (p * width)) is
 
   request : (p : ℕ) → bus.ident p ≡ ident_of Asks → IsRequestFrame plan bus held r (p * width) p
   request p is = record {
@@ -216,17 +223,6 @@ module _ (plan : Plan) (timing : Timing) (apart : ArePlannedApart (units_of plan
 
   sends_to_all : w < length plan.units.items
   sends_to_all = all_at (λ (y : FlowPlan). y.sender < length plan.units.items) plan.flows.items plan.flow_senders h to_all h_is
-
-  -- the announcement, or a packet
-  to_each : (p number : ℕ) → bus.ident p ≡ identifier_of timing.transport_priority number 255 (address w)
-      → IsBroadcastFrame timing bus held messages_to_all number w 0 (p * width) p
-  to_each p number is = record {
-    known = subst (λ (x : Bool). 0 < cond x 1 0) (sym (eq-eqb w w refl)) (omega arith);
-    length = omega arith;
-    at_once = refl;
-    sender_named = λ t queued. named_where w sends_to_all;
-    identifier = λ t queued. is;
-  }
 
   part : (p : ℕ) (x : Part) → p < n → bus.ident p ≡ ident_of (Carries x) → IsPart second.most unit.window x → IsSessionFrame plan timing bus held g x 0 p
   part p x below is has = record {
@@ -283,84 +279,14 @@ module _ (plan : Plan) (timing : Timing) (apart : ArePlannedApart (units_of plan
   frame p Alone below is has = single p is
   frame p Asks below is has = request p is
   frame p (Carries x) below is has = part p x below is has
-  frame p Announces below is has = to_each p 60416 is
-  frame p (Sends k) below is has = (to_each p 60160 is, has)
+  frame p Announces below is has = one.to_each plan timing apart to_all_of p 60416 is
+  frame p (Sends k) below is has = (one.to_each plan timing apart to_all_of p 60160 is, has)
 
   held_apart : (t : ℕ) → AreHeldApart (held.named t) (held.address t)
-  held_apart t = alone.held_apart plan timing apart f flow pace group its paced of short 0 t
-
-  -- ---- the message to all
-
-  same_slot : (p q : ℕ) → sent.source p ≡ sent.source q → p ≡ q
-  same_slot p q same = sym (slot_told packets f g r w p) ∙ (ap (slot_of packets) same ∙ slot_told packets f g r w q)
-
-  only_message : (x m : ℕ) → m < messages_to_all.count x → (m ≡ 0) × (x ≡ w)
-  only_message x m below = go (eqb x w) refl below
-    where
-      go : (b : Bool) → eqb x w ≡ b → m < cond b 1 0 → (m ≡ 0) × (x ≡ w)
-      go true is below = (omega (arith, below), eqb-true x w is)
-      go false is below = absurd (omega (arith, below))
-
-  never_two : (x m k : ℕ) → m < k → k < messages_to_all.count x → ⊥
-  never_two x m k less below = let none = (only_message x k below).0 in omega (arith, less, none)
-
-  broadcasts : KeepsBroadcasts plan timing bus all_planned sent
-  broadcasts = record {
-    messages = λ x m below. record {
-      flow = to_all;
-      its = h_is;
-      from = sym (only_message x m below).1;
-      to_all = goes_to_all;
-      pace = h_pace;
-      paced = h_paced;
-      group = third;
-      of = third_is;
-      long = h_long;
-      two = two;
-      shortest = shortest;
-      longest = longest;
-      release_first = omega arith;
-      jitter_at_most = at_once timing h_pace.jitter _;
-      wanted_first = omega arith;
-    };
-    apart = λ x m k ms pair. absurd (never_two x m k pair.0 pair.1);
-    one_waits = λ x m k pair. absurd (never_two x m k pair.0 pair.1);
-    in_turn = λ x m k less below. absurd (never_two x m k less below);
-    announced = λ p x m in_p is source. ap (λ (k : ℕ). k * width) (sym (slot_told packets f g r w p) ∙ ap (slot_of packets) source);
-    once = λ p q x m in_p in_q is_p is_q first second. same_slot p q (first ∙ sym second);
-    carried = λ p q x m k in_p in_q is_p is_q first second. same_slot p q (first ∙ sym second);
-    behind = λ p x m k in_p is source.
-        let slot : p ≡ 6 + (packets + k) = sym (slot_told packets f g r w p) ∙ ap (slot_of packets) source in
-        mul-le-mul_right width (omega (arith, slot));
-    before = λ p x m k later in_p is source less below. absurd (never_two x m later less below);
-    gaps = λ p q x m later j k in_p in_q other is_p is_q first second. elim (cases_lt p q) [
-      | inl less ↦ inl (in_ms_behind timing timing.broadcast_gap (p * width) (q * width) (let far = ends_before width p q less in omega (arith, far)))
-      | inr past ↦ inr (in_ms_behind timing timing.broadcast_gap (q * width) (p * width)
-          (let far = ends_before width q p (omega (arith, past, other)) in omega (arith, far)))
-    ];
-  }
-
-  turns : KeepsTurns bus all_planned sent held
-  turns = record {
-    one_by_one = λ p q x in_p in_q other is_p is_q first second. elim (cases_lt p q) [
-      | inl less ↦ inl (let far = ends_before width p q less in omega (arith, far))
-      | inr past ↦ inr (let far = ends_before width q p (omega (arith, past, other)) in omega (arith, far))
-    ];
-    steady = λ p q x in_p in_q is_p is_q first second before waits. refl;
-  }
+  held_apart = planned_apart plan apart
 
   keeps : KeepsToPlan plan timing bus all_planned sent held
-  keeps = record {
-    frames = λ p in_p is. frame p (choice packets p) in_p refl (chosen p in_p);
-    apart = λ p q ms in_p in_q differ is_p is_q same every. absurd (differ (same_slot p q same));
-    broadcasts = broadcasts;
-    held_by_plan = λ t x below. inl refl;
-    held_apart = held_apart;
-    others_length = λ p in_p is. absurd (true≢false is);
-    others_priority = λ p in_p is. absurd (true≢false is);
-    others_identifier = λ p q t in_p in_q seen is_p source is_q. absurd (true≢false is_q);
-    few_others = λ p from to in_p is source seen waits wait. absurd (let (behind, before) = waits in omega (arith, behind, before));
-  }
+  keeps = one.keeps plan timing apart to_all_of (λ p in_p. frame p (choice packets p) in_p refl (chosen p in_p))
 
   -- ---- who sends it
 
@@ -376,12 +302,6 @@ module _ (plan : Plan) (timing : Timing) (apart : ArePlannedApart (units_of plan
   sender_of (Carries x) = sender_of_part x
   sender_of Announces = w
   sender_of (Sends k) = w
-
-  abbrev controllers : Controllers
-  controllers = record {
-    unit = λ p. sender_of (choice packets p);
-    keeps_order = λ w. option_map_or (λ (x : UnitPlan). not (is_any x.queue)) (slice_get plan.units.items w) true;
-  }
 
   by_part : (x : Part) (z : ℕ) (y : FlowPlan) → other ≡ y → SendsPart y x z → sender_of_part x ≡ z
   by_part RequestToSend z y same sends = ap (λ (a : FlowPlan). a.sender) same ∙ sends
@@ -410,7 +330,7 @@ module _ (plan : Plan) (timing : Timing) (apart : ArePlannedApart (units_of plan
   part_few EndAcknowledged = let a = few_address u sends in let b = few_address v receives in let top = timing.transport_priority_range in omega (arith, a, b, top)
 
   ident_few : (c : Choice) → ident_of c < 2 ^ 29
-  ident_few Alone = alone.few_bits group.priority group.pgn (goes_to address flow.to) (address flow.sender) group.priority_range number
+  ident_few Alone = few_bits group.priority group.pgn (goes_to address flow.to) (address flow.sender) group.priority_range number
       (destination flow.to (all_at (λ (h : FlowPlan). (x : ℕ) → h.to ≡ One x → x < length plan.units.items) plan.flows.items plan.flow_receivers f flow its))
       (few_address flow.sender (all_at (λ (h : FlowPlan). h.sender < length plan.units.items) plan.flows.items plan.flow_senders f flow its))
   ident_few Asks =
@@ -422,15 +342,8 @@ module _ (plan : Plan) (timing : Timing) (apart : ArePlannedApart (units_of plan
   ident_few Announces = let a = few_address w sends_to_all in let top = timing.transport_priority_range in omega (arith, a, top)
   ident_few (Sends k) = let a = few_address w sends_to_all in let top = timing.transport_priority_range in omega (arith, a, top)
 
-  queues : KeepsQueues plan timing bus controllers all_planned sent
-  queues = record {
-    sender = λ p w in_p is from. sent_by (choice packets p) w from;
-    order = λ w unit at ordered.
-        ap (λ (o : Option UnitPlan). option_map_or (λ (x : UnitPlan). not (is_any x.queue)) o true) at ∙ ap (λ (q : Queue). not (is_any q)) ordered;
-    identifiers = λ p in_p. ident_few (choice packets p);
-    others_apart = λ p q t w unit in_p in_q seen is_p is_q takes at any. absurd (true≢false is_q);
-    few_unplanned = λ p from to w unit in_p is takes at any seen waits wait. absurd (let (behind, before) = waits in omega (arith, behind, before));
-  }
+  queues : KeepsQueues plan timing bus (planned_controllers plan (λ p. sender_of (choice packets p))) all_planned sent
+  queues = keeps_queues plan timing bus sent (λ p. sender_of (choice packets p)) (λ p. sent_by (choice packets p)) (λ p. ident_few (choice packets p))
 
   -- ---- all of it has been sent
 
@@ -459,17 +372,8 @@ module _ (plan : Plan) (timing : Timing) (apart : ArePlannedApart (units_of plan
 
   pub can_send_all : CanSendAll plan timing f g r w packets more
   can_send_all = record {
-    s = bus;
-    controllers = controllers;
-    planned = all_planned;
-    sent = sent;
-    held = held;
-    legal = slots_legal width n (λ p. ident_of (choice packets p)) (omega arith);
-    any_order = slots_any_order width n (λ p. ident_of (choice packets p)) controllers (omega arith);
-    keeps = keeps;
-    queues = queues;
-    turns = turns;
-    all_planned = λ p. refl;
+    bus = slots_kept plan timing apart width n (λ p. ident_of (choice packets p)) (omega arith) sent (λ p. sender_of (choice packets p)) keeps queues;
+    turns = one.turns plan timing apart to_all_of;
     single = first_sent 0 (Single f) (omega arith) refl;
     request = first_sent 1 (Asking r) (omega arith) refl;
     asks = first_sent 2 (InSession g RequestToSend) (omega arith) refl;

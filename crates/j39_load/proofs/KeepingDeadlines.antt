@@ -1,37 +1,30 @@
 -- A bus can keep to a plan in the plan's own words on which a long message to all is sent to its end, its packets as far apart as they have to be.
-use Rattle.std.proofs.Common.{◌≡◌, ℕ, zero, suc, ◌+◌, ◌*◌, ◌^◌, ◌<◌, ◌≤◌, Bool, true, false, not, cond, eqb, Option, Some}
-use Rattle.std.proofs.Common.{refl, sym, ap, ◌∙◌, subst, inl, inr, arith}
-use Rattle.std.proofs.lemmas.Bool.{cases_lt, eq-eqb, eqb-true, true≢false}
+use Rattle.std.proofs.Common.{◌≡◌, ℕ, zero, suc, ◌+◌, ◌*◌, ◌^◌, ◌<◌, ◌≤◌, Some}
+use Rattle.std.proofs.Common.{refl, sym, ap, ◌∙◌, arith}
 use Rattle.std.specs.List.{slice_get}
-use Rattle.std.specs.Option.{option_map_or}
 use Rattle.j39_id.specs.Ident.{identifier_of}
 use Rattle.j39_network.specs.PlannedUnits.{units_of}
 use Rattle.j39_network.specs.declared.plan.Plan.{Plan}
 use Rattle.j39_network.specs.declared.plan.flow_plan.FlowPlan.{FlowPlan}
 use Rattle.j39_network.specs.declared.plan.group_plan.GroupPlan.{GroupPlan}
 use Rattle.j39_network.specs.declared.plan.pace.Pace.{Pace}
-use Rattle.j39_network.specs.declared.plan.queue.Queue.{Queue}
-use Rattle.j39_network.specs.declared.plan.timing.Bitrate.{Bitrate}
-use Rattle.j39_network.specs.declared.plan.timing.Bitrate.TheVariants.{Kbit125, Kbit250, Kbit500, Mbit1}
 use Rattle.j39_network.specs.declared.plan.timing.Timing.{Timing}
 use Rattle.j39_network.specs.declared.plan.to.To.TheVariants.{All}
-use Rattle.j39_network.specs.declared.plan.unit_plan.UnitPlan.{UnitPlan}
-use Rattle.j39_load.specs.KeepsBroadcasts.{KeepsBroadcasts, KeepsTurns}
 use Rattle.j39_load.specs.KeepsPlan.{KeepsQueues, KeepsToPlan}
 use Rattle.j39_load.specs.KeptDeadlines.{AreSentWhole, CanBeSentWhole, TakeTurns, whole_from}
-use Rattle.j39_load.specs.Loads.{bits_per_ms, is_any}
-use Rattle.j39_load.specs.SentFrames.{Asking, Announcing, Broadcasts, Carrying, First, FrameSources, Held, InSession, IsBroadcastFrame, IsFrameOf, IsSentByUnit, Single}
+use Rattle.j39_load.specs.Loads.{bits_per_ms}
+use Rattle.j39_load.specs.SentFrames.{Asking, Announcing, Broadcasts, Carrying, First, FrameSources, Held, InSession, IsFrameOf, IsSentByUnit, Single}
 use Rattle.j39_load.specs.SentFrames.{IsWithinUnitMs, Source}
-use Rattle.j39_load.proofs.KeepingApart as alone
+use Rattle.j39_load.proofs.KeepingOneToAll as one
+use Rattle.j39_load.proofs.KeepingOneToAll.{OneToAll}
+use Rattle.j39_load.proofs.KeepingPlanned.{keeps_queues, slots_kept, planned_address, planned_apart, planned_controllers, planned_held, planned_sender}
 use Rattle.std.proofs.Math.Nat.{mul-le-mul_right}
-use Rattle.j39_load.proofs.Milliseconds.{at_once, in_ms_behind, in_unit_ms}
-use Rattle.j39_load.proofs.Slots.{ends_before, slots, slots_any_order, slots_legal}
-use Rattle.j39_timing.specs.AnyOrder.{Controllers}
+use Rattle.j39_load.proofs.Milliseconds.{in_unit_ms}
+use Rattle.j39_load.proofs.Slots.{slots}
 use Rattle.j39_timing.specs.Rounds.{all_planned}
 use Rattle.j39_timing.specs.TimedFrames.{Schedule}
 use Rattle.j39_world.specs.HeldAddresses.{ArePlannedApart}
 
--- so many milliseconds are no more than these bits
 -- the announcement, and packets behind it
 abbrev source_at : ℕ → ℕ → Source
 source_at u zero = Announcing u 0
@@ -59,10 +52,10 @@ module _ (plan : Plan) (timing : Timing) (apart : ArePlannedApart (units_of plan
     (long : 8 < group.most) (goes_to_all : flow.to ≡ All) (more : ℕ) (two : 2 ≤ more) (shortest : group.length ≤ 7 * more)
     (longest : 7 * more < group.most + 7) where
   abbrev address : ℕ → ℕ
-  address = alone.planned_address plan apart
+  address = planned_address plan apart
 
   abbrev held : Held
-  held = alone.planned_held plan apart
+  held = planned_held plan apart
 
   abbrev u : ℕ
   u = flow.sender
@@ -77,117 +70,50 @@ module _ (plan : Plan) (timing : Timing) (apart : ArePlannedApart (units_of plan
   abbrev bus : Schedule
   bus = slots width (suc more) ident
 
-  abbrev messages : Broadcasts
-  messages = record {
-    count = λ x. cond (eqb x u) 1 0;
-    flow = λ x m. f;
-    release = λ x m. 0;
-    wanted = λ x m. 0;
-    announced = λ x m. 0;
-    packets = λ x m. more;
+  abbrev it : OneToAll plan timing
+  it = record {
+    f = f;
+    flow = flow;
+    pace = pace;
+    group = group;
+    its = its;
+    paced = paced;
+    of = of;
+    long = long;
+    to_all = goes_to_all;
+    packets = more;
+    two = two;
+    shortest = shortest;
+    longest = longest;
+    width = width;
+    wide = omega arith;
+    count = suc more;
+    ident = ident;
+    source = source_at u;
+    release = λ p. p * width;
+    slot_of = slot_of;
+    slot_told = slot_told u;
+    first = 0;
+    announced = λ x m. refl;
+    carried = λ x m k. omega arith;
   }
+
+  abbrev messages : Broadcasts
+  messages = one.messages plan timing apart it
 
   abbrev sent : FrameSources
-  sent = record { source = source_at u; release = λ p. p * width; broadcasts = messages }
-
-  one_message : messages.count u ≡ 1
-  one_message = ap (λ (b : Bool). cond b 1 0) (eq-eqb u u refl)
-
-  to_each : (p number : ℕ) → bus.ident p ≡ identifier_of timing.transport_priority number 255 (address u)
-      → IsBroadcastFrame timing bus held messages number u 0 (p * width) p
-  to_each p number is = record {
-    known = omega (arith, one_message);
-    length = omega arith;
-    at_once = refl;
-    sender_named = λ t queued. alone.planned_sender plan apart f flow its;
-    identifier = λ t queued. is;
-  }
+  sent = one.sent plan timing apart it
 
   frame : (p : ℕ) → p < suc more → IsFrameOf plan timing bus held messages (source_at u p) (p * width) p
-  frame zero below = to_each 0 60416 refl
-  frame (suc k) below = (to_each (suc k) 60160 refl, omega (arith, below))
-
-  same_slot : (p q : ℕ) → source_at u p ≡ source_at u q → p ≡ q
-  same_slot p q same = sym (slot_told u p) ∙ (ap slot_of same ∙ slot_told u q)
-
-  only_message : (x m : ℕ) → m < messages.count x → (m ≡ 0) × (x ≡ u)
-  only_message x m below = go (eqb x u) refl below
-    where
-      go : (b : Bool) → eqb x u ≡ b → m < cond b 1 0 → (m ≡ 0) × (x ≡ u)
-      go true is below = (omega (arith, below), eqb-true x u is)
-      go false is below = absurd (omega (arith, below))
-
-  never_two : (x m k : ℕ) → m < k → k < messages.count x → ⊥
-  never_two x m k less below = let none = (only_message x k below).0 in omega (arith, less, none)
-
-  broadcasts : KeepsBroadcasts plan timing bus all_planned sent
-  broadcasts = record {
-    messages = λ x m below. record {
-      flow = flow;
-      its = its;
-      from = sym (only_message x m below).1;
-      to_all = goes_to_all;
-      pace = pace;
-      paced = paced;
-      group = group;
-      of = of;
-      long = long;
-      two = two;
-      shortest = shortest;
-      longest = longest;
-      release_first = omega arith;
-      jitter_at_most = at_once timing pace.jitter _;
-      wanted_first = omega arith;
-    };
-    apart = λ x m k ms pair. absurd (never_two x m k pair.0 pair.1);
-    one_waits = λ x m k pair. absurd (never_two x m k pair.0 pair.1);
-    in_turn = λ x m k less below. absurd (never_two x m k less below);
-    announced = λ p x m in_p is source.
-        let slot : p ≡ 0 = sym (slot_told u p) ∙ ap slot_of source in
-        let none : 0 * width ≡ 0 = omega arith in
-        ap (λ (k : ℕ). k * width) slot ∙ none;
-    once = λ p q x m in_p in_q is_p is_q first second. same_slot p q (first ∙ sym second);
-    carried = λ p q x m k in_p in_q is_p is_q first second. same_slot p q (first ∙ sym second);
-    behind = λ p x m k in_p is source. omega arith;
-    before = λ p x m k later in_p is source less below. absurd (never_two x m later less below);
-    gaps = λ p q x m later j k in_p in_q other is_p is_q first second. elim (cases_lt p q) [
-      | inl less ↦ inl (in_ms_behind timing timing.broadcast_gap (p * width) (q * width) (let far = ends_before width p q less in omega (arith, far)))
-      | inr past ↦ inr (in_ms_behind timing timing.broadcast_gap (q * width) (p * width)
-          (let far = ends_before width q p (omega (arith, past, other)) in omega (arith, far)))
-    ];
-  }
-
-  turns : KeepsTurns bus all_planned sent held
-  turns = record {
-    one_by_one = λ p q x in_p in_q other is_p is_q first second. elim (cases_lt p q) [
-      | inl less ↦ inl (let far = ends_before width p q less in omega (arith, far))
-      | inr past ↦ inr (let far = ends_before width q p (omega (arith, past, other)) in omega (arith, far))
-    ];
-    steady = λ p q x in_p in_q is_p is_q first second before waits. refl;
-  }
+  frame zero below = one.to_each plan timing apart it 0 60416 refl
+  frame (suc k) below = (one.to_each plan timing apart it (suc k) 60160 refl, omega (arith, below))
 
   keeps : KeepsToPlan plan timing bus all_planned sent held
-  keeps = record {
-    frames = λ p in_p is. frame p in_p;
-    apart = λ p q ms in_p in_q differ is_p is_q same every. absurd (differ (same_slot p q same));
-    broadcasts = broadcasts;
-    held_by_plan = λ t x below. inl refl;
-    held_apart = alone.planned_apart plan apart;
-    others_length = λ p in_p is. absurd (true≢false is);
-    others_priority = λ p in_p is. absurd (true≢false is);
-    others_identifier = λ p q t in_p in_q seen is_p source is_q. absurd (true≢false is_q);
-    few_others = λ p from to in_p is source seen waits wait. absurd (let (behind, before) = waits in omega (arith, behind, before));
-  }
-
-  abbrev controllers : Controllers
-  controllers = record {
-    unit = λ p. u;
-    keeps_order = λ w. option_map_or (λ (x : UnitPlan). not (is_any x.queue)) (slice_get plan.units.items w) true;
-  }
+  keeps = one.keeps plan timing apart it frame
 
   few : (p : ℕ) → ident p < 2 ^ 29
   few p =
-      let low = (alone.planned_apart plan apart 0).range u (alone.planned_sender plan apart f flow its) in
+      let low = (planned_apart plan apart 0).range u (planned_sender plan apart f flow its) in
       let top = timing.transport_priority_range in
       by_number p low top
     where
@@ -195,15 +121,8 @@ module _ (plan : Plan) (timing : Timing) (apart : ArePlannedApart (units_of plan
       by_number zero low top = omega (arith, low, top)
       by_number (suc k) low top = omega (arith, low, top)
 
-  queues : KeepsQueues plan timing bus controllers all_planned sent
-  queues = record {
-    sender = λ p w in_p is from. sent_by p w from;
-    order = λ w unit at ordered.
-        ap (λ (o : Option UnitPlan). option_map_or (λ (x : UnitPlan). not (is_any x.queue)) o true) at ∙ ap (λ (q : Queue). not (is_any q)) ordered;
-    identifiers = λ p in_p. few p;
-    others_apart = λ p q t w unit in_p in_q seen is_p is_q takes at any. absurd (true≢false is_q);
-    few_unplanned = λ p from to w unit in_p is takes at any seen waits wait. absurd (let (behind, before) = waits in omega (arith, behind, before));
-  }
+  queues : KeepsQueues plan timing bus (planned_controllers plan (λ p. u)) all_planned sent
+  queues = keeps_queues plan timing bus sent (λ p. u) sent_by few
     where
       sent_by : (p w : ℕ) → IsSentByUnit plan (source_at u p) w → u ≡ w
       sent_by zero w from = from
@@ -222,8 +141,8 @@ module _ (plan : Plan) (timing : Timing) (apart : ArePlannedApart (units_of plan
   sends = record {
     announcement = λ x m. 0;
     packet = λ x m k. suc k;
-    announces = λ x m below. let (first, is) = only_message x m below in (omega arith, refl, announced_by x m first is);
-    carries = λ x m k below inside. let (first, is) = only_message x m below in (omega (arith, inside), refl, carried_by x m k first is);
+    announces = λ x m below. let (first, is) = one.only_message plan timing apart it x m below in (omega arith, refl, announced_by x m first is);
+    carries = λ x m k below inside. let (first, is) = one.only_message plan timing apart it x m below in (omega (arith, inside), refl, carried_by x m k first is);
     first_gap = λ x m below. gap_behind 0;
     next_gap = λ x m k below inside. gap_behind (suc k);
   }
@@ -237,25 +156,16 @@ module _ (plan : Plan) (timing : Timing) (apart : ArePlannedApart (units_of plan
   takes : TakeTurns messages (whole_from timing bus all_planned sent sends)
   takes = record {
     at_once = λ x m n t before below wanted over. omega arith;
-    once = λ x l m n first second below same. absurd (let none = (only_message x n below).0 in omega (arith, second, none));
+    once = λ x l m n first second below same. absurd (let none = (one.only_message plan timing apart it x n below).0 in omega (arith, second, none));
   }
 
   pub can_be_sent_whole : CanBeSentWhole plan timing f u more
   can_be_sent_whole = record {
-    s = bus;
-    controllers = controllers;
-    planned = all_planned;
-    sent = sent;
-    held = held;
-    legal = slots_legal width (suc more) ident (omega arith);
-    any_order = slots_any_order width (suc more) ident controllers (omega arith);
-    keeps = keeps;
-    queues = queues;
-    turns = turns;
+    bus = slots_kept plan timing apart width (suc more) ident (omega arith) sent (λ p. u) keeps queues;
+    turns = one.turns plan timing apart it;
     sends = sends;
     takes = takes;
-    all_planned = λ p. refl;
-    one = one_message;
+    one = one.one_message plan timing apart it;
     of_flow = refl;
     long = refl;
   }

@@ -1,5 +1,5 @@
 -- A bus with damaged frames that keeps to a plan in the plan's own words keeps the premises of its delays.
-use Rattle.std.proofs.Common.{◌≡◌, ◌≢◌, ℕ, ◌+◌, ◌*◌, ◌-◌, ◌/◌, ◌%◌, ◌<◌, ◌≤◌, ◌⊎◌, Bool, true, false, cond, not, ◌&&◌, ◌||◌, List, ◌++◌, length, get_or, map}
+use Rattle.std.proofs.Common.{◌≡◌, ◌≢◌, ℕ, suc, ◌+◌, ◌*◌, ◌-◌, ◌/◌, ◌%◌, ◌<◌, ◌≤◌, ◌⊎◌, Bool, true, false, cond, not, ◌&&◌, ◌||◌, List, ◌++◌, length, get_or, map}
 use Rattle.std.proofs.Common.{unwrap_or, Option, Some, None, ◌^◌, if◌then◌else◌}
 use Rattle.std.proofs.Common.{refl, sym, ap, ◌∙◌, subst, inl, inr, arith}
 use Rattle.std.proofs.Math.Nat.{div-add-mod, mod-lt, mul-le-mul_left}
@@ -38,6 +38,7 @@ use Rattle.j39_load.proofs.PlacedFrames.{traffic}
 use Rattle.j39_load.proofs.KeepingPlan.{at_its_place, keeps_stream, of_flow, of_source, of_streams, own_identifier, told_stream}
 use Rattle.j39_load.proofs.SharedIdentifiers.{IsGroupFrame, of_first, of_single}
 use Rattle.j39_timing.specs.Errors.{Damaged, IsBusWithErrors, IsLegalWithErrors, with_errors}
+use Rattle.j39_timing.proofs.ErrorFrames.{attempt_told, error_told}
 use Rattle.j39_timing.specs.FrameBits.{error_frame, longest_frame}
 use Rattle.j39_timing.specs.FrameStreams.{Origins, AreOfStreams, KeepsStream}
 use Rattle.j39_timing.specs.TimedFrames.{Schedule}
@@ -144,42 +145,40 @@ module _ (plan : Plan) (timing : Timing) (stays : UnitPlan → Bool) (tells : De
 
   attempt_at : (e : ℕ) → e < d.count → IsDamage (s.count + e)
   attempt_at e below =
-      let behind = le-ltb (s.count + e) s.count (omega arith) in
-      let back : s.count + e - s.count ≡ e = omega arith in
-      let front = lt-ltb e d.count below in
       let few = attempt_few s d bus longest_of e below in
+      let bits = attempt_told s d s.bits d.sent d.error e below in
+      let source = attempt_told s d (λ p. source_place plan (sent.source p)) (λ e. length asks) (λ e. suc (length asks)) e below in
       record {
         error = false;
         attempt = e;
         below = below;
         is = omega arith;
         behind = omega arith;
-        queued = rw (behind, back, front) refl;
-        bits = rw (behind, back, front) (omega (arith, few));
-        ident = rw (behind, back, front) refl;
-        source = rw (behind, back, front) (omega arith);
-        turn = rw (behind, back, front) refl;
-        since = rw (behind, back, front) refl;
+        queued = attempt_told s d s.queued d.begin d.begin e below;
+        bits = omega (arith, bits, few);
+        ident = attempt_told s d s.ident (λ e. 0) (λ e. 0) e below;
+        source = omega (arith, source);
+        turn = attempt_told s d (λ p. source_turn plan (sent.source p)) (λ e. e % rate.count) (λ e. e % rate.count) e below;
+        since = attempt_told s d sent.release d.begin d.begin e below;
       }
 
   error_at : (e : ℕ) → e < d.count → IsDamage (s.count + (d.count + e))
   error_at e below =
-      let behind = le-ltb (s.count + (d.count + e)) s.count (omega arith) in
-      let back : s.count + (d.count + e) - s.count ≡ d.count + e = omega arith in
-      let later = le-ltb (d.count + e) d.count (omega arith) in
-      let last : d.count + e - d.count ≡ e = omega arith in
+      let few = bus.error_at_most e below in
+      let bits = error_told s d s.bits d.sent d.error e below in
+      let source = error_told s d (λ p. source_place plan (sent.source p)) (λ e. length asks) (λ e. suc (length asks)) e below in
       record {
         error = true;
         attempt = e;
         below = below;
         is = omega arith;
         behind = omega arith;
-        queued = rw (behind, back, later, last) refl;
-        bits = rw (behind, back, later, last) (bus.error_at_most e below);
-        ident = rw (behind, back, later) refl;
-        source = rw (behind, back, later) (omega arith);
-        turn = rw (behind, back, later, last) refl;
-        since = rw (behind, back, later, last) refl;
+        queued = error_told s d s.queued d.begin d.begin e below;
+        bits = omega (arith, bits, few);
+        ident = error_told s d s.ident (λ e. 0) (λ e. 0) e below;
+        source = omega (arith, source);
+        turn = error_told s d (λ p. source_turn plan (sent.source p)) (λ e. e % rate.count) (λ e. e % rate.count) e below;
+        since = error_told s d sent.release d.begin d.begin e below;
       }
 
   pub kinds : (p : ℕ) → p < w.count → IsFrame p ⊎ IsDamage p

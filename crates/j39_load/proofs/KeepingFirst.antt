@@ -1,7 +1,6 @@
 -- A bus can keep to a plan in the plan's own words on which messages of one frame of a flow are sent that has long ones too, one behind the other.
-use Rattle.std.proofs.Common.{◌≡◌, ℕ, ◌+◌, ◌*◌, ◌<◌, ◌≤◌, ◌⊎◌, Some}
-use Rattle.std.proofs.Common.{refl, subst, inl, inr, arith}
-use Rattle.std.proofs.lemmas.Bool.{cases_lt, true≢false}
+use Rattle.std.proofs.Common.{◌≡◌, ℕ, ◌+◌, ◌*◌, ◌<◌, ◌≤◌, Some}
+use Rattle.std.proofs.Common.{refl, arith}
 use Rattle.std.specs.List.{slice_get}
 use Rattle.j39_id.specs.Ident.{identifier_of}
 use Rattle.j39_network.specs.PlannedUnits.{units_of}
@@ -13,7 +12,7 @@ use Rattle.j39_network.specs.declared.plan.timing.Timing.{Timing}
 use Rattle.j39_load.specs.KeepsPlan.{CanBeKept, KeepsToPlan}
 use Rattle.j39_load.specs.Loads.{bits_per_ms}
 use Rattle.j39_load.specs.SentFrames.{First, FrameSources, Held, IsFirstFrame, IsMsBehind, goes_to}
-use Rattle.j39_load.proofs.KeepingApart as apart_from
+use Rattle.j39_load.proofs.KeepingPlanned.{a_period_apart, keeps_all, no_broadcasts, none_sent, planned_address, planned_held, planned_receiver, planned_sender}
 use Rattle.j39_load.proofs.Milliseconds.{at_once, in_ms_behind}
 use Rattle.j39_load.proofs.Slots.{ends_before, slots, slots_legal}
 use Rattle.j39_timing.specs.Rounds.{all_planned}
@@ -24,10 +23,10 @@ module _ (plan : Plan) (timing : Timing) (apart : ArePlannedApart (units_of plan
     (its : slice_get plan.flows.items f ≡ Some flow) (paced : flow.pace ≡ Some pace) (of : slice_get plan.groups.items flow.group ≡ Some group)
     (short : group.length ≤ 8) (long : 8 < group.most) (n : ℕ) where
   abbrev address : ℕ → ℕ
-  address = apart_from.planned_address plan apart
+  address = planned_address plan apart
 
   abbrev held : Held
-  held = apart_from.planned_held plan apart
+  held = planned_held plan apart
 
   -- from one frame to the next is a period
   abbrev width : ℕ
@@ -37,7 +36,7 @@ module _ (plan : Plan) (timing : Timing) (apart : ArePlannedApart (units_of plan
   bus = slots width n (λ p. identifier_of group.priority group.pgn (goes_to address flow.to) (address flow.sender))
 
   abbrev sent : FrameSources
-  sent = record { source = λ p. First f; release = λ p. p * width; broadcasts = apart_from.no_broadcasts }
+  sent = record { source = λ p. First f; release = λ p. p * width; broadcasts = no_broadcasts }
 
   frame : (p : ℕ) → IsFirstFrame plan timing bus held f (p * width) p
   frame p = record {
@@ -52,8 +51,8 @@ module _ (plan : Plan) (timing : Timing) (apart : ArePlannedApart (units_of plan
     length = omega arith;
     release_first = omega arith;
     jitter_at_most = at_once timing pace.jitter (p * width);
-    sender_named = λ t queued. apart_from.planned_sender plan apart f flow its;
-    receiver_named = λ t v queued goes. apart_from.planned_receiver plan apart f flow its v goes;
+    sender_named = λ t queued. planned_sender plan apart f flow its;
+    receiver_named = λ t v queued goes. planned_receiver plan apart f flow its v goes;
     identifier = λ t queued. refl;
   }
 
@@ -63,23 +62,9 @@ module _ (plan : Plan) (timing : Timing) (apart : ArePlannedApart (units_of plan
       in_ms_behind timing pace.period (p * width) (q * width) (omega (arith, far))
 
   keeps : KeepsToPlan plan timing bus all_planned sent held
-  keeps = record {
-    frames = λ p in_p is. frame p;
-    apart = λ p q ms in_p in_q differ is_p is_q one_source every.
-        subst (λ (x : ℕ). IsMsBehind timing x (p * width) (q * width) ⊎ IsMsBehind timing x (q * width) (p * width))
-        (apart_from.period_is plan f flow pace its paced ms every)
-        (elim (cases_lt p q) [
-          | inl less ↦ inl (behind p q less)
-          | inr more ↦ inr (behind q p (omega (arith, more, differ)))
-        ]);
-    broadcasts = apart_from.none_sent plan timing bus all_planned sent (λ u. refl) (λ p u m same. let told = same in cc) (λ p u m k same. let told = same in cc);
-    held_by_plan = λ t u below. inl refl;
-    held_apart = apart_from.planned_apart plan apart;
-    others_length = λ p in_p is. absurd (true≢false is);
-    others_priority = λ p in_p is. absurd (true≢false is);
-    others_identifier = λ p q t in_p in_q seen is_p source is_q. absurd (true≢false is_q);
-    few_others = λ p from to in_p is source seen waits wait. absurd (let (late, early) = waits in omega (arith, late, early));
-  }
+  keeps = keeps_all plan timing apart bus sent (λ p in_p. frame p)
+      (λ p q ms differ one_source every. a_period_apart plan timing f flow pace its paced width behind p q ms differ every)
+      (none_sent plan timing bus all_planned sent (λ u. refl) (λ p u m same. let told = same in cc) (λ p u m k same. let told = same in cc))
 
   pub firsts_can_be_kept : CanBeKept plan timing (First f) n
   firsts_can_be_kept = record {

@@ -11,6 +11,8 @@ use Rattle.j39_id.specs.Ident.{identifier_of}
 use Rattle.j39_findings.specs.Standing.{DecidesWhoStays}
 use Rattle.j39_network.specs.declared.plan.Plan.{Plan}
 use Rattle.j39_network.specs.declared.plan.flow_plan.FlowPlan.{FlowPlan}
+use Rattle.j39_network.specs.declared.plan.group_plan.GroupPlan.{GroupPlan}
+use Rattle.j39_network.specs.declared.plan.pace.Pace.{Pace}
 use Rattle.j39_network.specs.declared.plan.queue.Queue.{Queue}
 use Rattle.j39_network.specs.declared.plan.queue.Queue.TheVariants.{Any, Priority}
 use Rattle.j39_network.specs.declared.plan.request_plan.RequestPlan.{RequestPlan}
@@ -30,7 +32,7 @@ use Rattle.j39_load.specs.PlannedFrames.{planned_at}
 use Rattle.j39_load.specs.Ranks.{AreHeldApart, AreHeldByPlan, AreUnitsPlanned}
 use Rattle.j39_load.specs.RequestLoads.{request_ident}
 use Rattle.j39_load.specs.SentFrames.{Held, IsFrameOf, IsRequestFrame, IsSentByUnit, IsSentEvery, IsSessionFrame, IsSingleFrame, Part, SendsPart}
-use Rattle.j39_load.specs.SentFrames.{HasOwnIdentifier, HasTime, IsFirstFrame, Source, TakesPart, goes_to, part_identifier}
+use Rattle.j39_load.specs.SentFrames.{HasOwnIdentifier, HasPeriodMs, HasTime, IsFirstFrame, Source, TakesPart, goes_to, part_identifier}
 use Rattle.j39_load.specs.SentFrames.{Single, First, InSession, Asking, RequestToSend, Packet, ClearToSend, EndAcknowledged}
 use Rattle.j39_load.proofs.PlacedFrames.{all, announcing_read, asked, carrying_read, first_read, in_request, in_session, own, read, request_frames_read, session_read}
 use Rattle.j39_load.proofs.PlacedFrames.{unit_asks, unit_planned}
@@ -202,16 +204,32 @@ module _ (plan : Plan) (timing : Timing) (stays : UnitPlan → Bool) where
       receiver = all_at (λ (g : FlowPlan). (v : ℕ) → g.to ≡ One v → v < length plan.units.items) plan.flows.items plan.flow_receivers f flow its;
     }
 
+    has_period : (f : ℕ) (flow : FlowPlan) (pace : Pace) → slice_get plan.flows.items f ≡ Some flow → flow.pace ≡ Some pace
+        → HasPeriodMs plan f pace.period
+    has_period f flow pace its paced = record { flow = flow; its = its; pace = pace; paced = paced; is = refl }
+
+    -- if its unit keeps no order, this one takes part
+    sender_any : (source : Source) (place : ℕ) → TakesPart plan source place → (m : ℕ → Bool)
+        → (option_map_or m (any_unit units place) false || false) ≡ true → TakesAny plan source
+    sender_any source place takes m told = elim (or_cases (option_map_or m (any_unit units place) false) false told) [
+      | inl is ↦
+          let (unit, at, any) = any_told units place m is in
+          record { place = place; takes = takes; unit = unit; at = at; any = any }
+      | inr never ↦ absurd (false≢true never)
+    ]
+
+    -- the identifier of a flow lies between those that are told
+    lies_between : (f : ℕ) (flow : FlowPlan) (its : slice_get plan.flows.items f ≡ Some flow) (group : GroupPlan) (ident t : ℕ)
+        → ident ≡ group_ident (held.address t) group flow → (group_ident low group flow ≤ ident) × (ident ≤ group_ident high group flow)
+    lies_between f flow its group ident t is =
+        let lies = ranks.lie_between plan stays tells (held.address t) (by_plan t) flow (flow_units f flow its) timing group in
+        let least = lies.least in
+        let greatest = lies.greatest in
+        (omega (arith, least, is), omega (arith, greatest, is))
+
     module _ (f release p : ℕ) (ready : s.queued p ≤ s.start p) (one : IsSingleFrame plan timing s held f release p) where
-      single_between : ((own plan timing stays f one.flow one.pace one.group one.its one.paced one.of).least_ident ≤ s.ident p)
-          × (s.ident p ≤ (own plan timing stays f one.flow one.pace one.group one.its one.paced one.of).greatest_ident)
-      single_between =
-          let t = s.queued p in
-          let is_ident = single_ident plan timing s held f release p t one (omega arith, ready) in
-          let lies = ranks.lie_between plan stays tells (held.address t) (by_plan t) one.flow (flow_units f one.flow one.its) timing one.group in
-          let least = lies.least in
-          let greatest = lies.greatest in
-          (omega (arith, least, is_ident), omega (arith, greatest, is_ident))
+      between : (group_ident low one.group one.flow ≤ s.ident p) × (s.ident p ≤ group_ident high one.group one.flow)
+      between = lies_between f one.flow one.its one.group (s.ident p) (s.queued p) (single_ident plan timing s held f release p (s.queued p) one (omega arith, ready))
 
       single_known : IsKnown s (Single f) release p
       single_known = record {
@@ -222,37 +240,21 @@ module _ (plan : Plan) (timing : Timing) (stays : UnitPlan → Bool) where
         turns = omega arith;
         release_first = one.release_first;
         jitter_at_most = within_bits timing one.pace.jitter release (s.queued p) one.jitter_at_most;
-        paced = record {
-          ms = one.pace.period;
-          every = record { flow = one.flow; its = one.its; pace = one.pace; paced = one.paced; is = refl };
-          period = refl;
-          unwanted = refl;
-        };
-        least = single_between.0;
-        last = single_between.1;
-        greatest = single_between.1;
+        paced = record { ms = one.pace.period; every = has_period f one.flow one.pace one.its one.paced; period = refl; unwanted = refl };
+        least = between.0;
+        last = between.1;
+        greatest = between.1;
         sender = one.flow.sender;
         sends = (one.flow, one.its, refl);
         planned_sender = (flow_units f one.flow one.its).sender;
         of_sender = λ any. rw (any, eq-eqb one.flow.sender one.flow.sender refl) refl;
-        of_any = λ m told. elim (or_cases (option_map_or m (any_unit units one.flow.sender) false) false told) [
-          | inl is ↦
-              let (unit, at, any) = any_told units one.flow.sender m is in
-              record { place = one.flow.sender; takes = (one.flow, one.its, refl); unit = unit; at = at; any = any }
-          | inr never ↦ absurd (false≢true never)
-        ];
+        of_any = sender_any (Single f) one.flow.sender (one.flow, one.its, refl);
       }
 
     module _ (f release p : ℕ) (ready : s.queued p ≤ s.start p) (one : IsFirstFrame plan timing s held f release p) where
-      first_between : ((own plan timing stays f one.flow one.pace one.group one.its one.paced one.of).least_ident ≤ s.ident p)
-          × (s.ident p ≤ (own plan timing stays f one.flow one.pace one.group one.its one.paced one.of).last_ident)
+      first_between : (group_ident low one.group one.flow ≤ s.ident p) × (s.ident p ≤ group_ident high one.group one.flow)
       first_between =
-          let t = s.queued p in
-          let is_ident = first_ident plan timing s held f release p t one (omega arith, ready) in
-          let lies = ranks.lie_between plan stays tells (held.address t) (by_plan t) one.flow (flow_units f one.flow one.its) timing one.group in
-          let least = lies.least in
-          let greatest = lies.greatest in
-          (omega (arith, least, is_ident), omega (arith, greatest, is_ident))
+          lies_between f one.flow one.its one.group (s.ident p) (s.queued p) (first_ident plan timing s held f release p (s.queued p) one (omega arith, ready))
 
       first_known : IsKnown s (First f) release p
       first_known = record {
@@ -263,12 +265,7 @@ module _ (plan : Plan) (timing : Timing) (stays : UnitPlan → Bool) where
         turns = omega arith;
         release_first = one.release_first;
         jitter_at_most = within_bits timing one.pace.jitter release (s.queued p) one.jitter_at_most;
-        paced = record {
-          ms = one.pace.period;
-          every = record { flow = one.flow; its = one.its; pace = one.pace; paced = one.paced; is = refl };
-          period = refl;
-          unwanted = refl;
-        };
+        paced = record { ms = one.pace.period; every = has_period f one.flow one.pace one.its one.paced; period = refl; unwanted = refl };
         least = first_between.0;
         last = first_between.1;
         greatest = tt;
@@ -276,12 +273,7 @@ module _ (plan : Plan) (timing : Timing) (stays : UnitPlan → Bool) where
         sends = (one.flow, one.its, refl);
         planned_sender = (flow_units f one.flow one.its).sender;
         of_sender = λ any. rw (any, eq-eqb one.flow.sender one.flow.sender refl) refl;
-        of_any = λ m told. elim (or_cases (option_map_or m (any_unit units one.flow.sender) false) false told) [
-          | inl is ↦
-              let (unit, at, any) = any_told units one.flow.sender m is in
-              record { place = one.flow.sender; takes = (one.flow, one.its, refl); unit = unit; at = at; any = any }
-          | inr never ↦ absurd (false≢true never)
-        ];
+        of_any = sender_any (First f) one.flow.sender (one.flow, one.its, refl);
       }
 
     module _ (r release p : ℕ) (ready : s.queued p ≤ s.start p) (one : IsRequestFrame plan s held r release p) where
@@ -310,12 +302,7 @@ module _ (plan : Plan) (timing : Timing) (stays : UnitPlan → Bool) where
             sends = (one.asked, one.its, refl);
             planned_sender = all_at (λ (d : RequestPlan). d.sender < length plan.units.items) plan.requests.items plan.request_senders r one.asked one.its;
             of_sender = λ any. rw (any, eq-eqb one.asked.sender one.asked.sender refl) refl;
-            of_any = λ m told. elim (or_cases (option_map_or m (any_unit units one.asked.sender) false) false told) [
-              | inl is ↦
-                  let (unit, at, any) = any_told units one.asked.sender m is in
-                  record { place = one.asked.sender; takes = (one.asked, one.its, refl); unit = unit; at = at; any = any }
-              | inr never ↦ absurd (false≢true never)
-            ];
+            of_any = sender_any (Asking r) one.asked.sender (one.asked, one.its, refl);
           }
 
     -- what is told of the identifier of a long message's part

@@ -21,7 +21,9 @@ pub mod KeepingDeadlines
 pub mod KeepingErrors
 pub mod KeepingFirst
 pub mod KeepingFrames
+pub mod KeepingOneToAll
 pub mod KeepingPlan
+pub mod KeepingPlanned
 pub mod KeepingSources
 pub mod KeepingTurns
 pub mod KeepingWithout

@@ -1,16 +1,16 @@
 -- How many frames a long message of which nothing is lost takes.
 use Rattle.std.proofs.Common.{◌≡◌, ◌≢◌, ℕ, zero, suc, ◌+◌, ◌-◌, ◌*◌, ◌==◌, ◌<◌, ◌≤◌, ◌&&◌, false, not, min, inl, inr, List, [], ◌∷◌, ◌++◌}
-use Rattle.std.proofs.Common.{length, take, drop}
-use Rattle.std.proofs.Common.{Option, Some, None, append_assoc, refl, sym, ap, ◌∙◌, subst, arith, replicate}
-use Rattle.std.proofs.Math.Seq.{take-add, take-append_seam}
+use Rattle.std.proofs.Common.{length, take}
+use Rattle.std.proofs.Common.{Option, Some, None, refl, sym, ap, ◌∙◌, subst, arith}
 use Rattle.std.proofs.Math.Nat.{mul-le-mul_right}
 use Rattle.std.proofs.lemmas.Bool.{cases_eq, cases_lt, cond-true, cond-false, eq-eqb, ne_eqb, and_from, le-leb, lt-leb, lt-ltb, le-ltb, not_from_true}
-use Rattle.std.proofs.lemmas.Grind.{common_steps, div_ceil_times}
-use Rattle.std.proofs.lemmas.List.{append-nil, take_all}
+use Rattle.std.proofs.lemmas.Grind.{div_ceil_times}
+use Rattle.std.proofs.lemmas.List.{take_all}
 use Rattle.std.specs.Int.{div_ceil}
 use Rattle.std.specs.Option.{option_map_or}
 use Rattle.std.specs.Prelude.{Bool, map, nat_le, nat_lt}
-use Rattle.j39_tp.specs.Chunks.{IsSize, MessageParts, packets_of, unused, chunk}
+use Rattle.j39_tp.proofs.Honest.{next_part}
+use Rattle.j39_tp.specs.Chunks.{IsSize, MessageParts, packets_of, chunk}
 use Rattle.j39_tp.specs.Receiver.{Receiving, bytes_at, completed, going_on, grant, grown, opened, takes_data, takes_next}
 use Rattle.j39_tp.specs.Sender.{after_packet, announced, announcement, granted, packet_next, stage_hears}
 use Rattle.j39_tp.specs.declared.packet.Packet.{Packet}
@@ -153,24 +153,6 @@ module _ (message : MessageParts) (outcome : Outcome) where
   }
 
 -- ---- the bytes of a packet
-
--- what a message has up to a part and the part are what it has up to the next; what fills the last is cut off
-next_part : (bytes : List ℕ) (m : ℕ)
-    → take (length bytes) (take m bytes ++ (take 7 (drop m bytes) ++ replicate (7 - length (take 7 (drop m bytes))) unused)) ≡ take (m + 7) bytes
-next_part bytes m =
-    let fill : List ℕ = replicate (7 - length (take 7 (drop m bytes))) unused in
-    let joined : take m bytes ++ (take 7 (drop m bytes) ++ fill) ≡ take (m + 7) bytes ++ fill =
-    sym (append_assoc (take m bytes) (take 7 (drop m bytes)) fill) ∙ ap (λ (u : List ℕ). u ++ fill) (sym (take-add m 7 bytes)) in
-    elim (cases_lt (length bytes) (m + 7)) [
-      | inl last ↦
-          let whole : take (m + 7) bytes ≡ bytes = take_all (m + 7) bytes (omega arith) in
-          ap (λ (u : List ℕ). take (length bytes) u) joined ∙ ap (λ (u : List ℕ). take (length bytes) (u ++ fill)) whole
-          ∙ take-append_seam bytes fill ∙ sym whole
-      | inr more ↦
-          let seven : 7 - length (take 7 (drop m bytes)) ≡ 0 = grind (arith, common_steps) in
-          let short : length (take (m + 7) bytes) ≤ length bytes = grind (arith, common_steps) in
-          ap (λ (u : List ℕ). take (length bytes) u) joined ∙ rw (seven, append-nil) (take_all (length bytes) (take (m + 7) bytes) short)
-    ]
 
 next_chunk : (bytes : List ℕ) (h : ℕ) → take (length bytes) (take (7 * h) bytes ++ chunk bytes (h + 1)) ≡ take (7 * (h + 1)) bytes
 next_chunk bytes h =

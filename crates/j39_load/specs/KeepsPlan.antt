@@ -150,3 +150,16 @@ pub record CanBeKept (plan : Plan) (timing : Timing) (source : Source) (n : ℕ)
   pub frames : s.count ≡ n
   pub all_planned : (p : ℕ) → planned p ≡ true
   pub of_source : (p : ℕ) → sent.source p ≡ source
+
+-- a bus with planned frames alone: it is legal, whether its units keep order or not, and keeps to all that the plan tells
+pub record KeptBus (plan : Plan) (timing : Timing) : Type 0 where
+  pub s : Schedule
+  pub controllers : Controllers
+  pub planned : ℕ → Bool
+  pub sent : FrameSources
+  pub held : Held
+  pub legal : IsLegal s
+  pub any_order : IsLegalInAnyOrder s controllers
+  pub keeps : KeepsToPlan plan timing s planned sent held
+  pub queues : KeepsQueues plan timing s controllers planned sent
+  pub all_planned : (p : ℕ) → planned p ≡ true

@@ -7,11 +7,11 @@ use Rattle.j39_network.specs.declared.plan.flow_plan.FlowPlan.{FlowPlan}
 use Rattle.j39_network.specs.declared.plan.pace.Pace.{Pace}
 use Rattle.j39_network.specs.declared.plan.timing.Timing.{Timing}
 use Rattle.j39_load.specs.KeepsBroadcasts.{KeepsTurns}
-use Rattle.j39_load.specs.KeepsPlan.{KeepsQueues, KeepsToPlan}
+use Rattle.j39_load.specs.KeepsPlan.{KeepsQueues, KeepsToPlan, KeptBus}
 use Rattle.j39_load.specs.SentFrames.{Announcing, Broadcasts, Carrying, FrameSources, Held, IsMsBefore, IsWithinMs, IsWithinUnitMs, Source}
 use Rattle.j39_timing.specs.AnyOrder.{Controllers, IsLegalInAnyOrder}
 use Rattle.j39_timing.specs.Messages.{frame_end}
-use Rattle.j39_timing.specs.TimedFrames.{IsLegal, Schedule}
+use Rattle.j39_timing.specs.TimedFrames.{Schedule}
 
 -- the planned frame at a place is of this source
 abbrev pub IsSentAs : Schedule → (ℕ → Bool) → FrameSources → Source → ℕ → Type 0
@@ -56,20 +56,10 @@ AreEachInTime plan timing = (s : Schedule) (controllers : Controllers) (planned 
 
 -- a bus on which the unit sends a long message of this flow, of so many packets, to all, to its end
 pub record CanBeSentWhole (plan : Plan) (timing : Timing) (f u packets : ℕ) : Type 0 where
-  pub s : Schedule
-  pub controllers : Controllers
-  pub planned : ℕ → Bool
-  pub sent : FrameSources
-  pub held : Held
-  -- it is legal, whether its units keep order or not, and keeps to all that the plan tells
-  pub legal : IsLegal s
-  pub any_order : IsLegalInAnyOrder s controllers
-  pub keeps : KeepsToPlan plan timing s planned sent held
-  pub queues : KeepsQueues plan timing s controllers planned sent
-  pub turns : KeepsTurns s planned sent held
-  pub sends : AreSentWhole timing s planned sent
-  pub takes : TakeTurns sent.broadcasts (whole_from timing s planned sent sends)
-  pub all_planned : (p : ℕ) → planned p ≡ true
-  pub one : sent.broadcasts.count u ≡ 1
-  pub of_flow : sent.broadcasts.flow u 0 ≡ f
-  pub long : sent.broadcasts.packets u 0 ≡ packets
+  pub bus : KeptBus plan timing
+  pub turns : KeepsTurns bus.s bus.planned bus.sent bus.held
+  pub sends : AreSentWhole timing bus.s bus.planned bus.sent
+  pub takes : TakeTurns bus.sent.broadcasts (whole_from timing bus.s bus.planned bus.sent sends)
+  pub one : bus.sent.broadcasts.count u ≡ 1
+  pub of_flow : bus.sent.broadcasts.flow u 0 ≡ f
+  pub long : bus.sent.broadcasts.packets u 0 ≡ packets

@@ -1,4 +1,5 @@
 pub mod Completing
+pub mod Forgetting
 pub mod FoundGroups
 pub mod Indexes
 pub mod ListenerTables

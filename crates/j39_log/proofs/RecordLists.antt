@@ -1,15 +1,22 @@
 -- The lines of records, one after another.
-use Rattle.std.proofs.Common.{◌≡◌, ℕ, suc, ◌+◌, ◌*◌, ◌<◌, Bool, true, false, if◌then◌else◌, List, [], ◌∷◌, ◌++◌, map, zero, All, length, drop, get_or, refl}
+use Rattle.std.proofs.Common.{◌≡◌, ℕ, Some, suc, ◌+◌, ◌*◌, ◌<◌, Bool, true, false, if◌then◌else◌, List, [], ◌∷◌, ◌++◌, map, zero, All, length, drop, get_or, refl}
 use Rattle.std.proofs.Common.{sym, ap, subst, ◌∙◌, arith}
 use Rattle.std.proofs.lemmas.Bool.{false≢true}
 use Rattle.std.proofs.lemmas.List.Elements.{All-head, All-tail}
 use Rattle.std.proofs.lemmas.List.{append-nil, drop_more}
 use Rattle.j39_signal.specs.Bits.{raw_of}
 use Rattle.j39_signal.specs.Parts.{SignalParts}
-use Rattle.j39_signal.specs.Places.{further}
+use Rattle.j39_signal.specs.Places.{IsInside, further}
 use Rattle.j39_signal.specs.State.{state_of}
-use Rattle.j39_network.specs.Records.{record_signals, repeated_signals}
+use Rattle.j39_network.specs.Records.{record_count, record_signals, repeated_signals}
+use Rattle.j39_network.specs.declared.plan.group_plan.GroupPlan.{GroupPlan}
+use Rattle.j39_network.proofs.RecordCounts.{records_counted}
 use Rattle.j39_log.specs.LogReports.{record_line, record_lines, records_lines, signal_state_text}
+
+-- each record that is counted lies inside the message
+pub record_inside : (group : GroupPlan) (every bytes count place : ℕ) → group.every ≡ Some every → count ≡ record_count group bytes → place < count
+    → All (IsInside bytes) (record_signals (every * place) group.signals.items)
+record_inside group every bytes count place is counted less = ((records_counted group every bytes place is).0 (omega (arith, counted, less))).1
 
 one_with : (b : Bool) (place behind : ℕ) (s : SignalParts) (bytes : List ℕ) → b ≡ true
     → record_lines place (map (further behind) (if b then s ∷ [] else [])) bytes ≡ record_line place s (state_of s (raw_of bytes (further behind s)))

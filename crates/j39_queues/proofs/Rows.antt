@@ -1,5 +1,5 @@
 -- Rows of queues of which one queue is another.
-use Rattle.std.proofs.Common.{◌≡◌, ℕ, zero, suc, ◌++◌, ◌+◌, ◌-◌, ◌<◌, ◌≤◌, cond, ◌&&◌, Bool, replicate, true, false, eqb, subst, Result, Ok, Err, OnOk, OnErr}
+use Rattle.std.proofs.Common.{◌≡◌, ℕ, zero, suc, ◌++◌, ◌+◌, ◌<◌, ◌≤◌, cond, ◌&&◌, Bool, replicate, true, false, eqb, subst, Result, Ok, Err, OnOk, OnErr}
 use Rattle.std.proofs.Common.{List, [], ◌∷◌, length, map, get_or, set, refl, sym, ap, ◌∙◌, arith, inl, inr, vec_len}
 use Rattle.std.proofs.lemmas.List.{get_or-map, get_or-replicate, length-map, length-replicate, map-set}
 use Rattle.std.proofs.lemmas.List.Sums.{get_or-le-sum_by, sum_by-cons, sum_by-set}
@@ -8,7 +8,7 @@ use Rattle.std.proofs.Math.ListN.{length-set}
 use Rattle.std.proofs.Math.Seq.{map-set_same}
 use Rattle.std.proofs.lemmas.Bool.{cases_Bool, and_from, and_parts, eqb-true, eq-eqb}
 use Rattle.std.specs.Vec.{with_item}
-use Rattle.j39_queues.specs.Queued.{IsTable, KeepsRoom, Queued, one_at, pair_in, room_at, changed_in}
+use Rattle.j39_queues.specs.Queued.{IsTable, KeepsRoom, Queued, pair_in, room_at, changed_in}
 use Rattle.j39_queues.specs.inside.Rows.{IsKept, Queue, Row, cells, filled_in, items, lists_of, one_if_some, room_of, rooms_of}
 use Rattle.j39_queues.proofs.Tables.{cell_is, row_is, tabled_set, with_cell_at, with_cell_columns}
 
@@ -50,6 +50,12 @@ module _ {X : Type 0} (rows : List (Row X)) (was : Queued X) (is : seen rows ≡
 
       pub list_is : pair_in was.lists u v ≡ q.items
       list_is = ap (λ (p : Queued X). pair_in p.lists u v) (sym is) ∙ list_here
+
+      -- so many others of the row hold something
+      pub beside_is : (n : ℕ) → n + one_if_some (pair_in was.lists u v) ≡ filled_in (get_or was.lists u [])
+          → n + one_if_some q.items ≡ filled_in (map items row.items)
+      beside_is n counted = ap (λ (xs : List X). n + one_if_some xs) (sym list_is) ∙ (counted
+          ∙ ap (λ (p : Queued X). filled_in (get_or p.lists u [])) (sym is) ∙ ap filled_in (row_is cells items rows u row in_u at_u))
 
       room_here : room_at (seen rows) u v ≡ room_of q
       room_here = cell_is cells room_of rows u v row q 0 in_u at_u in_items at_v

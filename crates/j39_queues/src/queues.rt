@@ -1,8 +1,8 @@
 //! A queue from each unit to each.
-ghost use Rattle.std.specs.Prelude.{◌≡◌, ℕ, ◌+◌, ◌<◌, ◌≤◌, ◌↔◌, [], ◌∷◌, ◌++◌, drop, length, map, nat_eq, replicate};
+ghost use Rattle.std.specs.Prelude.{◌≡◌, ℕ, ◌+◌, ◌<◌, ◌≤◌, ◌↔◌, [], ◌∷◌, ◌++◌, drop, get_or, length, map, nat_eq, replicate};
 ghost use Rattle.std.specs.Prelude.{IsTrue, IfOk, IfSome, IfNone, OnOk, OnErr};
 ghost use Rattle.std.specs.List.{list_all};
-ghost use Rattle.j39_queues.specs.inside.Rows.{items, one_if_some};
+ghost use Rattle.j39_queues.specs.inside.Rows.{filled_in, items, one_if_some};
 ghost use Rattle.j39_queues.specs.Queued.{IsTable, KeepsRoom, one_at, pair_in, room_at, changed_in, without_column};
 ghost use Rattle.j39_queues.specs.Queued.{without_row};
 
@@ -82,6 +82,15 @@ impl<T: Drop> Queues<T> {
         &row[to]
     }
 
+    // How many other queues of a unit hold something.
+    fn filled_beside(&self, from: usize, to: usize) -> usize
+        requires from { from < length self.now.lists }
+        requires to { to < length self.now.lists }
+        ensures { result + one_if_some (pair_in self.now.lists from to) ≡ filled_in (get_or self.now.lists from []) }
+    {
+        self.filled[from] - one_if_filled(self.between(from, to))
+    }
+
     /// Whether all queues are empty.
     pub fn is_empty(&self) -> bool
         ensures { IsTrue result ↔ ((u v : ℕ) → pair_in self.now.lists u v ≡ []) }
@@ -100,12 +109,11 @@ impl<T: Drop> Queues<T> {
             ≡ changed_in (pair_in self.old.lists) from to (drop 1 (pair_in self.old.lists from to)) }
         ensures room { KeepsRoom self.old self.new }
     {
+        let beside = self.filled_beside(from, to);
         let row = &mut self.rows[from];
         let queue = &mut row[to];
-        let was = one_if_filled(queue);
         let item = queue.pop_front();
-        let is = one_if_filled(queue);
-        self.filled[from] = self.filled[from] - was + is;
+        self.filled[from] = beside + one_if_filled(queue);
         item
     }
 
@@ -133,11 +141,11 @@ impl<T: Drop> Queues<T> {
             ≡ changed_in (pair_in self.old.lists) from to (pair_in self.old.lists from to ++ item ∷ []) }
         ensures room { (s t : ℕ) → room_at self.old s t ≤ room_at self.new s t + one_at from to s t }
     {
+        let beside = self.filled_beside(from, to);
         let row = &mut self.rows[from];
         let queue = &mut row[to];
-        let was = one_if_filled(queue);
         queue.push_back_reserved(item);
-        self.filled[from] = self.filled[from] - was + 1;
+        self.filled[from] = beside + 1;
     }
 
     /// Drops all items from one unit to another.
@@ -148,11 +156,11 @@ impl<T: Drop> Queues<T> {
         ensures lists { pair_in self.new.lists ≡ changed_in (pair_in self.old.lists) from to [] }
         ensures room { KeepsRoom self.old self.new }
     {
+        let beside = self.filled_beside(from, to);
         let row = &mut self.rows[from];
         let queue = &mut row[to];
-        let was = one_if_filled(queue);
         queue.clear();
-        self.filled[from] = self.filled[from] - was;
+        self.filled[from] = beside;
     }
 
     /// Drops all items to a unit.

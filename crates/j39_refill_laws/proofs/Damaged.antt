@@ -1,356 +1,108 @@
 -- A bus with damaged frames on which units refill a buffer is one of a schedule with refills, in which attempts and error frames are frames.
-use Rattle.std.proofs.Common.{◌≡◌, ℕ, ◌+◌, ◌-◌, ◌<◌, ◌≤◌, ◌⊎◌, ◌∙◌, true, refl, sym, subst, arith, inl, inr}
-use Rattle.std.proofs.lemmas.Bool.{cases_lt, le-ltb, lt-ltb}
-use Rattle.j39_timing.specs.AnyOrder.{Controllers, IsFromOrdered, MayArbitrate}
-use Rattle.j39_timing.specs.Errors.{Damaged, IsDamagedAt, with_errors}
-use Rattle.j39_timing.specs.TimedFrames.{IsOnBusAt, Schedule, Waits}
+use Rattle.std.proofs.Common.{◌≡◌, ℕ, ◌+◌, ◌<◌, ◌⊎◌, ◌∙◌, refl, sym, subst, arith, inl, inr}
+use Rattle.std.proofs.lemmas.Bool.{lt-ltb}
+use Rattle.j39_timing.specs.AnyOrder.{Controllers}
+use Rattle.j39_timing.specs.Errors.{Damaged, with_errors}
+use Rattle.j39_timing.specs.TimedFrames.{Schedule, Waits}
+use Rattle.j39_timing.proofs.ErrorFrames.{AreApart, IsFrame, OnBus, Takes, all, alone, as_waiting, attempt_waits, both_frames, damaged_on_bus, error_at, error_told}
+use Rattle.j39_timing.proofs.ErrorFrames.{error_waits, first_of_all, frame_at, frame_on_bus, frame_or_least, kinds, positive, queued_first, taken}
 use Rattle.j39_refill_laws.specs.Refill.{IsLegalWithRefill, IsRefilling}
 use Rattle.j39_refill_laws.specs.RefillErrors.{IsLegalWithRefillAndErrors, MayHoldBack, error_units}
-
-module _ (s : Schedule) (controllers : Controllers) (d : Damaged) (own : ℕ) where
-  abbrev all : Schedule
-  all = with_errors s d
-
-  abbrev units : Controllers
-  units = error_units s controllers d own
-
-  -- what stands at a place: a frame, an attempt, or the error frame behind it
-  record IsFrame (p : ℕ) : Type 0 where
-    pub below : p < s.count
-    pub queued : all.queued p ≡ s.queued p
-    pub start : all.start p ≡ s.start p
-    pub bits : all.bits p ≡ s.bits p
-    pub ident : all.ident p ≡ s.ident p
-    pub unit : units.unit p ≡ controllers.unit p
-
-  record IsAttempt (p e : ℕ) : Type 0 where
-    pub below : e < d.count
-    pub place : p ≡ s.count + e
-    pub queued : all.queued p ≡ d.begin e
-    pub start : all.start p ≡ d.begin e
-    pub bits : all.bits p ≡ d.sent e
-    pub ident : all.ident p ≡ 0
-
-  record IsError (p e : ℕ) : Type 0 where
-    pub below : e < d.count
-    pub place : p ≡ s.count + (d.count + e)
-    pub queued : all.queued p ≡ d.begin e
-    pub start : all.start p ≡ d.begin e + d.sent e
-    pub bits : all.bits p ≡ d.error e
-    pub ident : all.ident p ≡ 0
-    pub unit : units.unit p ≡ controllers.unit (d.frame e)
-
-  frame_at : (p : ℕ) → p < s.count → IsFrame p
-  frame_at p below =
-      let front = lt-ltb p s.count below in
-      record {
-        below = below;
-        queued = rw (front) refl;
-        start = rw (front) refl;
-        bits = rw (front) refl;
-        ident = rw (front) refl;
-        unit = rw (front) refl;
-      }
-
-  attempt_at : (e : ℕ) → e < d.count → IsAttempt (s.count + e) e
-  attempt_at e below =
-      let behind = le-ltb (s.count + e) s.count (omega arith) in
-      let back : s.count + e - s.count ≡ e = omega arith in
-      let front = lt-ltb e d.count below in
-      record {
-        below = below;
-        place = refl;
-        queued = rw (behind, back, front) refl;
-        start = rw (behind, back, front) refl;
-        bits = rw (behind, back, front) refl;
-        ident = rw (behind, back, front) refl;
-      }
-
-  error_at : (e : ℕ) → e < d.count → IsError (s.count + (d.count + e)) e
-  error_at e below =
-      let behind = le-ltb (s.count + (d.count + e)) s.count (omega arith) in
-      let back : s.count + (d.count + e) - s.count ≡ d.count + e = omega arith in
-      let later = le-ltb (d.count + e) d.count (omega arith) in
-      let last : d.count + e - d.count ≡ e = omega arith in
-      record {
-        below = below;
-        place = refl;
-        queued = rw (behind, back, later, last) refl;
-        start = rw (behind, back, later, last) refl;
-        bits = rw (behind, back, later, last) refl;
-        ident = rw (behind, back, later) refl;
-        unit = rw (behind, back, later, last) refl;
-      }
-
-  kinds : (p : ℕ) → p < all.count → IsFrame p ⊎ (((e : ℕ) × IsAttempt p e) ⊎ ((e : ℕ) × IsError p e))
-  kinds p below = elim (cases_lt p s.count) [
-    | inl front ↦ inl (frame_at p front)
-    | inr behind ↦ elim (cases_lt (p - s.count) d.count) [
-      | inl first ↦
-          let is : s.count + (p - s.count) ≡ p = omega arith in
-          inr (inl (p - s.count, subst (λ n. IsAttempt n (p - s.count)) is (attempt_at (p - s.count) first)))
-      | inr second ↦
-          let is : s.count + (d.count + (p - s.count - d.count)) ≡ p = omega arith in
-          inr (inr (p - s.count - d.count, subst (λ n. IsError n (p - s.count - d.count)) is (error_at (p - s.count - d.count) (omega arith))))
-    ]
-  ]
-
-  -- ---- what is on the bus
-
-  as_frame : (p t : ℕ) → IsFrame p → IsOnBusAt all p t → IsOnBusAt s p t
-  as_frame p t is on =
-      let start = is.start in
-      let bits = is.bits in
-      (omega (arith, on.0, start), omega (arith, on.1, start, bits))
-
-  as_attempt : (p e t : ℕ) → IsAttempt p e → IsOnBusAt all p t → (d.begin e ≤ t) × (t < d.begin e + d.sent e)
-  as_attempt p e t is on =
-      let start = is.start in
-      let bits = is.bits in
-      (omega (arith, on.0, start), omega (arith, on.1, start, bits))
-
-  as_error : (p e t : ℕ) → IsError p e → IsOnBusAt all p t → (d.begin e + d.sent e ≤ t) × (t < d.begin e + (d.sent e + d.error e))
-  as_error p e t is on =
-      let start = is.start in
-      let bits = is.bits in
-      (omega (arith, on.0, start), omega (arith, on.1, start, bits))
-
-  -- a part of an attempt or of its error frame: which one, and of which attempt
-  record IsPart (p t : ℕ) : Type 0 where
-    pub attempt : ℕ
-    pub below : attempt < d.count
-    pub damaged : IsDamagedAt d attempt t
-    pub kind : ((p ≡ s.count + attempt) × (t < d.begin attempt + d.sent attempt))
-        ⊎ ((p ≡ s.count + (d.count + attempt)) × (d.begin attempt + d.sent attempt ≤ t))
-
-  part_of_attempt : (p e t : ℕ) → IsAttempt p e → IsOnBusAt all p t → IsPart p t
-  part_of_attempt p e t is on =
-      let (low, high) = as_attempt p e t is on in
-      record { attempt = e; below = is.below; damaged = (low, omega (arith, high)); kind = inl (is.place, high) }
-
-  part_of_error : (p e t : ℕ) → IsError p e → IsOnBusAt all p t → IsPart p t
-  part_of_error p e t is on =
-      let (low, high) = as_error p e t is on in
-      record { attempt = e; below = is.below; damaged = (omega (arith, low), high); kind = inr (is.place, low) }
-
-  on_bus : (p t : ℕ) → p < all.count → IsOnBusAt all p t → (IsFrame p) ⊎ (IsPart p t)
-  on_bus p t in_p on = elim (kinds p in_p) [
-    | inl is ↦ inl is
-    | inr this ↦ elim this [
-      | inl it ↦ inr (part_of_attempt p it.0 t it.1 on)
-      | inr it ↦ inr (part_of_error p it.0 t it.1 on)
-    ]
-  ]
-
-  module _ (refill : ℕ → ℕ) (legal : IsLegalWithRefillAndErrors s controllers d refill) where
-    same_part : (p q t : ℕ) → t < s.now → IsPart p t → IsPart q t → p ≡ q
-    same_part p q t seen of_p of_q =
-        let same : of_p.attempt ≡ of_q.attempt =
-        legal.alone_damaged of_p.attempt of_q.attempt t of_p.below of_q.below seen of_p.damaged of_q.damaged in
-        let at : ℕ = of_p.attempt in
-        let kind_q : ((q ≡ s.count + at) × (t < d.begin at + d.sent at)) ⊎ ((q ≡ s.count + (d.count + at)) × (d.begin at + d.sent at ≤ t)) =
-        subst (λ e. ((q ≡ s.count + e) × (t < d.begin e + d.sent e)) ⊎ ((q ≡ s.count + (d.count + e)) × (d.begin e + d.sent e ≤ t))) (sym same) of_q.kind in
-        elim of_p.kind [
-          | inl first ↦ elim kind_q [
-            | inl also ↦ first.0 ∙ sym also.0
-            | inr behind ↦ absurd (let early = first.1 in let late = behind.1 in omega (arith, early, late))
-          ]
-          | inr second ↦ elim kind_q [
-            | inl before ↦ absurd (let late = second.1 in let early = before.1 in omega (arith, early, late))
-            | inr also ↦ second.0 ∙ sym also.0
-          ]
-        ]
-
-    alone : (p q t : ℕ) → p < all.count → q < all.count → t < all.now → IsOnBusAt all p t → IsOnBusAt all q t → p ≡ q
-    alone p q t in_p in_q seen on_p on_q = elim (on_bus p t in_p on_p) [
-      | inl is_p ↦ elim (on_bus q t in_q on_q) [
-        | inl is_q ↦ legal.alone p q t is_p.below is_q.below seen (as_frame p t is_p on_p) (as_frame q t is_q on_q)
-        | inr part ↦ absurd (legal.none_of_both p part.attempt t is_p.below part.below seen (as_frame p t is_p on_p) part.damaged)
-      ]
-      | inr part ↦ elim (on_bus q t in_q on_q) [
-        | inl is_q ↦ absurd (legal.none_of_both q part.attempt t is_q.below part.below seen (as_frame q t is_q on_q) part.damaged)
-        | inr other ↦ same_part p q t seen part other
-      ]
-    ]
-
-    positive : (p : ℕ) → p < all.count → 1 ≤ all.bits p
-    positive p in_p = elim (kinds p in_p) [
-      | inl is ↦ let bits = is.bits in let some = legal.positive p is.below in omega (arith, bits, some)
-      | inr this ↦ elim this [
-        | inl it ↦ let bits = it.1.bits in let some = legal.some_sent it.0 it.1.below in omega (arith, bits, some)
-        | inr it ↦ let bits = it.1.bits in let some = legal.some_error it.0 it.1.below in omega (arith, bits, some)
-      ]
-    ]
-
-    queued_first : (p : ℕ) → p < all.count → all.queued p ≤ all.start p
-    queued_first p in_p = elim (kinds p in_p) [
-      | inl is ↦ let queued = is.queued in let start = is.start in let first = legal.queued_first p is.below in omega (arith, queued, start, first)
-      | inr this ↦ elim this [
-        | inl it ↦ let queued = it.1.queued in let start = it.1.start in omega (arith, queued, start)
-        | inr it ↦ let queued = it.1.queued in let start = it.1.start in omega (arith, queued, start)
-      ]
-    ]
-
-    -- ---- what waits
-
-    as_waiting : (p t : ℕ) → IsFrame p → Waits all p t → Waits s p t
-    as_waiting p t is waits =
-        let queued = is.queued in
-        let start = is.start in
-        (omega (arith, waits.0, queued), omega (arith, waits.1, start))
-
-    -- an attempt never waits, and an error frame while the attempt before it is on the bus
-    attempt_waits : (p e t : ℕ) → IsAttempt p e → Waits all p t → ⊥
-    attempt_waits p e t is waits =
-        let queued = is.queued in
-        let start = is.start in
-        omega (arith, waits.0, waits.1, queued, start)
-
-    error_waits : (p e t : ℕ) → IsError p e → Waits all p t → IsDamagedAt d e t
-    error_waits p e t is waits =
-        let queued = is.queued in
-        let start = is.start in
-        let some = legal.some_error e is.below in
-        (omega (arith, waits.0, queued), omega (arith, waits.1, start, some))
-
-    abbrev OnBus : ℕ → Type 0
-    OnBus t = (q : ℕ) × (q < all.count) × IsOnBusAt all q t
-
-    frame_on_bus : (q t : ℕ) → q < s.count → IsOnBusAt s q t → OnBus t
-    frame_on_bus q t below on =
-        let is = frame_at q below in
-        let start = is.start in
-        let bits = is.bits in
-        (q, omega arith, (omega (arith, on.0, start), omega (arith, on.1, start, bits)))
-
-    damaged_on_bus : (e t : ℕ) → e < d.count → IsDamagedAt d e t → OnBus t
-    damaged_on_bus e t below on = elim (cases_lt t (d.begin e + d.sent e)) [
-      | inl first ↦
-          let is = attempt_at e below in
-          let start = is.start in
-          let bits = is.bits in
-          (s.count + e, omega arith, (omega (arith, on.0, start), omega (arith, first, start, bits)))
-      | inr second ↦
-          let is = error_at e below in
-          let start = is.start in
-          let bits = is.bits in
-          (s.count + (d.count + e), omega arith, (omega (arith, second, start), omega (arith, on.1, start, bits)))
-    ]
-
-    -- the unit of a frame refills there behind a frame, be it an error frame
-    holding : (p t : ℕ) → IsFrame p → MayHoldBack s controllers d refill (controllers.unit p) t → IsRefilling all units refill (units.unit p) t
-    holding p t is back = elim back [
-      | inl behind ↦
-          let at = frame_at behind.frame behind.inside in
-          let start = at.start in
-          let bits = at.bits in
-          let ended = behind.ended in
-          let soon : t < s.start behind.frame + s.bits behind.frame + refill (units.unit p) =
-          subst (λ u. t < s.start behind.frame + s.bits behind.frame + refill u) (sym is.unit) behind.soon in
-          record {
-            frame = behind.frame;
-            inside = let below = behind.inside in omega (arith, below);
-            its_unit = at.unit ∙ (behind.its_unit ∙ sym is.unit);
-            ended = omega (arith, start, bits, ended);
-            soon = omega (arith, start, bits, soon);
-          }
-      | inr behind ↦
-          let at = error_at behind.attempt behind.inside in
-          let start = at.start in
-          let bits = at.bits in
-          let ended = behind.ended in
-          let soon : t < d.begin behind.attempt + (d.sent behind.attempt + d.error behind.attempt) + refill (units.unit p) =
-          subst (λ u. t < d.begin behind.attempt + (d.sent behind.attempt + d.error behind.attempt) + refill u) (sym is.unit) behind.soon in
-          record {
-            frame = s.count + (d.count + behind.attempt);
-            inside = let below = behind.inside in omega (arith, below);
-            its_unit = at.unit ∙ (behind.its_unit ∙ sym is.unit);
-            ended = omega (arith, start, bits, ended);
-            soon = omega (arith, start, bits, soon);
-          }
-    ]
-
-    never_idle : (p t : ℕ) → p < all.count → t < all.now → Waits all p t → OnBus t ⊎ IsRefilling all units refill (units.unit p) t
-    never_idle p t in_p seen waits = elim (kinds p in_p) [
-      | inl is ↦ elim (legal.never_idle p t is.below seen (as_waiting p t is waits)) [
-        | inl frame ↦ inl (frame_on_bus frame.0 t frame.1 frame.2)
-        | inr rest ↦ elim rest [
-          | inl damaged ↦ inl (damaged_on_bus damaged.0 t damaged.1 damaged.2)
-          | inr back ↦ inr (holding p t is back)
-        ]
-      ]
-      | inr this ↦ elim this [
-        | inl it ↦ absurd (attempt_waits p it.0 t it.1 waits)
-        | inr it ↦ inl (damaged_on_bus it.0 t it.1.below (error_waits p it.0 t it.1 waits))
-      ]
-    ]
-
-    -- nothing but an attempt or an error frame begins where an error frame waits
-    frame_beside : (p q : ℕ) → p < all.count → IsFrame q → all.start q < all.now → Waits all p (all.start q) → IsFrame p
-    frame_beside p q in_p is_q seen waits =
-        let start = is_q.start in
-        let bits = is_q.bits in
-        let some = legal.positive q is_q.below in
-        let on : IsOnBusAt all q (all.start q) = (omega arith, omega (arith, bits, some)) in
-        elim (kinds p in_p) [
-          | inl is_p ↦ is_p
-          | inr this ↦ elim this [
-            | inl it ↦ absurd (attempt_waits p it.0 (all.start q) it.1 waits)
-            | inr it ↦ absurd (legal.none_of_both q it.0 (all.start q) is_q.below it.1.below seen (as_frame q (all.start q) is_q on)
-                (error_waits p it.0 (all.start q) it.1 waits))
-          ]
-        ]
-
-    ordered_of_frame : (p : ℕ) → IsFrame p → IsFromOrdered units p → IsFromOrdered controllers p
-    ordered_of_frame p is ordered = subst (λ u. controllers.keeps_order u ≡ true) is.unit ordered
-
-    abbrev Takes : ℕ → ℕ → Type 0
-    Takes p q = (h : ℕ) × MayArbitrate all units p h (all.start q) × (all.ident q ≤ all.ident h)
-
-    first_of_all : (p q : ℕ) → p < all.count → Waits all p (all.start q) → all.ident q ≡ 0 → Takes p q
-    first_of_all p q in_p waits least =
-        (p, (in_p, refl, (let before = waits.0 in omega (arith, before), waits.1), λ _. refl), omega (arith, least))
-
-    taken : (p q : ℕ) → IsFrame p → IsFrame q → (h : ℕ) × MayArbitrate s controllers p h (s.start q) × (s.ident q ≤ s.ident h) → Takes p q
-    taken p q is_p is_q (h, may, order) =
-        let (in_h, unit, ready, ordered) = may in
-        let start = is_q.start in
-        let is_h = frame_at h in_h in
-        let queued_h = is_h.queued in
-        let start_h = is_h.start in
-        let ident_h = is_h.ident in
-        let ident_q = is_q.ident in (
-          h,
-          (
-            omega (arith, in_h),
-            is_h.unit ∙ (unit ∙ sym is_p.unit),
-            (omega (arith, ready.0, queued_h, start), omega (arith, ready.1, start_h, start)),
-            λ keeps. ordered (ordered_of_frame p is_p keeps),
-          ),
-          omega (arith, order, ident_h, ident_q),
-        )
-
-    in_order : (p q : ℕ) → p < all.count → q < all.count → all.start q < all.now → Waits all p (all.start q)
-        → Takes p q ⊎ IsRefilling all units refill (units.unit p) (all.start q)
-    in_order p q in_p in_q seen waits = elim (kinds q in_q) [
-      | inr this ↦ elim this [
-        | inl it ↦ inl (first_of_all p q in_p waits it.1.ident)
-        | inr it ↦ inl (first_of_all p q in_p waits it.1.ident)
-      ]
-      | inl is_q ↦
-          let start = is_q.start in
-          let is_p = frame_beside p q in_p is_q seen waits in
-          elim (legal.in_order p q is_p.below is_q.below (omega (arith, seen, start))
-          (subst (λ t. Waits s p t) start (as_waiting p (all.start q) is_p waits))) [
-            | inl takes ↦ inl (taken p q is_p is_q takes)
-            | inr back ↦ inr (holding p (all.start q) is_p (subst (λ t. MayHoldBack s controllers d refill (controllers.unit p) t) (sym start) back))
-          ]
-    ]
-
-    pub legal_with_damage : IsLegalWithRefill (with_errors s d) (error_units s controllers d own) refill
-    legal_with_damage = record { positive = positive; queued_first = queued_first; alone = alone; never_idle = never_idle; in_order = in_order }
 
 -- each frame is of the unit that it was of
 pub units_with_damage : (s : Schedule) (controllers : Controllers) (d : Damaged) (own p : ℕ) → p < s.count
     → (error_units s controllers d own).unit p ≡ controllers.unit p
 units_with_damage s controllers d own p below = rw (lt-ltb p s.count below) refl
+
+module _ (s : Schedule) (controllers : Controllers) (d : Damaged) (own : ℕ) where
+  abbrev units : Controllers
+  units = error_units s controllers d own
+
+  abbrev unit_of_frame : (p : ℕ) → p < s.count → units.unit p ≡ controllers.unit p
+  unit_of_frame = units_with_damage s controllers d own
+
+  unit_of_error : (e : ℕ) → e < d.count → units.unit (s.count + (d.count + e)) ≡ controllers.unit (d.frame e)
+  unit_of_error e below = error_told s d controllers.unit (λ e. own) (λ e. controllers.unit (d.frame e)) e below
+
+  module _ (refill : ℕ → ℕ) (legal : IsLegalWithRefillAndErrors s controllers d refill) where
+    apart : AreApart s d
+    apart = record {
+      positive = legal.positive;
+      queued_first = legal.queued_first;
+      some_sent = legal.some_sent;
+      some_error = legal.some_error;
+      alone = legal.alone;
+      alone_damaged = legal.alone_damaged;
+      none_of_both = legal.none_of_both;
+    }
+
+    -- the unit of a frame refills there behind a frame, be it an error frame
+    holding : (p t : ℕ) → IsFrame s d p → MayHoldBack s controllers d refill (controllers.unit p) t → IsRefilling (all s d) units refill (units.unit p) t
+    holding p t is back = let its = unit_of_frame p is.below in elim back [
+      | inl behind ↦
+          let at = frame_at s d behind.frame behind.inside in
+          let start = at.start in
+          let bits = at.bits in
+          let ended = behind.ended in
+          let soon : t < s.start behind.frame + s.bits behind.frame + refill (units.unit p) =
+          subst (λ u. t < s.start behind.frame + s.bits behind.frame + refill u) (sym its) behind.soon in
+          record {
+            frame = behind.frame;
+            inside = let below = behind.inside in omega (arith, below);
+            its_unit = unit_of_frame behind.frame behind.inside ∙ (behind.its_unit ∙ sym its);
+            ended = omega (arith, start, bits, ended);
+            soon = omega (arith, start, bits, soon);
+          }
+      | inr behind ↦
+          let at = error_at s d behind.attempt behind.inside in
+          let start = at.start in
+          let bits = at.bits in
+          let ended = behind.ended in
+          let soon : t < d.begin behind.attempt + (d.sent behind.attempt + d.error behind.attempt) + refill (units.unit p) =
+          subst (λ u. t < d.begin behind.attempt + (d.sent behind.attempt + d.error behind.attempt) + refill u) (sym its) behind.soon in
+          record {
+            frame = s.count + (d.count + behind.attempt);
+            inside = let below = behind.inside in omega (arith, below);
+            its_unit = unit_of_error behind.attempt behind.inside ∙ (behind.its_unit ∙ sym its);
+            ended = omega (arith, start, bits, ended);
+            soon = omega (arith, start, bits, soon);
+          }
+    ]
+
+    never_idle : (p t : ℕ) → p < (all s d).count → t < (all s d).now → Waits (all s d) p t
+        → OnBus s d t ⊎ IsRefilling (all s d) units refill (units.unit p) t
+    never_idle p t in_p seen waits = elim (kinds s d p in_p) [
+      | inl is ↦ elim (legal.never_idle p t is.below seen (as_waiting s d p t is waits)) [
+        | inl frame ↦ inl (frame_on_bus s d frame.0 t frame.1 frame.2)
+        | inr rest ↦ elim rest [
+          | inl damaged ↦ inl (damaged_on_bus s d damaged.0 t damaged.1 damaged.2)
+          | inr back ↦ inr (holding p t is back)
+        ]
+      ]
+      | inr this ↦ elim this [
+        | inl it ↦ absurd (attempt_waits s d p it.0 t it.1 waits)
+        | inr it ↦ inl (damaged_on_bus s d it.0 t it.1.below (error_waits s d apart p it.0 t it.1 waits))
+      ]
+    ]
+
+    in_order : (p q : ℕ) → p < (all s d).count → q < (all s d).count → (all s d).start q < (all s d).now → Waits (all s d) p ((all s d).start q)
+        → Takes s d controllers units unit_of_frame (λ u. refl) p q ⊎ IsRefilling (all s d) units refill (units.unit p) ((all s d).start q)
+    in_order p q in_p in_q seen waits = elim (frame_or_least s d q in_q) [
+      | inr least ↦ inl (first_of_all s d controllers units unit_of_frame (λ u. refl) p q in_p waits least)
+      | inl is_q ↦
+          let start = is_q.start in
+          let (is_p, early, waiting) = both_frames s d apart p q in_p is_q seen waits in
+          elim (legal.in_order p q is_p.below is_q.below early waiting) [
+            | inl takes ↦ inl (taken s d controllers units unit_of_frame (λ u. refl) p q is_p is_q takes)
+            | inr back ↦ inr (holding p ((all s d).start q) is_p (subst (λ t. MayHoldBack s controllers d refill (controllers.unit p) t) (sym start) back))
+          ]
+    ]
+
+    pub legal_with_damage : IsLegalWithRefill (with_errors s d) (error_units s controllers d own) refill
+    legal_with_damage = record {
+      positive = positive s d apart;
+      queued_first = queued_first s d apart;
+      alone = alone s d apart;
+      never_idle = never_idle;
+      in_order = in_order;
+    }

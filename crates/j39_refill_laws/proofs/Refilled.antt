@@ -1,17 +1,17 @@
 -- Frames of units that refill a buffer are in time where the wait has room for all frames, each with the refill of its unit: a bus is never idle beside a
 -- waiting frame but behind a frame of its unit, so each frame counts as if it went on until its unit takes part again.
-use Rattle.std.proofs.Common.{◌≡◌, ◌≢◌, ℕ, ◌+◌, ◌<◌, ◌≤◌, ◌⊎◌, Bool, true, false, not, cond, ◌&&◌, eqb, ltb, leb, refl, sym, subst, ap, arith, inl, inr}
-use Rattle.std.proofs.lemmas.Bool.{and_from, and_parts, cases_Bool, cases_lt, eq-eqb, eqb-true}
+use Rattle.std.proofs.Common.{◌≡◌, ◌≢◌, ℕ, ◌+◌, ◌<◌, ◌≤◌, ◌⊎◌, Bool, true, false, not, eqb, refl, sym, subst, ap, arith, inl, inr}
+use Rattle.std.proofs.lemmas.Bool.{cases_Bool, cases_lt, eq-eqb, eqb-true}
 use Rattle.j39_timing.specs.AnyOrder.{AreBegunWithin, Controllers}
 use Rattle.j39_timing.specs.FrameStreams.{AreOfStreams, Origins}
 use Rattle.j39_timing.specs.Messages.{AreSentWithin}
-use Rattle.j39_timing.specs.QueueGroups.{is_unplanned_queued, unplanned_queued}
+use Rattle.j39_timing.specs.QueueGroups.{unplanned_queued}
 use Rattle.j39_timing.specs.TimedFrames.{IsOnBusAt, Schedule, Waits}
 use Rattle.j39_timing.specs.Traffic.{IsStreamInTime, Traffic}
 use Rattle.j39_timing.specs.declared.stream.Stream.{Stream}
 use Rattle.j39_timing.proofs.FullWindows.{some_wait, too_full}
-use Rattle.j39_timing.proofs.Sums.{total-le}
-use Rattle.j39_timing.proofs.WaitingWindow.{GoingWait, busy_with, is_other_going, others_going}
+use Rattle.j39_timing.proofs.QueueGroupTraffic.{others_are_unplanned}
+use Rattle.j39_timing.proofs.WaitingWindow.{GoingWait, busy_with, others_going}
 use Rattle.j39_refill_laws.specs.Refill.{IsLegalWithRefill}
 use Rattle.j39_refill_laws.specs.RefillTraffic.{IsTrafficWithRefill, RefillDemandFits, SomeFrameWaits, with_refill}
 
@@ -114,18 +114,7 @@ module _ (s : Schedule) (controllers : Controllers) (refill : ℕ → ℕ) (traf
           let enough = some in
           let few : unplanned_queued s planned begin (s.queued x + wait) ≤ unplanned =
           known.few_unplanned x begin (s.queued x + wait) in_x is_planned source seen (omega (arith, enough), omega (arith, late)) (as_some begin stretch) in
-          let all : others_going longer planned first begin (s.queued x + wait) ≤ unplanned_queued s planned begin (s.queued x + wait) =
-          total-le s.count (λ p. cond (is_other_going longer planned first begin (s.queued x + wait) p) 1 0)
-          (λ p. cond (is_unplanned_queued s planned begin (s.queued x + wait) p) 1 0) (λ p in_p.
-          elim (cases_Bool (is_other_going longer planned first begin (s.queued x + wait) p)) [
-            | inr fails ↦ rw (fails) (omega arith)
-            | inl is ↦
-                let one = and_parts (not (planned p)) (first p && (leb (s.queued p) (s.queued x + wait) && ltb begin (s.start p))) is in
-                let two = and_parts (first p) (leb (s.queued p) (s.queued x + wait) && ltb begin (s.start p)) one.1 in
-                let there : is_unplanned_queued s planned begin (s.queued x + wait) p ≡ true =
-                and_from (not (planned p)) (leb (s.queued p) (s.queued x + wait) && ltb begin (s.start p)) one.0 two.1 in
-                rw (is, there) (omega arith)
-          ]) in
+          let all = others_are_unplanned longer planned first begin (s.queued x + wait) in
           omega (arith, few, all)
 
       not_late : ⊥

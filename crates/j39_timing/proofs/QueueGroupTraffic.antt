@@ -13,6 +13,19 @@ use Rattle.j39_timing.proofs.FullWindows.{some_wait, too_full, total-one}
 use Rattle.j39_timing.proofs.Sums.{total-le}
 use Rattle.j39_timing.proofs.WaitingWindow.{GoingWait, busy_with, is_other_going, others_going}
 
+-- what isn't planned and goes before is queued
+pub others_are_unplanned : (s : Schedule) (planned goes : ℕ → Bool) (from to : ℕ) → others_going s planned goes from to ≤ unplanned_queued s planned from to
+others_are_unplanned s planned goes from to =
+    total-le s.count (λ p. cond (is_other_going s planned goes from to p) 1 0) (λ p. cond (is_unplanned_queued s planned from to p) 1 0) (λ p in_p.
+    elim (cases_Bool (is_other_going s planned goes from to p)) [
+      | inr fails ↦ rw (fails) (omega arith)
+      | inl is ↦
+          let one = and_parts (not (planned p)) (goes p && (leb (s.queued p) to && ltb from (s.start p))) is in
+          let two = and_parts (goes p) (leb (s.queued p) to && ltb from (s.start p)) one.1 in
+          let there : is_unplanned_queued s planned from to p ≡ true = and_from (not (planned p)) (leb (s.queued p) to && ltb from (s.start p)) one.0 two.1 in
+          rw (is, there) (omega arith)
+    ])
+
 module _ (s : Schedule) (controllers : Controllers) (traffic : Traffic) (unplanned longest : ℕ) (planned : ℕ → Bool) (of : Origins) (queue_group : QueueGroup)
     (legal : IsLegalInAnyOrder s controllers) (known : IsTrafficOfQueueGroup s controllers traffic unplanned longest planned of queue_group)
     (positive : (j : ℕ) → j < traffic.count → 0 < (traffic.stream j).period) (i wait : ℕ) (member : queue_group.has i ≡ true)
@@ -145,18 +158,7 @@ module _ (s : Schedule) (controllers : Controllers) (traffic : Traffic) (unplann
       fewer : (begin : ℕ) → GoingWait s planned first x begin (s.queued x + wait) → others_going s planned first begin (s.queued x + wait) ≤ unplanned
       fewer begin stretch =
           let most = few begin stretch in
-          let all : others_going s planned first begin (s.queued x + wait) ≤ unplanned_queued s planned begin (s.queued x + wait) =
-          total-le s.count (λ p. cond (is_other_going s planned first begin (s.queued x + wait) p) 1 0)
-          (λ p. cond (is_unplanned_queued s planned begin (s.queued x + wait) p) 1 0) (λ p in_p.
-          elim (cases_Bool (is_other_going s planned first begin (s.queued x + wait) p)) [
-            | inr fails ↦ rw (fails) (omega arith)
-            | inl is ↦
-                let one = and_parts (not (planned p)) (first p && (leb (s.queued p) (s.queued x + wait) && ltb begin (s.start p))) is in
-                let two = and_parts (first p) (leb (s.queued p) (s.queued x + wait) && ltb begin (s.start p)) one.1 in
-                let there : is_unplanned_queued s planned begin (s.queued x + wait) p ≡ true =
-                and_from (not (planned p)) (leb (s.queued p) (s.queued x + wait) && ltb begin (s.start p)) one.0 two.1 in
-                rw (is, there) (omega arith)
-          ]) in
+          let all = others_are_unplanned s planned first begin (s.queued x + wait) in
           omega (arith, most, all)
 
       not_late : ⊥

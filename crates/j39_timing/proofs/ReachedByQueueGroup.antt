@@ -1,7 +1,7 @@
 -- The premises of a queue group can be met: a frame of another unit has just begun, and of two that wait in a unit without
 -- order the one with the larger identifier goes first, so that the other one waits for both.
-use Rattle.std.proofs.Common.{◌≡◌, ℕ, ◌+◌, ◌*◌, ◌-◌, ◌<◌, ◌≤◌, Bool, true, eqb, ltb, refl, arith, inl, inr, None, []}
-use Rattle.std.proofs.lemmas.Bool.{cases_lt, eqb-true, lt-ltb, ltb-true, or_cases}
+use Rattle.std.proofs.Common.{◌≡◌, ℕ, ◌+◌, ◌-◌, ◌<◌, ◌≤◌, Bool, true, eqb, ltb, refl, arith, inl, inr, []}
+use Rattle.std.proofs.lemmas.Bool.{eqb-true, lt-ltb, ltb-true, or_cases}
 use Rattle.j39_timing.specs.Sums.{total}
 use Rattle.j39_timing.specs.TimedFrames.{Schedule}
 use Rattle.j39_timing.specs.FrameStreams.{Origins}
@@ -9,11 +9,12 @@ use Rattle.j39_timing.specs.Traffic.{Traffic, no_twins}
 use Rattle.j39_timing.specs.AnyOrder.{Controllers, IsLegalInAnyOrder, IsUnordered}
 use Rattle.j39_timing.specs.QueueGroups.{QueueGroup, QueueGroupDemandFits, IsTrafficOfQueueGroup}
 use Rattle.j39_timing.specs.Rounds.{all_planned}
+use Rattle.j39_timing.proofs.Reached.{in_turn, keeps_single, never_idle, of_sources, single_frames}
 use Rattle.j39_timing.proofs.Sums.{total-none}
 use Rattle.j39_timing.proofs.Demands.{nothing_wanted}
 
 abbrev three : Schedule
-three = record { count = 3; queued = λ p. 0; start = λ p. p * 160; bits = λ p. 160; ident = λ p. 3 - p; now = 1000 }
+three = in_turn 3 (λ p. 3 - p)
 
 -- the first frame is of unit 1
 abbrev two_units : Controllers
@@ -22,7 +23,7 @@ two_units = record { unit = λ p. 1 - p; keeps_order = λ u. eqb u 1 }
 abbrev three_streams : Traffic
 three_streams = record {
   count = 3;
-  stream = λ j. record { frames = 1; period = 1000; bits = 160; jitter = 0; wanted = None };
+  stream = single_frames;
   demands = [];
   least = λ j. j + 1;
   greatest = λ j. j + 1;
@@ -30,7 +31,7 @@ three_streams = record {
 }
 
 abbrev last_first : Origins
-last_first = record { source = λ p. 2 - p; turn = λ p. 0; since = λ p. 0 }
+last_first = of_sources (λ p. 2 - p)
 
 abbrev last_two : QueueGroup
 last_two = record { has = λ j. ltb j 2; level = 2 }
@@ -40,13 +41,7 @@ three_legal = record {
   positive = λ p _. omega arith;
   queued_first = λ p _. omega arith;
   alone = λ p q t in_p in_q early on_p on_q. omega arith;
-  never_idle = λ p t in_p early waits. elim (cases_lt t 160) [
-    | inl first ↦ (0, omega arith, (omega arith, omega arith))
-    | inr behind ↦ elim (cases_lt t 320) [
-      | inl second ↦ (1, omega arith, (omega arith, omega arith))
-      | inr third ↦ (2, omega arith, (omega arith, omega arith))
-    ]
-  ];
+  never_idle = λ p t in_p early waits. never_idle 3 three.ident p t in_p waits;
   in_order = λ p q in_p in_q early waits. (
     q,
     (
@@ -67,13 +62,7 @@ three_of_queue_group : IsTrafficOfQueueGroup three two_units three_streams 0 160
 three_of_queue_group = record {
   longest_at_most = λ p _. omega arith;
   of_streams = record {
-    keeps = λ p _ _. record {
-      known = omega arith;
-      bits_at_most = omega arith;
-      turns = omega arith;
-      release_first = omega arith;
-      jitter_at_most = omega arith;
-    };
+    keeps = λ p _ _. keeps_single 3 3 three.ident last_first.source p (omega arith);
     spaced = λ p q in_p in_q differ _ _ same _. absurd (differ (omega (arith, in_p, in_q, same)));
   };
   as_wanted = nothing_wanted three all_planned last_first [] three_streams.stream (λ j. refl);

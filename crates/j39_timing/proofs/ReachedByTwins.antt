@@ -1,21 +1,22 @@
 -- The premises of twins can be met: an unplanned frame has just begun, and of two planned ones of one identifier that wait the other one goes
 -- first.
-use Rattle.std.proofs.Common.{◌≡◌, ℕ, ◌+◌, ◌*◌, ◌-◌, ◌<◌, ◌≤◌, Bool, true, not, ◌&&◌, cond, eqb, ltb, leb, refl, arith, inl, inr, None, []}
+use Rattle.std.proofs.Common.{◌≡◌, ℕ, ◌+◌, ◌-◌, ◌<◌, ◌≤◌, Bool, true, not, ◌&&◌, cond, eqb, ltb, leb, refl, arith, inl, inr, []}
 use Rattle.std.proofs.lemmas.Bool.{and_parts, both_ways, cases_Bool, cases_lt, lt-ltb, ltb-true, or_right}
 use Rattle.j39_timing.specs.Sums.{total}
 use Rattle.j39_timing.specs.TimedFrames.{Schedule, IsLegal}
 use Rattle.j39_timing.specs.FrameStreams.{Origins}
 use Rattle.j39_timing.specs.Traffic.{Traffic, Others, IsPlannedTraffic, DemandFits, is_other_queued, others_queued}
+use Rattle.j39_timing.proofs.Reached.{in_turn, in_turn_legal, keeps_single, of_sources, single_frames}
 use Rattle.j39_timing.proofs.Sums.{total-none}
 use Rattle.j39_timing.proofs.Demands.{nothing_wanted}
 
 abbrev three : Schedule
-three = record { count = 3; queued = λ p. 0; start = λ p. p * 160; bits = λ p. 160; ident = λ p. 1 - p; now = 1000 }
+three = in_turn 3 (λ p. 1 - p)
 
 abbrev two_streams : Traffic
 two_streams = record {
   count = 2;
-  stream = λ j. record { frames = 1; period = 1000; bits = 160; jitter = 0; wanted = None };
+  stream = single_frames;
   demands = [];
   least = λ j. 0;
   greatest = λ j. 0;
@@ -29,22 +30,10 @@ abbrev last_two : ℕ → Bool
 last_two p = ltb 0 p
 
 abbrev last_first : Origins
-last_first = record { source = λ p. 2 - p; turn = λ p. 0; since = λ p. 0 }
+last_first = of_sources (λ p. 2 - p)
 
 three_legal : IsLegal three
-three_legal = record {
-  positive = λ p _. omega arith;
-  queued_first = λ p _. omega arith;
-  alone = λ p q t in_p in_q early on_p on_q. omega arith;
-  never_idle = λ p t in_p early waits. elim (cases_lt t 160) [
-    | inl first ↦ (0, omega arith, (omega arith, omega arith))
-    | inr behind ↦ elim (cases_lt t 320) [
-      | inl second ↦ (1, omega arith, (omega arith, omega arith))
-      | inr third ↦ (2, omega arith, (omega arith, omega arith))
-    ]
-  ];
-  in_order = λ p q in_p in_q early waits. omega arith;
-}
+three_legal = in_turn_legal 3 three.ident (λ p q _ _ waits. omega (arith, waits))
 
 none_before : (p from to : ℕ) → others_queued three last_two (1 - p) from to ≡ 0
 none_before p from to = total-none 3 (λ q. cond (is_other_queued three last_two (1 - p) from to q) 1 0) (λ q in_q.
@@ -67,13 +56,7 @@ three_planned : IsPlannedTraffic three two_streams no_others 160 last_two last_f
 three_planned = record {
   longest_at_most = λ p _. omega arith;
   of_streams = record {
-    keeps = λ p _ is. record {
-      known = let some = ltb-true 0 p is in omega (arith, some);
-      bits_at_most = omega arith;
-      turns = omega arith;
-      release_first = omega arith;
-      jitter_at_most = omega arith;
-    };
+    keeps = λ p _ is. keeps_single 3 2 three.ident last_first.source p (let some = ltb-true 0 p is in omega (arith, some));
     spaced = λ p q in_p in_q differ is_p is_q same _.
         let some_p = ltb-true 0 p is_p in
         let some_q = ltb-true 0 q is_q in

@@ -54,7 +54,7 @@ tells_more h pgn bytes p goes t = record {
 -- ---- chunks
 
 -- what a message has up to a part and the part are what it has up to the next; what fills the last is cut off
-next_part : (bytes : List ℕ) (m : ℕ)
+pub next_part : (bytes : List ℕ) (m : ℕ)
     → take (length bytes) (take m bytes ++ (take 7 (drop m bytes) ++ replicate (7 - length (take 7 (drop m bytes))) unused)) ≡ take (m + 7) bytes
 next_part bytes m =
     let fill : List ℕ = replicate (7 - length (take 7 (drop m bytes))) unused in
@@ -79,7 +79,7 @@ chunks_are bytes (suc k) =
     sym (take_again (length bytes) (chunks_to (chunk bytes) k) (chunk bytes (suc k)))
     ∙ rw (chunks_are bytes k, before, ← here) (next_part bytes (7 * k))
 
-all_chunks : (bytes : List ℕ) → take (length bytes) (chunks_to (chunk bytes) (packets_of (length bytes))) ≡ bytes
+pub all_chunks : (bytes : List ℕ) → take (length bytes) (chunks_to (chunk bytes) (packets_of (length bytes))) ≡ bytes
 all_chunks bytes = chunks_are bytes (packets_of (length bytes)) ∙ take_all (7 * packets_of (length bytes)) bytes (omega arith)
 
 same_to : (c d : ℕ → List ℕ) (k : ℕ) → ((j : ℕ) → j < k → c (suc j) ≡ d (suc j)) → chunks_to c k ≡ chunks_to d k

@@ -14,7 +14,9 @@ use Rattle.std.specs.Prelude.{IsTrue, pos}
 use Rattle.std.proofs.lemmas.Int.{ints}
 use Rattle.j39_signal.specs.Parts.{IsDivisor, IsSignal, SignalParts}
 use Rattle.j39_signal.specs.declared.kind.Kind.TheVariants.{Measured}
-use Rattle.j39_id.specs.LabelForm.{is_label}
+use Rattle.j39_id.specs.Addresses.{null_address}
+use Rattle.j39_id.specs.LabelForm.{is_label, is_unit_label}
+use Rattle.j39_id.specs.Name.{is_arbitrary}
 use Rattle.j39_network.specs.declared.plan.meaning.Meaning.{Meaning}
 use Rattle.j39_network.specs.declared.plan.Plan.{Plan}
 use Rattle.j39_network.specs.declared.plan.flow_plan.FlowPlan.{FlowPlan}
@@ -76,43 +78,32 @@ engine_letter = 69
 abbrev pub hearer_letter : ℕ
 hearer_letter = 71
 
-abbrev pub engine : UnitPlan
-engine = record {
-  label = label engine_letter;
-  address = 0;
-  name = 1;
+-- a unit that never claims
+abbrev silent_unit : (letter address name : ℕ) → IsTrue (is_unit_label (letter ∷ [])) → address < null_address → name < 2 ^ 64
+    → is_arbitrary name ≡ false → UnitPlan
+silent_unit letter address name is_label below few fixed = record {
+  label = label letter;
+  address = address;
+  name = name;
   any_identity = false;
   way = Lowest;
   window = 1;
   queue = Priority;
   claims = false;
-  label_form = refl;
-  address_range = omega arith;
-  name_range = omega arith;
+  label_form = is_label;
+  address_range = below;
+  name_range = few;
   number_absent = λ is. absurd (false≢true is);
   window_positive = omega arith;
   window_range = omega arith;
-  silent_stays = λ _. refl;
+  silent_stays = λ _. fixed;
 }
 
+abbrev pub engine : UnitPlan
+engine = silent_unit engine_letter 0 1 refl (omega arith) (omega arith) refl
+
 abbrev pub hearer : UnitPlan
-hearer = record {
-  label = label hearer_letter;
-  address = 39;
-  name = 2;
-  any_identity = false;
-  way = Lowest;
-  window = 1;
-  queue = Priority;
-  claims = false;
-  label_form = refl;
-  address_range = omega arith;
-  name_range = omega arith;
-  number_absent = λ is. absurd (false≢true is);
-  window_positive = omega arith;
-  window_range = omega arith;
-  silent_stays = λ _. refl;
-}
+hearer = silent_unit hearer_letter 39 2 refl (omega arith) (omega arith) refl
 
 -- the engine's speed, in eighths
 abbrev pub speed : SignalParts

@@ -1,7 +1,6 @@
 //! Which flows of a live plan have an end that isn't alone at its address.
 ghost use Rattle.std.specs.Prelude.{◌≡◌};
 ghost use Rattle.j39_search.specs.Adding.{Adds};
-ghost use Rattle.j39_search.specs.ListPlaces.{found_if};
 ghost use Rattle.j39_findings.specs.Found.{contested_findings, is_contested, is_end_contested, is_receiver_contested};
 ghost use Rattle.j39_findings.specs.Standing.{alone_of};
 
@@ -9,7 +8,7 @@ use crate::checking::finding::Finding;
 use crate::standing::Standing;
 use j39_claim::AddressSet;
 use j39_network::{FlowPlan, Plan, To, UnitPlan};
-use j39_search::{Rule, find_each, push_if};
+use j39_search::{TestRule, find_tested};
 use std::alloc::AllocError;
 
 #[derive(Clone, Copy)]
@@ -47,22 +46,19 @@ impl FlowContested<'_> {
     }
 }
 
-impl Rule<FlowPlan, Finding> for FlowContested<'_> {
+impl TestRule<FlowPlan, Finding> for FlowContested<'_> {
     ghost use Rattle.j39_findings.specs.declared.checking.finding.Finding.TheVariants.{FlowContested as FlowsContested};
 
-    ghost gives = { λ rule f flow. found_if (is_contested (alone_of rule.standing.now rule.kept.now) rule.units.now flow) (FlowsContested f) };
+    ghost test = { λ rule. is_contested (alone_of rule.standing.now rule.kept.now) rule.units.now };
 
-    fn find(
-        &self,
-        findings: &mut Vec<Finding>,
-        place: usize,
-        flow: &FlowPlan,
-    ) -> Result<(), AllocError> {
-        push_if(
-            findings,
-            self.is_contested(flow),
-            Finding::FlowContested(place),
-        )
+    ghost make = { λ _ f. FlowsContested f };
+
+    fn holds(&self, flow: &FlowPlan) -> bool {
+        self.is_contested(flow)
+    }
+
+    fn finding(&self, place: usize) -> Finding {
+        Finding::FlowContested(place)
     }
 }
 
@@ -79,5 +75,5 @@ pub fn find_contested(findings: &mut Vec<Finding>, plan: &Plan) -> Result<(), Al
         kept: &plan.keep_free,
         units: plan.units.as_slice(),
     };
-    find_each(findings, &rule, plan.flows.as_slice())
+    find_tested(findings, &rule, plan.flows.as_slice())
 }

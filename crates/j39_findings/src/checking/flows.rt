@@ -1,7 +1,6 @@
 //! What is wrong with the flows of a plan.
 ghost use Rattle.std.specs.Prelude.{◌≡◌};
 ghost use Rattle.j39_search.specs.Adding.{Adds};
-ghost use Rattle.j39_search.specs.ListPlaces.{found_if};
 ghost use Rattle.j39_findings.specs.Found.{is_one_frame_to_all, may_be_one_frame_to_all, cannot_go_to_one};
 ghost use Rattle.j39_findings.specs.Found.{goes_to_its_sender, are_one_flow, flow_findings};
 
@@ -9,7 +8,7 @@ use crate::checking::finding::Finding;
 use j39_id::limits::FRAME_BYTES;
 use j39_id::{PDU2_FIRST, pf_of};
 use j39_network::{FlowPlan, GroupPlan, To};
-use j39_search::{PairRule, Rule, find_each, find_pairs, push_if};
+use j39_search::{PairRule, TestRule, find_pairs, find_tested};
 use std::alloc::AllocError;
 
 /// Whether each message of the group is sent in one frame, which has no destination.
@@ -40,44 +39,38 @@ struct FlowToOne<'a> {
     groups: &'a [GroupPlan],
 }
 
-impl Rule<FlowPlan, Finding> for FlowToOne<'_> {
+impl TestRule<FlowPlan, Finding> for FlowToOne<'_> {
     ghost use Rattle.j39_findings.specs.declared.checking.finding.Finding.TheVariants.{FlowToOne as FlowsToOne};
 
-    ghost gives = { λ rule f flow. found_if (cannot_go_to_one rule.groups.now flow) (FlowsToOne f) };
+    ghost test = { λ rule. cannot_go_to_one rule.groups.now };
 
-    fn find(
-        &self,
-        findings: &mut Vec<Finding>,
-        place: usize,
-        flow: &FlowPlan,
-    ) -> Result<(), AllocError> {
-        push_if(
-            findings,
-            cannot_go_to_one(self.groups, flow),
-            Finding::FlowToOne(place),
-        )
+    ghost make = { λ _ f. FlowsToOne f };
+
+    fn holds(&self, flow: &FlowPlan) -> bool {
+        cannot_go_to_one(self.groups, flow)
+    }
+
+    fn finding(&self, place: usize) -> Finding {
+        Finding::FlowToOne(place)
     }
 }
 
 #[derive(Clone, Copy)]
 struct FlowToSelf;
 
-impl Rule<FlowPlan, Finding> for FlowToSelf {
+impl TestRule<FlowPlan, Finding> for FlowToSelf {
     ghost use Rattle.j39_findings.specs.declared.checking.finding.Finding.TheVariants.{FlowToSelf as FlowsToSelf};
 
-    ghost gives = { λ _ f flow. found_if (goes_to_its_sender flow) (FlowsToSelf f) };
+    ghost test = { λ _. goes_to_its_sender };
 
-    fn find(
-        &self,
-        findings: &mut Vec<Finding>,
-        place: usize,
-        flow: &FlowPlan,
-    ) -> Result<(), AllocError> {
-        push_if(
-            findings,
-            flow.to == To::One(flow.sender),
-            Finding::FlowToSelf(place),
-        )
+    ghost make = { λ _ f. FlowsToSelf f };
+
+    fn holds(&self, flow: &FlowPlan) -> bool {
+        flow.to == To::One(flow.sender)
+    }
+
+    fn finding(&self, place: usize) -> Finding {
+        Finding::FlowToSelf(place)
     }
 }
 
@@ -107,7 +100,7 @@ pub fn find_in_flows(
 ) -> Result<(), AllocError>
     ensures { Adds result findings.old.items findings.new.items (flow_findings groups.now flows.now) }
 {
-    find_each(findings, &FlowToOne { groups }, flows)?;
-    find_each(findings, &FlowToSelf, flows)?;
+    find_tested(findings, &FlowToOne { groups }, flows)?;
+    find_tested(findings, &FlowToSelf, flows)?;
     find_pairs(findings, &FlowRepeated, flows)
 }

@@ -2,7 +2,6 @@
 ghost use Rattle.std.specs.Prelude.{◌≡◌};
 ghost use Rattle.j39_signal.specs.Selectors.{differ_in_value};
 ghost use Rattle.j39_search.specs.Adding.{Adds};
-ghost use Rattle.j39_search.specs.ListPlaces.{found_if};
 ghost use Rattle.j39_findings.specs.Found.{is_for_no_plan, is_wrongly_private, has_bad_pgn, have_same_pgn};
 ghost use Rattle.j39_findings.specs.Found.{is_selector_outside, group_findings};
 
@@ -12,7 +11,7 @@ use j39_id::proprietary::is_proprietary;
 use j39_id::services::is_service;
 use j39_id::{EXTENDED_PAGE, Pgn};
 use j39_network::{FlowPlan, GroupPlan};
-use j39_search::{PairRule, Rule, find_each, find_pairs, push_if};
+use j39_search::{PairRule, TestRule, find_pairs, find_tested};
 use j39_signal::Selector;
 use std::alloc::AllocError;
 
@@ -36,22 +35,19 @@ fn is_wrongly_private(group: &GroupPlan) -> bool
 #[derive(Clone, Copy)]
 struct BadPgn;
 
-impl Rule<GroupPlan, Finding> for BadPgn {
+impl TestRule<GroupPlan, Finding> for BadPgn {
     ghost use Rattle.j39_findings.specs.declared.checking.finding.Finding.TheVariants.{BadPgn as BadPgns};
 
-    ghost gives = { λ _ g group. found_if (has_bad_pgn group) (BadPgns g) };
+    ghost test = { λ _. has_bad_pgn };
 
-    fn find(
-        &self,
-        findings: &mut Vec<Finding>,
-        place: usize,
-        group: &GroupPlan,
-    ) -> Result<(), AllocError> {
-        push_if(
-            findings,
-            is_for_no_plan(group.pgn) || is_wrongly_private(group),
-            Finding::BadPgn(place),
-        )
+    ghost make = { λ _ g. BadPgns g };
+
+    fn holds(&self, group: &GroupPlan) -> bool {
+        is_for_no_plan(group.pgn) || is_wrongly_private(group)
+    }
+
+    fn finding(&self, place: usize) -> Finding {
+        Finding::BadPgn(place)
     }
 }
 
@@ -69,22 +65,19 @@ fn is_selector_outside(group: &GroupPlan) -> bool
 #[derive(Clone, Copy)]
 pub(super) struct WhenOutside;
 
-impl Rule<GroupPlan, Finding> for WhenOutside {
+impl TestRule<GroupPlan, Finding> for WhenOutside {
     ghost use Rattle.j39_findings.specs.declared.checking.finding.Finding.TheVariants.{WhenOutside as WhensOutside};
 
-    ghost gives = { λ _ g group. found_if (is_selector_outside group) (WhensOutside g) };
+    ghost test = { λ _. is_selector_outside };
 
-    fn find(
-        &self,
-        findings: &mut Vec<Finding>,
-        place: usize,
-        group: &GroupPlan,
-    ) -> Result<(), AllocError> {
-        push_if(
-            findings,
-            is_selector_outside(group),
-            Finding::WhenOutside(place),
-        )
+    ghost make = { λ _ g. WhensOutside g };
+
+    fn holds(&self, group: &GroupPlan) -> bool {
+        is_selector_outside(group)
+    }
+
+    fn finding(&self, place: usize) -> Finding {
+        Finding::WhenOutside(place)
     }
 }
 
@@ -133,6 +126,6 @@ pub fn find_in_groups(
 ) -> Result<(), AllocError>
     ensures { Adds result findings.old.items findings.new.items (group_findings groups.now flows.now) }
 {
-    find_each(findings, &BadPgn, groups)?;
+    find_tested(findings, &BadPgn, groups)?;
     find_pairs(findings, &SamePgn { groups, flows }, groups)
 }

@@ -1,12 +1,11 @@
 //! Which needs no flow meets.
 ghost use Rattle.j39_search.specs.Adding.{Adds};
-ghost use Rattle.j39_search.specs.ListPlaces.{found_if};
 ghost use Rattle.j39_findings.specs.Found.{is_unmet, need_findings};
 ghost use Rattle.j39_network.specs.Serving.{meets};
 
 use crate::checking::finding::Finding;
 use j39_network::{FlowPlan, NeedPlan, RequestPlan, is_met};
-use j39_search::{Rule, find_each, push_if};
+use j39_search::{TestRule, find_tested};
 use std::alloc::AllocError;
 
 #[derive(Clone, Copy)]
@@ -15,28 +14,25 @@ struct NeedUnmet<'a> {
     flows: &'a [FlowPlan],
 }
 
-impl Rule<NeedPlan, Finding> for NeedUnmet<'_> {
+impl TestRule<NeedPlan, Finding> for NeedUnmet<'_> {
     ghost use Rattle.j39_findings.specs.declared.checking.finding.Finding.TheVariants.{NeedUnmet as NeedsUnmet};
 
-    ghost gives = { λ rule n need. found_if (is_unmet rule.requests.now rule.flows.now need) (NeedsUnmet n) };
+    ghost test = { λ rule. is_unmet rule.requests.now rule.flows.now };
 
-    fn find(
-        &self,
-        findings: &mut Vec<Finding>,
-        place: usize,
-        need: &NeedPlan,
-    ) -> Result<(), AllocError> {
-        push_if(
-            findings,
-            !is_met(self.requests, self.flows, need),
-            Finding::NeedUnmet(place),
-        )
+    ghost make = { λ _ n. NeedsUnmet n };
+
+    fn holds(&self, need: &NeedPlan) -> bool {
+        !is_met(self.requests, self.flows, need)
+    }
+
+    fn finding(&self, place: usize) -> Finding {
+        Finding::NeedUnmet(place)
     }
 }
 
 /// Adds the needs that no flow meets. Of each need the flows are looked at up to the first that meets it, and one
 /// number tells most of them apart from it. Requests are looked at only for flows that are sent as answers.
-#[tactic(auto, unfolding(crate::specs::Found::need_findings, j39_search::specs::ListPlaces::each))]
+#[tactic(auto, unfolding(crate::specs::Found::need_findings))]
 pub fn find_in_needs(
     findings: &mut Vec<Finding>,
     requests: &[RequestPlan],
@@ -45,5 +41,5 @@ pub fn find_in_needs(
 ) -> Result<(), AllocError>
     ensures { Adds result findings.old.items findings.new.items (need_findings requests.now flows.now needs.now) }
 {
-    find_each(findings, &NeedUnmet { requests, flows }, needs)
+    find_tested(findings, &NeedUnmet { requests, flows }, needs)
 }

@@ -1,14 +1,13 @@
 //! Which flows send private groups.
 ghost use Rattle.std.specs.Prelude.{◌≡◌};
 ghost use Rattle.j39_search.specs.Adding.{Adds};
-ghost use Rattle.j39_search.specs.ListPlaces.{found_if};
 ghost use Rattle.j39_findings.specs.Found.{sends, do_receivers_meet, sends_beside, is_sent_beside, sends_first};
 ghost use Rattle.j39_findings.specs.Found.{are_sent_together, is_sent, is_private_unsent, unsent_findings};
 
 use crate::checking::finding::Finding;
 use crate::checking::flows::may_be_one_frame_to_all;
 use j39_network::{FlowPlan, GroupPlan, To};
-use j39_search::{Rule, find_each, push_if};
+use j39_search::{TestRule, find_tested};
 use std::alloc::AllocError;
 
 // Whether the flow sends the group, which its label names.
@@ -109,27 +108,24 @@ struct PrivateUnsent<'a> {
     flows: &'a [FlowPlan],
 }
 
-impl Rule<GroupPlan, Finding> for PrivateUnsent<'_> {
+impl TestRule<GroupPlan, Finding> for PrivateUnsent<'_> {
     ghost use Rattle.j39_findings.specs.declared.checking.finding.Finding.TheVariants.{PrivateUnsent as PrivatesUnsent};
 
-    ghost gives = { λ rule g group. found_if (is_private_unsent rule.groups.now rule.flows.now group) (PrivatesUnsent g) };
+    ghost test = { λ rule. is_private_unsent rule.groups.now rule.flows.now };
 
-    fn find(
-        &self,
-        findings: &mut Vec<Finding>,
-        place: usize,
-        group: &GroupPlan,
-    ) -> Result<(), AllocError> {
-        push_if(
-            findings,
-            is_private_unsent(self.groups, self.flows, group),
-            Finding::PrivateUnsent(place),
-        )
+    ghost make = { λ _ g. PrivatesUnsent g };
+
+    fn holds(&self, group: &GroupPlan) -> bool {
+        is_private_unsent(self.groups, self.flows, group)
+    }
+
+    fn finding(&self, place: usize) -> Finding {
+        Finding::PrivateUnsent(place)
     }
 }
 
 /// Adds the private groups that no flow sends.
-#[tactic(auto, unfolding(crate::specs::Found::unsent_findings, j39_search::specs::ListPlaces::each))]
+#[tactic(auto, unfolding(crate::specs::Found::unsent_findings))]
 pub fn find_unsent(
     findings: &mut Vec<Finding>,
     groups: &[GroupPlan],
@@ -137,5 +133,5 @@ pub fn find_unsent(
 ) -> Result<(), AllocError>
     ensures { Adds result findings.old.items findings.new.items (unsent_findings groups.now flows.now) }
 {
-    find_each(findings, &PrivateUnsent { groups, flows }, groups)
+    find_tested(findings, &PrivateUnsent { groups, flows }, groups)
 }

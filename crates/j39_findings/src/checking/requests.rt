@@ -1,7 +1,6 @@
 //! Which requests are answered, and how.
 ghost use Rattle.std.specs.Prelude.{◌≡◌};
 ghost use Rattle.j39_search.specs.Adding.{Adds};
-ghost use Rattle.j39_search.specs.ListPlaces.{found_if};
 ghost use Rattle.j39_findings.specs.Found.{ask_the_same, ask_for_one_number, is_all_astray, is_answered_astray};
 ghost use Rattle.j39_findings.specs.Found.{is_one_astray, is_served_to_all};
 ghost use Rattle.j39_findings.specs.Found.{is_served_to_one, goes_unanswered, goes_unheard, may_name_receiver};
@@ -12,7 +11,7 @@ use crate::checking::finding::Finding;
 use crate::checking::flows::is_one_frame_to_all;
 use crate::checking::groups::WhenOutside;
 use j39_network::{FlowPlan, GroupPlan, RequestPlan, To, is_served, serves};
-use j39_search::{PairRule, Rule, find_each, find_pairs, push_if};
+use j39_search::{PairRule, TestRule, find_pairs, find_tested};
 use std::alloc::AllocError;
 
 fn serves_one(request: &RequestPlan, flow: &FlowPlan) -> bool
@@ -71,22 +70,19 @@ struct RequestUnanswered<'a> {
     flows: &'a [FlowPlan],
 }
 
-impl Rule<RequestPlan, Finding> for RequestUnanswered<'_> {
+impl TestRule<RequestPlan, Finding> for RequestUnanswered<'_> {
     ghost use Rattle.j39_findings.specs.declared.checking.finding.Finding.TheVariants.{RequestUnanswered as RequestsUnanswered};
 
-    ghost gives = { λ rule r request. found_if (goes_unanswered rule.flows.now request) (RequestsUnanswered r) };
+    ghost test = { λ rule. goes_unanswered rule.flows.now };
 
-    fn find(
-        &self,
-        findings: &mut Vec<Finding>,
-        place: usize,
-        request: &RequestPlan,
-    ) -> Result<(), AllocError> {
-        push_if(
-            findings,
-            request.to != To::All && !is_served(self.flows, request),
-            Finding::RequestUnanswered(place),
-        )
+    ghost make = { λ _ r. RequestsUnanswered r };
+
+    fn holds(&self, request: &RequestPlan) -> bool {
+        request.to != To::All && !is_served(self.flows, request)
+    }
+
+    fn finding(&self, place: usize) -> Finding {
+        Finding::RequestUnanswered(place)
     }
 }
 
@@ -95,22 +91,19 @@ struct RequestUnheard<'a> {
     flows: &'a [FlowPlan],
 }
 
-impl Rule<RequestPlan, Finding> for RequestUnheard<'_> {
+impl TestRule<RequestPlan, Finding> for RequestUnheard<'_> {
     ghost use Rattle.j39_findings.specs.declared.checking.finding.Finding.TheVariants.{RequestUnheard as RequestsUnheard};
 
-    ghost gives = { λ rule r request. found_if (goes_unheard rule.flows.now request) (RequestsUnheard r) };
+    ghost test = { λ rule. goes_unheard rule.flows.now };
 
-    fn find(
-        &self,
-        findings: &mut Vec<Finding>,
-        place: usize,
-        request: &RequestPlan,
-    ) -> Result<(), AllocError> {
-        push_if(
-            findings,
-            request.to == To::All && !is_served(self.flows, request),
-            Finding::RequestUnheard(place),
-        )
+    ghost make = { λ _ r. RequestsUnheard r };
+
+    fn holds(&self, request: &RequestPlan) -> bool {
+        request.to == To::All && !is_served(self.flows, request)
+    }
+
+    fn finding(&self, place: usize) -> Finding {
+        Finding::RequestUnheard(place)
     }
 }
 
@@ -120,22 +113,19 @@ struct AnswerAstray<'a> {
     flows: &'a [FlowPlan],
 }
 
-impl Rule<RequestPlan, Finding> for AnswerAstray<'_> {
+impl TestRule<RequestPlan, Finding> for AnswerAstray<'_> {
     ghost use Rattle.j39_findings.specs.declared.checking.finding.Finding.TheVariants.{AnswerAstray as AnswersAstray};
 
-    ghost gives = { λ rule r request. found_if (is_answered_astray rule.groups.now rule.flows.now request) (AnswersAstray r) };
+    ghost test = { λ rule. is_answered_astray rule.groups.now rule.flows.now };
 
-    fn find(
-        &self,
-        findings: &mut Vec<Finding>,
-        place: usize,
-        request: &RequestPlan,
-    ) -> Result<(), AllocError> {
-        push_if(
-            findings,
-            is_one_astray(self.groups, self.flows, request) || is_all_astray(self.flows, request),
-            Finding::AnswerAstray(place),
-        )
+    ghost make = { λ _ r. AnswersAstray r };
+
+    fn holds(&self, request: &RequestPlan) -> bool {
+        is_one_astray(self.groups, self.flows, request) || is_all_astray(self.flows, request)
+    }
+
+    fn finding(&self, place: usize) -> Finding {
+        Finding::AnswerAstray(place)
     }
 }
 
@@ -181,9 +171,9 @@ pub fn find_in_requests(
 ) -> Result<(), AllocError>
     ensures { Adds result findings.old.items findings.new.items (request_findings groups.now flows.now requests.now) }
 {
-    find_each(findings, &RequestUnanswered { flows }, requests)?;
-    find_each(findings, &RequestUnheard { flows }, requests)?;
-    find_each(findings, &AnswerAstray { groups, flows }, requests)?;
-    find_each(findings, &WhenOutside, groups)?;
+    find_tested(findings, &RequestUnanswered { flows }, requests)?;
+    find_tested(findings, &RequestUnheard { flows }, requests)?;
+    find_tested(findings, &AnswerAstray { groups, flows }, requests)?;
+    find_tested(findings, &WhenOutside, groups)?;
     find_pairs(findings, &RequestRepeated { groups }, requests)
 }

@@ -1,14 +1,14 @@
 //! What is wrong with the signals of each group of a plan.
 ghost use Rattle.j39_search.specs.Adding.{Adds};
 ghost use Rattle.j39_signal.specs.Places.{shares_bit};
-ghost use Rattle.j39_search.specs.ListPlaces.{found_if, each};
+ghost use Rattle.j39_search.specs.ListPlaces.{each};
 ghost use Rattle.j39_network.specs.SignalPlaces.{room_of_signal};
 ghost use Rattle.j39_findings.specs.Found.{has_other_width, ends_outside, width_findings, outside_findings};
 ghost use Rattle.j39_findings.specs.Found.{overlap_findings, signal_findings};
 
 use crate::checking::finding::Finding;
 use j39_network::GroupPlan;
-use j39_search::{PairRule, Rule, find_each, find_pairs, push_if};
+use j39_search::{PairRule, Rule, TestRule, find_each, find_pairs, find_tested};
 use j39_signal::Signal;
 use std::alloc::AllocError;
 
@@ -17,22 +17,19 @@ struct SignalWidth {
     group: usize,
 }
 
-impl Rule<Signal, Finding> for SignalWidth {
+impl TestRule<Signal, Finding> for SignalWidth {
     ghost use Rattle.j39_findings.specs.declared.checking.finding.Finding.TheVariants.{SignalWidth as Widths};
 
-    ghost gives = { λ rule s signal. found_if (has_other_width signal) (Widths rule.group s) };
+    ghost test = { λ _. has_other_width };
 
-    fn find(
-        &self,
-        findings: &mut Vec<Finding>,
-        place: usize,
-        signal: &Signal,
-    ) -> Result<(), AllocError> {
-        push_if(
-            findings,
-            !signal.width_fits(),
-            Finding::SignalWidth(self.group, place),
-        )
+    ghost make = { λ rule s. Widths rule.group s };
+
+    fn holds(&self, signal: &Signal) -> bool {
+        !signal.width_fits()
+    }
+
+    fn finding(&self, place: usize) -> Finding {
+        Finding::SignalWidth(self.group, place)
     }
 }
 
@@ -58,22 +55,19 @@ impl SignalOutside {
     }
 }
 
-impl Rule<Signal, Finding> for SignalOutside {
+impl TestRule<Signal, Finding> for SignalOutside {
     ghost use Rattle.j39_findings.specs.declared.checking.finding.Finding.TheVariants.{SignalOutside as Outsides};
 
-    ghost gives = { λ rule s signal. found_if (ends_outside rule.length rule.most signal) (Outsides rule.group s) };
+    ghost test = { λ rule. ends_outside rule.length rule.most };
 
-    fn find(
-        &self,
-        findings: &mut Vec<Finding>,
-        place: usize,
-        signal: &Signal,
-    ) -> Result<(), AllocError> {
-        push_if(
-            findings,
-            !signal.is_inside(self.room(signal)),
-            Finding::SignalOutside(self.group, place),
-        )
+    ghost make = { λ rule s. Outsides rule.group s };
+
+    fn holds(&self, signal: &Signal) -> bool {
+        !signal.is_inside(self.room(signal))
+    }
+
+    fn finding(&self, place: usize) -> Finding {
+        Finding::SignalOutside(self.group, place)
     }
 }
 
@@ -104,14 +98,13 @@ struct Widths;
 impl Rule<GroupPlan, Finding> for Widths {
     ghost gives = { λ _ g group. width_findings g group };
 
-    #[tactic(auto, unfolding(j39_search::specs::ListPlaces::each))]
     fn find(
         &self,
         findings: &mut Vec<Finding>,
         place: usize,
         group: &GroupPlan,
     ) -> Result<(), AllocError> {
-        find_each(findings, &SignalWidth { group: place }, &group.signals)
+        find_tested(findings, &SignalWidth { group: place }, &group.signals)
     }
 }
 
@@ -133,7 +126,7 @@ impl Rule<GroupPlan, Finding> for Outsides {
             length: group.length,
             most: group.most,
         };
-        find_each(findings, &rule, &group.signals)
+        find_tested(findings, &rule, &group.signals)
     }
 }
 

@@ -1,14 +1,13 @@
 //! Which units that never claim have an address that another one may hold.
 ghost use Rattle.std.specs.Prelude.{◌≡◌};
 ghost use Rattle.j39_search.specs.Adding.{Adds};
-ghost use Rattle.j39_search.specs.ListPlaces.{found_if};
 ghost use Rattle.j39_findings.specs.Found.{have_silent_address, is_silent_in_pool, silent_findings};
 
 use crate::checking::finding::Finding;
 use j39_claim::AddressSet;
 use j39_id::addresses::is_in_pool;
 use j39_network::UnitPlan;
-use j39_search::{PairRule, Rule, find_each, find_pairs, push_if};
+use j39_search::{PairRule, TestRule, find_pairs, find_tested};
 use std::alloc::AllocError;
 
 #[derive(Clone, Copy)]
@@ -43,22 +42,19 @@ struct SilentInPool<'a> {
     strangers: u8,
 }
 
-impl Rule<UnitPlan, Finding> for SilentInPool<'_> {
+impl TestRule<UnitPlan, Finding> for SilentInPool<'_> {
     ghost use Rattle.j39_findings.specs.declared.checking.finding.Finding.TheVariants.{SilentInPool as SilentInPools};
 
-    ghost gives = { λ rule u unit. found_if (is_silent_in_pool rule.kept.now rule.strangers unit) (SilentInPools u) };
+    ghost test = { λ rule. is_silent_in_pool rule.kept.now rule.strangers };
 
-    fn find(
-        &self,
-        findings: &mut Vec<Finding>,
-        place: usize,
-        unit: &UnitPlan,
-    ) -> Result<(), AllocError> {
-        push_if(
-            findings,
-            is_silent_in_pool(self.kept, self.strangers, unit),
-            Finding::SilentInPool(place),
-        )
+    ghost make = { λ _ u. SilentInPools u };
+
+    fn holds(&self, unit: &UnitPlan) -> bool {
+        is_silent_in_pool(self.kept, self.strangers, unit)
+    }
+
+    fn finding(&self, place: usize) -> Finding {
+        Finding::SilentInPool(place)
     }
 }
 
@@ -71,5 +67,5 @@ pub fn find_silent(
     ensures { Adds result findings.old.items findings.new.items (silent_findings kept.now strangers units.now) }
 {
     find_pairs(findings, &SilentAddress, units)?;
-    find_each(findings, &SilentInPool { kept, strangers }, units)
+    find_tested(findings, &SilentInPool { kept, strangers }, units)
 }

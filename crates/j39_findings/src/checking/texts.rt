@@ -1,12 +1,11 @@
 //! Which texts of groups lie outside of the bytes of their messages.
 ghost use Rattle.std.specs.Prelude.{◌≡◌};
 ghost use Rattle.j39_search.specs.Adding.{Adds};
-ghost use Rattle.j39_search.specs.ListPlaces.{found_if};
 ghost use Rattle.j39_findings.specs.Found.{lies_outside, outside_text_findings, text_findings};
 
 use crate::checking::finding::Finding;
 use j39_network::{GroupPlan, TextPlan};
-use j39_search::{Rule, find_each, push_if};
+use j39_search::{Rule, TestRule, find_each, find_tested};
 use std::alloc::AllocError;
 
 fn lies_outside(group: &GroupPlan, text: &TextPlan) -> bool
@@ -21,22 +20,19 @@ struct TextOutside<'a> {
     group: &'a GroupPlan,
 }
 
-impl Rule<TextPlan, Finding> for TextOutside<'_> {
+impl TestRule<TextPlan, Finding> for TextOutside<'_> {
     ghost use Rattle.j39_findings.specs.declared.checking.finding.Finding.TheVariants.{TextOutside as TextsOutside};
 
-    ghost gives = { λ rule t text. found_if (lies_outside rule.group.now text) (TextsOutside rule.place t) };
+    ghost test = { λ rule. lies_outside rule.group.now };
 
-    fn find(
-        &self,
-        findings: &mut Vec<Finding>,
-        place: usize,
-        text: &TextPlan,
-    ) -> Result<(), AllocError> {
-        push_if(
-            findings,
-            lies_outside(self.group, text),
-            Finding::TextOutside(self.place, place),
-        )
+    ghost make = { λ rule t. TextsOutside rule.place t };
+
+    fn holds(&self, text: &TextPlan) -> bool {
+        lies_outside(self.group, text)
+    }
+
+    fn finding(&self, place: usize) -> Finding {
+        Finding::TextOutside(self.place, place)
     }
 }
 
@@ -46,14 +42,13 @@ struct OutsideTexts;
 impl Rule<GroupPlan, Finding> for OutsideTexts {
     ghost gives = { λ _ g group. outside_text_findings g group };
 
-    #[tactic(auto, unfolding(j39_search::specs::ListPlaces::each))]
     fn find(
         &self,
         findings: &mut Vec<Finding>,
         place: usize,
         group: &GroupPlan,
     ) -> Result<(), AllocError> {
-        find_each(findings, &TextOutside { place, group }, &group.texts)
+        find_tested(findings, &TextOutside { place, group }, &group.texts)
     }
 }
 

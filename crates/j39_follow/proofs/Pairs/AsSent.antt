@@ -17,39 +17,9 @@ use Rattle.j39_tp.specs.declared.packet.Packet.{Packet}
 use Rattle.j39_tp.specs.declared.packet.Packet.TheVariants.{Rts, Cts, EndAck, Bam, Abort, Dt}
 use Rattle.j39_tp.specs.declared.sending.dest.Dest.{Dest}
 use Rattle.j39_tp.specs.declared.sending.dest.Dest.TheVariants.{All as ToAll, One as ToOne}
-use Rattle.j39_tp.proofs.Hearing.{take_again}
+use Rattle.j39_tp.proofs.Honest.{all_chunks}
 use Rattle.j39_follow.proofs.Pairs.Collecting.{same_chunks}
 use Rattle.j39_follow.specs.Received.{IsReceived, KeepsOpen, last_bytes, chunk_in, last_chunk}
-
--- ---- all chunks of a message
-
-next_bytes : (bytes : List ℕ) (m : ℕ)
-    → take (length bytes) (take m bytes ++ (take 7 (drop m bytes) ++ replicate (7 - length (take 7 (drop m bytes))) unused)) ≡ take (m + 7) bytes
-next_bytes bytes m =
-    let fill : List ℕ = replicate (7 - length (take 7 (drop m bytes))) unused in
-    let joined : take m bytes ++ (take 7 (drop m bytes) ++ fill) ≡ take (m + 7) bytes ++ fill =
-    sym (append_assoc (take m bytes) (take 7 (drop m bytes)) fill) ∙ ap (λ (u : List ℕ). u ++ fill) (sym (take-add m 7 bytes)) in
-    elim (cases_lt (length bytes) (m + 7)) [
-      | inl last ↦
-          let whole : take (m + 7) bytes ≡ bytes = take_all (m + 7) bytes (omega arith) in
-          ap (λ (u : List ℕ). take (length bytes) u) joined ∙ ap (λ (u : List ℕ). take (length bytes) (u ++ fill)) whole
-          ∙ take-append_seam bytes fill ∙ sym whole
-      | inr more ↦
-          let seven : 7 - length (take 7 (drop m bytes)) ≡ 0 = grind (arith, common_steps) in
-          let short : length (take (m + 7) bytes) ≤ length bytes = grind (arith, common_steps) in
-          ap (λ (u : List ℕ). take (length bytes) u) joined ∙ rw (seven, append-nil) (take_all (length bytes) (take (m + 7) bytes) short)
-    ]
-
-chunk_bytes : (bytes : List ℕ) (k : ℕ) → take (length bytes) (chunks_to (chunk bytes) k) ≡ take (7 * k) bytes
-chunk_bytes bytes zero = take-nil (length bytes)
-chunk_bytes bytes (suc k) =
-    let before : 7 * (suc k - 1) ≡ 7 * k = omega arith in
-    let here : 7 * k + 7 ≡ 7 * suc k = omega arith in
-    sym (take_again (length bytes) (chunks_to (chunk bytes) k) (chunk bytes (suc k)))
-    ∙ rw (chunk_bytes bytes k, before, ← here) (next_bytes bytes (7 * k))
-
-whole_message : (bytes : List ℕ) → take (length bytes) (chunks_to (chunk bytes) (packets_of (length bytes))) ≡ bytes
-whole_message bytes = chunk_bytes bytes (packets_of (length bytes)) ∙ take_all (7 * packets_of (length bytes)) bytes (omega arith)
 
 -- ---- places
 
@@ -154,5 +124,5 @@ received_as_sent h pgn bytes t size other message r =
     ] in (
       sym is.1,
       r.bytes ∙ ap (take size) (same_chunks (last_bytes since) (chunk bytes) (packets_of size) chunks)
-          ∙ ap (λ (n : ℕ). take n (chunks_to (chunk bytes) (packets_of n))) (sym is.0) ∙ whole_message bytes,
+          ∙ ap (λ (n : ℕ). take n (chunks_to (chunk bytes) (packets_of n))) (sym is.0) ∙ all_chunks bytes,
     )

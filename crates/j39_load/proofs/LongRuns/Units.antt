@@ -88,9 +88,6 @@ module _ (plan : Plan) (timing : Timing) (stays : UnitPlan → Bool) (tells : De
   abbrev b : Broadcasts
   b = sent.broadcasts
 
-  abbrev place : ℕ → ℕ
-  place p = source_place plan (sent.source p)
-
   abbrev streams : ℕ → Stream
   streams = (traffic plan timing stays).stream
 

@@ -183,35 +183,6 @@ fn delay_within(
     }
 }
 
-// The delay of a flow whose messages go in one frame each, of these, with this limit, where its sender keeps order.
-fn short_delay(
-    alloc: Global,
-    timing: Timing,
-    buffering_delays: &BufferingDelays,
-    flow: usize,
-    frames: &FlowFrames,
-    limit: u32,
-) -> Result<Delay, AllocError>
-    requires buffering_delays { AreFitBufferingDelays buffering_delays.now }
-    requires frames { AreSound frames.now }
-    requires paced { frames.now.stream.period < 2 ^ 31 }
-    requires limit { limit < 2 ^ 31 }
-    ensures { IfOk result (IsShortDelay timing (buffering_of buffering_delays.now).frames flow frames.now limit) }
-{
-    let all = buffering_delays.frames.as_slice();
-    let before = streams_before(alloc, timing, all, flow, frames)?;
-    let streams = before.as_slice();
-    let in_time = delay_within(timing, buffering_delays, flow, frames, streams, limit);
-    if let Some(bits) = in_time {
-        return Ok(Delay::Within(bits));
-    }
-    let period = frames.stream.period;
-    match delay_within(timing, buffering_delays, flow, frames, streams, period) {
-        Some(bits) => Ok(Delay::Beyond(bits)),
-        None => Ok(Delay::Late),
-    }
-}
-
 // That of frames that have one of so many bits, by their limit and their period.
 fn judged(frames: &FlowFrames, limit: u32, bits: u32) -> Delay
     ensures { result ≡ judged frames.now limit bits }
@@ -261,7 +232,18 @@ fn frame_delay(
     if buffering_delays.may_be_passed(frames.greatest_ident) {
         return Ok(Delay::Late);
     }
-    short_delay(alloc, timing, buffering_delays, flow, frames, limit)
+    let all = buffering_delays.frames.as_slice();
+    let before = streams_before(alloc, timing, all, flow, frames)?;
+    let streams = before.as_slice();
+    let in_time = delay_within(timing, buffering_delays, flow, frames, streams, limit);
+    if let Some(bits) = in_time {
+        return Ok(Delay::Within(bits));
+    }
+    let period = frames.stream.period;
+    match delay_within(timing, buffering_delays, flow, frames, streams, period) {
+        Some(bits) => Ok(Delay::Beyond(bits)),
+        None => Ok(Delay::Late),
+    }
 }
 
 // How long the broadcasts of a unit take, one of each flow.

@@ -327,6 +327,16 @@ module _ (plan : Plan) (u v : ℕ) (o : Outgoing) (before : List Begun) (apart :
       abbrev lost : World
       lost = record w { wire = changed_pair w.wire x y rest }
 
+      -- what comes of the message stays what it was
+      lost_beside : Holds (IsBesideForth o.pgn) (lost.wire u v) now.way.coming → Holds (IsBesideBack o.pgn) (lost.wire v u) now.way.answering
+          → IsAnswering lost
+      lost_beside forth back = record {
+        stage = now.stage;
+        session = now.session;
+        other = now.other;
+        way = record { coming = now.way.coming; answering = now.way.answering; wire = forth; answers = back; at = now.way.at };
+      }
+
       lost_elsewhere : IsElsewhere u v x y → IsElsewhere v u x y → IsAnswering lost
       lost_elsewhere elsewhere elsewhere_back = record {
         stage = now.stage;
@@ -351,18 +361,8 @@ module _ (plan : Plan) (u v : ℕ) (o : Outgoing) (before : List Begun) (apart :
               ∙ coming_sent o before item now.stage own.0 way.answering (w.receivers v u) (reported w.reports v u)
               (subst (λ (zs : List Wired). IsAt o before now.stage zs way.answering (w.receivers v u) (reported w.reports v u)) own.1 way.at)))
         ] in
-        record {
-          stage = now.stage;
-          session = now.session;
-          other = now.other;
-          way = record {
-            coming = way.coming;
-            answering = way.answering;
-            wire = subst (λ (zs : List Wired). Holds (IsBesideForth o.pgn) zs way.coming) (sym (pair_here w.wire u v rest)) holds;
-            answers = subst (λ (zs : List Wired). Holds (IsBesideBack o.pgn) zs way.answering) (sym back) way.answers;
-            at = way.at;
-          };
-        }
+        lost_beside u v item rest is (subst (λ (zs : List Wired). Holds (IsBesideForth o.pgn) zs way.coming) (sym (pair_here w.wire u v rest)) holds)
+        (subst (λ (zs : List Wired). Holds (IsBesideBack o.pgn) zs way.answering) (sym back) way.answers)
 
     lost_back : (item : Wired) (rest : List Wired) (is : w.wire v u ≡ item ∷ rest) → oldest_passes is_of_sender (w.wire v u) ≡ true
         → IsAnswering (lost v u item rest is)
@@ -377,18 +377,8 @@ module _ (plan : Plan) (u v : ℕ) (o : Outgoing) (before : List Begun) (apart :
               ∙ answering_received o before item now.stage way.coming own.0 (w.receivers v u) (reported w.reports v u)
               (subst (λ (zs : List Wired). IsAt o before now.stage way.coming zs (w.receivers v u) (reported w.reports v u)) own.1 way.at)))
         ] in
-        record {
-          stage = now.stage;
-          session = now.session;
-          other = now.other;
-          way = record {
-            coming = way.coming;
-            answering = way.answering;
-            wire = subst (λ (zs : List Wired). Holds (IsBesideForth o.pgn) zs way.coming) (sym forth) way.wire;
-            answers = subst (λ (zs : List Wired). Holds (IsBesideBack o.pgn) zs way.answering) (sym (pair_here w.wire v u rest)) holds;
-            at = way.at;
-          };
-        }
+        lost_beside v u item rest is (subst (λ (zs : List Wired). Holds (IsBesideForth o.pgn) zs way.coming) (sym forth) way.wire)
+        (subst (λ (zs : List Wired). Holds (IsBesideBack o.pgn) zs way.answering) (sym (pair_here w.wire v u rest)) holds)
 
     abbrev KeepsLost : ℕ → ℕ → Type 0
     KeepsLost x y = (item : Wired) (rest : List Wired) (is : w.wire x y ≡ item ∷ rest) → SparesBetween plan w u v (Lose x y) → IsAnswering (lost x y item rest is)

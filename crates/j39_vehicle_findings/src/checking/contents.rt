@@ -7,7 +7,7 @@ use crate::checking::layouts::LayoutDiffers;
 use crate::checking::odds::TwoForwards;
 use crate::checking::signals::Differences;
 use crate::finding::VehicleFinding;
-use j39_search::{find_each, find_pairs};
+use j39_search::{find_each, find_pairs, find_tested};
 use j39_vehicle::Vehicle;
 use std::alloc::AllocError;
 
@@ -19,7 +19,7 @@ pub fn find_in_contents(
 ) -> Result<(), AllocError>
     ensures { Adds result findings.old.items findings.new.items (content_findings vehicle.now) }
 {
-    find_each(findings, &LayoutDiffers { vehicle }, &vehicle.forwards)?;
+    find_tested(findings, &LayoutDiffers { vehicle }, &vehicle.forwards)?;
     find_each(findings, &Differences { vehicle }, &vehicle.forwards)?;
     find_pairs(findings, &TwoForwards { vehicle }, &vehicle.forwards)
 }

@@ -2,7 +2,6 @@
 ghost use Rattle.std.specs.Prelude.{◌≡◌, nat_lt, count_by};
 ghost use Rattle.std.specs.List.{list_any};
 ghost use Rattle.j39_search.specs.Adding.{Adds};
-ghost use Rattle.j39_search.specs.ListPlaces.{found_if};
 ghost use Rattle.j39_vehicle_findings.specs.ForwardTests.{is_input, is_output};
 ghost use Rattle.j39_vehicle_findings.specs.ForwardEnds.{input_flows, output_flows};
 ghost use Rattle.j39_vehicle_findings.specs.FoundPaths.{end_findings, has_many_inputs, has_many_outputs, has_no_input};
@@ -10,7 +9,7 @@ ghost use Rattle.j39_vehicle_findings.specs.FoundPaths.{has_no_output};
 
 use crate::finding::VehicleFinding;
 use crate::forwards::{input_flows, is_input, is_output, output_flows};
-use j39_search::{Rule, find_each, push_if};
+use j39_search::{TestRule, find_tested};
 use j39_vehicle::{Forward, Vehicle};
 use std::alloc::AllocError;
 
@@ -67,22 +66,19 @@ struct NoInput<'a> {
     vehicle: &'a Vehicle,
 }
 
-impl Rule<Forward, VehicleFinding> for NoInput<'_> {
+impl TestRule<Forward, VehicleFinding> for NoInput<'_> {
     ghost use Rattle.j39_vehicle_findings.specs.declared.finding.VehicleFinding.TheVariants.{NoInput as NoInputs};
 
-    ghost gives = { λ rule n forward. found_if (has_no_input rule.vehicle.now forward) (NoInputs n) };
+    ghost test = { λ rule. has_no_input rule.vehicle.now };
 
-    fn find(
-        &self,
-        findings: &mut Vec<VehicleFinding>,
-        place: usize,
-        forward: &Forward,
-    ) -> Result<(), AllocError> {
-        push_if(
-            findings,
-            has_no_input(self.vehicle, forward),
-            VehicleFinding::NoInput(place),
-        )
+    ghost make = { λ _ n. NoInputs n };
+
+    fn holds(&self, forward: &Forward) -> bool {
+        has_no_input(self.vehicle, forward)
+    }
+
+    fn finding(&self, place: usize) -> VehicleFinding {
+        VehicleFinding::NoInput(place)
     }
 }
 
@@ -91,22 +87,19 @@ struct ManyInputs<'a> {
     vehicle: &'a Vehicle,
 }
 
-impl Rule<Forward, VehicleFinding> for ManyInputs<'_> {
+impl TestRule<Forward, VehicleFinding> for ManyInputs<'_> {
     ghost use Rattle.j39_vehicle_findings.specs.declared.finding.VehicleFinding.TheVariants.{ManyInputs as SeveralInputs};
 
-    ghost gives = { λ rule n forward. found_if (has_many_inputs rule.vehicle.now forward) (SeveralInputs n) };
+    ghost test = { λ rule. has_many_inputs rule.vehicle.now };
 
-    fn find(
-        &self,
-        findings: &mut Vec<VehicleFinding>,
-        place: usize,
-        forward: &Forward,
-    ) -> Result<(), AllocError> {
-        push_if(
-            findings,
-            has_many_inputs(self.vehicle, forward),
-            VehicleFinding::ManyInputs(place),
-        )
+    ghost make = { λ _ n. SeveralInputs n };
+
+    fn holds(&self, forward: &Forward) -> bool {
+        has_many_inputs(self.vehicle, forward)
+    }
+
+    fn finding(&self, place: usize) -> VehicleFinding {
+        VehicleFinding::ManyInputs(place)
     }
 }
 
@@ -115,22 +108,19 @@ struct NoOutput<'a> {
     vehicle: &'a Vehicle,
 }
 
-impl Rule<Forward, VehicleFinding> for NoOutput<'_> {
+impl TestRule<Forward, VehicleFinding> for NoOutput<'_> {
     ghost use Rattle.j39_vehicle_findings.specs.declared.finding.VehicleFinding.TheVariants.{NoOutput as NoOutputs};
 
-    ghost gives = { λ rule n forward. found_if (has_no_output rule.vehicle.now forward) (NoOutputs n) };
+    ghost test = { λ rule. has_no_output rule.vehicle.now };
 
-    fn find(
-        &self,
-        findings: &mut Vec<VehicleFinding>,
-        place: usize,
-        forward: &Forward,
-    ) -> Result<(), AllocError> {
-        push_if(
-            findings,
-            has_no_output(self.vehicle, forward),
-            VehicleFinding::NoOutput(place),
-        )
+    ghost make = { λ _ n. NoOutputs n };
+
+    fn holds(&self, forward: &Forward) -> bool {
+        has_no_output(self.vehicle, forward)
+    }
+
+    fn finding(&self, place: usize) -> VehicleFinding {
+        VehicleFinding::NoOutput(place)
     }
 }
 
@@ -139,22 +129,19 @@ struct ManyOutputs<'a> {
     vehicle: &'a Vehicle,
 }
 
-impl Rule<Forward, VehicleFinding> for ManyOutputs<'_> {
+impl TestRule<Forward, VehicleFinding> for ManyOutputs<'_> {
     ghost use Rattle.j39_vehicle_findings.specs.declared.finding.VehicleFinding.TheVariants.{ManyOutputs as SeveralOutputs};
 
-    ghost gives = { λ rule n forward. found_if (has_many_outputs rule.vehicle.now forward) (SeveralOutputs n) };
+    ghost test = { λ rule. has_many_outputs rule.vehicle.now };
 
-    fn find(
-        &self,
-        findings: &mut Vec<VehicleFinding>,
-        place: usize,
-        forward: &Forward,
-    ) -> Result<(), AllocError> {
-        push_if(
-            findings,
-            has_many_outputs(self.vehicle, forward),
-            VehicleFinding::ManyOutputs(place),
-        )
+    ghost make = { λ _ n. SeveralOutputs n };
+
+    fn holds(&self, forward: &Forward) -> bool {
+        has_many_outputs(self.vehicle, forward)
+    }
+
+    fn finding(&self, place: usize) -> VehicleFinding {
+        VehicleFinding::ManyOutputs(place)
     }
 }
 
@@ -162,8 +149,8 @@ impl Rule<Forward, VehicleFinding> for ManyOutputs<'_> {
 pub fn find_in_ends(findings: &mut Vec<VehicleFinding>, vehicle: &Vehicle) -> Result<(), AllocError>
     ensures { Adds result findings.old.items findings.new.items (end_findings vehicle.now) }
 {
-    find_each(findings, &NoInput { vehicle }, &vehicle.forwards)?;
-    find_each(findings, &ManyInputs { vehicle }, &vehicle.forwards)?;
-    find_each(findings, &NoOutput { vehicle }, &vehicle.forwards)?;
-    find_each(findings, &ManyOutputs { vehicle }, &vehicle.forwards)
+    find_tested(findings, &NoInput { vehicle }, &vehicle.forwards)?;
+    find_tested(findings, &ManyInputs { vehicle }, &vehicle.forwards)?;
+    find_tested(findings, &NoOutput { vehicle }, &vehicle.forwards)?;
+    find_tested(findings, &ManyOutputs { vehicle }, &vehicle.forwards)
 }

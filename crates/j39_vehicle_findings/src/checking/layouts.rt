@@ -2,7 +2,6 @@
 ghost use Rattle.std.specs.Prelude.{◌≡◌};
 ghost use Rattle.std.specs.List.{list_any};
 ghost use Rattle.j39_search.specs.Adding.{Adds};
-ghost use Rattle.j39_search.specs.ListPlaces.{found_if};
 ghost use Rattle.j39_vehicle_findings.specs.FoundPaths.{copies_other_layout, has_other_records, has_other_selector};
 ghost use Rattle.j39_vehicle_findings.specs.FoundPaths.{have_other_layouts, is_selector, same_byte};
 
@@ -10,7 +9,7 @@ use crate::buses::group_at;
 use crate::finding::VehicleFinding;
 use crate::forwards::copies;
 use j39_network::GroupPlan;
-use j39_search::{Rule, push_if};
+use j39_search::TestRule;
 use j39_signal::Selector;
 use j39_vehicle::{Forward, Vehicle};
 use std::alloc::AllocError;
@@ -94,21 +93,18 @@ pub struct LayoutDiffers<'a> {
     pub vehicle: &'a Vehicle,
 }
 
-impl Rule<Forward, VehicleFinding> for LayoutDiffers<'_> {
+impl TestRule<Forward, VehicleFinding> for LayoutDiffers<'_> {
     ghost use Rattle.j39_vehicle_findings.specs.declared.finding.VehicleFinding.TheVariants.{LayoutDiffers as LayoutsDiffer};
 
-    ghost gives = { λ rule n forward. found_if (copies_other_layout rule.vehicle.now forward) (LayoutsDiffer n) };
+    ghost test = { λ rule. copies_other_layout rule.vehicle.now };
 
-    fn find(
-        &self,
-        findings: &mut Vec<VehicleFinding>,
-        place: usize,
-        forward: &Forward,
-    ) -> Result<(), AllocError> {
-        push_if(
-            findings,
-            copies_other_layout(self.vehicle, forward),
-            VehicleFinding::LayoutDiffers(place),
-        )
+    ghost make = { λ _ n. LayoutsDiffer n };
+
+    fn holds(&self, forward: &Forward) -> bool {
+        copies_other_layout(self.vehicle, forward)
+    }
+
+    fn finding(&self, place: usize) -> VehicleFinding {
+        VehicleFinding::LayoutDiffers(place)
     }
 }

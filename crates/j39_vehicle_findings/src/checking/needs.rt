@@ -2,7 +2,7 @@
 ghost use Rattle.std.specs.Prelude.{◌≡◌};
 ghost use Rattle.j39_search.specs.Adding.{Adds};
 ghost use Rattle.j39_network.specs.Serving.{meets};
-ghost use Rattle.j39_search.specs.ListPlaces.{found_if, each};
+ghost use Rattle.j39_search.specs.ListPlaces.{each};
 ghost use Rattle.j39_vehicle_findings.specs.FoundPaths.{is_need_flow, is_need_unmet, need_findings, some_at};
 ghost use Rattle.j39_vehicle_findings.specs.Traces.{flows_of_need, need_on_bus};
 
@@ -10,7 +10,7 @@ use crate::buses::{flows_on, requests_on};
 use crate::finding::VehicleFinding;
 use crate::routes::Routes;
 use j39_network::{FlowPlan, NeedPlan, RequestPlan, meets};
-use j39_search::{Rule, find_each, push_if};
+use j39_search::{TestRule, find_tested};
 use j39_vehicle::VehicleNeed;
 use std::alloc::AllocError;
 
@@ -63,22 +63,19 @@ struct VehicleNeedUnmet<'a> {
     routes: Routes<'a>,
 }
 
-impl Rule<VehicleNeed, VehicleFinding> for VehicleNeedUnmet<'_> {
+impl TestRule<VehicleNeed, VehicleFinding> for VehicleNeedUnmet<'_> {
     ghost use Rattle.j39_vehicle_findings.specs.declared.finding.VehicleFinding.TheVariants.{NeedUnmet as NeedsUnmet};
 
-    ghost gives = { λ rule d need. found_if (is_need_unmet rule.routes.vehicle.now need) (NeedsUnmet d) };
+    ghost test = { λ rule. is_need_unmet rule.routes.vehicle.now };
 
-    fn find(
-        &self,
-        findings: &mut Vec<VehicleFinding>,
-        place: usize,
-        need: &VehicleNeed,
-    ) -> Result<(), AllocError> {
-        push_if(
-            findings,
-            !is_need_met(&self.routes, need),
-            VehicleFinding::NeedUnmet(place),
-        )
+    ghost make = { λ _ d. NeedsUnmet d };
+
+    fn holds(&self, need: &VehicleNeed) -> bool {
+        !is_need_met(&self.routes, need)
+    }
+
+    fn finding(&self, place: usize) -> VehicleFinding {
+        VehicleFinding::NeedUnmet(place)
     }
 }
 
@@ -90,7 +87,7 @@ pub fn find_in_needs(
 ) -> Result<(), AllocError>
     ensures { Adds result findings.old.items findings.new.items (need_findings routes.now.vehicle.now) }
 {
-    find_each(
+    find_tested(
         findings,
         &VehicleNeedUnmet { routes: *routes },
         &routes.vehicle.needs,

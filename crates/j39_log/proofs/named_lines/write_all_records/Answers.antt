@@ -1,10 +1,10 @@
 use Rattle.std.proofs.Common.{◌≡◌, ◌<◌, ◌*◌, ◌+◌, ◌++◌, ℕ, List, length, sym, ap, ◌∙◌, append_assoc, arith}
 use Rattle.std.proofs.lemmas.List.{append-nil}
 use Rattle.j39_network.specs.Records.{record_count}
-use Rattle.j39_network.proofs.RecordCounts.{records_counted}
 use Rattle.j39_log.specs.NamedReports.{NamedSignal, NumberNames, named_record_lines, named_record_signals, named_records_lines}
 use Rattle.j39_log.specs.inside.NameTables.{named_by, names_in}
 use Rattle.j39_log.proofs.NamedLists.{record_more}
+use Rattle.j39_log.proofs.RecordLists.{record_inside}
 use Rattle.j39_log.proofs.named_lines.write_all_records.Goals as goal
 
 pub loop-record-init : goal.loop-record-init
@@ -13,11 +13,8 @@ loop-record-init c = sym (append-nil c.args.text.now)
 
 pub write_record-requires-clause-inside : goal.write_record-requires-clause-inside
 write_record-requires-clause-inside c =
-    let group = c.args.group.now in
-    let bytes = length c.args.bytes.now in
-    let less : c.loop-record.record < record_count group bytes = omega (arith, c.record_count-count.ensures, c.loop-record-test.true) in
-    let inside = ((records_counted group c.args.every bytes c.loop-record.record c.requires.every).0 less).1 in
-    rw (c.from.ensures, c.as_slice-signals.ensures.value) inside
+    rw (c.from.ensures, c.as_slice-signals.ensures.value) (record_inside c.args.group.now c.args.every (length c.args.bytes.now) _ c.loop-record.record
+    c.requires.every c.record_count-count.ensures c.loop-record-test.true)
 
 pub loop-record-preserved : goal.loop-record-preserved
 loop-record-preserved c =

@@ -18,8 +18,8 @@ pub returns : goal.returns
 unfolding each
 returns c =
     let plan = c.args.plan.now in
-    let found : Adds c.find_each.result c.args.findings.now.items c.find_each.new.findings.items
+    let found : Adds c.find_tested.result c.args.findings.now.items c.find_tested.new.findings.items
     (each (is_contested (alone_of c.new-standing.result plan.keep_free) plan.units.items) FlowContested 0 plan.flows.items) =
-    rw (c.as_slice.ensures.value, c.as_slice-2.ensures.value) at c.find_each.ensures in
-    subst (λ fs. Adds c.find_each.result c.args.findings.now.items c.find_each.new.findings.items fs)
+    rw (c.as_slice.ensures.value, c.as_slice-2.ensures.value) at c.find_tested.ensures in
+    subst (λ fs. Adds c.find_tested.result c.args.findings.now.items c.find_tested.new.findings.items fs)
     (contested_by plan (alone_of c.new-standing.result plan.keep_free) c.new-standing.ensures.alone c.if-not-plan.false) found

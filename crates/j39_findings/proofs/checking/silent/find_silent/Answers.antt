@@ -9,4 +9,4 @@ returns-in_err-find_pairs c = refuses _ _ _ _ _ c.from_residual.ensures.1 (some_
 
 pub returns : goal.returns
 unfolding silent_findings each
-returns c = adds_behind _ _ _ _ _ _ c.in_ok-find_pairs.ensures c.find_each.ensures
+returns c = adds_behind _ _ _ _ _ _ c.in_ok-find_pairs.ensures c.find_tested.ensures

@@ -11,7 +11,7 @@ use Rattle.j39_log.specs.declared.line_counts.LineCounts.{LineCounts}
 use Rattle.j39_follow.specs.FollowText.{line_passed_over}
 use Rattle.j39_follow.specs.LogLines.{IsElsewhere}
 use Rattle.j39_follow.specs.inside.FollowedSoFar.{RecallsPast}
-use Rattle.j39_follow.proofs.LinesRead.{as_many_lines, names_it, recalls_passed_over}
+use Rattle.j39_follow.proofs.LinesRead.{as_many_lines, names_it, not_elsewhere, recalls_passed_over}
 use Rattle.j39_follow.proofs.unit_report.UnitReport.follow_line.Goals as goal
 
 pub returns-then-is_elsewhere-clause-line : goal.returns-then-is_elsewhere-clause-line
@@ -62,10 +62,8 @@ returns-in-Ok-clause-line c =
         read.ensures,
         names_it read.result.now named.result named.ensures.named named.ensures.none,
         inr (
-          λ there.
-              false≢true (sym c.if-is_elsewhere.false
-              ∙ c.is_elsewhere.ensures.1
-              (subst (λ (i : Option (List ℕ)). IsElsewhere i read.result.now (option_copied named.result)) (sym (c.kept_interface.ensures ∙ recalls.interface_is)) there)),
+          not_elsewhere c.is_elsewhere.result _ past.interface read.result.now (option_copied named.result) c.if-is_elsewhere.false c.is_elsewhere.ensures.1
+              (c.kept_interface.ensures ∙ recalls.interface_is),
           inl (c.in-Ok.frame, c.time_text-time.result.now, spelled, c.time_text-time.ensures, done.reads),
         ),
       );
@@ -89,10 +87,8 @@ returns-in-Err-clause-line c = λ past recalls number.
         read.ensures,
         names_it read.result.now named.result named.ensures.named named.ensures.none,
         inr (
-          λ there.
-              false≢true (sym c.if-is_elsewhere.false
-              ∙ c.is_elsewhere.ensures.1
-              (subst (λ (i : Option (List ℕ)). IsElsewhere i read.result.now (option_copied named.result)) (sym (c.kept_interface.ensures ∙ recalls.interface_is)) there)),
+          not_elsewhere c.is_elsewhere.result _ past.interface read.result.now (option_copied named.result) c.if-is_elsewhere.false c.is_elsewhere.ensures.1
+              (c.kept_interface.ensures ∙ recalls.interface_is),
           inr (
             error,
             subst (λ (r : Result Frame LineError). IfErr r (λ e. HasLineFault read.result.now e)) c.in-Err.is c.read_frame-read.ensures.refused,

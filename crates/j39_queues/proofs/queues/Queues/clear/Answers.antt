@@ -1,6 +1,6 @@
-use Rattle.std.proofs.Common.{ap, arith, ◌-◌}
+use Rattle.std.proofs.Common.{ap, arith}
 use Rattle.j39_queues.specs.inside.Rows.{one_if_some}
-use Rattle.j39_queues.proofs.Rows.{count_of, in_row, kept_after, lists_after, room_kept, row_bounds, table_after}
+use Rattle.j39_queues.proofs.Rows.{beside_is, in_row, kept_after, lists_after, room_kept, table_after}
 use Rattle.j39_queues.proofs.queues.Queues.clear.Goals as goal
 
 pub index_mut-queue-requires : goal.index_mut-queue-requires
@@ -8,28 +8,14 @@ index_mut-queue-requires g c =
     in_row c.self.inside.rows.items c.args.self.now c.self.view_is c.self.invariant.table c.args.from c.args.to c.requires.from c.requires.to
     c.index_mut-row.result.now c.index_mut-row.ensures.value
 
-pub overflow_sub-index : goal.overflow_sub-index
-overflow_sub-index g c =
-    let counted = count_of c.self.inside.rows.items c.args.self.now c.self.view_is c.self.invariant.table c.args.from c.args.to c.requires.from c.requires.to
-    c.index_mut-row.result.now c.index_mut-row.ensures.value c.index_mut-queue.result.now c.index_mut-queue.ensures.value
-    c.clear.new.self c.self.inside.filled.items c.self.invariant.counts c.index.result.now in
-    let bounds = row_bounds c.self.inside.rows.items c.args.self.now c.self.view_is c.self.invariant.table c.args.from c.args.to c.requires.from c.requires.to
-    c.index_mut-row.result.now c.index_mut-row.ensures.value c.index_mut-queue.result.now c.index_mut-queue.ensures.value
-    c.clear.new.self in
-    omega (arith, c.index.ensures, counted, bounds.1, c.one_if_filled-was.ensures)
-
 pub invariant_of-self : goal.invariant_of-self
 invariant_of-self g c =
-    let counted = count_of c.self.inside.rows.items c.args.self.now c.self.view_is c.self.invariant.table c.args.from c.args.to c.requires.from c.requires.to
+    let beside = beside_is c.self.inside.rows.items c.args.self.now c.self.view_is c.self.invariant.table c.args.from c.args.to c.requires.from c.requires.to
     c.index_mut-row.result.now c.index_mut-row.ensures.value c.index_mut-queue.result.now c.index_mut-queue.ensures.value
-    c.clear.new.self c.self.inside.filled.items c.self.invariant.counts c.index.result.now in
-    let bounds = row_bounds c.self.inside.rows.items c.args.self.now c.self.view_is c.self.invariant.table c.args.from c.args.to c.requires.from c.requires.to
-    c.index_mut-row.result.now c.index_mut-row.ensures.value c.index_mut-queue.result.now c.index_mut-queue.ensures.value
-    c.clear.new.self in
+    c.filled_beside-beside.result c.filled_beside-beside.ensures in
     kept_after c.self.inside.rows.items c.args.self.now c.self.view_is c.self.invariant.table c.args.from c.args.to c.requires.from c.requires.to
     c.index_mut-row.result.now c.index_mut-row.ensures.value c.index_mut-queue.result.now c.index_mut-queue.ensures.value
-    c.clear.new.self c.self.inside.filled.items c.self.invariant.counts (c.index.result.now - c.one_if_filled-was.result)
-    (omega (arith, c.index.ensures, counted, bounds.1, c.one_if_filled-was.ensures, ap one_if_some c.clear.ensures.items))
+    c.clear.new.self c.self.inside.filled.items c.self.invariant.counts _ (omega (arith, beside, ap one_if_some c.clear.ensures.items))
 
 pub returns-clause-table : goal.returns-clause-table
 returns-clause-table g c =

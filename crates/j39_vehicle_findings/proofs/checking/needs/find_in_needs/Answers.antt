@@ -4,4 +4,4 @@ use Rattle.j39_vehicle_findings.proofs.checking.needs.find_in_needs.Goals as goa
 
 pub returns : goal.returns
 unfolding need_findings each
-returns c = rw c.deref.ensures.value at c.find_each.ensures
+returns c = rw c.deref.ensures.value at c.find_tested.ensures

@@ -1,0 +1,212 @@
+-- What a bus keeps on which all frames are planned, and on which each unit holds its planned address.
+use Rattle.std.proofs.Common.{◌≡◌, ◌≢◌, ℕ, ◌+◌, ◌*◌, ◌^◌, ◌<◌, ◌≤◌, ◌⊎◌, Bool, true, not, ◌&&◌, cond, ltb, nat_le, nat_lt, length, Option, Some}
+use Rattle.std.proofs.Common.{refl, sym, ap, ◌∙◌, subst, inl, inr, arith}
+use Rattle.std.proofs.lemmas.Bool.{cases_lt, lt-ltb, ltb-true, true≢false}
+use Rattle.std.proofs.lemmas.List.{length-map}
+use Rattle.std.proofs.lemmas.Option.{same_Some}
+use Rattle.std.specs.List.{slice_get}
+use Rattle.std.specs.Option.{option_map_or}
+use Rattle.j39_claim.specs.ClaimRule.{PlannedUnit}
+use Rattle.j39_id.specs.Ident.{identifier_of}
+use Rattle.j39_network.specs.PlannedUnits.{planned_unit, unit_at, units_of}
+use Rattle.j39_network.specs.declared.plan.Plan.{Plan}
+use Rattle.j39_network.specs.declared.plan.flow_plan.FlowPlan.{FlowPlan}
+use Rattle.j39_network.specs.declared.plan.group_plan.GroupPlan.{GroupPlan}
+use Rattle.j39_network.specs.declared.plan.pace.Pace.{Pace}
+use Rattle.j39_network.specs.declared.plan.queue.Queue.{Queue}
+use Rattle.j39_network.specs.declared.plan.timing.Timing.{Timing}
+use Rattle.j39_network.specs.declared.plan.to.To.TheVariants.{One}
+use Rattle.j39_network.specs.declared.plan.unit_plan.UnitPlan.{UnitPlan}
+use Rattle.j39_search.proofs.Members.{all_at}
+use Rattle.j39_findings.proofs.WhoStays.{placed}
+use Rattle.j39_timing.specs.AnyOrder.{Controllers}
+use Rattle.j39_timing.specs.QueueGroups.{unplanned_queued}
+use Rattle.j39_timing.specs.Rounds.{all_planned}
+use Rattle.j39_timing.specs.TimedFrames.{Schedule}
+use Rattle.j39_timing.specs.Traffic.{others_queued}
+use Rattle.j39_timing.proofs.Sums.{total-none}
+use Rattle.j39_world.specs.HeldAddresses.{ArePlannedApart}
+use Rattle.j39_load.specs.KeepsBroadcasts.{KeepsBroadcasts}
+use Rattle.j39_load.specs.KeepsPlan.{KeepsQueues, KeepsToPlan, KeptBus}
+use Rattle.j39_load.specs.Loads.{is_any}
+use Rattle.j39_load.specs.Ranks.{AreHeldApart}
+use Rattle.j39_load.specs.SentFrames.{Announcing, Broadcasts, Carrying, FrameSources, HasPeriodMs, Held, IsFrameOf, IsMsBehind, IsSentByUnit, IsSentEvery}
+use Rattle.j39_load.specs.SentFrames.{IsSingleFrame, IsWithinUnitMs, goes_to}
+use Rattle.j39_load.proofs.Slots.{slots, slots_any_order, slots_legal}
+
+-- where all is planned nothing else is queued
+pub none_other : (s : Schedule) (planned : ℕ → Bool) → ((p : ℕ) → planned p ≡ true) → (c from to : ℕ) → others_queued s planned c from to ≡ 0
+none_other s planned all c from to = total-none s.count _ (λ p in_p.
+    ap (λ (b : Bool). cond (not b && (nat_lt (s.ident p) c && (nat_le (s.queued p) to && nat_lt from (s.start p)))) 1 0) (all p))
+
+pub none_foreseen : (s : Schedule) (planned : ℕ → Bool) → ((p : ℕ) → planned p ≡ true) → (from to : ℕ) → unplanned_queued s planned from to ≡ 0
+none_foreseen s planned all from to = total-none s.count _ (λ p in_p.
+    ap (λ (b : Bool). cond (not b && (nat_le (s.queued p) to && nat_lt from (s.start p))) 1 0) (all p))
+
+-- ---- without long messages to all
+
+abbrev pub no_broadcasts : Broadcasts
+no_broadcasts = record {
+  count = λ u. 0;
+  flow = λ u m. 0;
+  release = λ u m. 0;
+  wanted = λ u m. 0;
+  announced = λ u m. 0;
+  packets = λ u m. 0;
+}
+
+pub none_sent : (plan : Plan) (timing : Timing) (s : Schedule) (planned : ℕ → Bool) (sent : FrameSources)
+    → ((u : ℕ) → sent.broadcasts.count u ≡ 0) → ((p u m : ℕ) → sent.source p ≡ Announcing u m → ⊥)
+    → ((p u m k : ℕ) → sent.source p ≡ Carrying u m k → ⊥) → KeepsBroadcasts plan timing s planned sent
+none_sent plan timing s planned sent none announced carried = record {
+  messages = λ u m below. absurd (let zero_is = none u in omega (arith, below, zero_is));
+  apart = λ u m n ms pair. absurd (let zero_is = none u in let below = pair.1 in omega (arith, below, zero_is));
+  one_waits = λ u m n pair. absurd (let zero_is = none u in let below = pair.1 in omega (arith, below, zero_is));
+  in_turn = λ u m n less below. absurd (let zero_is = none u in omega (arith, below, zero_is));
+  announced = λ p u m in_p is source. absurd (announced p u m source);
+  once = λ p q u m in_p in_q is_p is_q first second. absurd (announced p u m first);
+  carried = λ p q u m k in_p in_q is_p is_q first second. absurd (carried p u m k first);
+  behind = λ p u m k in_p is source. absurd (carried p u m k source);
+  before = λ p u m k n in_p is source. absurd (carried p u m k source);
+  gaps = λ p q u m n j k in_p in_q other is_p is_q first. absurd (carried p u m j first);
+}
+
+-- ---- the units of a plan
+
+module _ (plan : Plan) (apart : ArePlannedApart (units_of plan)) where
+  -- each unit holds its planned address
+  abbrev pub planned_address : ℕ → ℕ
+  planned_address u = (unit_at (units_of plan) u).preferred
+
+  abbrev pub planned_held : Held
+  planned_held = record { named = λ t u. ltb u (length plan.units.items); address = λ t. planned_address }
+
+  pub planned_apart : (t : ℕ) → AreHeldApart (planned_held.named t) (planned_held.address t)
+  planned_apart t = record {
+    range = λ u named.
+        let below = ltb-true u (length plan.units.items) named in
+        let (unit, at, is) = placed plan.keep_free plan.units.items u (omega (arith, below, length-map plan.units.items (planned_unit plan.keep_free))) in
+        let same : planned_address u ≡ unit.address = ap (λ (c : PlannedUnit). c.preferred) is in
+        let low = unit.address_range in
+        omega (arith, same, low);
+    apart = λ u v other named_u named_v.
+        let below_u = ltb-true u (length plan.units.items) named_u in
+        let below_v = ltb-true v (length plan.units.items) named_v in
+        let size = length-map plan.units.items (planned_unit plan.keep_free) in
+        apart u v (omega (arith, below_u, size)) (omega (arith, below_v, size)) other;
+  }
+
+  named_unit : (u : ℕ) → u < length plan.units.items → ltb u (length plan.units.items) ≡ true
+  named_unit u below = lt-ltb u (length plan.units.items) below
+
+  pub planned_sender : (f : ℕ) (flow : FlowPlan) → slice_get plan.flows.items f ≡ Some flow → ltb flow.sender (length plan.units.items) ≡ true
+  planned_sender f flow its =
+      named_unit flow.sender (all_at (λ (g : FlowPlan). g.sender < length plan.units.items) plan.flows.items plan.flow_senders f flow its)
+
+  pub planned_receiver : (f : ℕ) (flow : FlowPlan) → slice_get plan.flows.items f ≡ Some flow → (v : ℕ) → flow.to ≡ One v
+      → ltb v (length plan.units.items) ≡ true
+  planned_receiver f flow its v goes = named_unit v
+      (all_at (λ (g : FlowPlan). (u : ℕ) → g.to ≡ One u → u < length plan.units.items) plan.flows.items plan.flow_receivers f flow its v goes)
+
+-- the period of a flow
+pub period_is : (plan : Plan) (f : ℕ) (flow : FlowPlan) (pace : Pace) → slice_get plan.flows.items f ≡ Some flow → flow.pace ≡ Some pace → (ms : ℕ)
+    → HasPeriodMs plan f ms → pace.period ≡ ms
+period_is plan f flow pace its paced ms every =
+    let same : flow ≡ every.flow = same_Some _ _ (sym its ∙ every.its) in
+    let paces : pace ≡ every.pace = same_Some _ _ (sym paced ∙ (ap (λ (g : FlowPlan). g.pace) same ∙ every.paced)) in
+    ap (λ (x : Pace). x.period) paces ∙ every.is
+
+-- ---- what is kept
+
+-- a frame of a flow that is sent as late as its jitter allows at most
+pub planned_single : (plan : Plan) (timing : Timing) (apart : ArePlannedApart (units_of plan)) (f : ℕ) (flow : FlowPlan) (pace : Pace) (group : GroupPlan)
+    → slice_get plan.flows.items f ≡ Some flow → flow.pace ≡ Some pace → slice_get plan.groups.items flow.group ≡ Some group → group.most ≤ 8
+    → (s : Schedule) (release p : ℕ) → s.bits p ≤ 80 + 10 * group.most → release ≤ s.queued p → IsWithinUnitMs timing pace.jitter release (s.queued p)
+    → s.ident p ≡ identifier_of group.priority group.pgn (goes_to (planned_address plan apart) flow.to) (planned_address plan apart flow.sender)
+    → IsSingleFrame plan timing s (planned_held plan apart) f release p
+planned_single plan timing apart f flow pace group its paced of short s release p few first late is = record {
+  flow = flow;
+  its = its;
+  pace = pace;
+  paced = paced;
+  group = group;
+  of = of;
+  short = short;
+  length = few;
+  release_first = first;
+  jitter_at_most = late;
+  sender_named = λ t queued. planned_sender plan apart f flow its;
+  receiver_named = λ t v queued goes. planned_receiver plan apart f flow its v goes;
+  identifier = λ t queued. is;
+}
+
+-- of two places one is behind the other
+pub either_behind : (timing : Timing) (ms width : ℕ) → ((p q : ℕ) → p < q → IsMsBehind timing ms (p * width) (q * width)) → (p q : ℕ) → p ≢ q
+    → IsMsBehind timing ms (p * width) (q * width) ⊎ IsMsBehind timing ms (q * width) (p * width)
+either_behind timing ms width behind p q differ = elim (cases_lt p q) [
+  | inl less ↦ inl (behind p q less)
+  | inr more ↦ inr (behind q p (omega (arith, more, differ)))
+]
+
+-- so frames of a flow are whose places are a period apart
+pub a_period_apart : (plan : Plan) (timing : Timing) (f : ℕ) (flow : FlowPlan) (pace : Pace) → slice_get plan.flows.items f ≡ Some flow
+    → flow.pace ≡ Some pace → (width : ℕ) → ((p q : ℕ) → p < q → IsMsBehind timing pace.period (p * width) (q * width)) → (p q ms : ℕ) → p ≢ q
+    → HasPeriodMs plan f ms → IsMsBehind timing ms (p * width) (q * width) ⊎ IsMsBehind timing ms (q * width) (p * width)
+a_period_apart plan timing f flow pace its paced width behind p q ms differ every =
+    subst (λ (x : ℕ). IsMsBehind timing x (p * width) (q * width) ⊎ IsMsBehind timing x (q * width) (p * width))
+    (period_is plan f flow pace its paced ms every) (either_behind timing pace.period width behind p q differ)
+
+pub keeps_all : (plan : Plan) (timing : Timing) (apart : ArePlannedApart (units_of plan)) (s : Schedule) (sent : FrameSources)
+    → ((p : ℕ) → p < s.count → IsFrameOf plan timing s (planned_held plan apart) sent.broadcasts (sent.source p) (sent.release p) p)
+    → ((p q ms : ℕ) → p ≢ q → sent.source p ≡ sent.source q → IsSentEvery plan (sent.source p) ms
+    → IsMsBehind timing ms (sent.release p) (sent.release q) ⊎ IsMsBehind timing ms (sent.release q) (sent.release p))
+    → KeepsBroadcasts plan timing s all_planned sent → KeepsToPlan plan timing s all_planned sent (planned_held plan apart)
+keeps_all plan timing apart s sent frames behind broadcasts = record {
+  frames = λ p in_p is. frames p in_p;
+  apart = λ p q ms in_p in_q differ is_p is_q same every. behind p q ms differ same every;
+  broadcasts = broadcasts;
+  held_by_plan = λ t u below. inl refl;
+  held_apart = planned_apart plan apart;
+  others_length = λ p in_p is. absurd (true≢false is);
+  others_priority = λ p in_p is. absurd (true≢false is);
+  others_identifier = λ p q t in_p in_q seen is_p source is_q. absurd (true≢false is_q);
+  few_others = λ p from to in_p is source seen waits wait.
+      let none = none_other s all_planned (λ q. refl) (s.ident p) from to in omega (arith, none);
+}
+
+-- these units send the frames, and each unit keeps order that the plan tells so of
+abbrev pub planned_controllers : Plan → (ℕ → ℕ) → Controllers
+planned_controllers plan unit = record {
+  unit = unit;
+  keeps_order = λ u. option_map_or (λ (x : UnitPlan). not (is_any x.queue)) (slice_get plan.units.items u) true;
+}
+
+pub keeps_queues : (plan : Plan) (timing : Timing) (s : Schedule) (sent : FrameSources) (unit : ℕ → ℕ)
+    → ((p u : ℕ) → IsSentByUnit plan (sent.source p) u → unit p ≡ u) → ((p : ℕ) → s.ident p < 2 ^ 29)
+    → KeepsQueues plan timing s (planned_controllers plan unit) all_planned sent
+keeps_queues plan timing s sent unit sender few = record {
+  sender = λ p u in_p is sends. sender p u sends;
+  order = λ u unit at keeps.
+      ap (λ (o : Option UnitPlan). option_map_or (λ (x : UnitPlan). not (is_any x.queue)) o true) at ∙ ap (λ (q : Queue). not (is_any q)) keeps;
+  identifiers = λ p in_p. few p;
+  others_apart = λ p q t u unit in_p in_q seen is_p is_q takes at any. absurd (true≢false is_q);
+  few_unplanned = λ p from to u unit in_p is takes at any seen waits wait.
+      let none = none_foreseen s all_planned (λ q. refl) from to in omega (arith, none);
+}
+
+-- frames in slots, whoever sends them
+abbrev pub slots_kept : (plan : Plan) (timing : Timing) (apart : ArePlannedApart (units_of plan)) (width n : ℕ) (ident : ℕ → ℕ) → 80 ≤ width
+    → (sent : FrameSources) (unit : ℕ → ℕ) → KeepsToPlan plan timing (slots width n ident) all_planned sent (planned_held plan apart)
+    → KeepsQueues plan timing (slots width n ident) (planned_controllers plan unit) all_planned sent → KeptBus plan timing
+slots_kept plan timing apart width n ident wide sent unit keeps queues = record {
+  s = slots width n ident;
+  controllers = planned_controllers plan unit;
+  planned = all_planned;
+  sent = sent;
+  held = planned_held plan apart;
+  legal = slots_legal width n ident wide;
+  any_order = slots_any_order width n ident (planned_controllers plan unit) wide;
+  keeps = keeps;
+  queues = queues;
+  all_planned = λ p. refl;
+}
