@@ -204,6 +204,16 @@ class Premises(InFolder):
                 for less in (0, 0.000001)]
         self.assertEqual([any("after the one before" in line for line in lines) for lines in told], [False, True])
 
+    def test_jitter_beyond_the_waits_of_others(self) -> None:
+        """DM1, which waits no longer than ET1, may come nearer by all of its jitter, which is longer than that, and by that besides."""
+        group = '[[group]]\nlabel = "DM1"\npgn = 65226\npriority = 6\nlength = 8\nmost = 100\n[[flow]]\ngroup = "DM1"\nfrom = "TOOL"\nto = "all"\nperiod = 1000\njitter = 50\n'
+        plan = timed("broadcast_gap = 50") + group
+        within = int(next(line for line in self.load(plan) if line.startswith("flow 1 ")).split()[6]) / 1e6
+        self.assertLess(within, 0.05)
+        for second, is_told in ((1.951, False), (1.95 - within, False), (1.95 - within - 0.000001, True)):
+            lines = self.told(("1.0", "18FECAF9#00FF000000000000"), (f"{second:.6f}", "18FECAF9#00FF000000000000"), plan=plan)
+            self.assertEqual(any("DM1" in line for line in lines), is_told, second)
+
     def test_pauses(self) -> None:
         """The greatest distance, at the line where it ended, whatever is said of silences; the end of the log too."""
         plan = timed("broadcast_gap = 50").replace("period = 10\n", "period = 10\npause = 20\n", 1)

@@ -20,7 +20,7 @@ use Rattle.j39_line_findings.specs.There.{IsWhatIsThere}
 use Rattle.j39_line_findings.specs.declared.there.WhatIsThere.{WhatIsThere}
 use Rattle.j39_line_findings.proofs.EveryVariant.{every_variant}
 use Rattle.j39_line_findings.specs.AllVariants.{IsOneOf, all_variants}
-use Rattle.j39_line_bounds.specs.LineTimes.{AreLineTimes, AreTimesAmong, AreTimesOf, AreVariantTimes, AreWorst, BoundEachVariant, IsOfSomeVariant, IsTimesAmong, TimesBoundEachVariant, flow_at, flow_time, need_at, need_time}
+use Rattle.j39_line_bounds.specs.LineTimes.{AreLineTimes, AreTimesAmong, AreTimesOf, AreVariantTimes, AreWorst, BoundEachVariant, IsOfSomeVariant, IsTimesAmong, TimesBoundEachVariant, time_of_flow, flow_time, time_of_need, need_time}
 use Rattle.j39_line_bounds.specs.declared.times.FlowTime.TheVariants as flow
 use Rattle.j39_line_bounds.specs.declared.times.LineTimes.{LineTimes as Times}
 use Rattle.j39_line_bounds.specs.declared.times.NeedTime.TheVariants as need
@@ -164,8 +164,8 @@ module _ (line : ProductLine) where
               load = are.worst.load.none_more found.0 found.2;
             },
           );
-      flows = λ f below. of_some (λ times. flow_at times f) flow.NoVariant (flow_at told f) (are.worst.flows f below).one;
-      needs = λ d below. of_some (λ times. need_at times d) need.NoVariant (need_at told d) (are.worst.needs d below).one;
+      flows = λ f below. of_some (λ times. time_of_flow times f) flow.NoVariant (time_of_flow told f) (are.worst.flows f below).one;
+      needs = λ d below. of_some (λ times. time_of_need times d) need.NoVariant (time_of_need told d) (are.worst.needs d below).one;
       load = of_some (λ times. times.load) 0 told.load are.worst.load.one;
     }
 

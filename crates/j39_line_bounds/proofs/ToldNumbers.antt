@@ -3,7 +3,7 @@ use Rattle.std.proofs.Common.{◌≡◌, ℕ, ◌≤◌, false, Option, Some, No
 use Rattle.std.proofs.lemmas.Bool.{ltb-false, true≢false}
 use Rattle.j39_load.specs.declared.waits.delay.Delay.TheVariants.{Within, Beyond, Late, Whole}
 use Rattle.j39_variants.specs.declared.line.ProductLine.{ProductLine}
-use Rattle.j39_line_bounds.specs.LineTimes.{AreNoWorse, BoundNumbers, ToldNumbersBoundEachVariant, badness_known, flow_at, flow_badness, is_less_bad, need_at, need_badness, of_degree, time_told}
+use Rattle.j39_line_bounds.specs.LineTimes.{AreNoWorse, BoundNumbers, ToldNumbersBoundEachVariant, badness_known, time_of_flow, flow_badness, is_less_bad, time_of_need, need_badness, of_degree, time_told}
 use Rattle.j39_line_bounds.specs.declared.times.Badness.{Badness}
 use Rattle.j39_line_bounds.specs.declared.times.FlowTime.TheVariants as flow
 use Rattle.j39_line_bounds.specs.declared.times.LineTimes.{LineTimes as Times}
@@ -28,26 +28,26 @@ module _ (line : ProductLine) (told times : Times) (are : AreNoWorse line times 
   numbers : BoundNumbers line told times
   numbers = record {
     never_late = λ f below a is here.
-        true≢false (of_both flow_badness (flow_at told f) (flow_at times f) (flow.Told (Some (Within a))) (flow.Told (Some Late)) is here (are.flows f below));
+        true≢false (of_both flow_badness (time_of_flow told f) (time_of_flow times f) (flow.Told (Some (Within a))) (flow.Told (Some Late)) is here (are.flows f below));
     never_beyond = λ f below a b is here.
         true≢false
-        (of_both flow_badness (flow_at told f) (flow_at times f) (flow.Told (Some (Within a))) (flow.Told (Some (Beyond b))) is here (are.flows f below));
+        (of_both flow_badness (time_of_flow told f) (time_of_flow times f) (flow.Told (Some (Within a))) (flow.Told (Some (Beyond b))) is here (are.flows f below));
     delays = λ f below a b is here.
         no_more a b
-        (of_both flow_badness (flow_at told f) (flow_at times f) (flow.Told (Some (Within a))) (flow.Told (Some (Within b))) is here (are.flows f below));
+        (of_both flow_badness (time_of_flow told f) (time_of_flow times f) (flow.Told (Some (Within a))) (flow.Told (Some (Within b))) is here (are.flows f below));
     never_unknown = λ f below a is here.
-        true≢false (of_both flow_badness (flow_at told f) (flow_at times f) (flow.Told (Some (Beyond a))) (flow.Told (Some Late)) is here (are.flows f below));
+        true≢false (of_both flow_badness (time_of_flow told f) (time_of_flow times f) (flow.Told (Some (Beyond a))) (flow.Told (Some Late)) is here (are.flows f below));
     late_delays = λ f below a b is here.
         no_later a b
-        (of_both flow_badness (flow_at told f) (flow_at times f) (flow.Told (Some (Beyond a))) (flow.Told (Some (Beyond b))) is here (are.flows f below));
+        (of_both flow_badness (time_of_flow told f) (time_of_flow times f) (flow.Told (Some (Beyond a))) (flow.Told (Some (Beyond b))) is here (are.flows f below));
     whole = λ f below w v a is is_known here.
         known (time_told w) (time_told v) a is_known
-        (of_both flow_badness (flow_at told f) (flow_at times f) (flow.Told (Some (Whole w))) (flow.Told (Some (Whole v))) is here (are.flows f below));
+        (of_both flow_badness (time_of_flow told f) (time_of_flow times f) (flow.Told (Some (Whole w))) (flow.Told (Some (Whole v))) is here (are.flows f below));
     met = λ d below a y is here.
-        true≢false (of_both need_badness (need_at told d) (need_at times d) (need.Age (Some a) y) need.Unmet is here (are.needs d below));
+        true≢false (of_both need_badness (time_of_need told d) (time_of_need times d) (need.Age (Some a) y) need.Unmet is here (are.needs d below));
     ages = λ d below a age y x is here.
         known (Some a) age a refl
-        (of_both need_badness (need_at told d) (need_at times d) (need.Age (Some a) y) (need.Age age x) is here (are.needs d below));
+        (of_both need_badness (time_of_need told d) (time_of_need times d) (need.Age (Some a) y) (need.Age age x) is here (are.needs d below));
   }
 
 pub numbers_bound : ToldNumbersBoundEachVariant

@@ -6,7 +6,7 @@ use Rattle.std.proofs.Math.Nat.{le-max_left, le-max_right}
 use Rattle.std.proofs.lemmas.Bool.{cases_Bool, eq-eqb, eqb-true, false≢true, ltb-false, ltb-true, lt-ltb, true≢false}
 use Rattle.std.proofs.lemmas.List.FromFn.{get_or-map-range_with_len, length-map-range_with_len}
 use Rattle.j39_variants.specs.declared.line.ProductLine.{ProductLine}
-use Rattle.j39_line_bounds.specs.LineTimes.{AreWorst, IsGreatestLoad, IsTimesAmong, IsWorst, flow_at, flow_badness, is_less_bad, need_at, need_badness, worse}
+use Rattle.j39_line_bounds.specs.LineTimes.{AreWorst, IsGreatestLoad, IsTimesAmong, IsWorst, time_of_flow, flow_badness, is_less_bad, time_of_need, need_badness, worse}
 use Rattle.j39_line_bounds.specs.declared.times.Badness.{Badness}
 use Rattle.j39_line_bounds.specs.declared.times.FlowTime.TheVariants as flow
 use Rattle.j39_line_bounds.specs.declared.times.LineTimes.{LineTimes as Times}
@@ -136,29 +136,29 @@ greatest_with each more load is = record {
 }
 
 pub all_with : (line : ProductLine) (each : List Times) (one more told : Times)
-    → told.flows.items ≡ map (λ f. worse flow_badness (flow_at one f) (flow_at more f)) (range_with_len 0 (length one.flows.items))
-    → told.needs.items ≡ map (λ d. worse need_badness (need_at one d) (need_at more d)) (range_with_len 0 (length one.needs.items))
+    → told.flows.items ≡ map (λ f. worse flow_badness (time_of_flow one f) (time_of_flow more f)) (range_with_len 0 (length one.flows.items))
+    → told.needs.items ≡ map (λ d. worse need_badness (time_of_need one d) (time_of_need more d)) (range_with_len 0 (length one.needs.items))
     → told.load ≡ max one.load more.load → AreWorst line each one → AreWorst line (each ++ more ∷ []) told
 all_with line each one more told flows needs load are =
-    let worse_flow = λ (f : ℕ). worse flow_badness (flow_at one f) (flow_at more f) in
-    let worse_need = λ (d : ℕ). worse need_badness (need_at one d) (need_at more d) in
+    let worse_flow = λ (f : ℕ). worse flow_badness (time_of_flow one f) (time_of_flow more f) in
+    let worse_need = λ (d : ℕ). worse need_badness (time_of_need one d) (time_of_need more d) in
     let n = length one.flows.items in
     let m = length one.needs.items in record {
       flow_count = ap length flows ∙ length-map-range_with_len worse_flow 0 n ∙ are.flow_count;
       flows = λ f below.
           let inside : f < n = subst (λ k. f < k) (sym are.flow_count) below in
           let first : 0 + f ≡ f = omega arith in
-          let here : flow_at told f ≡ worse_flow f =
+          let here : time_of_flow told f ≡ worse_flow f =
           ap (λ xs. get_or xs f flow.NoVariant) flows ∙ get_or-map-range_with_len worse_flow 0 n f f flow.NoVariant inside first in
-          subst (IsWorst flow_badness flow.NoVariant (λ times. flow_at times f) (each ++ more ∷ [])) (sym here)
-          (worse_with flow_badness flow.NoVariant (λ times. flow_at times f) each more (flow_at one f) (are.flows f below));
+          subst (IsWorst flow_badness flow.NoVariant (λ times. time_of_flow times f) (each ++ more ∷ [])) (sym here)
+          (worse_with flow_badness flow.NoVariant (λ times. time_of_flow times f) each more (time_of_flow one f) (are.flows f below));
       need_count = ap length needs ∙ length-map-range_with_len worse_need 0 m ∙ are.need_count;
       needs = λ d below.
           let inside : d < m = subst (λ k. d < k) (sym are.need_count) below in
           let first : 0 + d ≡ d = omega arith in
-          let here : need_at told d ≡ worse_need d =
+          let here : time_of_need told d ≡ worse_need d =
           ap (λ xs. get_or xs d need.NoVariant) needs ∙ get_or-map-range_with_len worse_need 0 m d d need.NoVariant inside first in
-          subst (IsWorst need_badness need.NoVariant (λ times. need_at times d) (each ++ more ∷ [])) (sym here)
-          (worse_with need_badness need.NoVariant (λ times. need_at times d) each more (need_at one d) (are.needs d below));
+          subst (IsWorst need_badness need.NoVariant (λ times. time_of_need times d) (each ++ more ∷ [])) (sym here)
+          (worse_with need_badness need.NoVariant (λ times. time_of_need times d) each more (time_of_need one d) (are.needs d below));
       load = subst (IsGreatestLoad (each ++ more ∷ [])) (sym load) (greatest_with each more one.load are.load);
     }

@@ -73,12 +73,12 @@ worse bad x y = if is_less_bad (bad x) (bad y) then y else x
 -- ---- in one variant
 
 -- the place in its plan of what stands at a place in the file
-abbrev pub place_of : List ℕ → ℕ → Option ℕ
-place_of places i = position (λ place. place == i) places
+abbrev pub place_in_variant : List ℕ → ℕ → Option ℕ
+place_in_variant places i = position (λ place. place == i) places
 
 -- the delay of a flow of the file
 abbrev pub flow_time : List ℕ → List (Option Delay) → ℕ → FlowTime
-flow_time there delays f = option_map_or (λ i. flow.Told (slice_index_or delays i None)) (place_of there f) flow.NoVariant
+flow_time there delays f = option_map_or (λ i. flow.Told (slice_index_or delays i None)) (place_in_variant there f) flow.NoVariant
 
 -- by which flow of the file, by its place, what is needed is youngest, where several bring it
 abbrev pub youngest_here : List ℕ → Plan → Timing → List (Option Delay) → NeedPlan → Option ℕ
@@ -94,7 +94,7 @@ age_here flows plan timing delays needed =
 -- of a need of the file: none asks for it; what it is for isn't there; or this
 abbrev pub need_time : ProductLine → List ℕ → WhatIsThere → Plan → Timing → List (Option Delay) → ℕ → NeedTime
 need_time line variant there plan timing delays d = if is_need_asked_for line variant d
-    then option_map_or (age_here there.flows.items plan timing delays) (option_and_then (slice_get plan.needs.items) (place_of there.needs.items d)) need.Unmet
+    then option_map_or (age_here there.flows.items plan timing delays) (option_and_then (slice_get plan.needs.items) (place_in_variant there.needs.items d)) need.Unmet
     else need.NoVariant
 
 -- what is told of a possible variant, of each flow and need of the file, in order
@@ -117,11 +117,11 @@ pub record AreVariantTimes (line : ProductLine) (variant : List ℕ) (times : Li
 -- ---- in all of them
 
 -- of a line with these times, what is told of a flow and of a need of the file
-abbrev pub flow_at : LineTimes → ℕ → FlowTime
-flow_at times f = slice_index_or times.flows.items f flow.NoVariant
+abbrev pub time_of_flow : LineTimes → ℕ → FlowTime
+time_of_flow times f = slice_index_or times.flows.items f flow.NoVariant
 
-abbrev pub need_at : LineTimes → ℕ → NeedTime
-need_at times d = slice_index_or times.needs.items d need.NoVariant
+abbrev pub time_of_need : LineTimes → ℕ → NeedTime
+time_of_need times d = slice_index_or times.needs.items d need.NoVariant
 
 -- those of one of some variants
 abbrev pub IsTimesAmong : List LineTimes → LineTimes → Type 0
@@ -141,9 +141,9 @@ pub record IsGreatestLoad (each : List LineTimes) (load : ℕ) : Type 0 where
 -- of each flow and each need of the file the worst, and the greatest load
 pub record AreWorst (line : ProductLine) (each : List LineTimes) (told : LineTimes) : Type 0 where
   pub flow_count : length told.flows.items ≡ length line.plan.flows.items
-  pub flows : (f : ℕ) → f < length line.plan.flows.items → IsWorst flow_badness flow.NoVariant (λ times. flow_at times f) each (flow_at told f)
+  pub flows : (f : ℕ) → f < length line.plan.flows.items → IsWorst flow_badness flow.NoVariant (λ times. time_of_flow times f) each (time_of_flow told f)
   pub need_count : length told.needs.items ≡ length line.plan.needs.items
-  pub needs : (d : ℕ) → d < length line.plan.needs.items → IsWorst need_badness need.NoVariant (λ times. need_at times d) each (need_at told d)
+  pub needs : (d : ℕ) → d < length line.plan.needs.items → IsWorst need_badness need.NoVariant (λ times. time_of_need times d) each (time_of_need told d)
   pub load : IsGreatestLoad each told.load
 
 -- those of each of some variants that are possible, in order
@@ -169,8 +169,8 @@ AreLineTimes line = AreTimesAmong line (all_variants line.choices.items)
 
 -- what is told of one variant is no worse than this
 pub record AreNoWorse (line : ProductLine) (times told : LineTimes) : Type 0 where
-  pub flows : (f : ℕ) → f < length line.plan.flows.items → is_less_bad (flow_badness (flow_at told f)) (flow_badness (flow_at times f)) ≡ false
-  pub needs : (d : ℕ) → d < length line.plan.needs.items → is_less_bad (need_badness (need_at told d)) (need_badness (need_at times d)) ≡ false
+  pub flows : (f : ℕ) → f < length line.plan.flows.items → is_less_bad (flow_badness (time_of_flow told f)) (flow_badness (time_of_flow times f)) ≡ false
+  pub needs : (d : ℕ) → d < length line.plan.needs.items → is_less_bad (need_badness (time_of_need told d)) (need_badness (time_of_need times d)) ≡ false
   pub load : times.load ≤ told.load
 
 -- this is told of some possible variant
@@ -180,8 +180,8 @@ IsOfSomeVariant line at told = (variant : List ℕ) × IsPossible line variant �
 -- each possible variant's times and load are no worse than those that are told; and each that is told is that of one, where one has it
 pub record BoundEachVariant (line : ProductLine) (told : LineTimes) : Type 0 where
   pub each : (variant : List ℕ) → IsPossible line variant → (times : LineTimes) × AreVariantTimes line variant times × AreNoWorse line times told
-  pub flows : (f : ℕ) → f < length line.plan.flows.items → (flow_at told f ≡ flow.NoVariant) ⊎ IsOfSomeVariant line (λ times. flow_at times f) (flow_at told f)
-  pub needs : (d : ℕ) → d < length line.plan.needs.items → (need_at told d ≡ need.NoVariant) ⊎ IsOfSomeVariant line (λ times. need_at times d) (need_at told d)
+  pub flows : (f : ℕ) → f < length line.plan.flows.items → (time_of_flow told f ≡ flow.NoVariant) ⊎ IsOfSomeVariant line (λ times. time_of_flow times f) (time_of_flow told f)
+  pub needs : (d : ℕ) → d < length line.plan.needs.items → (time_of_need told d ≡ need.NoVariant) ⊎ IsOfSomeVariant line (λ times. time_of_need times d) (time_of_need told d)
   pub load : (told.load ≡ 0) ⊎ IsOfSomeVariant line (λ times. times.load) told.load
 
 abbrev pub TimesBoundEachVariant : Type 0
@@ -190,22 +190,22 @@ TimesBoundEachVariant = (line : ProductLine) (told : LineTimes) → AreLineTimes
 -- where a number is told, that of one variant is no more: a flow within so many bits is never late, and waits for no more; one that is late
 -- with so many isn't late with more, nor with none; long messages are whole in as many; a need is met, and what it is for is no older
 pub record BoundNumbers (line : ProductLine) (told times : LineTimes) : Type 0 where
-  pub never_late : (f : ℕ) → f < length line.plan.flows.items → (bits : ℕ) → flow_at told f ≡ flow.Told (Some (Within bits))
-      → flow_at times f ≢ flow.Told (Some Late)
-  pub never_beyond : (f : ℕ) → f < length line.plan.flows.items → (bits more : ℕ) → flow_at told f ≡ flow.Told (Some (Within bits))
-      → flow_at times f ≢ flow.Told (Some (Beyond more))
-  pub delays : (f : ℕ) → f < length line.plan.flows.items → (bits here : ℕ) → flow_at told f ≡ flow.Told (Some (Within bits))
-      → flow_at times f ≡ flow.Told (Some (Within here)) → here ≤ bits
-  pub never_unknown : (f : ℕ) → f < length line.plan.flows.items → (bits : ℕ) → flow_at told f ≡ flow.Told (Some (Beyond bits))
-      → flow_at times f ≢ flow.Told (Some Late)
-  pub late_delays : (f : ℕ) → f < length line.plan.flows.items → (bits here : ℕ) → flow_at told f ≡ flow.Told (Some (Beyond bits))
-      → flow_at times f ≡ flow.Told (Some (Beyond here)) → here ≤ bits
-  pub whole : (f : ℕ) → f < length line.plan.flows.items → (of_told here : WholeTime) (bits : ℕ) → flow_at told f ≡ flow.Told (Some (Whole of_told))
-      → time_told of_told ≡ Some bits → flow_at times f ≡ flow.Told (Some (Whole here)) → (fewer : ℕ) × (time_told here ≡ Some fewer) × (fewer ≤ bits)
-  pub met : (d : ℕ) → d < length line.plan.needs.items → (us : ℕ) (youngest : Option ℕ) → need_at told d ≡ need.Age (Some us) youngest
-      → need_at times d ≢ need.Unmet
-  pub ages : (d : ℕ) → d < length line.plan.needs.items → (us : ℕ) (age youngest other : Option ℕ) → need_at told d ≡ need.Age (Some us) youngest
-      → need_at times d ≡ need.Age age other → (fewer : ℕ) × (age ≡ Some fewer) × (fewer ≤ us)
+  pub never_late : (f : ℕ) → f < length line.plan.flows.items → (bits : ℕ) → time_of_flow told f ≡ flow.Told (Some (Within bits))
+      → time_of_flow times f ≢ flow.Told (Some Late)
+  pub never_beyond : (f : ℕ) → f < length line.plan.flows.items → (bits more : ℕ) → time_of_flow told f ≡ flow.Told (Some (Within bits))
+      → time_of_flow times f ≢ flow.Told (Some (Beyond more))
+  pub delays : (f : ℕ) → f < length line.plan.flows.items → (bits here : ℕ) → time_of_flow told f ≡ flow.Told (Some (Within bits))
+      → time_of_flow times f ≡ flow.Told (Some (Within here)) → here ≤ bits
+  pub never_unknown : (f : ℕ) → f < length line.plan.flows.items → (bits : ℕ) → time_of_flow told f ≡ flow.Told (Some (Beyond bits))
+      → time_of_flow times f ≢ flow.Told (Some Late)
+  pub late_delays : (f : ℕ) → f < length line.plan.flows.items → (bits here : ℕ) → time_of_flow told f ≡ flow.Told (Some (Beyond bits))
+      → time_of_flow times f ≡ flow.Told (Some (Beyond here)) → here ≤ bits
+  pub whole : (f : ℕ) → f < length line.plan.flows.items → (of_told here : WholeTime) (bits : ℕ) → time_of_flow told f ≡ flow.Told (Some (Whole of_told))
+      → time_told of_told ≡ Some bits → time_of_flow times f ≡ flow.Told (Some (Whole here)) → (fewer : ℕ) × (time_told here ≡ Some fewer) × (fewer ≤ bits)
+  pub met : (d : ℕ) → d < length line.plan.needs.items → (us : ℕ) (youngest : Option ℕ) → time_of_need told d ≡ need.Age (Some us) youngest
+      → time_of_need times d ≢ need.Unmet
+  pub ages : (d : ℕ) → d < length line.plan.needs.items → (us : ℕ) (age youngest other : Option ℕ) → time_of_need told d ≡ need.Age (Some us) youngest
+      → time_of_need times d ≡ need.Age age other → (fewer : ℕ) × (age ≡ Some fewer) × (fewer ≤ us)
 
 abbrev pub ToldNumbersBoundEachVariant : Type 0
 ToldNumbersBoundEachVariant = (line : ProductLine) (told : LineTimes) → AreLineTimes line told → (variant : List ℕ) → IsPossible line variant

@@ -6,9 +6,9 @@ ghost use Rattle.j39_load.specs.BusTimes.{timing_of};
 ghost use Rattle.j39_variants.specs.VariantPlans.{IsVariantPlan};
 ghost use Rattle.j39_variants.specs.declared.line.ProductLine.{ProductLine as ALine};
 ghost use Rattle.j39_line_bounds.specs.declared.times.LineTimes.{LineTimes as Times};
-ghost use Rattle.j39_line_bounds.specs.LineTimes.{AreLineTimes, AreTimesAmong, AreVariantTimes, AreWorst, flow_at, need_at, worse, youngest_here};
+ghost use Rattle.j39_line_bounds.specs.LineTimes.{AreLineTimes, AreTimesAmong, AreVariantTimes, AreWorst, time_of_flow, time_of_need, worse, youngest_here};
 ghost use Rattle.j39_line_bounds.specs.LineTimes.{age_here, of_degree, badness_known, delay_badness, flow_badness, flow_time};
-ghost use Rattle.j39_line_bounds.specs.LineTimes.{is_less_bad, need_badness, need_time, place_of, time_told};
+ghost use Rattle.j39_line_bounds.specs.LineTimes.{is_less_bad, need_badness, need_time, place_in_variant, time_told};
 
 use j39_line_findings::{WhatIsThere, all_variants, is_need_asked_for, place_in_file};
 use j39_load::{Delay, LoadAnswer, WholeTime, has_several, least_age, timing_of, youngest_flow};
@@ -49,7 +49,7 @@ pub struct LineTimes {
 impl LineTimes {
     /// What is told of the flow at a place of the file.
     pub fn flow(&self, place: usize) -> FlowTime
-        ensures { result ≡ flow_at self.now place }
+        ensures { result ≡ time_of_flow self.now place }
     {
         match self.flows.get(place) {
             Some(time) => *time,
@@ -59,7 +59,7 @@ impl LineTimes {
 
     /// What is told of the need at a place of the file.
     pub fn need(&self, place: usize) -> NeedTime
-        ensures { result ≡ need_at self.now place }
+        ensures { result ≡ time_of_need self.now place }
     {
         match self.needs.get(place) {
             Some(time) => *time,
@@ -140,8 +140,8 @@ fn need_badness(time: &NeedTime) -> Badness
 }
 
 // The place in the plan of a variant of what stands at a place in the file.
-fn place_of(places: &[usize], place: usize) -> Option<usize>
-    ensures { result ≡ place_of places.now place }
+fn place_in_variant(places: &[usize], place: usize) -> Option<usize>
+    ensures { result ≡ place_in_variant places.now place }
 {
     places.iter().position(|other| *other == place)
 }
@@ -149,7 +149,7 @@ fn place_of(places: &[usize], place: usize) -> Option<usize>
 fn flow_time(there: &[usize], delays: &[Option<Delay>], flow: usize) -> FlowTime
     ensures { result ≡ flow_time there.now delays.now flow }
 {
-    match place_of(there, flow) {
+    match place_in_variant(there, flow) {
         None => FlowTime::NoVariant,
         Some(place) => match delays.get(place) {
             Some(delay) => FlowTime::Told(*delay),
@@ -215,7 +215,7 @@ impl VariantLoad<'_> {
         if !is_need_asked_for(self.line, self.variant, place) {
             return NeedTime::NoVariant;
         }
-        match place_of(&self.there.needs, place) {
+        match place_in_variant(&self.there.needs, place) {
             None => NeedTime::Unmet,
             Some(found) => match self.plan.needs.get(found) {
                 Some(need) => self.age_of(need),
@@ -294,7 +294,7 @@ fn worse_flows(
     one: &LineTimes,
     other: &LineTimes,
 ) -> Result<Vec<FlowTime>, AllocError>
-    ensures { IfOk result (λ v. v.items ≡ map (λ f. worse flow_badness (flow_at one.now f) (flow_at other.now f)) (range_with_len 0 (length one.now.flows.items))) }
+    ensures { IfOk result (λ v. v.items ≡ map (λ f. worse flow_badness (time_of_flow one.now f) (time_of_flow other.now f)) (range_with_len 0 (length one.now.flows.items))) }
 {
     (0..one.flows.len())
         .map(|place| worse_flow(one.flow(place), other.flow(place)))
@@ -306,7 +306,7 @@ fn worse_needs(
     one: &LineTimes,
     other: &LineTimes,
 ) -> Result<Vec<NeedTime>, AllocError>
-    ensures { IfOk result (λ v. v.items ≡ map (λ d. worse need_badness (need_at one.now d) (need_at other.now d)) (range_with_len 0 (length one.now.needs.items))) }
+    ensures { IfOk result (λ v. v.items ≡ map (λ d. worse need_badness (time_of_need one.now d) (time_of_need other.now d)) (range_with_len 0 (length one.now.needs.items))) }
 {
     (0..one.needs.len())
         .map(|place| worse_need(one.need(place), other.need(place)))

@@ -10,6 +10,7 @@ use Rattle.j39_variants.specs.declared.line.ProductLine.{ProductLine}
 use Rattle.j39_variants.specs.VariantPlans.{flags}
 use Rattle.j39_variants.specs.Variants.{is_in, takes_alternative}
 use Rattle.j39_line_findings.specs.Boxes.{is_one_alternative, lets_in}
+use Rattle.j39_part_laws.proofs.Places.{no_value}
 use Rattle.j39_line_findings.specs.FullVariants.{alternative_at, do_keep, is_covered}
 
 -- ---- tests of all values, and of any
@@ -20,7 +21,7 @@ pub record IsAtSome {X : Type 0} (p : X → Bool) (xs : List X) : Type 0 where
   pub value_is : slice_get xs i ≡ Some value
   pub passes : p value ≡ true
 
-any_at : {X : Type 0} (p : X → Bool) (xs : List X) → list_any p xs ≡ true → IsAtSome p xs
+pub any_at : {X : Type 0} (p : X → Bool) (xs : List X) → list_any p xs ≡ true → IsAtSome p xs
 any_at p [] some = absurd (false≢true some)
 any_at p (x ∷ xs) some = elim (or_cases (p x) (list_any p xs) some) [
   | inl here ↦ record { i = 0; value = x; value_is = refl; passes = here }
@@ -29,19 +30,17 @@ any_at p (x ∷ xs) some = elim (or_cases (p x) (list_any p xs) some) [
       record { i = suc its.i; value = its.value; value_is = its.value_is; passes = its.passes }
 ]
 
-at_any : {X : Type 0} (p : X → Bool) (xs : List X) (i : ℕ) (x : X) → slice_get xs i ≡ Some x → p x ≡ true → list_any p xs ≡ true
-at_any p [] zero x at passes = cc
-at_any p [] (suc i) x at passes = cc
+pub at_any : {X : Type 0} (p : X → Bool) (xs : List X) (i : ℕ) (x : X) → slice_get xs i ≡ Some x → p x ≡ true → list_any p xs ≡ true
+at_any p [] i x at passes = absurd (no_value i x at)
 at_any p (y ∷ ys) zero x at passes = or_left (p y) (list_any p ys) (ap p (same_Some y x at) ∙ passes)
 at_any p (y ∷ ys) (suc i) x at passes = or_right (p y) (list_any p ys) (at_any p ys i x at passes)
 
-all_at : {X : Type 0} (p : X → Bool) (xs : List X) → list_all p xs ≡ true → (i : ℕ) (x : X) → slice_get xs i ≡ Some x → p x ≡ true
-all_at p [] all zero x at = cc
-all_at p [] all (suc i) x at = cc
+pub all_at : {X : Type 0} (p : X → Bool) (xs : List X) → list_all p xs ≡ true → (i : ℕ) (x : X) → slice_get xs i ≡ Some x → p x ≡ true
+all_at p [] all i x at = absurd (no_value i x at)
 all_at p (y ∷ ys) all zero x at = ap p (sym (same_Some y x at)) ∙ (and_parts (p y) (list_all p ys) all).0
 all_at p (y ∷ ys) all (suc i) x at = all_at p ys (and_parts (p y) (list_all p ys) all).1 i x at
 
-at_all : {X : Type 0} (p : X → Bool) (xs : List X) → ((i : ℕ) (x : X) → slice_get xs i ≡ Some x → p x ≡ true) → list_all p xs ≡ true
+pub at_all : {X : Type 0} (p : X → Bool) (xs : List X) → ((i : ℕ) (x : X) → slice_get xs i ≡ Some x → p x ≡ true) → list_all p xs ≡ true
 at_all p [] each = refl
 at_all p (x ∷ xs) each = and_from (p x) (list_all p xs) (each 0 x refl) (at_all p xs (λ i y at. each (suc i) y at))
 

@@ -15,6 +15,7 @@ use Rattle.j39_variants.specs.VariantPlans.{unit_places}
 use Rattle.j39_variants.specs.Variants.{is_in}
 use Rattle.j39_line_findings.specs.MissedNeeds.{is_in_at}
 use Rattle.j39_line_findings.specs.There.{is_flow_there, is_receiver_there, is_request_there}
+use Rattle.j39_part_laws.proofs.Places.{no_value}
 use Rattle.j39_line_part_laws.proofs.Boxes.{AreFewer}
 use Rattle.j39_line_part_laws.proofs.Picking.{kept}
 
@@ -36,10 +37,8 @@ filtered test (b ∷ bs) a same =
 -- of lists of one length the same places are picked
 pub parallel : {X Y : Type 0} (bs : List Bool) (xs : List X) (ys : List Y) → length xs ≡ length ys → (i : ℕ) (x : X) → slice_get (picked bs xs) i ≡ Some x
     → (y : Y) × (slice_get (picked bs ys) i ≡ Some y)
-parallel [] xs ys same zero x at = cc
-parallel [] xs ys same (suc i) x at = cc
-parallel (b ∷ bs) [] ys same zero x at = cc
-parallel (b ∷ bs) [] ys same (suc i) x at = cc
+parallel [] xs ys same i x at = absurd (no_value i x at)
+parallel (b ∷ bs) [] ys same i x at = absurd (no_value i x at)
 parallel (b ∷ bs) (z ∷ xs) [] same i x at = absurd (omega (arith, same))
 parallel (true ∷ bs) (z ∷ xs) (y ∷ ys) same zero x at = (y, refl)
 parallel (true ∷ bs) (z ∷ xs) (y ∷ ys) same (suc i) x at = parallel bs xs ys (omega (arith, same)) i x at
@@ -47,10 +46,8 @@ parallel (false ∷ bs) (z ∷ xs) (y ∷ ys) same i x at = parallel bs xs ys (o
 
 pub parallel_kept : {X Y Z : Type 0} (f : X → Option Z) (bs : List Bool) (xs : List X) (ys : List Y) → length xs ≡ length ys → (i : ℕ) (z : Z)
     → slice_get (filter_map f (picked bs xs)) i ≡ Some z → (y : Y) × (slice_get (picked (kept f bs xs) ys) i ≡ Some y)
-parallel_kept f [] xs ys same zero z at = cc
-parallel_kept f [] xs ys same (suc i) z at = cc
-parallel_kept f (b ∷ bs) [] ys same zero z at = cc
-parallel_kept f (b ∷ bs) [] ys same (suc i) z at = cc
+parallel_kept f [] xs ys same i z at = absurd (no_value i z at)
+parallel_kept f (b ∷ bs) [] ys same i z at = absurd (no_value i z at)
 parallel_kept f (b ∷ bs) (x ∷ xs) [] same i z at = absurd (omega (arith, same))
 parallel_kept f (false ∷ bs) (x ∷ xs) (y ∷ ys) same i z at = parallel_kept f bs xs ys (omega (arith, same)) i z at
 parallel_kept {Y = Y} {Z = Z} f (true ∷ bs) (x ∷ xs) (y ∷ ys) same i z at =
@@ -72,8 +69,7 @@ length-kept f (b ∷ bs) (x ∷ xs) same = let rest = length-kept f bs xs (omega
 
 pub kept_at : {X Y : Type 0} (f : X → Option Y) (bs : List Bool) (xs : List X) (k : ℕ) (x : X) → length bs ≡ length xs → slice_get xs k ≡ Some x
     → flag_at (kept f bs xs) k ≡ (flag_at bs k && is_some (f x))
-kept_at f bs [] zero x same at = cc
-kept_at f bs [] (suc k) x same at = cc
+kept_at f bs [] k x same at = absurd (no_value k x at)
 kept_at f [] (z ∷ xs) k x same at = absurd (omega (arith, same))
 kept_at f (b ∷ bs) (z ∷ xs) zero x same at = ap (λ v. b && is_some (f v)) (same_Some z x at)
 kept_at f (b ∷ bs) (z ∷ xs) (suc k) x same at = kept_at f bs xs k x (omega (arith, same)) at

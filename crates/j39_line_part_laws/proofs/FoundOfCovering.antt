@@ -21,6 +21,7 @@ use Rattle.j39_network.specs.declared.plan.unit_plan.UnitPlan.{UnitPlan}
 use Rattle.j39_variants.specs.declared.line.ProductLine.{ProductLine}
 use Rattle.j39_part_laws.specs.ByAbsence.{comes_by_absence, IsFoundThere}
 use Rattle.j39_part_laws.specs.PlanParts.{HoldsThere, IsPartAt, Places}
+use Rattle.j39_part_laws.proofs.Places.{value_at}
 use Rattle.j39_part_laws.proofs.Findings.{holds_there}
 use Rattle.j39_part_laws.proofs.LoadFindings.{are_found_there}
 use Rattle.j39_line_findings.specs.InFile.{amount_of, finding_in_file, load_finding_in_file, rank_by, rank_of}
@@ -33,7 +34,7 @@ use Rattle.j39_line_findings.specs.declared.there.WhatIsThere.{WhatIsThere}
 use Rattle.j39_line_part_laws.specs.Covering.{IsCoveredBy}
 use Rattle.j39_line_part_laws.specs.FoundOfCovering.{AreFoundOfCovering, IsAbsentOrFound, is_by_absence, OnlyAbsenceIsTold}
 use Rattle.j39_line_part_laws.proofs.Parts.{at, is_part_at}
-use Rattle.j39_line_part_laws.proofs.PlacesInFile.{flow_same, group_same, request_same, unit_same, value_at}
+use Rattle.j39_line_part_laws.proofs.PlacesInFile.{flow_same, group_same, request_same, unit_same}
 
 -- ---- one of some findings
 

@@ -1,7 +1,10 @@
 mod Boxes
 mod Filtering
 mod FoundOfCovering
+mod Full
+mod FullCovers
 mod Parts
 mod Picking
 mod PlacesInFile
 mod Possible
+mod Suffices

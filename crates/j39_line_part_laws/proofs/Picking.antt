@@ -6,6 +6,7 @@ use Rattle.std.proofs.lemmas.Option.{none-some, same_Some}
 use Rattle.j39_search.specs.ListPlaces.{ValueAt}
 use Rattle.j39_variants.specs.VariantPlans.{picked, place_at, places}
 use Rattle.j39_part_laws.specs.PlanParts.{AreSome, IsSame}
+use Rattle.j39_part_laws.proofs.Places.{no_value}
 use Rattle.j39_line_part_laws.proofs.Boxes.{AreFewer}
 
 -- where what is picked by the first flags stands among what is picked by the second
@@ -32,10 +33,6 @@ thin_rises (false ∷ bs) (false ∷ cs) i j below = thin_rises bs cs i j below
 
 behind : {Y : Type 0} (P : Y → Type 0) (z : Y) (zs : List Y) (k : ℕ) → ValueAt P zs k → ValueAt P (z ∷ zs) (suc k)
 behind P z zs k at = record { value = at.value; value_is = at.value_is; meets = at.meets }
-
-no_value : {Y : Type 0} (i : ℕ) (y : Y) → slice_get [] i ≡ Some y → ⊥
-no_value zero y at = cc
-no_value (suc i) y at = cc
 
 step : {Y : Type 0} (R : Y → Y → Type 0) (o q : Option Y) → ((y : Y) → o ≡ Some y → (z : Y) × (q ≡ Some z) × R y z) → (ls rs : List Y) (ks ms : List Bool)
     → ((i : ℕ) (y : Y) → slice_get ls i ≡ Some y → ValueAt (R y) rs (thin ks ms i)) → (i : ℕ) (y : Y) → slice_get (cons_option o ls) i ≡ Some y

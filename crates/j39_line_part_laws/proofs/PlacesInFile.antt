@@ -1,5 +1,5 @@
 -- What is there in both variants has one place in the file.
-use Rattle.std.proofs.Common.{◌≡◌, ℕ, zero, suc, ◌+◌, ◌<◌, Bool, true, List, [], ◌∷◌, length, filter, Option, Some, is_some, unwrap_or, refl, sym, ◌∙◌, ap, subst, arith}
+use Rattle.std.proofs.Common.{◌≡◌, ℕ, zero, suc, ◌+◌, ◌<◌, Bool, true, List, length, filter, Option, Some, is_some, unwrap_or, refl, sym, ◌∙◌, ap, subst, arith}
 use Rattle.std.specs.List.{range_with_len, slice_get}
 use Rattle.std.proofs.lemmas.List.{length-map}
 use Rattle.j39_network.specs.declared.plan.Plan.{Plan}
@@ -12,6 +12,7 @@ use Rattle.j39_variants.specs.VariantPlans.{flag_at, flags, IsVariantPlan, IsCop
 use Rattle.j39_line_findings.specs.MissedNeeds.{is_group_there, is_unit_there}
 use Rattle.j39_line_findings.specs.There.{is_flow_there, is_request_there, IsWhatIsThere, place_in_file, places_of_those}
 use Rattle.j39_line_findings.specs.declared.there.WhatIsThere.{WhatIsThere}
+use Rattle.j39_part_laws.proofs.Places.{value_at}
 use Rattle.j39_line_part_laws.specs.Covering.{IsCoveredBy}
 use Rattle.j39_line_part_laws.proofs.Boxes.{AreFewer}
 use Rattle.j39_line_part_laws.proofs.Filtering.{filtered, flow_test, kept_at, kept_fewer, length-kept, parallel, parallel_kept, request_test, test_in}
@@ -42,11 +43,6 @@ length-range a (suc n) = ap suc (length-range (a + 1) n)
 
 some_is : {Y : Type 0} (o : Option Y) (y : Y) → o ≡ Some y → is_some o ≡ true
 some_is o y is = ap is_some is
-
-pub value_at : {X : Type 0} (xs : List X) (k : ℕ) → k < length xs → (x : X) × (slice_get xs k ≡ Some x)
-value_at [] k below = absurd (omega (arith, below))
-value_at (x ∷ xs) zero below = (x, refl)
-value_at (x ∷ xs) (suc k) below = value_at xs k (omega (arith, below))
 
 module _ (line : ProductLine) (v w : List ℕ) (covered : IsCoveredBy line v w) (part : Plan) (is : IsVariantPlan line v part) (here there : WhatIsThere)
     (are_here : IsWhatIsThere line v here) (are_there : IsWhatIsThere line w there) where

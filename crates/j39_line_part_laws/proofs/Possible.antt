@@ -1,7 +1,6 @@
 -- A variant that covers a possible one is possible.
 use Rattle.std.specs.declared.alloc.Global.{Global}
-use Rattle.std.proofs.Common.{◌≡◌, ℕ, zero, suc, ◌<◌, true, not, List, [], ◌∷◌, length, Some, Vec, refl, sym, ◌∙◌, ap, inl, inr, arith}
-use Rattle.std.specs.List.{slice_get}
+use Rattle.std.proofs.Common.{◌≡◌, ℕ, true, not, List, [], ◌∷◌, Vec, refl, sym, ◌∙◌, ap, inl, inr, arith}
 use Rattle.std.proofs.lemmas.Bool.{and_from, and_parts, cases_Bool, false≢true}
 use Rattle.std.proofs.lemmas.Option.{same_Some, slice_get_within}
 use Rattle.j39_variants.specs.declared.line.Alternative.{Alternative}
@@ -9,13 +8,9 @@ use Rattle.j39_variants.specs.declared.line.ProductLine.{ProductLine}
 use Rattle.j39_variants.specs.VariantPlans.{flags}
 use Rattle.j39_variants.specs.Variants.{is_in, is_possible, IsVariant}
 use Rattle.j39_line_findings.specs.FullVariants.{alternative_at, do_keep}
+use Rattle.j39_part_laws.proofs.Places.{value_at}
 use Rattle.j39_line_part_laws.specs.Covering.{IsCoveredBy}
 use Rattle.j39_line_part_laws.proofs.Boxes.{AreFewer, fewer, keep_nevers, KeepAll}
-
-value_of : (xs : List ℕ) (k : ℕ) → k < length xs → (x : ℕ) × (slice_get xs k ≡ Some x)
-value_of [] k below = absurd (omega (arith, below))
-value_of (x ∷ xs) zero below = (x, refl)
-value_of (x ∷ xs) (suc k) below = value_of xs k (omega (arith, below))
 
 -- no box that has the second variant lacks the first
 no_more : (nevers : List (Vec Alternative Global)) (v w : List ℕ) → AreFewer (flags w nevers) (flags v nevers) → is_possible nevers v ≡ true → is_possible nevers w ≡ true
@@ -37,7 +32,7 @@ possible_too line v w one other covered =
         let below = slice_get_within w c q at_q in
         let long = one.of_each in
         let also = other.of_each in
-        let (p, at_p) = value_of v c (omega (arith, below, long, also)) in
+        let (p, at_p) = value_at v c (omega (arith, below, long, also)) in
         let (r, at_r, covers) = covered c p at_p in
         let same : r ≡ q = same_Some r q (sym at_r ∙ at_q) in
         (p, at_p, ap (λ k. do_keep line.nevers.items (alternative_at c k) (alternative_at c p)) (sym same) ∙ keep_nevers line (alternative_at c p) (alternative_at c r) covers)

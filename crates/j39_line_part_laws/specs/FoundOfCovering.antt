@@ -5,7 +5,11 @@ use Rattle.j39_findings.specs.declared.checking.finding.Finding.TheVariants.{Bad
 use Rattle.j39_load.specs.declared.findings.load_finding.LoadFinding.{LoadFinding}
 use Rattle.j39_part_laws.specs.ByAbsence.{comes_by_absence, load_comes_by_absence}
 use Rattle.j39_line_findings.specs.InFile.{amount_of, rank_of}
+use Rattle.j39_variants.specs.declared.line.ProductLine.{ProductLine}
+use Rattle.j39_line_findings.specs.LineAnswers.{IsPossible}
 use Rattle.j39_line_findings.specs.LineFindingLaws.{IsFound}
+use Rattle.j39_line_findings.specs.LineFound.{AreVariantFindings}
+use Rattle.j39_line_part_laws.specs.Covering.{IsFullVariant}
 use Rattle.j39_line_findings.specs.declared.line_finding.LineFinding.{LineFinding}
 use Rattle.j39_line_findings.specs.declared.line_finding.LineFinding.TheVariants.{OfPlan, OfLoad}
 
@@ -30,3 +34,12 @@ pub record AreFoundOfCovering (here there : List LineFinding) : Type 0 where
 -- all that is found comes by absence
 abbrev pub OnlyAbsenceIsTold : List LineFinding → Type 0
 OnlyAbsenceIsTold findings = (finding : LineFinding) → IsFound findings finding → is_by_absence finding ≡ true
+
+-- so it is with the plan of this variant
+abbrev pub IsAbsenceAlone : ProductLine → List ℕ → Type 0
+IsAbsenceAlone line variant = (findings : List LineFinding) × AreVariantFindings line variant findings × OnlyAbsenceIsTold findings
+
+-- where it is so with each possible variant that is full, it is with all that is found of any possible one
+abbrev pub FullVariantsSuffice : ProductLine → Type 0
+FullVariantsSuffice line = ((w : List ℕ) → IsPossible line w → IsFullVariant line w → IsAbsenceAlone line w) → (v : List ℕ) → IsPossible line v
+    → (findings : List LineFinding) → AreVariantFindings line v findings → OnlyAbsenceIsTold findings

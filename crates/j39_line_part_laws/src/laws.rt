@@ -2,8 +2,8 @@
 ghost use Rattle.std.specs.Prelude.{◌≡◌, ℕ, List, true};
 ghost use Rattle.j39_line_findings.specs.LineFound.{AreVariantFindings};
 ghost use Rattle.j39_line_findings.specs.declared.line_finding.LineFinding.{LineFinding};
-ghost use Rattle.j39_line_part_laws.specs.Covering.{IsCoveredBy};
-ghost use Rattle.j39_line_part_laws.specs.FoundOfCovering.{AreFoundOfCovering, OnlyAbsenceIsTold};
+ghost use Rattle.j39_line_part_laws.specs.Covering.{HasFullCover, IsCoveredBy};
+ghost use Rattle.j39_line_part_laws.specs.FoundOfCovering.{AreFoundOfCovering, FullVariantsSuffice, OnlyAbsenceIsTold};
 ghost use Rattle.j39_network.specs.declared.plan.Plan.{Plan};
 ghost use Rattle.j39_part_laws.specs.PlanParts.{IsPlanPart};
 ghost use Rattle.j39_variants.specs.VariantPlans.{IsVariantPlan};
@@ -35,4 +35,15 @@ pub fn only_absence_is_found_of_covered_variants()
     ensures { (line : ProductLine) (v w : List ℕ) (here there : List LineFinding) → IsCoveredBy line v w
         → AreVariantFindings line v here → AreVariantFindings line w there → OnlyAbsenceIsTold there
         → OnlyAbsenceIsTold here }
+{}
+
+/// Each variant is covered by one that takes full alternatives alone.
+pub fn each_variant_has_a_full_cover()
+    ensures { (line : ProductLine) (v : List ℕ) → IsVariant line.choices.items v → HasFullCover line v }
+{}
+
+/// Where only absence is found of each possible variant that takes full alternatives alone, only absence is found of
+/// any possible one.
+pub fn full_variants_suffice_but_for_absence()
+    ensures { (line : ProductLine) → FullVariantsSuffice line }
 {}

@@ -11,7 +11,7 @@ use Rattle.j39_line_findings.specs.LineFound.{AreLineFindings}
 use Rattle.j39_line_findings.specs.declared.witnessed.Witnessed.{Witnessed}
 use Rattle.j39_line_text.specs.Hindrances.{AreAllShown, hides}
 use Rattle.j39_line_text.specs.LineAddressesText.{IsHiddenReport}
-use Rattle.j39_line_text.specs.TimeLines.{times_text}
+use Rattle.j39_line_text.specs.TimeLines.{line_times_text}
 use Rattle.j39_line_text.specs.WitnessLines.{untold_of_line_text}
 use Rattle.j39_line_text.specs.declared.hindrances.Asked.TheVariants.{Times}
 use Rattle.j39_plan_text.specs.LoadText.{IsLoadReport}
@@ -32,7 +32,7 @@ pub record IsTimesReport (line : ProductLine) (timing : Timing) (text : List ℕ
   pub bounds : BoundEachVariant line times
   pub told : List Witnessed
   pub are_told : AreLineFindings line told
-  pub text_is : text ≡ times_text line.plan timing times ++ untold_of_line_text line (alternatives_of line) (all_variants line.choices.items) told
+  pub text_is : text ≡ line_times_text line.plan timing times ++ untold_of_line_text line (alternatives_of line) (all_variants line.choices.items) told
   pub verdict_is : verdict ≡ line_load_verdict told
 
 -- what is written for a line of vehicles of whose bus this is known, with the verdict: as check does, where a finding hides the times

@@ -8,7 +8,7 @@ use Rattle.j39_network.specs.declared.plan.flow_plan.FlowPlan.{FlowPlan}
 use Rattle.j39_network.specs.declared.plan.need_plan.NeedPlan.{NeedPlan}
 use Rattle.j39_network.specs.declared.plan.pace.Pace.{Pace}
 use Rattle.j39_network.specs.declared.plan.timing.Timing.{Timing}
-use Rattle.j39_line_bounds.specs.LineTimes.{flow_at, need_at}
+use Rattle.j39_line_bounds.specs.LineTimes.{time_of_flow, time_of_need}
 use Rattle.j39_line_bounds.specs.declared.times.FlowTime.{FlowTime}
 use Rattle.j39_line_bounds.specs.declared.times.FlowTime.TheVariants as flow
 use Rattle.j39_line_bounds.specs.declared.times.LineTimes.{LineTimes}
@@ -25,7 +25,7 @@ flow_time_text timing pace (flow.Told delay) = known_delay_text timing pace dela
 
 unfoldable pub line_flow_line : Plan → Timing → LineTimes → ℕ → FlowPlan → List ℕ
 line_flow_line plan timing times f planned =
-    flow_text plan f planned ++ (flow_time_text timing planned.pace (flow_at times f) ++ 10 ∷ [])
+    flow_text plan f planned ++ (flow_time_text timing planned.pace (time_of_flow times f) ++ 10 ∷ [])
 
 unfoldable pub youngest_text : Option ℕ → List ℕ
 youngest_text youngest = option_map_or (place_field (codes " flow ")) youngest []
@@ -39,10 +39,10 @@ need_time_text limit (need.Age age youngest) = age_text limit age ++ youngest_te
 -- a need, where it asks for an age
 unfoldable pub line_need_line : Plan → LineTimes → ℕ → NeedPlan → List ℕ
 line_need_line plan times d needed = option_map_or
-    (λ within. need_text plan d needed ++ (need_time_text (1000 * within) (need_at times d) ++ 10 ∷ [])) needed.within []
+    (λ within. need_text plan d needed ++ (need_time_text (1000 * within) (time_of_need times d) ++ 10 ∷ [])) needed.within []
 
 -- each flow of the file with its delay, each need that asks for an age with it, and the load
-unfoldable pub times_text : Plan → Timing → LineTimes → List ℕ
-times_text plan timing times = lines_of_each (line_flow_line plan timing times) 0 plan.flows.items
+unfoldable pub line_times_text : Plan → Timing → LineTimes → List ℕ
+line_times_text plan timing times = lines_of_each (line_flow_line plan timing times) 0 plan.flows.items
     ++ (lines_of_each (line_need_line plan times) 0 plan.needs.items
     ++ (field (codes "load ") times.load ++ (field (codes " of ") (bits_of_second timing.bitrate) ++ 10 ∷ [])))

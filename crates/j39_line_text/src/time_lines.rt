@@ -1,7 +1,7 @@
 //! The lines that tell of the times of a line of vehicles.
 ghost use Rattle.std.specs.Prelude.{◌≡◌, ◌++◌, ◌*◌, OnOk};
 ghost use Rattle.j39_load.specs.LineLists.{lines_of_each};
-ghost use Rattle.j39_line_text.specs.TimeLines.{flow_time_text, line_flow_line, line_need_line, need_time_text, times_text, youngest_text};
+ghost use Rattle.j39_line_text.specs.TimeLines.{flow_time_text, line_flow_line, line_need_line, need_time_text, line_times_text, youngest_text};
 
 use j39_line_bounds::{FlowTime, LineTimes, NeedTime};
 use j39_load::bits_of_second;
@@ -111,14 +111,14 @@ fn write_needs(text: &mut TextBuffer, plan: &Plan, times: &LineTimes) -> Result<
 }
 
 /// Writes each flow with its worst delay, each need that asks for an age with its worst, and the greatest load.
-#[tactic(auto, unfolding(crate::specs::TimeLines::times_text))]
+#[tactic(auto, unfolding(crate::specs::TimeLines::line_times_text))]
 pub(crate) fn write_times(
     text: &mut TextBuffer,
     plan: &Plan,
     timing: Timing,
     times: &LineTimes,
 ) -> Result<(), AllocError>
-    ensures { OnOk result (text.new ≡ text.old ++ times_text plan.now timing times.now) }
+    ensures { OnOk result (text.new ≡ text.old ++ line_times_text plan.now timing times.now) }
 {
     write_flows(text, plan, timing, times)?;
     write_needs(text, plan, times)?;

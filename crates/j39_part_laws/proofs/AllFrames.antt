@@ -26,6 +26,7 @@ use Rattle.j39_part_laws.specs.PartLoads.{HasGoodNumbers}
 use Rattle.j39_part_laws.specs.PlanParts.{AreSome, IsFlowThere, IsPartAt, IsRequestThere, Places}
 use Rattle.j39_part_laws.specs.Sublists.{IsSub}
 use Rattle.j39_part_laws.proofs.FlowLoads.{flow_alike, flows_alike, FramesAlike, LoadsAlike, singles_there}
+use Rattle.j39_part_laws.proofs.Places.{no_value, value_at}
 use Rattle.j39_part_laws.proofs.PlanFrames.{there_too, unit_at_place}
 use Rattle.j39_part_laws.proofs.Sublists.{sub_of}
 use Rattle.j39_part_laws.proofs.UnitLoads.{announcements_there, asked_there, broadcasts_there, packets_there, request_there, RequestsAlike, unit_there, UnitsAlike}
@@ -70,16 +71,10 @@ module _ {A : Type 0} (R : A → A → Type 0) where
   some_append place other xs ys zs ws one two = record { rises = rises; each = each }
     where
       inside : (i : ℕ) → i < length xs → place i < length ys
-      inside i below = go (slice_get xs i) refl
-        where
-          missing : (vs : List A) (k : ℕ) → k < length vs → slice_get vs k ≡ None → ⊥
-          missing [] k less none = omega (arith, less)
-          missing (v ∷ vs) zero less none = cc
-          missing (v ∷ vs) (suc k) less none = missing vs k (omega (arith, less)) none
-
-          go : (o : Option A) → slice_get xs i ≡ o → place i < length ys
-          go (Some x) its = let there = one.each i x its in slice_get_within ys (place i) there.value there.value_is
-          go None none = absurd (missing xs i below none)
+      inside i below =
+          let (x, its) = value_at xs i below in
+          let there = one.each i x its in
+          slice_get_within ys (place i) there.value there.value_is
 
       rises : (i j : ℕ) → i < j → joined place other (length xs) (length ys) i < joined place other (length xs) (length ys) j
       rises i j below = elim (cases_lt j (length xs)) [
@@ -126,11 +121,7 @@ some_map {A = A} {B = B} S R f g place xs ys are over = record { rises = are.ris
             }
 
 pub some_none : {A : Type 0} (R : A → A → Type 0) (place : ℕ → ℕ) → ((i j : ℕ) → i < j → place i < place j) → (ys : List A) → AreSome place R [] ys
-some_none {A = A} R place rises ys = record { rises = rises; each = λ i x its. absurd (no i x its) }
-  where
-    no : (i : ℕ) (x : A) → slice_get [] i ≡ Some x → ⊥
-    no zero x its = cc
-    no (suc i) x its = cc
+some_none R place rises ys = record { rises = rises; each = λ i x its. absurd (no_value i x its) }
 
 -- ---- what a part asks
 
@@ -342,8 +333,7 @@ module _ (at : Places) (part whole : Plan) (is : IsPartAt at part whole) (good :
           (omega arith, omega (arith, packets, sum))
 
       among : (xs : List (Option FlowLoad)) (i : ℕ) → slice_get xs i ≡ Some load → IsOneOf b (broadcasts_by u xs)
-      among [] zero at = absurd cc
-      among [] (suc i) at = absurd cc
+      among [] i at = absurd (no_value i load at)
       among (x ∷ xs) zero at = front (broadcast_by u x) (broadcasts_by u xs) (ap (broadcast_by u) (same_Some x load at) ∙ its_b)
       among (x ∷ xs) (suc i) at = behind (broadcast_by u x) (broadcasts_by u xs) (among xs i at)
 
@@ -353,11 +343,7 @@ module _ (at : Places) (part whole : Plan) (is : IsPartAt at part whole) (good :
 
       go : (xs : List (Option FlowLoad)) → slice_get xs f ≡ Some load
           → (l : UnitLoad) × (slice_get (unit_loads_of timing part.units.items told xs) u ≡ Some (Some l)) × IsAskedBy b l
-      go [] at = absurd (missing f at)
-        where
-          missing : (i : ℕ) → slice_get [] i ≡ Some load → ⊥
-          missing zero its_none = cc
-          missing (suc i) its_none = cc
+      go [] at = absurd (no_value f load at)
       go (x ∷ xs) at =
           let here : ℕ → Option UnitLoad = λ v. known_unit_load timing part.units.items told v (broadcasts_by v (x ∷ xs)) in
           let size = length-map-range_with_len here 0 (length part.units.items) in

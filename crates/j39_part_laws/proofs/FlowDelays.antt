@@ -21,7 +21,6 @@ use Rattle.j39_load.specs.Delays.{HasDelay, HasDelayBy, IsDelayOf, IsFrameDelay}
 use Rattle.j39_load.specs.Loads.{loads_of}
 use Rattle.std.proofs.lemmas.Bool.{eq-eqb, le-leb, leb-true}
 use Rattle.std.proofs.lemmas.Option.{get_or_from_slice_get, none-some, slice_get_within}
-use Rattle.j39_network.specs.declared.plan.flow_plan.FlowPlan.{FlowPlan}
 use Rattle.j39_load.specs.declared.frames.broadcast.Broadcast.{Broadcast}
 use Rattle.j39_load.specs.declared.loads.unit_load.UnitLoad.{UnitLoad}
 use Rattle.j39_load.specs.declared.waits.whole_time.WholeTime.{WholeTime}
@@ -45,6 +44,7 @@ use Rattle.j39_part_laws.proofs.Delays.{frame_no_later}
 use Rattle.j39_part_laws.proofs.FlowLoads.{LoadsAlike, MessagesAlike}
 use Rattle.j39_part_laws.proofs.Frames.{AreFramesWhere}
 use Rattle.j39_part_laws.proofs.Loads.{flow_place, some_counted}
+use Rattle.j39_part_laws.proofs.Places.{value_at}
 use Rattle.j39_part_laws.proofs.PlanFrames.{AreTwinNumbers, one_twin}
 
 -- ---- turns of units
@@ -174,7 +174,7 @@ module _ (at : Places) (part whole : Plan) (is : IsPartAt at part whole) (good :
     whole_no_later : (l : FlowLoad) → slice_get ls f ≡ Some (Some l) → (b c : Broadcast) → l.messages ≡ ToAll b → AreBroadcast at.unit b c → (v w : WholeTime)
         → IsWholeTime timing asked bp b v → IsWholeTime busy asked_there bw c w → IsWholeNoLater v w
     whole_no_later l at_l b c to_all alike v w (tp, turn_p, is_v) (tw, turn_w, is_w_time) =
-        let (flow, flow_at) = flow_is in
+        let (flow, flow_at) = value_at part.flows.items f below in
         let is_l : load_of_flow timing part told flow ≡ Some l =
         same_Some _ (Some l) (sym (slice_get-map (load_of_flow timing part told) part.flows.items f ∙ ap (option_map (load_of_flow timing part told)) flow_at) ∙ at_l) in
         let within = flow_sender at part whole is good stays told decides tells_who timing f flow flow_at l is_l b to_all in
@@ -193,14 +193,6 @@ module _ (at : Places) (part whole : Plan) (is : IsPartAt at part whole) (good :
           each = λ told_each. ap (λ (x : WholeTime). x.each) is_v ∙ each_here tw known (sym (ap (λ (x : WholeTime). x.each) is_w_time) ∙ told_each);
         }
       where
-        flow_is : (flow : FlowPlan) × (slice_get part.flows.items f ≡ Some flow)
-        flow_is = go (slice_get part.flows.items f) refl
-          where
-            go : (o : Option FlowPlan) → slice_get part.flows.items f ≡ o → (flow : FlowPlan) × (slice_get part.flows.items f ≡ Some flow)
-            go (Some flow) its = (flow, its)
-            go None none = absurd (none-some (Some l) (sym (slice_get-map (load_of_flow timing part told) part.flows.items f
-                ∙ ap (option_map (load_of_flow timing part told)) none) ∙ at_l))
-
         later : (t : Option Turn) → IsKnownTurn b.packets tp t → (n : ℕ) → option_map (λ (x : Turn). c.jitter + x.time) t ≡ Some n
             → v.bits ≡ option_map (λ (x : Turn). b.jitter + x.time) tp → (m : ℕ) × (v.bits ≡ Some m) × (m ≤ n)
         later None known n told_n is_bits = absurd (none-some n told_n)

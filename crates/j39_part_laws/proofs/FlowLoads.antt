@@ -1,6 +1,6 @@
 -- What a flow of a part asks of the bus it asks in the whole.
-use Rattle.std.proofs.Common.{◌≡◌, ℕ, zero, suc, ◌+◌, ◌^◌, ◌%◌, ◌<◌, ◌≤◌, Bool, true, false, not, ◌&&◌, if◌then◌else◌}
-use Rattle.std.proofs.Common.{List, [], ◌∷◌, length, Option, Some, None, option_map, refl, sym, ◌∙◌, ap, subst, inl, inr, arith}
+use Rattle.std.proofs.Common.{◌≡◌, ℕ, ◌+◌, ◌^◌, ◌%◌, ◌<◌, ◌≤◌, Bool, true, false, not, ◌&&◌, if◌then◌else◌}
+use Rattle.std.proofs.Common.{List, length, Option, Some, None, option_map, refl, sym, ◌∙◌, ap, subst, inl, inr, arith}
 use Rattle.std.specs.Int.{div_ceil}
 use Rattle.std.specs.List.{slice_get}
 use Rattle.std.proofs.lemmas.Bool.{cases_eq, cases_lt}
@@ -34,6 +34,7 @@ use Rattle.j39_part_laws.specs.PartLoads.{HasGoodNumbers}
 use Rattle.j39_load.proofs.Milliseconds.{some_bits}
 use Rattle.j39_part_laws.proofs.Frames.{AreBroadcast, AreFrames}
 use Rattle.j39_part_laws.proofs.Groups.{bad_pgn, same_load}
+use Rattle.j39_part_laws.proofs.Places.{value_at}
 use Rattle.j39_part_laws.proofs.PlanFrames.{any_few, any_in, AreTwinNumbers, destination_few, few_ident, greatest_few, greatest_ident_in, greatest_in, ident-mono, IsAmong, least_ident_in, unit_at_place, there_too}
 
 abbrev pub Alike : Places → FlowFrames → FlowFrames → Type 0
@@ -262,17 +263,8 @@ module _ (at : Places) (part whole : Plan) (is : IsPartAt at part whole) (good :
     }
 
   group_is : (i : ℕ) (flow : FlowPlan) → slice_get part.flows.items i ≡ Some flow → (group : GroupPlan) × (slice_get part.groups.items flow.group ≡ Some group)
-  group_is i flow here = go (slice_get part.groups.items flow.group) refl
-    where
-      go : (o : Option GroupPlan) → slice_get part.groups.items flow.group ≡ o → (group : GroupPlan) × (slice_get part.groups.items flow.group ≡ Some group)
-      go (Some group) its = (group, its)
-      go None none = absurd (missing part.groups.items flow.group
-          (all_at (λ (f : FlowPlan). f.group < length part.groups.items) part.flows.items part.flow_groups i flow here) none)
-        where
-          missing : (xs : List GroupPlan) (k : ℕ) → k < length xs → slice_get xs k ≡ None → ⊥
-          missing [] k below none = omega (arith, below)
-          missing (x ∷ xs) zero below none = cc
-          missing (x ∷ xs) (suc k) below none = missing xs k (omega (arith, below)) none
+  group_is i flow here = value_at part.groups.items flow.group
+      (all_at (λ (f : FlowPlan). f.group < length part.groups.items) part.flows.items part.flow_groups i flow here)
 
   pub flow_alike : (i : ℕ) (flow there : FlowPlan) → slice_get part.flows.items i ≡ Some flow → IsFlowThere at flow there
       → LoadsAlike at (load_of_flow timing part told flow) (load_of_flow timing whole stays there)

@@ -10,7 +10,7 @@ mod Frames
 mod Groups
 pub mod LoadFindings
 mod Loads
-mod Places
+pub mod Places
 mod PlanFrames
 mod Shares
 mod Staying

@@ -30,6 +30,7 @@ use Rattle.j39_part_laws.specs.PartLoads.{counting, HasGoodNumbers}
 use Rattle.j39_part_laws.specs.PlanParts.{IsPartAt, IsSame, Places}
 use Rattle.j39_part_laws.proofs.FlowDelays.{delays_no_later}
 use Rattle.j39_part_laws.proofs.Loads.{ask_no_more}
+use Rattle.j39_part_laws.proofs.Places.{no_value, value_at}
 use Rattle.j39_part_laws.proofs.Shares.{sum-no-more}
 use Rattle.j39_part_laws.proofs.Sublists.{sub_of_some}
 
@@ -42,7 +43,7 @@ pub record IsToldAt {X Y : Type 0} (tell : ℕ → X → List Y) (place : ℕ) (
   pub value_is : slice_get xs k ≡ Some value
   pub told : Contains (tell (place + k) value) line
 
-told_at : {X Y : Type 0} (tell : ℕ → X → List Y) (place : ℕ) (xs : List X) (line : Y) → Contains (lines_of_each tell place xs) line → IsToldAt tell place xs line
+pub told_at : {X Y : Type 0} (tell : ℕ → X → List Y) (place : ℕ) (xs : List X) (line : Y) → Contains (lines_of_each tell place xs) line → IsToldAt tell place xs line
 unfolding lines_of_each
 told_at tell place [] line found = let none = found.1 in absurd (omega (arith, none))
 told_at tell place (x ∷ xs) line found = elim (Contains-append_cases (tell place x) (lines_of_each tell (place + 1) xs) line found) [
@@ -55,11 +56,10 @@ told_at tell place (x ∷ xs) line found = elim (Contains-append_cases (tell pla
       record { k = suc its.k; value = its.value; value_is = its.value_is; told = subst (λ n. Contains (tell n its.value) line) same its.told }
 ]
 
-line_told : {X Y : Type 0} (tell : ℕ → X → List Y) (place : ℕ) (xs : List X) (k : ℕ) (x : X) (line : Y) → slice_get xs k ≡ Some x
+pub line_told : {X Y : Type 0} (tell : ℕ → X → List Y) (place : ℕ) (xs : List X) (k : ℕ) (x : X) (line : Y) → slice_get xs k ≡ Some x
     → Contains (tell (place + k) x) line → Contains (lines_of_each tell place xs) line
 unfolding lines_of_each
-line_told tell place [] zero x line at told = cc
-line_told tell place [] (suc k) x line at told = cc
+line_told tell place [] k x line at told = absurd (no_value k x at)
 line_told tell place (y ∷ ys) zero x line at told =
     let same : place + 0 ≡ place = omega arith in
     let is_y : x ≡ y = sym (same_Some y x at) in
@@ -235,7 +235,7 @@ module _ (at : Places) (part whole : Plan) (is : IsPartAt at part whole) (good :
       let count = here.waits.count in
       let flows = length-map part.flows.items (load_of_flow timing part told) in
       let within : f < length part.flows.items = omega (arith, below, count, flows) in
-      let (flow, is_flow) = value_of part.flows.items f within in
+      let (flow, is_flow) = value_at part.flows.items f within in
       let stands = is.flows.each f flow is_flow in
       let inside = slice_get_within whole.flows.items (at.flow f) stands.value stands.value_is in
       let count_there = there.waits.count in
@@ -249,11 +249,6 @@ module _ (at : Places) (part whole : Plan) (is : IsPartAt at part whole) (good :
             (slice_index_or ds f None) (slice_index_or es (at.flow f) None) (here.waits.each f below) (there.waits.each (at.flow f) among)),
         within,
       )
-    where
-      value_of : {A : Type 0} (xs : List A) (k : ℕ) → k < length xs → (x : A) × (slice_get xs k ≡ Some x)
-      value_of [] k less = absurd (omega (arith, less))
-      value_of (x ∷ xs) zero less = (x, refl)
-      value_of (x ∷ xs) (suc k) less = value_of xs k (omega (arith, less))
 
   unpaced_found : (finding : LoadFinding) → Contains (lines_of_each without_period 0 ds) finding → IsFoundThere at part all_there finding
   unpaced_found finding found =

@@ -1,9 +1,19 @@
 -- What stands at a place of a part stands in the whole.
-use Rattle.std.proofs.Common.{◌≡◌, ◌≢◌, ℕ, zero, suc, ◌<◌, ◌≤◌, ◌⊎◌, List, Some, sym, ◌∙◌, ap, inl, inr, arith}
+use Rattle.std.proofs.Common.{◌≡◌, ◌≢◌, ℕ, zero, suc, ◌<◌, ◌≤◌, ◌⊎◌, List, [], ◌∷◌, length, Some, refl, sym, ◌∙◌, ap, inl, inr, arith}
 use Rattle.std.specs.List.{slice_get}
 use Rattle.std.proofs.lemmas.Bool.{cases_lt}
 use Rattle.j39_search.specs.ListPlaces.{ValueAt, PairAt}
 use Rattle.j39_part_laws.specs.PlanParts.{AreSome, IsSame}
+
+-- what stands below the end of a list, and that nothing stands in an empty one
+pub value_at : {A : Type 0} (xs : List A) (k : ℕ) → k < length xs → (x : A) × (slice_get xs k ≡ Some x)
+value_at [] k below = absurd (omega (arith, below))
+value_at (x ∷ xs) zero below = (x, refl)
+value_at (x ∷ xs) (suc k) below = value_at xs k (omega (arith, below))
+
+pub no_value : {A : Type 0} (i : ℕ) (x : A) → slice_get [] i ≡ Some x → ⊥
+no_value zero x at = cc
+no_value (suc i) x at = cc
 
 -- which of two numbers is the smaller one
 pub ordered : (i j : ℕ) → i ≢ j → (i < j) ⊎ (j < i)

@@ -1,6 +1,6 @@
 -- What a part asks of its bus is some of what the whole asks.
-use Rattle.std.proofs.Common.{◌≡◌, ℕ, zero, suc, ◌+◌, ◌*◌, ◌^◌, ◌%◌, ◌<◌, ◌≤◌, max, min, Bool, true, false, not, if◌then◌else◌}
-use Rattle.std.proofs.Common.{List, [], ◌∷◌, length, Option, Some, None, option_map, refl, sym, ◌∙◌, ap, subst, inl, inr, arith}
+use Rattle.std.proofs.Common.{◌≡◌, ℕ, ◌+◌, ◌*◌, ◌^◌, ◌%◌, ◌<◌, ◌≤◌, max, min, Bool, true, false, not, if◌then◌else◌}
+use Rattle.std.proofs.Common.{List, length, Option, Some, None, option_map, refl, sym, ◌∙◌, ap, subst, inl, inr, arith}
 use Rattle.std.specs.Bool.{MatchBool}
 use Rattle.std.specs.List.{slice_get}
 use Rattle.std.specs.Option.{option_map_or}
@@ -19,7 +19,7 @@ use Rattle.j39_network.specs.declared.plan.unit_plan.UnitPlan.{UnitPlan}
 use Rattle.j39_load.specs.Loads.{any_unit, destination_at, greatest_address, is_any, least_address, may_move, of_unit}
 use Rattle.j39_load.proofs.Different.{tells}
 use Rattle.j39_part_laws.specs.PlanParts.{IsPartAt, Places, to_in}
-use Rattle.j39_part_laws.proofs.Places.{same_there}
+use Rattle.j39_part_laws.proofs.Places.{same_there, value_at}
 use Rattle.j39_part_laws.proofs.Staying.{stay_there}
 
 -- of two groups alike the one with the smaller addresses has the smaller identifier
@@ -101,16 +101,7 @@ module _ (at : Places) where
     ws = whole.units.items
 
     pub unit_at_place : (u : ℕ) → u < length us → (unit : UnitPlan) × (slice_get us u ≡ Some unit)
-    unit_at_place u within = go (slice_get us u) refl
-      where
-        go : (o : Option UnitPlan) → slice_get us u ≡ o → (unit : UnitPlan) × (slice_get us u ≡ Some unit)
-        go (Some unit) its = (unit, its)
-        go None none = absurd (missing us u within none)
-          where
-            missing : (xs : List UnitPlan) (k : ℕ) → k < length xs → slice_get xs k ≡ None → ⊥
-            missing [] k below none = omega (arith, below)
-            missing (x ∷ xs) zero below none = cc
-            missing (x ∷ xs) (suc k) below none = missing xs k (omega (arith, below)) none
+    unit_at_place u within = value_at us u within
 
     pub there_too : (u : ℕ) (unit : UnitPlan) → slice_get us u ≡ Some unit → slice_get ws (at.unit u) ≡ Some unit
     there_too u unit here = same_there at.unit us ws is.units u unit here

@@ -6,19 +6,16 @@ use Rattle.j39_load.specs.LineLists.{lines_of_each}
 use Rattle.j39_search.specs.ListPlaces.{SoManyMeet, ValueAt}
 use Rattle.j39_part_laws.specs.PlanParts.{AreSome}
 use Rattle.j39_part_laws.specs.Sublists.{IsSub}
+use Rattle.j39_part_laws.proofs.Places.{no_value}
 
 behind : {B : Type 0} (y : B) (ys : List B) (n : ℕ) (v : B) → 0 < n → slice_get (y ∷ ys) n ≡ Some v → slice_get ys (n - 1) ≡ Some v
 behind y ys zero v more at = absurd (omega (arith, more))
 behind y ys (suc n) v more at = let before : n ≡ suc n - 1 = omega arith in subst (λ m. slice_get ys m ≡ Some v) before at
 
-none_there : {B : Type 0} (n : ℕ) (v : B) → slice_get [] n ≡ Some v → ⊥
-none_there zero v at = cc
-none_there (suc n) v at = cc
-
 pub sub_of : {A B : Type 0} (R : A → B → Type 0) → (xs : List A) (ys : List B) (place : ℕ → ℕ) → ((i j : ℕ) → i < j → place i < place j)
     → ((i : ℕ) (x : A) → slice_get xs i ≡ Some x → ValueAt (R x) ys (place i)) → IsSub R xs ys
 sub_of R [] ys place rises each = tt
-sub_of R (x ∷ xs) [] place rises each = let there = each 0 x refl in absurd (none_there (place 0) there.value there.value_is)
+sub_of R (x ∷ xs) [] place rises each = let there = each 0 x refl in absurd (no_value (place 0) there.value there.value_is)
 sub_of {B = B} R (x ∷ xs) (y ∷ ys) place rises each = first (place 0) refl
     (λ here. sub_of R xs ys (λ i. place (suc i) - 1)
     (λ i j below. let more = rises 0 (suc i) (omega arith) in let rise = rises (suc i) (suc j) (omega (arith, below)) in omega (arith, more, rise))
@@ -132,7 +129,7 @@ pub sub_lines : {A B C D : Type 0} (S : C → D → Type 0) (tell : ℕ → A �
     → IsSub S (lines_of_each tell d xs) (lines_of_each told e ys)
 unfolding lines_of_each
 sub_lines S tell told [] ys place d e rises each = tt
-sub_lines S tell told (x ∷ xs) [] place d e rises each = let there = each 0 x refl in absurd (none_there (place 0) there.value there.value_is)
+sub_lines S tell told (x ∷ xs) [] place d e rises each = let there = each 0 x refl in absurd (no_value (place 0) there.value there.value_is)
 sub_lines {B = B} S tell told (x ∷ xs) (y ∷ ys) place d e rises each = first (place 0) refl
     (λ here. sub_lines S tell told xs ys (λ i. place (suc i) - 1) (d + 1) (e + 1)
     (λ i j below. let more = rises 0 (suc i) (omega arith) in let rise = rises (suc i) (suc j) (omega (arith, below)) in omega (arith, more, rise))

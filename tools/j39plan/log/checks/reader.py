@@ -78,8 +78,8 @@ class Reader:
         """Whom messages came of while all was calm is heard, by the last one of each."""
         if self._heard:
             number, at = max(self._heard.values())
-            for source, one in sorted(self._heard.items(), key=itemgetter(1)):
-                self._comparison.hands.is_heard(*one, *source)
+            for (key, box, address), heard in sorted(self._heard.items(), key=itemgetter(1)):
+                self._comparison.hands.is_heard(*heard, key, box, address)
             self._comparison.passed(number, at)
             self._heard.clear()
 

@@ -60,8 +60,9 @@ def greatest_identifier(tables: Tables, number: int) -> int:
 
 
 def wait_of(number: int, within: dict[int, int], short: set[int], greatest: dict[int, int], has_no_order: bool) -> int | None:
-    """How long the first frame of a message waits at most, from when it is queued, by how long those of flows do. That of a group of several lengths may be a single one, which goes before the frames
-    of each flow with a greater identifier, and so waits no longer than any of these; else the whole message's time is one."""
+    """How long the first frame of a message waits at most, from when it is queued, by how long those of flows do. That of a group of several lengths may be
+    a single one, which goes before the frames of each flow with a greater identifier, and so waits no longer than any of these; else the whole message's
+    time is one."""
     if number in short:
         return within[number]
     behind = least_behind(greatest[number], {other: within[other] for other in short}, greatest)
