@@ -1,5 +1,5 @@
 -- Packets of broadcasts that a plan knows: of each unit the broadcast that it announced last, and which of its packets come too late.
-use Rattle.std.specs.Prelude.{ℕ, ◌+◌, ◌-◌, ◌==◌, ◌&&◌, not, Bool, true, false, if◌then◌else◌, List, [], ◌∷◌, ◌++◌, length, Option, Some, None, is_none}
+use Rattle.std.specs.Prelude.{ℕ, ◌+◌, ◌-◌, nat_lt, ◌==◌, ◌&&◌, not, Bool, true, false, if◌then◌else◌, List, [], ◌∷◌, ◌++◌, length, Option, Some, None, is_none}
 use Rattle.std.specs.List.{list_any}
 use Rattle.j39_id.specs.Addresses.{global_address}
 use Rattle.j39_id.specs.Ident.{pgn_of}
@@ -18,7 +18,7 @@ use Rattle.j39_audit.specs.MessageStreams.{longest_us, shortest_us, stream_mark}
 use Rattle.j39_audit.specs.Moments.{long_before}
 use Rattle.j39_audit.specs.Near.{excess}
 use Rattle.j39_audit.specs.SentMessages.{SentMessage, is_fit}
-use Rattle.j39_audit.specs.Settings.{Settings, logger_error}
+use Rattle.j39_audit.specs.Settings.{Settings, logger_error, units_planned}
 use Rattle.j39_audit.specs.declared.broadcasts.Broadcast.{Broadcast}
 use Rattle.j39_audit.specs.declared.mark.Word.TheVariants.{NearPackets, SilentPackets}
 use Rattle.j39_audit.specs.declared.pauses.Ending.{Ending}
@@ -116,7 +116,8 @@ with_sent s k t u f idle moment line None (Some one) b = if is_packet_to_all f t
 
 abbrev pub with_frame : Settings → Knowledge → Option Timing → Option ℕ → Frame → Option Packet → Option ℕ → Option ℕ → ℕ → Broadcasts → Broadcasts
 with_frame s k (Some t) (Some u) f packet (Some time) idle line b =
-    with_sent s k t u f idle (time + long_before + logger_error s) line (announced_to_all u f packet) (b.begun u) b
+    if nat_lt u (units_planned s)
+    then with_sent s k t u f idle (time + long_before + logger_error s) line (announced_to_all u f packet) (b.begun u) b else b
 with_frame s k _ _ f packet _ idle line b = b
 
 -- and of which unit's packets it is one
