@@ -3,10 +3,10 @@ use Rattle.std.proofs.Common.{◌≡◌, ◌≢◌, ◌<◌, ◌==◌, ℕ, Bool
 use Rattle.std.proofs.lemmas.Bool.{true≢false}
 use Rattle.j39_id.specs.declared.frame.Frame.{Frame}
 use Rattle.j39_network.specs.declared.plan.timing.Timing.{Timing}
-use Rattle.j39_tp.specs.declared.packet.Packet.{Packet}
 use Rattle.j39_audit.specs.Broadcasts.{Broadcasts, broadcasts_before, broadcasts_behind, with_begun, with_frame, with_one}
 use Rattle.j39_audit.specs.Claiming.{Knowledge}
 use Rattle.j39_audit.specs.Settings.{Settings}
+use Rattle.j39_audit.specs.declared.broadcasts.Announcement.{Announcement}
 use Rattle.j39_audit.specs.declared.broadcasts.Broadcast.{Broadcast}
 use Rattle.j39_audit.specs.declared.broadcasts.Broadcasts.{Broadcasts as KeptBroadcasts}
 use Rattle.j39_audit.specs.declared.pauses.Ending.{Ending}
@@ -40,24 +40,24 @@ kept_one s u one b old new open_is late_is size others here recalls =
     }
 
 -- behind a frame that counts for a unit and has a time
-pub framed : (s : Settings) (kept : KeptBroadcasts) (k : Knowledge) (timing : Option Timing) (unit : Option ℕ) (f : Frame) (packet : Option Packet)
+pub framed : (s : Settings) (kept : KeptBroadcasts) (k : Knowledge) (timing : Option Timing) (unit : Option ℕ) (f : Frame) (announced : Option Announcement)
     (time idle : Option ℕ) (line : ℕ) (b : Broadcasts) (t : Timing) (u at : ℕ) → timing ≡ Some t → unit ≡ Some u → time ≡ Some at
-    → RecallsBroadcasts s kept (with_frame s k (Some t) (Some u) f packet (Some at) idle line b)
-    → RecallsBroadcasts s kept (with_frame s k timing unit f packet time idle line b)
-framed s kept k timing unit f packet time idle line b t u at timing_is unit_is time_is is =
-    subst (λ (o : Option Timing). RecallsBroadcasts s kept (with_frame s k o unit f packet time idle line b)) (sym timing_is)
-    (subst (λ (o : Option ℕ). RecallsBroadcasts s kept (with_frame s k (Some t) o f packet time idle line b)) (sym unit_is)
-    (subst (λ (o : Option ℕ). RecallsBroadcasts s kept (with_frame s k (Some t) (Some u) f packet o idle line b)) (sym time_is) is))
+    → RecallsBroadcasts s kept (with_frame s k (Some t) (Some u) f announced (Some at) idle line b)
+    → RecallsBroadcasts s kept (with_frame s k timing unit f announced time idle line b)
+framed s kept k timing unit f announced time idle line b t u at timing_is unit_is time_is is =
+    subst (λ (o : Option Timing). RecallsBroadcasts s kept (with_frame s k o unit f announced time idle line b)) (sym timing_is)
+    (subst (λ (o : Option ℕ). RecallsBroadcasts s kept (with_frame s k (Some t) o f announced time idle line b)) (sym unit_is)
+    (subst (λ (o : Option ℕ). RecallsBroadcasts s kept (with_frame s k (Some t) (Some u) f announced o idle line b)) (sym time_is) is))
 
 -- behind a frame, by what is the same
-pub behind_so : (s : Settings) (kept : KeptBroadcasts) (f : Frame) (packet : Option Packet) (time : Option ℕ) (b : Broadcasts) {k j : Knowledge}
-    {u v q p : Option ℕ} {n m : ℕ} → k ≡ j → u ≡ v → q ≡ p → n ≡ m → RecallsBroadcasts s kept (broadcasts_behind s k u f packet time q n b)
-    → RecallsBroadcasts s kept (broadcasts_behind s j v f packet time p m b)
-behind_so s kept f packet time b {k = k} {j = j} {u = u} {v = v} {q = q} {p = p} {n = n} {m = m} ek eu eq en is =
-    subst (λ (z : ℕ). RecallsBroadcasts s kept (broadcasts_behind s j v f packet time p z b)) en
-    (subst (λ (z : Option ℕ). RecallsBroadcasts s kept (broadcasts_behind s j v f packet time z n b)) eq
-    (subst (λ (z : Option ℕ). RecallsBroadcasts s kept (broadcasts_behind s j z f packet time q n b)) eu
-    (subst (λ (z : Knowledge). RecallsBroadcasts s kept (broadcasts_behind s z u f packet time q n b)) ek is)))
+pub behind_so : (s : Settings) (kept : KeptBroadcasts) (f : Frame) (announced : Option Announcement) (time : Option ℕ) (b : Broadcasts) {k j : Knowledge}
+    {u v q p : Option ℕ} {n m : ℕ} → k ≡ j → u ≡ v → q ≡ p → n ≡ m → RecallsBroadcasts s kept (broadcasts_behind s k u f announced time q n b)
+    → RecallsBroadcasts s kept (broadcasts_behind s j v f announced time p m b)
+behind_so s kept f announced time b {k = k} {j = j} {u = u} {v = v} {q = q} {p = p} {n = n} {m = m} ek eu eq en is =
+    subst (λ (z : ℕ). RecallsBroadcasts s kept (broadcasts_behind s j v f announced time p z b)) en
+    (subst (λ (z : Option ℕ). RecallsBroadcasts s kept (broadcasts_behind s j v f announced time z n b)) eq
+    (subst (λ (z : Option ℕ). RecallsBroadcasts s kept (broadcasts_behind s j z f announced time q n b)) eu
+    (subst (λ (z : Knowledge). RecallsBroadcasts s kept (broadcasts_behind s z u f announced time q n b)) ek is)))
 
 -- just before it, likewise
 pub came_so : (s : Settings) (kept : KeptBroadcasts) (b : Broadcasts) {x y c d : Bool} {e g : Ending} → x ≡ y → c ≡ d → e ≡ g

@@ -23,7 +23,7 @@ use Rattle.j39_stream.specs.declared.verdict.Verdict.{Verdict}
 use Rattle.j39_stream.specs.declared.verdict.Verdict.TheVariants.{Done, Findings}
 use Rattle.j39_audit.specs.Asking.{Asking, all_forgotten, asking_behind, nobody_asked as no_asking}
 use Rattle.j39_audit.specs.Below.{each_below, sum_below}
-use Rattle.j39_audit.specs.Broadcasts.{Broadcasts, all_ended as all_broadcasts_ended, broadcasts_before, broadcasts_behind, no_broadcasts, packet_with}
+use Rattle.j39_audit.specs.Broadcasts.{Broadcasts, all_ended as all_broadcasts_ended, announcement_in, broadcasts_before, broadcasts_behind, no_broadcasts, packet_with}
 use Rattle.j39_audit.specs.Breaks.{breaks, line_time, newest_behind}
 use Rattle.j39_audit.specs.Claiming.{HeardClaims, broken_off, knowledge, no_claims}
 use Rattle.j39_audit.specs.Counting.{Noted, told_in}
@@ -129,7 +129,7 @@ past_with_frame s past time named f packet = record past {
       (moments_with_frame s past time f packet);
   asking = asking_behind s (knowledge s (claims_before s past time)) (breaks s.stamps past.newest time) (begins_anew s.stamps past.newest time) time
       f past.number (counted_for s past time f packet) (moments_with_frame s past time f packet).idle past.asking;
-  broadcasts = broadcasts_behind s (knowledge s (claims_with_frame s past time f)) (counted_for s past time f packet) f packet time
+  broadcasts = broadcasts_behind s (knowledge s (claims_with_frame s past time f)) (counted_for s past time f packet) f (announcement_in packet) time
       (moments_with_frame s past time f packet).idle past.number (broadcasts_there s past time f);
   frames = past.frames + 1;
 }

@@ -19,6 +19,7 @@ use Rattle.j39_audit.specs.Moments.{long_before}
 use Rattle.j39_audit.specs.Near.{excess}
 use Rattle.j39_audit.specs.SentMessages.{SentMessage, is_fit}
 use Rattle.j39_audit.specs.Settings.{Settings, logger_error, units_planned}
+use Rattle.j39_audit.specs.declared.broadcasts.Announcement.{Announcement}
 use Rattle.j39_audit.specs.declared.broadcasts.Broadcast.{Broadcast}
 use Rattle.j39_audit.specs.declared.mark.Word.TheVariants.{NearPackets, SilentPackets}
 use Rattle.j39_audit.specs.declared.pauses.Ending.{Ending}
@@ -65,10 +66,14 @@ is_unpaced s k m f = is_fit s k m f && is_none f.pace
 unfoldable pub is_paced : Settings → Knowledge → SentMessage → Bool
 is_paced s k m = list_any (is_fit s k m) s.plan.flows.items && not (list_any (is_unpaced s k m) s.plan.flows.items)
 
--- the message to all that a packet announces
-abbrev pub announced_to_all : ℕ → Frame → Option Packet → Option SentMessage
-announced_to_all u f (Some (Bam size pgn)) = Some (announced_message u f size pgn)
-announced_to_all u f _ = None
+-- what a packet announces to all
+abbrev pub announcement_in : Option Packet → Option Announcement
+announcement_in (Some (Bam size pgn)) = Some (record { size = size; number = pgn })
+announcement_in _ = None
+
+abbrev pub announced_to_all : ℕ → Frame → Option Announcement → Option SentMessage
+announced_to_all u f None = None
+announced_to_all u f (Some a) = Some (announced_message u f a.size a.number)
 
 -- a broadcast begins, if it is planned
 abbrev pub broadcast_of : Settings → Knowledge → SentMessage → ℕ → ℕ → Option Broadcast
@@ -114,11 +119,11 @@ with_sent s k t u f idle moment line (Some m) before b = with_one u (broadcast_o
 with_sent s k t u f idle moment line None None b = b
 with_sent s k t u f idle moment line None (Some one) b = if is_packet_to_all f then with_packet t u idle moment line one b else b
 
-abbrev pub with_frame : Settings → Knowledge → Option Timing → Option ℕ → Frame → Option Packet → Option ℕ → Option ℕ → ℕ → Broadcasts → Broadcasts
-with_frame s k (Some t) (Some u) f packet (Some time) idle line b =
+abbrev pub with_frame : Settings → Knowledge → Option Timing → Option ℕ → Frame → Option Announcement → Option ℕ → Option ℕ → ℕ → Broadcasts → Broadcasts
+with_frame s k (Some t) (Some u) f announced (Some time) idle line b =
     if nat_lt u (units_planned s)
-    then with_sent s k t u f idle (time + long_before + logger_error s) line (announced_to_all u f packet) (b.begun u) b else b
-with_frame s k _ _ f packet _ idle line b = b
+    then with_sent s k t u f idle (time + long_before + logger_error s) line (announced_to_all u f announced) (b.begun u) b else b
+with_frame s k _ _ f announced _ idle line b = b
 
 -- and of which unit's packets it is one
 abbrev pub packet_with : Option Timing → Option ℕ → Frame → Broadcasts → Option MessageStream
@@ -129,5 +134,5 @@ packet_with _ _ f b = None
 unfoldable pub broadcasts_before : Bool → Bool → Ending → Broadcasts → Broadcasts
 broadcasts_before anew broken ending b = ended_with ending (ended_before anew broken b)
 
-unfoldable pub broadcasts_behind : Settings → Knowledge → Option ℕ → Frame → Option Packet → Option ℕ → Option ℕ → ℕ → Broadcasts → Broadcasts
-broadcasts_behind s k unit f packet time idle line b = with_frame s k s.plan.timing unit f packet time idle line b
+unfoldable pub broadcasts_behind : Settings → Knowledge → Option ℕ → Frame → Option Announcement → Option ℕ → Option ℕ → ℕ → Broadcasts → Broadcasts
+broadcasts_behind s k unit f announced time idle line b = with_frame s k s.plan.timing unit f announced time idle line b

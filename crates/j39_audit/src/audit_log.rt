@@ -15,7 +15,7 @@ ghost use Rattle.j39_audit.specs.inside.Recalling.{AreNear, KnowsClaims, Notes, 
 
 use crate::asking::Asking;
 use crate::basis::Basis;
-use crate::broadcasts::Broadcasts;
+use crate::broadcasts::{Announcement, Broadcasts, announcement_in};
 use crate::frame_marks::{note_if, take_frame};
 use crate::known::Known;
 use crate::mark::{Mark, Word, make_mark};
@@ -27,7 +27,6 @@ use j39_follow::{interface, is_elsewhere, keep_interface, kept_interface, read_p
 use j39_id::{Cut, Frame, LineError, read_frame};
 use j39_log::{LineCounts, transport_packet};
 use j39_network::Plan;
-use j39_tp::Packet;
 use std::alloc::{AllocError, Global};
 
 /// What an audit keeps of a log.
@@ -99,7 +98,7 @@ fn is_of_broadcasts(word: Word) -> bool
     matches!(word, Word::SilentPackets)
 }
 
-// Takes a frame of this time, which is this packet and counts for this unit, if it does, for the broadcasts of units.
+// Takes a frame of this time, which announces this and counts for this unit, if it does, for the broadcasts of units.
 fn take_packet(
     broadcasts: &mut Broadcasts,
     moments: &mut Moments,
@@ -107,7 +106,7 @@ fn take_packet(
     known: &Known,
     unit: Option<usize>,
     frame: &Frame,
-    packet: Option<Packet>,
+    announced: Option<Announcement>,
     time: Option<u64>,
     line: u64,
 ) -> Result<(), AllocError>
@@ -118,10 +117,19 @@ fn take_packet(
         → RecallsMoments moments.new (with_packet_stream (settings_of basis.now) time line (packet_with basis.now.plan.now.timing unit frame.now b) m)) }
     ensures broadcasts { OnOk result ((b : SomeBroadcasts) → RecallsBroadcasts (settings_of basis.now) broadcasts.old b
         → RecallsBroadcasts (settings_of basis.now) broadcasts.new
-        (broadcasts_behind (settings_of basis.now) (known_by known.now) unit frame.now packet time moments.old.idle line b)) }
+        (broadcasts_behind (settings_of basis.now) (known_by known.now) unit frame.now announced time moments.old.idle line b)) }
 {
     let stream = broadcasts.packet(basis, unit, frame);
-    broadcasts.take(basis, known, unit, frame, packet, time, moments.idle, line)?;
+    broadcasts.take(
+        basis,
+        known,
+        unit,
+        frame,
+        announced,
+        time,
+        moments.idle,
+        line,
+    )?;
     moments.take_packet(basis, time, line, stream)
 }
 
@@ -204,6 +212,7 @@ impl<'a> AuditLog<'a> {
         );
         self.broadcasts.come_to(&self.basis, anew, broken, ending);
         let packet = transport_packet(frame);
+        let announced = announcement_in(&packet);
         take_frame(
             &mut self.tally,
             &self.basis,
@@ -234,7 +243,7 @@ impl<'a> AuditLog<'a> {
             &self.known,
             unit,
             frame,
-            packet,
+            announced,
             time,
             self.number,
         )?;

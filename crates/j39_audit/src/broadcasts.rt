@@ -3,7 +3,7 @@ ghost use Rattle.std.specs.Prelude.{◌≡◌, ◌≢◌, ◌+◌, ◌<◌, ◌^
 ghost use Rattle.std.specs.List.{list_any};
 ghost use Rattle.std.specs.Option.{option_map};
 ghost use Rattle.j39_network.specs.declared.plan.flow_plan.FlowPlan.{FlowPlan as AFlow};
-ghost use Rattle.j39_audit.specs.Broadcasts.{Broadcasts as SomeBroadcasts, all_ended, announced_to_all, broadcast_of, broadcasts_before, broadcasts_behind};
+ghost use Rattle.j39_audit.specs.Broadcasts.{Broadcasts as SomeBroadcasts, all_ended, announced_to_all, announcement_in, broadcast_of, broadcasts_before, broadcasts_behind};
 ghost use Rattle.j39_audit.specs.Broadcasts.{ended_before, ended_with, is_packet_to_all, is_paced, is_unpaced, late_by, late_noted, next_packet, no_broadcasts};
 ghost use Rattle.j39_audit.specs.Broadcasts.{packet_of, packet_stream, packet_with, with_frame, with_one, with_packet, with_sent};
 ghost use Rattle.j39_audit.specs.Claiming.{Knowledge};
@@ -12,7 +12,7 @@ ghost use Rattle.j39_audit.specs.SentMessages.{is_fit};
 ghost use Rattle.j39_audit.specs.inside.Recalling.{Notes, RecallsBroadcasts, begun_in, known_by, sent_as, settings_of};
 
 use crate::basis::Basis;
-use crate::frame_marks::announced;
+use crate::frame_marks::announced as message_announced;
 use crate::idle::LONG_BEFORE;
 use crate::known::Known;
 use crate::mark::{Word, make_mark};
@@ -34,6 +34,13 @@ pub struct Broadcast {
     pub left: usize,
     pub moment: u64,
     pub line: u64,
+}
+
+/// What a packet announces to all: how many bytes of this number.
+#[derive(Clone, Copy, PartialEq, Eq)]
+pub struct Announcement {
+    pub size: usize,
+    pub number: u32,
 }
 
 /// Of each unit its planned broadcast, and what was found.
@@ -106,22 +113,40 @@ fn is_paced(basis: &Basis<'_>, known: &Known, message: &UnitMessage<'_>) -> bool
     has_flow(basis, known, message) && !has_unpaced(basis, known, message)
 }
 
-// The message to all that a packet announces.
+// What a packet announces to all.
+fn announcement_of(packet: &Packet) -> Option<Announcement>
+    ensures { result ≡ announcement_in (Some packet.now) }
+{
+    match packet {
+        Packet::Bam { size, pgn } => Some(Announcement {
+            size: usize::from(size.bytes()),
+            number: pgn.number(),
+        }),
+        _ => None,
+    }
+}
+
+/// What is announced to all, if a frame is a packet that does.
+pub(crate) fn announcement_in(packet: &Option<Packet>) -> Option<Announcement>
+    ensures { result ≡ announcement_in packet.now }
+{
+    match packet {
+        Some(packet) => announcement_of(packet),
+        None => None,
+    }
+}
+
+// The message of a unit that is announced.
 fn announced_to_all(
     unit: usize,
     frame: &Frame,
-    packet: Option<Packet>,
+    announced: Option<Announcement>,
 ) -> Option<UnitMessage<'static>>
-    ensures { option_map sent_as result ≡ announced_to_all unit frame.now packet }
+    ensures { option_map sent_as result ≡ announced_to_all unit frame.now announced }
 {
-    let Some(packet) = packet else {
-        return None;
-    };
-    match packet {
-        Packet::Bam { size, pgn } => {
-            Some(announced(unit, frame, usize::from(size.bytes()), pgn.number()))
-        }
-        _ => None,
+    match announced {
+        Some(told) => Some(message_announced(unit, frame, told.size, told.number)),
+        None => None,
     }
 }
 
@@ -413,7 +438,7 @@ impl Broadcasts {
         self.set(unit, one);
     }
 
-    // Takes a frame of a unit of the plan, which is this packet, if it is one.
+    // Takes a frame of a unit of the plan, which announces this, if it does.
     fn take_sent(
         &mut self,
         basis: &Basis<'_>,
@@ -421,7 +446,7 @@ impl Broadcasts {
         timing: Timing,
         unit: usize,
         frame: &Frame,
-        packet: Option<Packet>,
+        announced: Option<Announcement>,
         idle: Option<u64>,
         moment: u64,
         line: u64,
@@ -429,9 +454,9 @@ impl Broadcasts {
         requires { unit < length self.old.begun.items }
         ensures { OnOk result ((b : SomeBroadcasts) → RecallsBroadcasts (settings_of basis.now) self.old b
             → RecallsBroadcasts (settings_of basis.now) self.new (with_sent (settings_of basis.now) (known_by known.now) timing unit frame.now idle moment line
-            (announced_to_all unit frame.now packet) (b.begun unit) b)) }
+            (announced_to_all unit frame.now announced) (b.begun unit) b)) }
     {
-        match announced_to_all(unit, frame, packet) {
+        match announced_to_all(unit, frame, announced) {
             Some(message) => {
                 self.take_announced(basis, known, unit, &message, moment, line);
                 Ok(())
@@ -440,14 +465,14 @@ impl Broadcasts {
         }
     }
 
-    /// Takes a frame of this time, which is this packet and counts for this unit, if it does, at this idle mark.
+    /// Takes a frame of this time, which announces this and counts for this unit, if it does, at this idle mark.
     pub fn take(
         &mut self,
         basis: &Basis<'_>,
         known: &Known,
         unit: Option<usize>,
         frame: &Frame,
-        packet: Option<Packet>,
+        announced: Option<Announcement>,
         time: Option<u64>,
         idle: Option<u64>,
         line: u64,
@@ -455,7 +480,7 @@ impl Broadcasts {
         requires { IfSome time (λ t. t < 2 ^ 61) }
         ensures { OnOk result ((b : SomeBroadcasts) → RecallsBroadcasts (settings_of basis.now) self.old b
             → RecallsBroadcasts (settings_of basis.now) self.new
-            (broadcasts_behind (settings_of basis.now) (known_by known.now) unit frame.now packet time idle line b)) }
+            (broadcasts_behind (settings_of basis.now) (known_by known.now) unit frame.now announced time idle line b)) }
     {
         let Some(timing) = basis.plan.timing else {
             return Ok(());
@@ -471,7 +496,7 @@ impl Broadcasts {
         }
         let moment = time + LONG_BEFORE + basis.logger_error();
         self.take_sent(
-            basis, known, timing, unit, frame, packet, idle, moment, line,
+            basis, known, timing, unit, frame, announced, idle, moment, line,
         )
     }
 }

@@ -7,16 +7,17 @@ use Rattle.j39_tp.specs.declared.packet.Packet.{Packet}
 use Rattle.j39_audit.specs.AuditText.{broadcasts_there, claims_before, claims_with_frame, counted_for, moments_with_frame, past_with_frame}
 use Rattle.j39_audit.specs.Asking.{asking_behind}
 use Rattle.j39_audit.specs.Breaks.{breaks, newest_behind}
-use Rattle.j39_audit.specs.Broadcasts.{packet_with}
+use Rattle.j39_audit.specs.Broadcasts.{announcement_in, broadcasts_behind, packet_with}
 use Rattle.j39_audit.specs.Claiming.{Knowledge, broken_off, knowledge}
 use Rattle.j39_audit.specs.Counting.{Noted}
 use Rattle.j39_audit.specs.Looking.{IsPacketOf, break_noted, frame_noted}
 use Rattle.j39_audit.specs.Moments.{begins_anew, moments_behind, with_packet_stream}
 use Rattle.j39_audit.specs.MessageStreams.{nothing_sighted, sighted_behind}
 use Rattle.j39_audit.specs.Pauses.{ending_of, unclear_behind}
+use Rattle.j39_audit.specs.declared.broadcasts.Announcement.{Announcement}
 use Rattle.j39_audit.specs.declared.pauses.Ending.{Ending}
 use Rattle.j39_audit.specs.declared.tally.Sighting.{Sighting}
-use Rattle.j39_audit.specs.inside.Recalling.{AreCounted, KnowsClaims, Notes, RecallsMoments, settings_of}
+use Rattle.j39_audit.specs.inside.Recalling.{AreCounted, KnowsClaims, Notes, RecallsBroadcasts, RecallsMoments, settings_of}
 use Rattle.j39_audit.proofs.Asked.{asked_so}
 use Rattle.j39_audit.proofs.Begun.{behind_so, came_so}
 use Rattle.j39_audit.proofs.Counted.{counted_on}
@@ -70,6 +71,7 @@ returns-clause-frame c = λ past named accords number.
     let there = broadcasts_there s past time f in
     let packed = c.take_packet.new.moments in
     let timed_past = moments_with_frame s past time f packet in
+    let announced : c.announcement_in-announced.result ≡ announcement_in packet = c.announcement_in-announced.ensures in
     let came = came_so s c.come_to.new.self past.broadcasts anew broken ending (c.come_to.ensures past.broadcasts accords.broadcasts) in
     record {
       packet = packet;
@@ -84,8 +86,10 @@ returns-clause-frame c = λ past named accords number.
             (c.in_ok-take_packet.ensures.moments timed_past there timed came));
         asking = asked_so s c.take_sign.new.self time f past.asking same_known broken anew number unit timed.idle
             (c.in_ok-take_sign.ensures _ (c.take.ensures past.asking accords.asking));
-        broadcasts = behind_so s c.take_packet.new.broadcasts f packet time there
+        broadcasts = subst (λ (a : Option Announcement). RecallsBroadcasts s c.take_packet.new.broadcasts
+            (broadcasts_behind s (knowledge s (claims_with_frame s past time f)) counted f a time timed_past.idle past.number there)) announced
+            (behind_so s c.take_packet.new.broadcasts f c.announcement_in-announced.result time there
             (known_knowledge s c.take_frame.new.known (claims_with_frame s past time f) took.0) unit timed.idle number
-            (c.in_ok-take_packet.ensures.broadcasts there came);
+            (c.in_ok-take_packet.ensures.broadcasts there came));
       };
     }

@@ -12,7 +12,7 @@ returns-in-Some c = λ b recalls.
     let s = settings_of c.args.basis.now in
     let u = c.args.unit in
     let f = c.args.frame.now in
-    let is : announced_to_all u f c.args.packet ≡ Some (sent_as c.in-Some.message) =
+    let is : announced_to_all u f c.args.announced ≡ Some (sent_as c.in-Some.message) =
     sym c.announced_to_all.ensures ∙ ap (λ (o : Option UnitMessage). option_map sent_as o) c.in-Some.is in
     subst (λ (m : Option SentMessage). RecallsBroadcasts s c.take_announced.new.self
     (with_sent s (known_by c.args.known.now) c.args.timing u f c.args.idle c.args.moment c.args.line m (b.begun u) b)) (sym is) (c.take_announced.ensures b recalls)
@@ -24,7 +24,7 @@ returns-in-None c =
     let s = settings_of c.args.basis.now in
     let u = c.args.unit in
     let f = c.args.frame.now in
-    let is : announced_to_all u f c.args.packet ≡ None =
+    let is : announced_to_all u f c.args.announced ≡ None =
     sym c.announced_to_all.ensures ∙ ap (λ (o : Option UnitMessage). option_map sent_as o) c.in-None.is in
     subst (λ (m : Option SentMessage). RecallsBroadcasts s c.take_other.new.self
     (with_sent s (known_by c.args.known.now) c.args.timing u f c.args.idle c.args.moment c.args.line m (b.begun u) b)) (sym is)
