@@ -1,8 +1,7 @@
-use Rattle.std.proofs.Common.{◌≡◌, ℕ, Option, Some, None, sym, ap, subst, ◌∙◌}
+use Rattle.std.proofs.Common.{ℕ, Option, Some, sym, ap, ◌∙◌}
 use Rattle.j39_network.specs.declared.plan.timing.Timing.{Timing}
 use Rattle.j39_audit.specs.Broadcasts.{packet_of, packet_with}
 use Rattle.j39_audit.specs.declared.broadcasts.Broadcast.{Broadcast}
-use Rattle.j39_audit.specs.declared.streams.MessageStream.{MessageStream}
 use Rattle.j39_audit.proofs.broadcasts.Broadcasts.packet.Goals as goal
 
 pub returns-in-Some-unit-clause-value : goal.returns-in-Some-unit-clause-value

@@ -1,7 +1,6 @@
-use Rattle.std.proofs.Common.{◌≡◌, Bool, Option, Some, None, cond, sym, ap, subst, ◌∙◌}
+use Rattle.std.proofs.Common.{◌≡◌, Bool, Option, Some, None, cond, sym, subst, ◌∙◌}
 use Rattle.std.proofs.lemmas.Result.{IfOk-weaker}
 use Rattle.j39_audit.specs.Broadcasts.{is_packet_to_all, with_packet, with_sent}
-use Rattle.j39_audit.specs.Claiming.{Knowledge}
 use Rattle.j39_audit.specs.declared.broadcasts.Broadcast.{Broadcast}
 use Rattle.j39_audit.specs.inside.Recalling.{RecallsBroadcasts, settings_of}
 use Rattle.j39_audit.proofs.broadcasts.Broadcasts.take_other.Goals as goal
