@@ -33,7 +33,7 @@ longest_least t ms =
 no_excess : (idle : Option ℕ) (upper : ℕ) → ((x : ℕ) → idle ≡ Some x → x ≤ upper) → excess idle upper ≡ None
 unfolding excess
 no_excess None upper below = refl
-no_excess (Some x) upper below = rw le-ltb upper x (below x refl) refl
+no_excess (Some x) upper below = rw (le-ltb upper x (below x refl)) refl
 
 none_late : (t : Timing) (idle : Option ℕ) (one : Broadcast) → excess idle (one.moment + longest_us t t.broadcast_gap_most) ≡ None → late_by t idle one ≡ None
 none_late t idle one none = elim (cases_Bool (one.left == 0)) [
@@ -87,7 +87,6 @@ module _ (t : Timing) (u count : ℕ) (moments lines : ℕ → ℕ) (idles : ℕ
   late_here : (n : ℕ) → late_noted u (lines n) (late_by t (idles (suc n)) (record { left = count - n; moment = moments n; line = lines n }))
       ≡ late_behind t u count moments lines idles n
   late_here n =
-      let by = excess (idles (suc n)) (moments n + longest_us t t.broadcast_gap_most) in
       elim (cases_lt n count) [
         | inl more ↦ rw (ne_eqb (count - n) 0 (omega (arith, more)), lt-ltb n count more) refl
         | inr last ↦ rw (eq-eqb (count - n) 0 (omega (arith, last)), le-ltb n count last) refl
@@ -100,7 +99,8 @@ module _ (t : Timing) (u count : ℕ) (moments lines : ℕ → ℕ) (idles : ℕ
       let before = with_packets t u count moments lines idles n b in
       let more = late_behind t u count moments lines idles in
       let one : Broadcast = record { left = count - n; moment = moments n; line = lines n } in
-      let whole : each_below more (suc n) ≡ each_below more n ++ more n = ap (each_below more) (sym add-one) ∙ each_more more n in
+      let next : suc n ≡ n + 1 = omega arith in
+      let whole : each_below more (suc n) ≡ each_below more n ++ more n = ap (λ (k : ℕ). each_below more k) next ∙ each_more more n in
       ap (λ (o : Option Broadcast). (with_next t u (idles (suc n)) (moments (suc n)) (lines (suc n)) o before).late) (there n)
       ∙ ap (λ (l : List Noted). l ++ late_noted u one.line (late_by t (idles (suc n)) one)) (noted n)
       ∙ ap (λ (l : List Noted). (b.late ++ each_below more n) ++ l) (late_here n)
