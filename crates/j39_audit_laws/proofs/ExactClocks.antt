@@ -1,7 +1,6 @@
 -- Where clocks don't drift, nothing is rounded.
 use Rattle.std.proofs.Common.{◌≡◌, ℕ, ◌+◌, ◌-◌, ◌*◌, ◌/◌, ap, ◌∙◌, arith}
 use Rattle.std.specs.Int.{div_ceil}
-use Rattle.j39_network.specs.declared.plan.timing.Timing.{Timing}
 use Rattle.j39_audit.specs.Moments.{bit_us, damaged_at_once}
 use Rattle.j39_audit_laws.specs.ExactClocks.{ExactClocks}
 

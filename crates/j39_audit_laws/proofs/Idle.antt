@@ -5,7 +5,7 @@ use Rattle.std.proofs.lemmas.Bool.{and_from, cases_Bool, cases_lt, le-leb, lt-lt
 use Rattle.j39_timing.specs.Errors.{Damaged, IsBusWithErrors, IsDamagedAt}
 use Rattle.j39_timing.specs.Messages.{frame_end}
 use Rattle.j39_timing.specs.Sums.{total}
-use Rattle.j39_timing.specs.TimedFrames.{Schedule, IsOnBusAt, Waits}
+use Rattle.j39_timing.specs.TimedFrames.{Schedule, IsOnBusAt}
 use Rattle.j39_timing.proofs.Overlaps.{covered}
 use Rattle.j39_timing.proofs.Sums.{total-times}
 use Rattle.j39_audit_laws.specs.MarkRecords.{AreFew, IsMarkOf, KeepsTime, ShowsIdle, attempts_in, longest_reach}

@@ -1,16 +1,14 @@
 -- What is noted of the messages of a flow with a pause, and where it ends, is where the flow is silent.
-use Rattle.std.proofs.Common.{◌≡◌, ℕ, zero, suc, ◌+◌, ◌-◌, ◌<◌, ◌==◌, ◌++◌, [], List, Bool, true, false, cond, Option, Some, None, refl, sym, ap, ◌∙◌, append_assoc, arith}
+use Rattle.std.proofs.Common.{◌≡◌, ℕ, zero, suc, ◌+◌, ◌-◌, ◌<◌, ◌++◌, [], List, Bool, true, false, cond, Option, Some, None, refl, sym, ap, ◌∙◌, append_assoc, arith}
 use Rattle.std.specs.Prelude.{nat_lt}
 use Rattle.std.specs.Option.{option_and_then, option_map}
 use Rattle.std.proofs.lemmas.Bool.{eq-eqb, lt-ltb}
 use Rattle.std.proofs.lemmas.List.{append-nil}
-use Rattle.j39_network.specs.declared.plan.timing.Timing.{Timing}
 use Rattle.j39_audit.specs.Below.{each_below}
 use Rattle.j39_audit.specs.Counting.{Noted}
 use Rattle.j39_audit.specs.MessageStreams.{flow_pause}
 use Rattle.j39_audit.specs.Moments.{Moments, last_of_flow, newest_moment, silence_behind, silent_by, silent_noted, with_newest}
-use Rattle.j39_audit.specs.Settings.{Settings}
-use Rattle.j39_audit.specs.Silence.{is_silent, lag, latest, latest_next, lies_behind}
+use Rattle.j39_audit.specs.Silence.{lag, latest, latest_next, lies_behind}
 use Rattle.j39_audit.specs.declared.pauses.LastFrame.{LastFrame}
 use Rattle.j39_audit.specs.declared.pauses.Newest.{Newest}
 use Rattle.j39_audit.specs.declared.streams.FlowPause.{FlowPause}

@@ -1,5 +1,5 @@
 -- What a stream of an audit is by exact clocks of units and of the bus.
-use Rattle.std.specs.Prelude.{◌≡◌, ℕ, ◌*◌, ◌≤◌}
+use Rattle.std.specs.Prelude.{◌≡◌, ℕ, ◌*◌}
 use Rattle.j39_network.specs.declared.plan.timing.Timing.{Timing}
 use Rattle.j39_audit.specs.Moments.{bit_us, damaged_at_once, reach_back}
 use Rattle.j39_audit.specs.MessageStreams.{longest_us, shortest_us}

@@ -1,6 +1,6 @@
 -- What a stream that keeps its step does, with bounds that fit it, and what is noted of its messages. Moments are in thousandths of the unit of
 -- the bounds.
-use Rattle.std.specs.Prelude.{◌≡◌, ℕ, zero, suc, ◌+◌, ◌*◌, ◌<◌, ◌≤◌, ◌⊎◌, ◌++◌, if◌then◌else◌, List, [], Option, Some, None}
+use Rattle.std.specs.Prelude.{◌≡◌, ℕ, zero, suc, ◌+◌, ◌*◌, ◌<◌, ◌≤◌, ◌⊎◌, ◌++◌, if◌then◌else◌, List, [], Some, None}
 use Rattle.j39_audit.specs.Below.{each_below}
 use Rattle.j39_audit.specs.Counting.{Noted, key_of}
 use Rattle.j39_audit.specs.Moments.{Moments, near_noted, with_message}
