@@ -1,11 +1,11 @@
 //! Packets of broadcasts that the plan knows: which of them come too late behind the frame before.
-ghost use Rattle.std.specs.Prelude.{◌≡◌, ◌≢◌, ◌+◌, ◌<◌, ◌^◌, ◌&&◌, ℕ, not, true, IfOk, IfSome, OnOk, None, length, slice_index_or};
+ghost use Rattle.std.specs.Prelude.{◌≡◌, ◌≢◌, ◌+◌, ◌<◌, ◌^◌, ◌&&◌, ℕ, true, IfOk, IfSome, OnOk, None, length, slice_index_or};
 ghost use Rattle.std.specs.List.{list_any};
 ghost use Rattle.std.specs.Option.{option_map};
 ghost use Rattle.j39_network.specs.declared.plan.flow_plan.FlowPlan.{FlowPlan as AFlow};
 ghost use Rattle.j39_audit.specs.Broadcasts.{Broadcasts as SomeBroadcasts, all_ended, announced_to_all, announcement_in, broadcast_of, broadcasts_before, broadcasts_behind};
-ghost use Rattle.j39_audit.specs.Broadcasts.{ended_before, ended_with, is_packet_to_all, is_paced, is_unpaced, late_by, late_noted, next_packet, no_broadcasts};
-ghost use Rattle.j39_audit.specs.Broadcasts.{packet_of, packet_stream, packet_with, with_frame, with_one, with_packet, with_sent};
+ghost use Rattle.j39_audit.specs.Broadcasts.{ended_before, ended_with, is_packet_to_all, is_paced, is_unpaced, late_by, late_noted, no_broadcasts};
+ghost use Rattle.j39_audit.specs.Broadcasts.{packet_of, packet_stream, packet_with, with_one, with_packet, with_sent};
 ghost use Rattle.j39_audit.specs.Claiming.{Knowledge};
 ghost use Rattle.j39_audit.specs.Near.{excess};
 ghost use Rattle.j39_audit.specs.SentMessages.{is_fit};

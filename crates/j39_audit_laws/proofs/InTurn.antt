@@ -1,7 +1,6 @@
 -- Who sends the packets of a broadcast in turn is not told as silent, and what is noted of others.
-use Rattle.std.proofs.Common.{◌≡◌, ◌≢◌, ℕ, zero, suc, ◌+◌, ◌-◌, ◌*◌, ◌<◌, ◌≤◌, ◌==◌, ◌++◌, [], Bool, true, false, cond, List, Option, Some, None, refl, sym, ap, subst, ◌∙◌, arith, inl, inr, add-one, append_assoc, eq-eqb}
-use Rattle.std.specs.Prelude.{nat_lt}
-use Rattle.std.proofs.lemmas.Bool.{cases_Bool, cases_eq, cases_lt, le-ltb, lt-ltb, ltb-true, ne_eqb, true≢false}
+use Rattle.std.proofs.Common.{◌≡◌, ℕ, zero, suc, ◌+◌, ◌-◌, ◌*◌, ◌<◌, ◌≤◌, ◌==◌, ◌++◌, Bool, true, cond, List, Option, Some, None, refl, sym, ap, ◌∙◌, arith, inl, inr, append_assoc, eq-eqb}
+use Rattle.std.proofs.lemmas.Bool.{cases_Bool, cases_lt, le-ltb, lt-ltb, ne_eqb}
 use Rattle.std.proofs.Math.Nat.{mul-le-mul_left}
 use Rattle.std.proofs.lemmas.List.{append-nil}
 use Rattle.j39_network.specs.declared.plan.timing.Timing.{Timing}
@@ -9,7 +8,7 @@ use Rattle.j39_timing.specs.Errors.{Damaged, IsBusWithErrors}
 use Rattle.j39_timing.specs.Messages.{frame_end}
 use Rattle.j39_timing.specs.TimedFrames.{Schedule}
 use Rattle.j39_audit.specs.Below.{each_below}
-use Rattle.j39_audit.specs.Broadcasts.{Broadcasts, late_by, late_noted, with_packet}
+use Rattle.j39_audit.specs.Broadcasts.{Broadcasts, late_by, late_noted}
 use Rattle.j39_audit.specs.Counting.{Noted}
 use Rattle.j39_audit.specs.MessageStreams.{longest_us}
 use Rattle.j39_audit.specs.Near.{excess}
