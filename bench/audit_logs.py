@@ -1,5 +1,5 @@
 #!/usr/bin/env python3
-"""Compares which flows `audit` tells as near or silent, and which units as deaf, with a reference in Python: audit_logs.py [LOGS [SEED]]
+"""Compares which flows and packets `audit` tells as near or silent, and which units as deaf, with a reference in Python: audit_logs.py [LOGS [SEED]]
 
 Each of so many random logs (200) is of a random plan of five units: frames that keep their distances or don't, claims of these units and of others, requests
 for claims, messages that may be of several flows, clocks that are set back, quiet seconds, lines that are bad or without a time. The reference follows pages, not the program.
@@ -23,6 +23,7 @@ ALL, NULL, POOL = 255, 254, range(128, 248)
 BIT, SECOND = 4, 1_000_000
 FRAME_BYTES, LONGEST = 8, 1785
 CLAIMS_ASKED, LONGEST_ANSWER_MS = bytes([0x00, 0xEE, 0x00]), 250
+GAP_MS, LONGEST_GAP_MS, PACKET_BYTES = 50, 200, 7
 
 
 class Unit(NamedTuple):
@@ -107,6 +108,13 @@ class Frame(NamedTuple):
 Line = Frame | tuple[str, str]
 
 
+def is_announcement(frame: Frame) -> bool:
+    """Whether a frame of the transport protocol announces a message to all."""
+    data = frame.data
+    size = data[1] | data[2] << 8
+    return FRAME_BYTES < size <= LONGEST and data[3] == whole(size, PACKET_BYTES) and (data[0], data[4], frame.to) == (0x20, ALL, ALL)
+
+
 def random_plan(dice: random.Random) -> Plan:
     units = [Unit("A", 0, 1), Unit("B", 3, 3, claims=dice.random() < 0.8), Unit("C", 128, 5, True, True), Unit("D", 128, 6, True, True), Unit("S", 128, 4, True)]
     groups = [Group("G1", 61444, 3, 8, 8), Group("G2", 65260, 6, 18, 18), Group("G3", 0, 6, 8, 8), Group("G4", 65100, 6, 4, 12)]
@@ -143,7 +151,7 @@ def random_line(dice: random.Random, plan: Plan, at: int) -> Line:
     if kind < 0.93:
         return Frame(time, 6, REQUEST, dice.choice([ALL, ALL, 0, 3, 128, 129]), dice.choice([NULL, NULL, 0, 3, 128]), CLAIMS_ASKED)
     if kind < 0.96:
-        return Frame(time, 6, *dice.choice([(PACKETS, ALL, 0), (65000, ALL, 3), (65000, ALL, 0)]), bytes(8))
+        return Frame(time, 6, *dice.choice([(PACKETS, ALL, 0)] * 3 + [(65000, ALL, 3), (65000, ALL, 0)]), bytes(8))
     return dice.choice([("junk", "bad"), ("(1.0) can0 XYZ#00", "bad"), (f"({at // SECOND}.{at % SECOND:06d}) can0 123#00", "skipped"), ("", "empty")])
 
 
@@ -205,6 +213,7 @@ class Reference:
         self.earliest: dict[int, int | None] = {}
         self.latest: dict[int, tuple[int, int]] = {}  # the latest moment of the newest message of a flow, and its line
         self.shown: dict[int, tuple[int, int | None]] = {}  # the line of the last frame of a unit, and its idle mark
+        self.begun: dict[int, tuple[int, int, int]] = {}  # of a unit's planned broadcast the packets left, and the latest end and the line of the frame before
         self.asked: dict[int, tuple[int, int]] = {}  # when the request for claims to a unit ended at the latest, and its line
 
     def longest(self, ms: int) -> int:
@@ -241,7 +250,7 @@ class Reference:
             return
         at, idle = min(there, key=lambda it: it[0])
         if at > line and idle is not None and idle - self.jitter(flow) > moment + pause:
-            self.tell("silent", place, line, idle - self.jitter(flow) - moment - pause)
+            self.tell("silent flow", place, line, idle - self.jitter(flow) - moment - pause)
 
     def end_all(self) -> None:
         for place in range(len(self.plan.flows)):
@@ -249,7 +258,7 @@ class Reference:
         self.forget()
 
     def forget(self) -> None:
-        self.latest, self.shown = {}, {}
+        self.latest, self.shown, self.begun = {}, {}, {}
 
     def take_bad(self) -> None:
         self.asked = {}
@@ -280,6 +289,7 @@ class Reference:
             if sender is not None:
                 self.shown[sender] = line, self.idle
                 self.take_sign(sender)
+                self.take_broadcast(line, frame.time, frame, sender, flows)
         if is_claim:
             self.asked.pop(-1 if claimant is None else claimant, None)
             self.addresses.claims.append((claimant, frame.source))
@@ -321,6 +331,7 @@ class Reference:
             if unit in (flow.sender, flow.to):
                 self.end(place)
         self.shown.pop(unit, None)
+        self.begun.pop(unit, None)
 
     def ask(self, line: int, latest: int, source: int, to: int) -> None:
         """A request for claims asks each unit that surely takes it, and that may not be the one that asks."""
@@ -337,14 +348,28 @@ class Reference:
             self.tell("deaf", sender, line, 0)
             del self.asked[sender]
 
+    def take_broadcast(self, line: int, time: int, frame: Frame, unit: int, flows: list[int]) -> None:
+        """A planned broadcast begins with what announces it, and then has packets: all flows of the plan have a period."""
+        data, latest = frame.data, time + self.stamps
+        if frame.pgn == TRANSPORT and is_announcement(frame):
+            self.begun.pop(unit, None)
+            if flows:
+                self.begun[unit] = data[3], latest, line
+        elif unit in self.begun and (frame.pgn, frame.to, len(data)) == (PACKETS, ALL, FRAME_BYTES):
+            self.take_step("near packets", -1 - unit, unit, line, latest, self.idle, self.shortest(GAP_MS))
+            left, end, before = self.begun[unit]
+            if left and self.idle is not None and self.idle > end + self.longest(LONGEST_GAP_MS):
+                self.tell("silent packets", unit, before, self.idle - end - self.longest(LONGEST_GAP_MS))
+            self.begun[unit] = max(left - 1, 0), latest, line
+
     def flows_of(self, sender: int, frame: Frame) -> list[int]:
         """The flows of which a frame, or what it announces, may be a message: the nearest ones."""
         number, size, priority, data = frame.pgn, len(frame.data), frame.priority, frame.data
         if number in (CLAIM, REQUEST, PACKETS):
             return []
         if number == TRANSPORT:
-            size, packets, number = data[1] | data[2] << 8, data[3], int.from_bytes(data[5:8], "little")
-            if not FRAME_BYTES < size <= LONGEST or packets != whole(size, 7) or (data[0], data[4], frame.to) != (0x20, ALL, ALL):
+            size, number = data[1] | data[2] << 8, int.from_bytes(data[5:8], "little")
+            if not is_announcement(frame):
                 return []
         is_single = frame.pgn != TRANSPORT
         is_broadcast = is_single and frame.is_broadcast()
@@ -360,18 +385,22 @@ class Reference:
         near = [it for it in found if is_broadcast or (to := self.plan.flows[it].to) is None or self.addresses.may_be(to, frame.to)]
         return near or found
 
+    def take_step(self, word: str, stream: int, place: int, line: int, upper: int, lower: int | None, step: int) -> None:
+        """The messages of a stream are a step apart."""
+        last = self.earliest.get(stream)
+        bounds = [it for it in (lower, None if last is None else last + step) if it is not None]
+        earliest = max(bounds, default=None)
+        if earliest is not None and earliest > upper:
+            self.tell(word, place, line, earliest - upper)
+            earliest = lower
+        self.earliest[stream] = earliest
+
     def take_message(self, line: int, time: int, place: int, is_single: bool) -> None:
         flow, upper = self.plan.flows[place], time + self.stamps
         if (self.plan.groups[flow.group].most <= FRAME_BYTES) != is_single:
             return
         lower = None if self.idle is None else self.idle - self.jitter(flow)
-        last = self.earliest.get(place)
-        bounds = [it for it in (lower, None if last is None else last + self.shortest(flow.period)) if it is not None]
-        earliest = max(bounds, default=None)
-        if earliest is not None and earliest > upper:
-            self.tell("near", place, line, earliest - upper)
-            earliest = lower
-        self.earliest[place] = earliest
+        self.take_step("near flow", place, place, line, upper, lower, self.shortest(flow.period))
         pause = self.pause(flow)
         if pause is None:
             return
@@ -379,7 +408,7 @@ class Reference:
         if place in self.latest:
             moment, before = self.latest[place]
             if lower is not None and lower > moment + pause:
-                self.tell("silent", place, before, lower - moment - pause)
+                self.tell("silent flow", place, before, lower - moment - pause)
             else:
                 latest = min(upper, moment + pause)
         self.latest[place] = latest, line
@@ -388,13 +417,13 @@ class Reference:
         """What is told, by words and then by units or flows."""
         deaf = [(unit.label, told) for place, unit in enumerate(self.plan.units) if (told := self.told.get(("deaf", place)))]
         found = [f"deaf unit {label} times {len(told)} first {told[0][0]}" for label, told in deaf]
-        for word in ("near", "silent"):
-            for place, flow in enumerate(self.plan.flows):
+        flows = [f"{at} {self.plan.groups[it.group].label} {self.plan.units[it.sender].label} {self.plan.receiver(it)}" for at, it in enumerate(self.plan.flows, 1)]
+        for word in ("near flow", "near packets", "silent flow", "silent packets"):
+            for place, name in enumerate([unit.label for unit in self.plan.units] if "packets" in word else flows):
                 if told := self.told.get((word, place)):
                     by = max(it[1] for it in told)
                     worst = next(it[0] for it in told if it[1] == by)
-                    names = f"{self.plan.groups[flow.group].label} {self.plan.units[flow.sender].label} {self.plan.receiver(flow)}"
-                    found.append(f"{word} flow {place + 1} {names} times {len(told)} first {told[0][0]} worst {worst} by {by} us")
+                    found.append(f"{word} {name} times {len(told)} first {told[0][0]} worst {worst} by {by} us")
         return found
 
 
@@ -422,7 +451,7 @@ def answered(plan: Plan, lines: list[Line], is_part: bool, stamps: int, folder: 
     answer = ran.stdout.splitlines()
     if ran.returncode > 1 or not answer or not answer[-1].startswith("deviations "):
         raise SystemExit(f"audit answers {ran.stdout}{ran.stderr}")
-    return [line for line in answer if line.startswith(("deaf unit ", "near flow ", "silent flow "))]
+    return [line for line in answer if line.startswith(("deaf unit ", "near flow ", "near packets ", "silent "))]
 
 
 def main(words: list[str]) -> int:

@@ -4,7 +4,7 @@ use Rattle.j39_id.specs.Lines.{lines}
 use Rattle.j39_log.specs.declared.line_counts.LineCounts.{LineCounts}
 use Rattle.j39_network.specs.declared.plan.Plan.{Plan}
 use Rattle.j39_stream.specs.declared.verdict.Verdict.{Verdict}
-use Rattle.j39_audit.specs.AuditText.{IsAudit, IsAuditedLog, Look, AuditPast, accusation_count, counts_of, is_of_asking, is_of_moments, log_ended, look_at, text_by, verdict_by}
+use Rattle.j39_audit.specs.AuditText.{IsAudit, IsAuditedLog, Look, AuditPast, accusation_count, counts_of, is_of_asking, is_of_broadcasts, is_of_moments, log_ended, look_at, text_by, verdict_by}
 use Rattle.j39_audit.specs.Counting.{key_of}
 use Rattle.j39_audit.specs.Settings.{AreMoving, Settings}
 use Rattle.j39_audit.specs.declared.audit_log.AuditLog.{AuditLog}
@@ -17,7 +17,8 @@ both false same other = other
 looks : (log : AuditLog) (past : AuditPast) → RecallsAudit log past → tallied log ≡ look_at past
 looks log past recalls = λ i m.
     both (is_of_moments m.word) (recalls.follows.moments.counted (key_of m))
-    (both (is_of_asking m.word) (recalls.follows.asking.counted (key_of m)) (recalls.follows.counted (key_of m))) i
+    (both (is_of_asking m.word) (recalls.follows.asking.counted (key_of m))
+    (both (is_of_broadcasts m.word) (recalls.follows.broadcasts.counted (key_of m)) (recalls.follows.counted (key_of m)))) i
 
 counts : (log : AuditLog) (past : AuditPast) → RecallsAudit log past → log.counts ≡ counts_of past
 counts log past recalls =

@@ -1,5 +1,6 @@
 pub mod Asked
 pub mod Audited
+pub mod Begun
 pub mod Below
 pub mod Counted
 pub mod Hearing

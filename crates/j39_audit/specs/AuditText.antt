@@ -23,24 +23,25 @@ use Rattle.j39_stream.specs.declared.verdict.Verdict.{Verdict}
 use Rattle.j39_stream.specs.declared.verdict.Verdict.TheVariants.{Done, Findings}
 use Rattle.j39_audit.specs.Asking.{Asking, all_forgotten, asking_behind, nobody_asked as no_asking}
 use Rattle.j39_audit.specs.Below.{each_below, sum_below}
+use Rattle.j39_audit.specs.Broadcasts.{Broadcasts, all_ended as all_broadcasts_ended, announcement_in, broadcasts_before, broadcasts_behind, no_broadcasts, packet_with}
 use Rattle.j39_audit.specs.Breaks.{breaks, line_time, newest_behind}
 use Rattle.j39_audit.specs.Claiming.{HeardClaims, broken_off, knowledge, no_claims}
 use Rattle.j39_audit.specs.Counting.{Noted, told_in}
 use Rattle.j39_audit.specs.Looking.{IsPacketOf, break_noted, claims_behind, frame_noted, noted_if}
-use Rattle.j39_audit.specs.Moments.{Moments, all_pauses_ended, begins_anew, behind_bad, behind_gap, moments_behind, no_moments}
+use Rattle.j39_audit.specs.Moments.{Moments, all_pauses_ended, begins_anew, behind_bad, behind_gap, moments_behind, no_moments, with_packet_stream}
 use Rattle.j39_audit.specs.MessageStreams.{nothing_sighted, sighted_behind}
 use Rattle.j39_audit.specs.Pauses.{ending_of}
 use Rattle.j39_audit.specs.SentMessages.{noted_at}
 use Rattle.j39_audit.specs.Settings.{AreMoving, Settings, units_planned}
 use Rattle.j39_audit.specs.declared.mark.Mark.{Mark}
 use Rattle.j39_audit.specs.declared.mark.Word.{Word}
-use Rattle.j39_audit.specs.declared.mark.Word.TheVariants.{Short, Stranger, Nobody, Address, Cannot, Layout, NoFlow, Priority, Urgent, Seen, Unclear, Asked, Counted, Unsure, Break, NearFlow, NearRequest, SilentFlow, Deaf}
+use Rattle.j39_audit.specs.declared.mark.Word.TheVariants.{Short, Stranger, Nobody, Address, Cannot, Layout, NoFlow, Priority, Urgent, Seen, Unclear, Asked, Counted, Unsure, Break, NearFlow, NearRequest, SilentFlow, Deaf, NearPackets, SilentPackets}
 use Rattle.j39_audit.specs.declared.tally.Told.{Told}
 
 -- ---- a log
 
 -- what came so far: how many lines, the interface of the log, the newest time, the claims, what was noted, what the times tell, who is asked for
--- claims, and how many lines there were of each sort
+-- claims, the planned broadcasts, and how many lines there were of each sort
 pub record AuditPast : Type 0 where
   pub number : ℕ
   pub interface : Option (List ℕ)
@@ -49,6 +50,7 @@ pub record AuditPast : Type 0 where
   pub noted : List Noted
   pub moments : Moments
   pub asking : Asking
+  pub broadcasts : Broadcasts
   pub frames : ℕ
   pub skipped : ℕ
   pub bad : ℕ
@@ -63,6 +65,7 @@ nothing_read = record {
   noted = [];
   moments = no_moments;
   asking = no_asking;
+  broadcasts = no_broadcasts;
   frames = 0;
   skipped = 0;
   bad = 0;
@@ -70,7 +73,12 @@ nothing_read = record {
 }
 
 abbrev pub bad_line : Settings → AuditPast → AuditPast
-bad_line s past = record past { bad = past.bad + 1; moments = behind_bad s past.moments; asking = all_forgotten past.asking }
+bad_line s past = record past {
+  bad = past.bad + 1;
+  moments = behind_bad s past.moments;
+  asking = all_forgotten past.asking;
+  broadcasts = all_broadcasts_ended past.broadcasts;
+}
 
 -- a line of an 11-bit identifier is skipped, which is told of behind the first frame; one without a word isn't counted
 abbrev pub skipped_line : AuditPast → AuditPast
@@ -99,16 +107,30 @@ moments_with_frame s past time f packet =
     moments_behind s (breaks s.stamps past.newest time) (begins_anew s.stamps past.newest time) time f past.number
     (noted_newly s past time f packet) (ending_of s (knowledge s (claims_before s past time)) f) past.moments
 
+-- the unit for which it counts, if it does; the broadcasts just before it; and the claims behind it, of which one that announces is none
+abbrev pub counted_for : Settings → AuditPast → Option ℕ → Frame → Option Packet → Option ℕ
+counted_for s past time f packet = (sighted_behind nothing_sighted (noted_newly s past time f packet)).unit
+
+abbrev pub broadcasts_there : Settings → AuditPast → Option ℕ → Frame → Broadcasts
+broadcasts_there s past time f = broadcasts_before (begins_anew s.stamps past.newest time) (breaks s.stamps past.newest time)
+    (ending_of s (knowledge s (claims_before s past time)) f) past.broadcasts
+
+abbrev pub claims_with_frame : Settings → AuditPast → Option ℕ → Frame → HeardClaims
+claims_with_frame s past time f = claims_behind s f (claims_before s past time)
+
 -- what came, with a frame of this time and packet of a line that names this interface
 unfoldable pub past_with_frame : Settings → AuditPast → Option ℕ → Option (List ℕ) → Frame → Option Packet → AuditPast
 past_with_frame s past time named f packet = record past {
   interface = interface_behind past.interface named;
   newest = newest_behind s.stamps past.newest time;
-  claims = claims_behind s f (claims_before s past time);
+  claims = claims_with_frame s past time f;
   noted = past.noted ++ noted_newly s past time f packet;
-  moments = moments_with_frame s past time f packet;
+  moments = with_packet_stream s time past.number (packet_with s.plan.timing (counted_for s past time f packet) f (broadcasts_there s past time f))
+      (moments_with_frame s past time f packet);
   asking = asking_behind s (knowledge s (claims_before s past time)) (breaks s.stamps past.newest time) (begins_anew s.stamps past.newest time) time
-      f past.number (sighted_behind nothing_sighted (noted_newly s past time f packet)).unit (moments_with_frame s past time f packet).idle past.asking;
+      f past.number (counted_for s past time f packet) (moments_with_frame s past time f packet).idle past.asking;
+  broadcasts = broadcasts_behind s (knowledge s (claims_with_frame s past time f)) (counted_for s past time f packet) f (announcement_in packet) time
+      (moments_with_frame s past time f packet).idle past.number (broadcasts_there s past time f);
   frames = past.frames + 1;
 }
 
@@ -148,7 +170,7 @@ log_ended s past = record past { moments = all_pauses_ended s past.moments }
 
 -- the words that accuse, in the order in which they are written
 abbrev pub accusing : List Word
-accusing = Short ∷ Stranger ∷ Nobody ∷ Address ∷ Cannot ∷ Deaf ∷ Layout ∷ NoFlow ∷ Priority ∷ Urgent ∷ NearFlow ∷ NearRequest ∷ SilentFlow ∷ []
+accusing = Short ∷ Stranger ∷ Nobody ∷ Address ∷ Cannot ∷ Deaf ∷ Layout ∷ NoFlow ∷ Priority ∷ Urgent ∷ NearFlow ∷ NearRequest ∷ NearPackets ∷ SilentFlow ∷ SilentPackets ∷ []
 
 abbrev pub accusing_at : ℕ → Word
 accusing_at n = slice_index_or accusing n Urgent
@@ -183,6 +205,8 @@ word_text Priority = codes "priority"
 word_text NearFlow = codes "near"
 word_text NearRequest = codes "near"
 word_text SilentFlow = codes "silent"
+word_text NearPackets = codes "near"
+word_text SilentPackets = codes "silent"
 word_text _ = codes "urgent"
 
 unfoldable pub unit_text : Plan → ℕ → List ℕ
@@ -207,6 +231,9 @@ named_flow_text plan n flow = place_field (codes " flow ") n ++ sending_text pla
 unfoldable pub request_text : Plan → ℕ → RequestPlan → List ℕ
 request_text plan n r = place_field (codes " request ") n ++ sending_text plan r.group r.sender r.to
 
+unfoldable pub packets_text : Plan → ℕ → List ℕ
+packets_text plan u = codes " packets " ++ unit_label plan u
+
 -- whom or what a word speaks of, and what belongs to the first line
 abbrev pub subject_of : Plan → Word → ℕ → ℕ → ℕ → List ℕ
 subject_of plan Short subject group detail = []
@@ -222,6 +249,8 @@ subject_of plan NearRequest subject group detail =
     option_map_or (λ (r : RequestPlan). request_text plan subject r) (slice_get plan.requests.items subject) []
 subject_of plan SilentFlow subject group detail =
     option_map_or (λ (flow : FlowPlan). named_flow_text plan subject flow) (slice_get plan.flows.items subject) []
+subject_of plan NearPackets subject group detail = packets_text plan subject
+subject_of plan SilentPackets subject group detail = packets_text plan subject
 subject_of plan _ subject group detail = unit_text plan subject
 
 -- by how much at most, and the first line at which it was so much
@@ -232,6 +261,8 @@ abbrev pub measure_text : Word → Told → List ℕ
 measure_text NearFlow t = worst_text t
 measure_text NearRequest t = worst_text t
 measure_text SilentFlow t = worst_text t
+measure_text NearPackets t = worst_text t
+measure_text SilentPackets t = worst_text t
 measure_text _ t = []
 
 -- how often, and the first line
@@ -269,10 +300,10 @@ unfoldable pub word_count : Settings → Look → Word → ℕ
 word_count s look word = sum_below (subject_count s look word) (subjects s word)
 
 unfoldable pub accusations : Settings → Look → List ℕ
-accusations s look = each_below (λ n. word_lines s look (accusing_at n)) 13
+accusations s look = each_below (λ n. word_lines s look (accusing_at n)) 15
 
 unfoldable pub accusation_count : Settings → Look → ℕ
-accusation_count s look = sum_below (λ n. word_count s look (accusing_at n)) 13
+accusation_count s look = sum_below (λ n. word_count s look (accusing_at n)) 15
 
 -- ---- what was seen
 
@@ -331,21 +362,28 @@ text_by s counts look =
 abbrev pub counts_of : AuditPast → LineCounts
 counts_of past = record { frames = past.frames; skipped = past.skipped; bad = past.bad; elsewhere = past.elsewhere }
 
--- what is told of each mark: of those that speak of times by the times, of units that don't answer by who is asked, of the others by the frames
+-- what is told of each mark: of those that speak of times by the times, of units that don't answer by who is asked, of packets that come late by
+-- the broadcasts, of the others by the frames
 abbrev pub is_of_moments : Word → Bool
 is_of_moments NearFlow = true
 is_of_moments NearRequest = true
 is_of_moments SilentFlow = true
+is_of_moments NearPackets = true
 is_of_moments _ = false
 
 abbrev pub is_of_asking : Word → Bool
 is_of_asking Deaf = true
 is_of_asking _ = false
 
+abbrev pub is_of_broadcasts : Word → Bool
+is_of_broadcasts SilentPackets = true
+is_of_broadcasts _ = false
+
 abbrev pub look_at : AuditPast → Look
 look_at past m =
     if is_of_moments m.word then told_in past.moments.untimely m
-    else if is_of_asking m.word then told_in past.asking.deaf m else told_in past.noted m
+    else if is_of_asking m.word then told_in past.asking.deaf m
+    else if is_of_broadcasts m.word then told_in past.broadcasts.late m else told_in past.noted m
 
 abbrev pub audit_text : Settings → AuditPast → List ℕ
 audit_text s past = text_by s (counts_of past) (look_at past)

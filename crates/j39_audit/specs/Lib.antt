@@ -2,6 +2,7 @@ pub mod Asking
 pub mod AuditText
 pub mod Below
 pub mod Breaks
+pub mod Broadcasts
 pub mod Claiming
 pub mod Counting
 pub mod Looking

@@ -201,6 +201,11 @@ with_counted s None line m = m
 with_counted s (Some u) line m =
     if nat_lt u (units_planned s) then with_frame_of u line m else m
 
+-- with a packet of a broadcast, if the frame of this time is one
+abbrev pub with_packet_stream : Settings → Option ℕ → ℕ → Option MessageStream → Moments → Moments
+with_packet_stream s (Some time) line (Some stream) m = with_message stream (moment_window s stream.jitter time m.idle) line m
+with_packet_stream s _ line _ m = m
+
 -- ---- gaps
 
 -- a line that is bad: a frame may be missing

@@ -4,7 +4,7 @@ ghost use Rattle.std.specs.List.{slice_get};
 ghost use Rattle.std.specs.Option.{option_map_or};
 ghost use Rattle.j39_network.specs.declared.plan.flow_plan.FlowPlan.{FlowPlan as AFlow};
 ghost use Rattle.j39_network.specs.declared.plan.request_plan.RequestPlan.{RequestPlan as ARequest};
-ghost use Rattle.j39_audit.specs.AuditText.{accusing_line, measure_text, named_flow_text, request_text, sending_text};
+ghost use Rattle.j39_audit.specs.AuditText.{accusing_line, measure_text, named_flow_text, packets_text, request_text, sending_text};
 ghost use Rattle.j39_audit.specs.AuditText.{stranger_text, subject_of, times_text, unit_and_group_text, unit_at_text};
 ghost use Rattle.j39_audit.specs.AuditText.{unit_text, word_text, worst_text};
 
@@ -28,8 +28,8 @@ fn word_text(word: Word) -> &'static str
         Word::Layout => "layout",
         Word::NoFlow => "no_flow",
         Word::Priority => "priority",
-        Word::NearFlow | Word::NearRequest => "near",
-        Word::SilentFlow => "silent",
+        Word::NearFlow | Word::NearRequest | Word::NearPackets => "near",
+        Word::SilentFlow | Word::SilentPackets => "silent",
         _ => "urgent",
     }
 }
@@ -141,6 +141,14 @@ fn write_request_at(text: &mut TextBuffer, plan: &Plan, place: usize) -> Result<
     }
 }
 
+#[tactic(auto, unfolding(crate::specs::AuditText::packets_text))]
+fn write_packets(text: &mut TextBuffer, plan: &Plan, unit: usize) -> Result<(), AllocError>
+    ensures { OnOk result (text.new ≡ text.old ++ packets_text plan.now unit) }
+{
+    text.word(" packets ")?;
+    text.word(unit_label(plan, unit))
+}
+
 // Writes whom or what a word speaks of, and what belongs to the first line.
 fn write_subject(
     text: &mut TextBuffer,
@@ -160,6 +168,7 @@ fn write_subject(
         }
         Word::NearFlow | Word::SilentFlow => write_flow_at(text, plan, mark.subject),
         Word::NearRequest => write_request_at(text, plan, mark.subject),
+        Word::NearPackets | Word::SilentPackets => write_packets(text, plan, mark.subject),
         _ => write_unit(text, plan, mark.subject),
     }
 }
@@ -178,7 +187,11 @@ fn write_measure(text: &mut TextBuffer, word: Word, told: Told) -> Result<(), Al
     ensures { OnOk result (text.new ≡ text.old ++ measure_text word told) }
 {
     match word {
-        Word::NearFlow | Word::NearRequest | Word::SilentFlow => write_worst(text, told),
+        Word::NearFlow
+        | Word::NearRequest
+        | Word::NearPackets
+        | Word::SilentFlow
+        | Word::SilentPackets => write_worst(text, told),
         _ => Ok(()),
     }
 }

@@ -3,16 +3,19 @@ ghost use Rattle.std.specs.Prelude.{◌≡◌, ◌≤◌, ◌<◌, ◌^◌, ◌+
 ghost use Rattle.std.specs.Option.{option_copied};
 ghost use Rattle.j39_id.specs.Lines.{Line, tells};
 ghost use Rattle.j39_log.specs.LineCounting.{AreWithin, IsLineMore};
-ghost use Rattle.j39_audit.specs.AuditText.{AuditPast, bad_line, is_of_asking, is_of_moments, passed_by, skipped_line};
+ghost use Rattle.j39_audit.specs.AuditText.{AuditPast, bad_line, is_of_asking, is_of_broadcasts, is_of_moments, passed_by, skipped_line};
+ghost use Rattle.j39_audit.specs.Broadcasts.{Broadcasts as SomeBroadcasts, broadcasts_behind, packet_with};
 ghost use Rattle.j39_audit.specs.Claiming.{HeardClaims, broken_off};
 ghost use Rattle.j39_audit.specs.Looking.{break_noted};
+ghost use Rattle.j39_audit.specs.Moments.{Moments as SomeMoments, with_packet_stream};
 ghost use Rattle.j39_audit.specs.Settings.{AreMoving, Settings};
 ghost use Rattle.j39_audit.specs.inside.Auditing.{AccordsWith, HasAudited, HasAuditedWhole, IsWithinLines, RecallsAudit, TakesFrame, TakesFrameLine, TakesLine};
 ghost use Rattle.j39_audit.specs.inside.Auditing.{tallied};
-ghost use Rattle.j39_audit.specs.inside.Recalling.{AreNear, KnowsClaims, Notes, settings_of};
+ghost use Rattle.j39_audit.specs.inside.Recalling.{AreNear, KnowsClaims, Notes, RecallsBroadcasts, RecallsMoments, known_by, settings_of};
 
 use crate::asking::Asking;
 use crate::basis::Basis;
+use crate::broadcasts::{Announcement, Broadcasts, announcement_in};
 use crate::frame_marks::{note_if, take_frame};
 use crate::known::Known;
 use crate::mark::{Mark, Word, make_mark};
@@ -40,6 +43,7 @@ pub(crate) struct AuditLog<'a> {
     pub tally: MarkTally,
     pub moments: Moments,
     pub asking: Asking,
+    pub broadcasts: Broadcasts,
     pub counts: LineCounts,
 }
 
@@ -74,7 +78,10 @@ fn has_frames(counts: &LineCounts) -> bool
 fn is_of_moments(word: Word) -> bool
     ensures { result ≡ is_of_moments word }
 {
-    matches!(word, Word::NearFlow | Word::NearRequest | Word::SilentFlow)
+    matches!(
+        word,
+        Word::NearFlow | Word::NearRequest | Word::NearPackets | Word::SilentFlow
+    )
 }
 
 // Whether a word speaks of who is asked for claims.
@@ -82,6 +89,48 @@ fn is_of_asking(word: Word) -> bool
     ensures { result ≡ is_of_asking word }
 {
     matches!(word, Word::Deaf)
+}
+
+// Whether a word speaks of planned broadcasts.
+fn is_of_broadcasts(word: Word) -> bool
+    ensures { result ≡ is_of_broadcasts word }
+{
+    matches!(word, Word::SilentPackets)
+}
+
+// Takes a frame of this time, which announces this and counts for this unit, if it does, for the broadcasts of units.
+fn take_packet(
+    broadcasts: &mut Broadcasts,
+    moments: &mut Moments,
+    basis: &Basis<'_>,
+    known: &Known,
+    unit: Option<usize>,
+    frame: &Frame,
+    announced: Option<Announcement>,
+    time: Option<u64>,
+    line: u64,
+) -> Result<(), AllocError>
+    requires time { IfSome time (λ t. t < 2 ^ 61) }
+    requires near { AreNear moments.old }
+    ensures near { OnOk result (AreNear moments.new) }
+    ensures moments { OnOk result ((m : SomeMoments) (b : SomeBroadcasts) → RecallsMoments moments.old m → RecallsBroadcasts (settings_of basis.now) broadcasts.old b
+        → RecallsMoments moments.new (with_packet_stream (settings_of basis.now) time line (packet_with basis.now.plan.now.timing unit frame.now b) m)) }
+    ensures broadcasts { OnOk result ((b : SomeBroadcasts) → RecallsBroadcasts (settings_of basis.now) broadcasts.old b
+        → RecallsBroadcasts (settings_of basis.now) broadcasts.new
+        (broadcasts_behind (settings_of basis.now) (known_by known.now) unit frame.now announced time moments.old.idle line b)) }
+{
+    let stream = broadcasts.packet(basis, unit, frame);
+    broadcasts.take(
+        basis,
+        known,
+        unit,
+        frame,
+        announced,
+        time,
+        moments.idle,
+        line,
+    )?;
+    moments.take_packet(basis, time, line, stream)
 }
 
 impl<'a> AuditLog<'a> {
@@ -97,6 +146,7 @@ impl<'a> AuditLog<'a> {
         let known = Known::new(alloc, &basis)?;
         let moments = Moments::new(alloc)?;
         let asking = Asking::new(alloc, &basis)?;
+        let broadcasts = Broadcasts::new(alloc, &basis)?;
         Ok(AuditLog {
             alloc,
             basis,
@@ -107,6 +157,7 @@ impl<'a> AuditLog<'a> {
             tally: MarkTally::new(alloc),
             moments,
             asking,
+            broadcasts,
             counts: LineCounts::new(),
         })
     }
@@ -119,6 +170,8 @@ impl<'a> AuditLog<'a> {
             self.moments.untimely.told(mark)
         } else if is_of_asking(mark.word) {
             self.asking.deaf.told(mark)
+        } else if is_of_broadcasts(mark.word) {
+            self.broadcasts.late.told(mark)
         } else {
             self.tally.told(mark)
         }
@@ -157,12 +210,15 @@ impl<'a> AuditLog<'a> {
             frame,
             self.number,
         );
+        self.broadcasts.come_to(&self.basis, anew, broken, ending);
+        let packet = transport_packet(frame);
+        let announced = announcement_in(&packet);
         take_frame(
             &mut self.tally,
             &self.basis,
             &mut self.known,
             frame,
-            transport_packet(frame),
+            packet,
             self.number,
         )?;
         self.moments.look(
@@ -178,8 +234,19 @@ impl<'a> AuditLog<'a> {
             },
             self.number,
         )?;
-        self.asking
-            .take_sign(&self.basis, self.tally.sighting.unit, self.moments.idle)?;
+        let unit = self.tally.sighting.unit;
+        self.asking.take_sign(&self.basis, unit, self.moments.idle)?;
+        take_packet(
+            &mut self.broadcasts,
+            &mut self.moments,
+            &self.basis,
+            &self.known,
+            unit,
+            frame,
+            announced,
+            time,
+            self.number,
+        )?;
         Ok(())
     }
 
@@ -218,6 +285,7 @@ impl<'a> AuditLog<'a> {
     {
         self.counts.bad += 1;
         self.asking.forget_all(&self.basis);
+        self.broadcasts.forget_all(&self.basis);
         self.moments.pass_bad(&self.basis)
     }
 

@@ -162,8 +162,13 @@ fn single(unit: usize, frame: &Frame) -> UnitMessage<'_>
     }
 }
 
-// A message of this size and number that a frame announces.
-fn announced(unit: usize, frame: &Frame, size: usize, number: u32) -> UnitMessage<'static>
+/// A message of this size and number that a frame announces.
+pub(crate) fn announced(
+    unit: usize,
+    frame: &Frame,
+    size: usize,
+    number: u32,
+) -> UnitMessage<'static>
     ensures { sent_as result ≡ announced_message unit frame.now size number }
 {
     UnitMessage {

@@ -1,7 +1,7 @@
 //! What is counted of a log.
 ghost use Rattle.std.specs.Prelude.{◌≡◌};
 
-/// What is said of a line or a frame. The first nine accuse, and the last four.
+/// What is said of a line or a frame. The first nine accuse, and the last six.
 #[derive(Clone, Copy, PartialEq, Eq)]
 pub enum Word {
     /// A line of an 11-bit identifier.
@@ -42,6 +42,10 @@ pub enum Word {
     SilentFlow,
     /// A unit that claims nothing when it is asked for claims.
     Deaf,
+    /// A packet of a broadcast too soon behind others.
+    NearPackets,
+    /// A frame of a broadcast of which the next packet comes too late.
+    SilentPackets,
 }
 
 impl Word {
@@ -72,6 +76,8 @@ impl Word {
             Word::NearRequest => 16,
             Word::SilentFlow => 17,
             Word::Deaf => 18,
+            Word::NearPackets => 19,
+            Word::SilentPackets => 20,
         }
     }
 }

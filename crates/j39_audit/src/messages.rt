@@ -187,9 +187,14 @@ fn has_priority(basis: &Basis<'_>, message: &UnitMessage<'_>, place: usize) -> b
     }
 }
 
-// Whether a flow may bring such a message there.
+/// Whether a flow may bring such a message there.
 #[tactic(auto, unfolding(crate::specs::SentMessages::is_fit))]
-fn is_fit(basis: &Basis<'_>, known: &Known, message: &UnitMessage<'_>, flow: &FlowPlan) -> bool
+pub(crate) fn is_fit(
+    basis: &Basis<'_>,
+    known: &Known,
+    message: &UnitMessage<'_>,
+    flow: &FlowPlan,
+) -> bool
     ensures { result ≡ is_fit (settings_of basis.now) (known_by known.now) (sent_as message.now) flow.now }
 {
     flow.sender == message.unit

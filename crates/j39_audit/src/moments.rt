@@ -3,7 +3,7 @@ ghost use Rattle.std.specs.Prelude.{◌≡◌, ◌<◌, ◌≤◌, ◌^◌, ◌+
 ghost use Rattle.std.specs.Option.{option_map};
 ghost use Rattle.j39_audit.specs.Counting.{Noted};
 ghost use Rattle.j39_audit.specs.Moments.{Moments as AMoments, begun_anew, behind_bad, behind_gap, moments_behind, near_noted, no_moments, with_moment};
-ghost use Rattle.j39_audit.specs.Moments.{listed_pauses_ended, moment_window, with_counted, with_ending, with_frame_of, with_message, with_stream, with_time};
+ghost use Rattle.j39_audit.specs.Moments.{listed_pauses_ended, moment_window, with_counted, with_ending, with_frame_of, with_message, with_packet_stream, with_stream, with_time};
 ghost use Rattle.j39_audit.specs.MessageStreams.{nothing_sighted, sighted_behind, sighted_stream};
 ghost use Rattle.j39_audit.specs.Pauses.{unclear_behind};
 ghost use Rattle.j39_audit.specs.inside.Recalling.{AreNear, Notes, RecallsMoments, far_ahead, settings_of};
@@ -190,6 +190,31 @@ impl Moments {
             }
             None => Ok(()),
         }
+    }
+
+    /// Takes a packet of a broadcast, if the frame of this time is one.
+    pub fn take_packet(
+        &mut self,
+        basis: &Basis<'_>,
+        time: Option<u64>,
+        line: u64,
+        stream: Option<MessageStream>,
+    ) -> Result<(), AllocError>
+        requires step { IfSome stream (λ it. it.step < 2 ^ 27) }
+        requires time { IfSome time (λ t. t < 2 ^ 61) }
+        requires near { AreNear self.old }
+        ensures near { OnOk result (AreNear self.new) }
+        ensures moments { OnOk result ((m : AMoments) → RecallsMoments self.old m
+            → RecallsMoments self.new (with_packet_stream (settings_of basis.now) time line stream m)) }
+    {
+        let Some(time) = time else {
+            return Ok(());
+        };
+        let Some(stream) = stream else {
+            return Ok(());
+        };
+        let window = moment_window(basis, stream.jitter, time, self.idle);
+        self.take_message(stream, window, line)
     }
 
     // Keeps a frame that counts for a unit.

@@ -40,8 +40,8 @@ pub struct FlowPause {
     pub jitter: u64,
 }
 
-// How many microseconds of the logger's clock so many milliseconds of a unit's last at least.
-fn shortest_us(timing: Timing, ms: u16) -> u64
+/// How many microseconds of the logger's clock so many milliseconds of a unit's last at least.
+pub(crate) fn shortest_us(timing: Timing, ms: u16) -> u64
     ensures value { result ≡ shortest_us timing ms }
     ensures few { result < 2 ^ 27 }
 {

@@ -17,7 +17,7 @@ use j39_text::{TextBuffer, unit_label};
 use std::alloc::AllocError;
 
 // The words that accuse, in the order in which they are written.
-const ACCUSING: [Word; 13] = [
+const ACCUSING: [Word; 15] = [
     Word::Short,
     Word::Stranger,
     Word::Nobody,
@@ -30,7 +30,9 @@ const ACCUSING: [Word; 13] = [
     Word::Urgent,
     Word::NearFlow,
     Word::NearRequest,
+    Word::NearPackets,
     Word::SilentFlow,
+    Word::SilentPackets,
 ];
 
 const ADDRESSES: usize = 256;

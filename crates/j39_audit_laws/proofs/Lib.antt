@@ -4,6 +4,7 @@ pub mod ExactClocks
 pub mod Frames
 pub mod Hits
 pub mod Idle
+pub mod InTurn
 pub mod KeptPauses
 pub mod Lines
 pub mod Listed

@@ -2,6 +2,7 @@ pub mod Answering
 pub mod AuditedRuns
 pub mod ExactClocks
 pub mod FoundLines
+pub mod InTurn
 pub mod LogBounds
 pub mod MarkRecords
 pub mod OneAudit

@@ -1,9 +1,11 @@
 //! Laws of the lines by which the audit command accuses.
-ghost use Rattle.std.specs.Prelude.{◌≡◌, ◌↔◌, ◌+◌, ◌-◌, ◌*◌, ◌<◌, ◌≤◌, ℕ, Bool, true, false, List, Option, Some};
+ghost use Rattle.std.specs.Prelude.{◌≡◌, ◌↔◌, ◌+◌, ◌-◌, ◌*◌, ◌<◌, ◌≤◌, ℕ, Bool, true, false, List, Option, Some, None};
 ghost use Rattle.j39_audit.specs.Near.{IsTooNear, is_too_near};
 ghost use Rattle.j39_audit.specs.Silence.{IsTooFar, is_silent};
 ghost use Rattle.j39_audit.specs.Asking.{longest_answer_ms};
+ghost use Rattle.j39_audit.specs.Broadcasts.{late_by};
 ghost use Rattle.j39_audit.specs.Settings.{AreMoving, Settings};
+ghost use Rattle.j39_audit.specs.declared.broadcasts.Broadcast.{Broadcast as ABroadcast};
 ghost use Rattle.j39_audit.specs.declared.window.Window.{Window as AWindow};
 ghost use Rattle.j39_audit.specs.declared.mark.Word.TheVariants.{Address, Cannot, Layout, NoFlow, Priority, Urgent};
 ghost use Rattle.j39_audit.specs.declared.mark.Word.TheVariants.{Nobody, Short, Stranger};
@@ -12,7 +14,8 @@ ghost use Rattle.j39_audit_laws.specs.Answering.{is_told_deaf};
 ghost use Rattle.j39_audit_laws.specs.AuditedRuns.{ArePartsKept, IsNotWrittenOf};
 ghost use Rattle.j39_audit_laws.specs.ExactClocks.{ExactClocks};
 ghost use Rattle.j39_audit_laws.specs.FoundLines.{FoundAreListed, LinesAreOfLog};
-ghost use Rattle.j39_audit_laws.specs.LogBounds.{AreOfLog, IsMarkedBound, Lines};
+ghost use Rattle.j39_audit_laws.specs.InTurn.{IsInTurn, NotesTheLate};
+ghost use Rattle.j39_audit_laws.specs.LogBounds.{AreOfLog, IsMarkedBound, IsTimedBound, Lines};
 ghost use Rattle.j39_audit_laws.specs.OneAudit.{AuditHasOneText};
 ghost use Rattle.j39_audit_laws.specs.OwnPart.{AlwaysCan, AreItsOwn, ClaimsItsOwn, IsNotNamed, LooksAsPlanned, SentBy};
 ghost use Rattle.j39_audit_laws.specs.OwnPart.{WaitsForPlanned};
@@ -213,4 +216,21 @@ pub fn who_answers_is_not_deaf()
         → IsBusWithErrors s d → ((p : ℕ) → p < s.count → s.bits p ≤ 160) → AreFew d log.few
         → AreLinesOfUnit s log l n is_claim frame → AnswersRequests s log.us longest_answer_ms l n is_claim frame
         → is_told_deaf t l n ≡ false }
+{}
+
+/// Of a planned broadcast each frame but the last is noted behind which the next packet comes too late, by how much and at
+/// the line of this frame.
+pub fn the_late_are_noted()
+    ensures { NotesTheLate }
+{}
+
+/// Who queues each packet of a broadcast within the plan's `broadcast_gap_most` behind the end of the frame of it before is
+/// never told as late with it, however long its frames wait for others: on each such bus, whatever others do, by exact
+/// clocks of the unit and the bus, and one of the logger that may differ by a thousandth.
+pub fn who_sends_in_turn_is_not_silent()
+    ensures { (s : Schedule) (d : Damaged) (log : Lines) (t : Timings) (one : ABroadcast) (g p : ℕ) (idle : Option ℕ)
+        → log.us ≤ 8 → KeepsTime log.us log.clock
+        → IsBusWithErrors s d → ((q : ℕ) → q < s.count → s.bits q ≤ 160) → AreFew d log.few
+        → IsTimedBound s log g one.moment → IsInTurn s log.us t.broadcast_gap_most g p
+        → ((x : ℕ) → idle ≡ Some x → IsMarkedBound s log 0 p x) → late_by t idle one ≡ None }
 {}

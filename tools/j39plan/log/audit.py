@@ -24,8 +24,8 @@ WORDS = {
     "no_flow": Word("a message of G that no flow of U brings there", "what it sends, and to whom"),
     "priority": Word("a message of a flow with another priority", "which priority is set"),
     "urgent": Word("a frame that isn't planned, above `unplanned_priority`", "what it is for"),
-    "near": Word("messages of a flow, or requests, sooner than `period` and `jitter` allow, at line M most", "its period and jitter"),
-    "silent": Word("messages of a flow later than `pause` allows, most behind line M", "its pause and jitter"),
+    "near": Word("messages of a flow, requests or packets sooner than the plan allows, at line M most", "its period and jitter"),
+    "silent": Word("messages of a flow, or packets, later than the plan allows, most behind line M", "its pause and jitter"),
 }
 
 # What may be accused, and the measure that may stand behind.

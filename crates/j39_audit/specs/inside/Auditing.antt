@@ -7,28 +7,30 @@ use Rattle.j39_follow.specs.inside.FollowedSoFar.{interface_of}
 use Rattle.j39_log.specs.LineCounting.{AreWithin}
 use Rattle.j39_stream.specs.declared.verdict.Verdict.{Verdict}
 use Rattle.j39_tp.specs.declared.packet.Packet.{Packet}
-use Rattle.j39_audit.specs.AuditText.{AuditPast, AuditsLines, AuditsShort, accusation_count, is_of_asking, is_of_moments, log_ended, nothing_read, text_by, verdict_by, past_with_frame}
+use Rattle.j39_audit.specs.AuditText.{AuditPast, AuditsLines, AuditsShort, accusation_count, is_of_asking, is_of_broadcasts, is_of_moments, log_ended, nothing_read, text_by, verdict_by, past_with_frame}
 use Rattle.j39_audit.specs.Counting.{key_of}
 use Rattle.j39_audit.specs.Looking.{IsPacketOf}
 use Rattle.j39_audit.specs.Settings.{Settings}
 use Rattle.j39_audit.specs.declared.audit_log.AuditLog.{AuditLog}
 use Rattle.j39_audit.specs.declared.mark.Mark.{Mark}
 use Rattle.j39_audit.specs.declared.tally.Told.{Told}
-use Rattle.j39_audit.specs.inside.Recalling.{AreCounted, AreNear, KnowsClaims, RecallsAsking, RecallsMoments, tallied_at, settings_of}
+use Rattle.j39_audit.specs.inside.Recalling.{AreCounted, AreNear, KnowsClaims, RecallsAsking, RecallsBroadcasts, RecallsMoments, tallied_at, settings_of}
 
 -- what was found of a mark
 abbrev pub tallied : AuditLog → Mark → Told
 tallied log m =
     if is_of_moments m.word then tallied_at log.moments.untimely (key_of m)
-    else if is_of_asking m.word then tallied_at log.asking.deaf (key_of m) else tallied_at log.tally (key_of m)
+    else if is_of_asking m.word then tallied_at log.asking.deaf (key_of m)
+    else if is_of_broadcasts m.word then tallied_at log.broadcasts.late (key_of m) else tallied_at log.tally (key_of m)
 
--- the claims, what was noted, the newest time, what times tell and who is asked are these
+-- the claims, what was noted, the newest time, what times tell, who is asked and the planned broadcasts are these
 pub record AccordsWith (log : AuditLog) (past : AuditPast) : Type 0 where
   pub knows : KnowsClaims (settings_of log.basis) log.known past.claims
   pub counted : AreCounted log.tally past.noted
   pub newest_is : log.newest ≡ past.newest
   pub moments : RecallsMoments log.moments past.moments
   pub asking : RecallsAsking (settings_of log.basis) log.asking past.asking
+  pub broadcasts : RecallsBroadcasts (settings_of log.basis) log.broadcasts past.broadcasts
 
 -- what was read so far is this
 pub record RecallsAudit (log : AuditLog) (past : AuditPast) : Type 0 where

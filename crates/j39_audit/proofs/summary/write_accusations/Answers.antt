@@ -37,7 +37,7 @@ returns c =
     let before = c.loop-place.invariant in
     let done = c.loop-place-test.false in
     let within = before.within in
-    let end : c.loop-place.place ≡ 13 = omega (arith, done, within) in
+    let end : c.loop-place.place ≡ 15 = omega (arith, done, within) in
     record {
       text = before.text ∙ ap (λ (n : ℕ). c.args.text.now ++ each_below (λ k. word_lines s look (accusing_at k)) n) end;
       count = before.count ∙ ap (λ (n : ℕ). sum_below (λ k. word_count s look (accusing_at k)) n) end;

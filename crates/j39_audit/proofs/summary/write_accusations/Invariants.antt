@@ -10,5 +10,5 @@ invariant-loop-place l = record {
   text : l.text ≡ l.initial.text ++ each_below (λ n. word_lines (settings_of l.basis) (tallied l.log) (accusing_at n)) l.place;
   count : l.count ≡ sum_below (λ n. word_count (settings_of l.basis) (tallied l.log) (accusing_at n)) l.place;
   few : l.count ≤ 131072 * l.place;
-  within : l.place ≤ 13;
+  within : l.place ≤ 15;
 }

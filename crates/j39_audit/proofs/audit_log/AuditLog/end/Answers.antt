@@ -21,6 +21,7 @@ returns c =
           moments = subst (λ (t : Settings). RecallsMoments c.end_all.new.self (all_pauses_ended t audited.past.moments)) audited.settings_are
               (ended audited.past.moments old.follows.moments);
           asking = old.follows.asking;
+          broadcasts = old.follows.broadcasts;
         };
         number_is = old.number_is;
         interface_is = old.interface_is;

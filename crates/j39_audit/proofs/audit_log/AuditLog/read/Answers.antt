@@ -27,6 +27,7 @@ returns-in-Line-clause-lines c =
         newest_is = old.follows.newest_is;
         moments = old.follows.moments;
         asking = old.follows.asking;
+        broadcasts = old.follows.broadcasts;
       };
       number_is = ap (λ (n : ℕ). n + 1) old.number_is;
       interface_is = old.interface_is;
@@ -69,6 +70,7 @@ returns-in-Long-clause-lines c =
         newest_is = old.follows.newest_is;
         moments = old.follows.moments;
         asking = old.follows.asking;
+        broadcasts = old.follows.broadcasts;
       };
       number_is = ap (λ (n : ℕ). n + 1) old.number_is;
       interface_is = old.interface_is;

@@ -12,6 +12,7 @@ returns-clause-fault c =
         newest_is = recalls.follows.newest_is;
         moments = passed past.moments recalls.follows.moments;
         asking = c.forget_all.ensures past.asking recalls.follows.asking;
+        broadcasts = c.forget_all-2.ensures past.broadcasts recalls.follows.broadcasts;
       };
       number_is = recalls.number_is;
       interface_is = recalls.interface_is;

@@ -24,6 +24,7 @@ returns-clause-frame c = λ past recalls.
           newest_is = took.follows.newest_is;
           moments = took.follows.moments;
           asking = took.follows.asking;
+          broadcasts = took.follows.broadcasts;
         };
         number_is = timed.number ∙ recalls.number_is;
         interface_is = c.in_ok-keep_interface.ensures ∙ ap (λ (i : Option (List ℕ)). interface_behind i named)

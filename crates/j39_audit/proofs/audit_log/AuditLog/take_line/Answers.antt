@@ -39,6 +39,7 @@ returns-then-is_elsewhere-clause-line c = λ past recalls.
           newest_is = recalls.follows.newest_is;
           moments = recalls.follows.moments;
           asking = recalls.follows.asking;
+          broadcasts = recalls.follows.broadcasts;
         };
         number_is = recalls.number_is;
         interface_is = recalls.interface_is;

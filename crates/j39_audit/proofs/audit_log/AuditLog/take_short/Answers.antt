@@ -22,6 +22,7 @@ returns-clause-fault c = λ past recalls.
         newest_is = recalls.follows.newest_is;
         moments = c.pass_over.ensures.moments past.moments recalls.follows.moments;
         asking = recalls.follows.asking;
+        broadcasts = recalls.follows.broadcasts;
       };
       number_is = recalls.number_is;
       interface_is = recalls.interface_is;

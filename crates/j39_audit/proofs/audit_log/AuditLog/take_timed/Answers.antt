@@ -4,19 +4,22 @@ use Rattle.j39_id.specs.declared.frame.Frame.{Frame}
 use Rattle.j39_log.specs.LogFrames.{IsPacket}
 use Rattle.j39_tp.specs.Packets.{InRange}
 use Rattle.j39_tp.specs.declared.packet.Packet.{Packet}
-use Rattle.j39_audit.specs.AuditText.{claims_before, past_with_frame}
+use Rattle.j39_audit.specs.AuditText.{broadcasts_there, claims_before, claims_with_frame, counted_for, moments_with_frame, past_with_frame}
 use Rattle.j39_audit.specs.Asking.{asking_behind}
 use Rattle.j39_audit.specs.Breaks.{breaks, newest_behind}
+use Rattle.j39_audit.specs.Broadcasts.{announcement_in, broadcasts_behind, packet_with}
 use Rattle.j39_audit.specs.Claiming.{Knowledge, broken_off, knowledge}
 use Rattle.j39_audit.specs.Counting.{Noted}
 use Rattle.j39_audit.specs.Looking.{IsPacketOf, break_noted, frame_noted}
-use Rattle.j39_audit.specs.Moments.{begins_anew, moments_behind}
+use Rattle.j39_audit.specs.Moments.{begins_anew, moments_behind, with_packet_stream}
 use Rattle.j39_audit.specs.MessageStreams.{nothing_sighted, sighted_behind}
 use Rattle.j39_audit.specs.Pauses.{ending_of, unclear_behind}
+use Rattle.j39_audit.specs.declared.broadcasts.Announcement.{Announcement}
 use Rattle.j39_audit.specs.declared.pauses.Ending.{Ending}
 use Rattle.j39_audit.specs.declared.tally.Sighting.{Sighting}
-use Rattle.j39_audit.specs.inside.Recalling.{AreCounted, KnowsClaims, Notes, RecallsMoments, settings_of}
+use Rattle.j39_audit.specs.inside.Recalling.{AreCounted, KnowsClaims, Notes, RecallsBroadcasts, RecallsMoments, settings_of}
 use Rattle.j39_audit.proofs.Asked.{asked_so}
+use Rattle.j39_audit.proofs.Begun.{behind_so, came_so}
 use Rattle.j39_audit.proofs.Counted.{counted_on}
 use Rattle.j39_audit.proofs.Knowing.{known_knowledge}
 use Rattle.j39_audit.proofs.Noting.{notes_both}
@@ -32,7 +35,7 @@ returns-clause-frame c = λ past named accords number.
     let s = settings_of c.args.self.now.basis in
     let time = c.args.time in
     let f = c.args.frame.now in
-    let packet = c.transport_packet.result in
+    let packet = c.transport_packet-packet.result in
     let broken : c.breaks-broken.result ≡ breaks s.stamps past.newest time =
     c.breaks-broken.ensures ∙ ap (λ (n : Option ℕ). breaks s.stamps n time) accords.newest_is in
     let before = claims_before s past time in
@@ -63,16 +66,30 @@ returns-clause-frame c = λ past named accords number.
     (subst (λ (e : Ending). RecallsMoments kept
     (moments_behind s c.breaks-broken.result c.begins_anew-anew.result time f number_now (lines number_now) e past.moments)) ending looked))) in
     let unit = ap (λ (w : Sighting). w.unit) sights ∙ ap (λ (n : ℕ). (sighted_behind nothing_sighted (lines n)).unit) number in
+    let timing = s.plan.timing in
+    let counted = counted_for s past time f packet in
+    let there = broadcasts_there s past time f in
+    let packed = c.take_packet.new.moments in
+    let timed_past = moments_with_frame s past time f packet in
+    let announced : c.announcement_in-announced.result ≡ announcement_in packet = c.announcement_in-announced.ensures in
+    let came = came_so s c.come_to.new.self past.broadcasts anew broken ending (c.come_to.ensures past.broadcasts accords.broadcasts) in
     record {
       packet = packet;
-      packet_is = packet_of f packet c.transport_packet.ensures.found c.transport_packet.ensures.none;
+      packet_is = packet_of f packet c.transport_packet-packet.ensures.found c.transport_packet-packet.ensures.none;
       follows = record {
         knows = took.0;
         counted = subst (λ (n : ℕ). AreCounted c.take_frame.new.tally (past.noted ++ (break_noted n (breaks s.stamps past.newest time) ++ frame_noted s before f packet n)))
             number (both.counts past.noted (counted_on c.args.self.now.tally clean past.noted c.look_at_next.ensures.found accords.counted));
         newest_is = c.newest_behind-self.ensures ∙ ap (λ (n : Option ℕ). newest_behind s.stamps n time) accords.newest_is;
-        moments = timed;
+        moments = subst (λ (n : ℕ). RecallsMoments packed (with_packet_stream s time n (packet_with timing counted f there) timed_past)) number
+            (subst (λ (u : Option ℕ). RecallsMoments packed (with_packet_stream s time number_now (packet_with timing u f there) timed_past)) unit
+            (c.in_ok-take_packet.ensures.moments timed_past there timed came));
         asking = asked_so s c.take_sign.new.self time f past.asking same_known broken anew number unit timed.idle
             (c.in_ok-take_sign.ensures _ (c.take.ensures past.asking accords.asking));
+        broadcasts = subst (λ (a : Option Announcement). RecallsBroadcasts s c.take_packet.new.broadcasts
+            (broadcasts_behind s (knowledge s (claims_with_frame s past time f)) counted f a time timed_past.idle past.number there)) announced
+            (behind_so s c.take_packet.new.broadcasts f c.announcement_in-announced.result time there
+            (known_knowledge s c.take_frame.new.known (claims_with_frame s past time f) took.0) unit timed.idle number
+            (c.in_ok-take_packet.ensures.broadcasts there came));
       };
     }

@@ -1,0 +1,502 @@
+//! Packets of broadcasts that the plan knows: which of them come too late behind the frame before.
+ghost use Rattle.std.specs.Prelude.{◌≡◌, ◌≢◌, ◌+◌, ◌<◌, ◌^◌, ◌&&◌, ℕ, true, IfOk, IfSome, OnOk, None, length, slice_index_or};
+ghost use Rattle.std.specs.List.{list_any};
+ghost use Rattle.std.specs.Option.{option_map};
+ghost use Rattle.j39_network.specs.declared.plan.flow_plan.FlowPlan.{FlowPlan as AFlow};
+ghost use Rattle.j39_audit.specs.Broadcasts.{Broadcasts as SomeBroadcasts, all_ended, announced_to_all, announcement_in, broadcast_of, broadcasts_before, broadcasts_behind};
+ghost use Rattle.j39_audit.specs.Broadcasts.{ended_before, ended_with, is_packet_to_all, is_paced, is_unpaced, late_by, late_noted, no_broadcasts};
+ghost use Rattle.j39_audit.specs.Broadcasts.{packet_of, packet_stream, packet_with, with_one, with_packet, with_sent};
+ghost use Rattle.j39_audit.specs.Claiming.{Knowledge};
+ghost use Rattle.j39_audit.specs.Near.{excess};
+ghost use Rattle.j39_audit.specs.SentMessages.{is_fit};
+ghost use Rattle.j39_audit.specs.inside.Recalling.{Notes, RecallsBroadcasts, begun_in, known_by, sent_as, settings_of};
+
+use crate::basis::Basis;
+use crate::frame_marks::announced as message_announced;
+use crate::idle::LONG_BEFORE;
+use crate::known::Known;
+use crate::mark::{Word, make_mark};
+use crate::messages::{UnitMessage, is_fit};
+use crate::pauses::Ending;
+use crate::streams::{MessageStream, longest_us, shortest_us};
+use crate::tally::MarkTally;
+use j39_id::Frame;
+use j39_id::addresses::GLOBAL_ADDRESS;
+use j39_id::limits::{FRAME_BYTES, PACKET_BYTES};
+use j39_id::services::DATA_TRANSFER;
+use j39_network::{FlowPlan, Timing};
+use j39_tp::Packet;
+use std::alloc::{AllocError, Global};
+
+/// A planned broadcast: how many of its packets are left, when the frame before these ended at the latest, and its line.
+#[derive(Clone, Copy, PartialEq, Eq)]
+pub struct Broadcast {
+    pub left: usize,
+    pub moment: u64,
+    pub line: u64,
+}
+
+/// What a packet announces to all: how many bytes of this number.
+#[derive(Clone, Copy, PartialEq, Eq)]
+pub struct Announcement {
+    pub size: usize,
+    pub number: u32,
+}
+
+/// Of each unit its planned broadcast, and what was found.
+#[derive(Drop)]
+pub(crate) struct Broadcasts {
+    pub begun: Vec<Option<Broadcast>>,
+    // Whether there may be one.
+    pub open: bool,
+    pub late: MarkTally,
+}
+
+// None of so many units.
+fn none_begun(alloc: Global, count: usize) -> Result<Vec<Option<Broadcast>>, AllocError>
+    ensures size { IfOk result (λ begun. length begun.items ≡ count) }
+    ensures none { IfOk result (λ begun. (u : ℕ) → slice_index_or begun.items u None ≡ None) }
+{
+    let mut begun = Vec::new(alloc);
+    for _unit in 0..count {
+        begun.push(None)?;
+    }
+    Ok(begun)
+}
+
+// Forgets that of each unit.
+fn forget_begun(begun: &mut Vec<Option<Broadcast>>)
+    ensures size { length begun.new.items ≡ length begun.old.items }
+    ensures none { (u : ℕ) → slice_index_or begun.new.items u None ≡ None }
+{
+    for unit in 0..begun.len() {
+        begun[unit] = None;
+    }
+}
+
+// Whether a flow may bring a message, and has no period.
+fn is_unpaced(basis: &Basis<'_>, known: &Known, message: &UnitMessage<'_>, flow: &FlowPlan) -> bool
+    ensures { result ≡ is_unpaced (settings_of basis.now) (known_by known.now) (sent_as message.now) flow.now }
+{
+    is_fit(basis, known, message, flow) && flow.pace.is_none()
+}
+
+// Whether some flow may bring a message.
+fn has_flow(basis: &Basis<'_>, known: &Known, message: &UnitMessage<'_>) -> bool
+    ensures { result ≡ list_any (λ (f : AFlow). is_fit (settings_of basis.now) (known_by known.now) (sent_as message.now) f) basis.now.plan.now.flows.items }
+{
+    basis
+        .plan
+        .flows
+        .as_slice()
+        .iter()
+        .any(|flow| is_fit(basis, known, message, flow))
+}
+
+// Whether one without a period may.
+fn has_unpaced(basis: &Basis<'_>, known: &Known, message: &UnitMessage<'_>) -> bool
+    ensures { result ≡ list_any (λ (f : AFlow). is_unpaced (settings_of basis.now) (known_by known.now) (sent_as message.now) f) basis.now.plan.now.flows.items }
+{
+    basis
+        .plan
+        .flows
+        .as_slice()
+        .iter()
+        .any(|flow| is_unpaced(basis, known, message, flow))
+}
+
+// Whether a message is planned, and each flow that may bring it has a period.
+#[tactic(auto, unfolding(crate::specs::Broadcasts::is_paced))]
+fn is_paced(basis: &Basis<'_>, known: &Known, message: &UnitMessage<'_>) -> bool
+    ensures { result ≡ is_paced (settings_of basis.now) (known_by known.now) (sent_as message.now) }
+{
+    has_flow(basis, known, message) && !has_unpaced(basis, known, message)
+}
+
+// What a packet announces to all.
+fn announcement_of(packet: &Packet) -> Option<Announcement>
+    ensures { result ≡ announcement_in (Some packet.now) }
+{
+    match packet {
+        Packet::Bam { size, pgn } => Some(Announcement {
+            size: usize::from(size.bytes()),
+            number: pgn.number(),
+        }),
+        _ => None,
+    }
+}
+
+/// What is announced to all, if a frame is a packet that does.
+pub(crate) fn announcement_in(packet: &Option<Packet>) -> Option<Announcement>
+    ensures { result ≡ announcement_in packet.now }
+{
+    match packet {
+        Some(packet) => announcement_of(packet),
+        None => None,
+    }
+}
+
+// The message of a unit that is announced.
+fn announced_to_all(
+    unit: usize,
+    frame: &Frame,
+    announced: Option<Announcement>,
+) -> Option<UnitMessage<'static>>
+    ensures { option_map sent_as result ≡ announced_to_all unit frame.now announced }
+{
+    match announced {
+        Some(told) => Some(message_announced(unit, frame, told.size, told.number)),
+        None => None,
+    }
+}
+
+// The broadcast that a message begins, if it is planned.
+fn broadcast_of(
+    basis: &Basis<'_>,
+    known: &Known,
+    message: &UnitMessage<'_>,
+    moment: u64,
+    line: u64,
+) -> Option<Broadcast>
+    ensures { result ≡ broadcast_of (settings_of basis.now) (known_by known.now) (sent_as message.now) moment line }
+{
+    if is_paced(basis, known, message) {
+        Some(Broadcast {
+            left: message.size.div_ceil(PACKET_BYTES),
+            moment,
+            line,
+        })
+    } else {
+        None
+    }
+}
+
+// Whether a frame is a packet to all.
+fn is_packet_to_all(frame: &Frame) -> bool
+    ensures { result ≡ is_packet_to_all frame.now }
+{
+    frame.ident.pgn() == DATA_TRANSFER
+        && (frame.ident.ps == GLOBAL_ADDRESS && frame.payload.len() == FRAME_BYTES)
+}
+
+// The stream of a unit's packets.
+fn packet_stream(timing: Timing, unit: usize) -> MessageStream
+    ensures value { result ≡ packet_stream timing unit }
+    ensures few { result.step < 2 ^ 27 }
+{
+    MessageStream {
+        mark: make_mark(Word::NearPackets, unit),
+        step: shortest_us(timing, timing.broadcast_gap),
+        jitter: 0,
+        pause: None,
+    }
+}
+
+// By how much an idle mark is later than so long behind a moment.
+#[tactic(auto, unfolding(crate::specs::Near::excess))]
+fn behind(idle: Option<u64>, moment: u64, longest: u64) -> Option<u64>
+    ensures { result ≡ excess idle (moment + longest) }
+{
+    match idle {
+        Some(mark) => {
+            let latest = moment.saturating_add(longest);
+            if latest < mark {
+                Some(mark - latest)
+            } else {
+                None
+            }
+        }
+        None => None,
+    }
+}
+
+// By how much a packet comes too late behind the frame before.
+fn late_by(timing: Timing, idle: Option<u64>, one: Broadcast) -> Option<u64>
+    ensures { result ≡ late_by timing idle one }
+{
+    if one.left == 0 {
+        None
+    } else {
+        let longest = longest_us(timing, u32::from(timing.broadcast_gap_most));
+        behind(idle, one.moment, longest)
+    }
+}
+
+// Notes that a packet comes too late behind the frame of this line, where it does by so much.
+fn note_late(
+    late: &mut MarkTally,
+    unit: usize,
+    line: u64,
+    by: Option<u64>,
+) -> Result<(), AllocError>
+    ensures { OnOk result (Notes late.old late.new (late_noted unit line by)) }
+{
+    match by {
+        Some(by) => late.note(make_mark(Word::SilentPackets, unit), line, by),
+        None => Ok(()),
+    }
+}
+
+impl Broadcasts {
+    pub fn new(alloc: Global, basis: &Basis<'_>) -> Result<Self, AllocError>
+        ensures { IfOk result (λ new. RecallsBroadcasts (settings_of basis.now) new no_broadcasts) }
+    {
+        let begun = none_begun(alloc, basis.plan.units.len())?;
+        Ok(Broadcasts {
+            begun,
+            open: false,
+            late: MarkTally::new(alloc),
+        })
+    }
+
+    // The broadcast of a unit.
+    fn of(&self, unit: usize) -> Option<Broadcast>
+        ensures { result ≡ begun_in self.now unit }
+    {
+        if unit < self.begun.len() {
+            self.begun[unit]
+        } else {
+            None
+        }
+    }
+
+    // Keeps this as that of a unit.
+    fn set(&mut self, unit: usize, one: Option<Broadcast>)
+        requires { unit < length self.old.begun.items }
+        ensures open { self.new.open ≡ true }
+        ensures late { self.new.late ≡ self.old.late }
+        ensures size { length self.new.begun.items ≡ length self.old.begun.items }
+        ensures others { (u : ℕ) → u ≢ unit → begun_in self.new u ≡ begun_in self.old u }
+        ensures here { begun_in self.new unit ≡ one }
+    {
+        self.open = true;
+        self.begun[unit] = one;
+    }
+
+    // Forgets that of a unit.
+    fn forget(&mut self, unit: usize)
+        ensures open { self.new.open ≡ self.old.open }
+        ensures late { self.new.late ≡ self.old.late }
+        ensures size { length self.new.begun.items ≡ length self.old.begun.items }
+        ensures others { (u : ℕ) → u ≢ unit → begun_in self.new u ≡ begun_in self.old u }
+        ensures here { unit < length self.old.begun.items → begun_in self.new unit ≡ None }
+    {
+        if unit < self.begun.len() {
+            self.begun[unit] = None;
+        }
+    }
+
+    /// Forgets them all.
+    pub fn forget_all(&mut self, basis: &Basis<'_>)
+        ensures { (b : SomeBroadcasts) → RecallsBroadcasts (settings_of basis.now) self.old b
+            → RecallsBroadcasts (settings_of basis.now) self.new (all_ended b) }
+    {
+        if self.open {
+            forget_begun(&mut self.begun);
+            self.open = false;
+        }
+    }
+
+    // Forgets them just before a frame, where times begin anew or the log breaks off.
+    fn begin(&mut self, basis: &Basis<'_>, anew: bool, broken: bool)
+        ensures { (b : SomeBroadcasts) → RecallsBroadcasts (settings_of basis.now) self.old b
+            → RecallsBroadcasts (settings_of basis.now) self.new (ended_before anew broken b) }
+    {
+        if anew || broken {
+            self.forget_all(basis);
+        }
+    }
+
+    // Forgets those that end with pauses.
+    fn end(&mut self, basis: &Basis<'_>, ending: Ending)
+        ensures { (b : SomeBroadcasts) → RecallsBroadcasts (settings_of basis.now) self.old b
+            → RecallsBroadcasts (settings_of basis.now) self.new (ended_with ending b) }
+    {
+        match ending {
+            Ending::Nothing => {}
+            Ending::OfUnit(unit) => self.forget(unit),
+            Ending::OfAll => self.forget_all(basis),
+        }
+    }
+
+    /// Comes to a frame, just before which the log breaks off and times begin anew, or they don't, and at which these
+    /// pauses end.
+    #[tactic(auto, unfolding(crate::specs::Broadcasts::broadcasts_before))]
+    pub fn come_to(&mut self, basis: &Basis<'_>, anew: bool, broken: bool, ending: Ending)
+        ensures { (b : SomeBroadcasts) → RecallsBroadcasts (settings_of basis.now) self.old b
+            → RecallsBroadcasts (settings_of basis.now) self.new (broadcasts_before anew broken ending b) }
+    {
+        self.begin(basis, anew, broken);
+        self.end(basis, ending);
+    }
+
+    // The stream of a unit's packets, if a frame is one.
+    fn packet_of(&self, timing: Timing, unit: usize, frame: &Frame) -> Option<MessageStream>
+        ensures value { result ≡ packet_of timing unit frame.now (begun_in self.now unit) }
+        ensures few { IfSome result (λ stream. stream.step < 2 ^ 27) }
+    {
+        match self.of(unit) {
+            Some(_one) => {
+                if is_packet_to_all(frame) {
+                    Some(packet_stream(timing, unit))
+                } else {
+                    None
+                }
+            }
+            None => None,
+        }
+    }
+
+    /// Of which unit's packets a frame is one that counts for this unit, if it does.
+    pub fn packet(
+        &self,
+        basis: &Basis<'_>,
+        unit: Option<usize>,
+        frame: &Frame,
+    ) -> Option<MessageStream>
+        ensures value { (b : SomeBroadcasts) → RecallsBroadcasts (settings_of basis.now) self.now b
+            → result ≡ packet_with basis.now.plan.now.timing unit frame.now b }
+        ensures few { IfSome result (λ stream. stream.step < 2 ^ 27) }
+    {
+        let Some(timing) = basis.plan.timing else {
+            return None;
+        };
+        match unit {
+            Some(unit) => self.packet_of(timing, unit, frame),
+            None => None,
+        }
+    }
+
+    // Takes a packet of a unit, which ended by this moment, with this broadcast before it.
+    fn take_packet(
+        &mut self,
+        basis: &Basis<'_>,
+        timing: Timing,
+        unit: usize,
+        idle: Option<u64>,
+        moment: u64,
+        line: u64,
+        one: Broadcast,
+    ) -> Result<(), AllocError>
+        requires { unit < length self.old.begun.items }
+        ensures { OnOk result ((b : SomeBroadcasts) → RecallsBroadcasts (settings_of basis.now) self.old b
+            → RecallsBroadcasts (settings_of basis.now) self.new (with_packet timing unit idle moment line one b)) }
+    {
+        self.set(
+            unit,
+            Some(Broadcast {
+                left: one.left.saturating_sub(1),
+                moment,
+                line,
+            }),
+        );
+        note_late(&mut self.late, unit, one.line, late_by(timing, idle, one))
+    }
+
+    // Takes a frame of a unit that announces nothing to all.
+    fn take_other(
+        &mut self,
+        basis: &Basis<'_>,
+        timing: Timing,
+        unit: usize,
+        frame: &Frame,
+        idle: Option<u64>,
+        moment: u64,
+        line: u64,
+    ) -> Result<(), AllocError>
+        requires { unit < length self.old.begun.items }
+        ensures { OnOk result ((b : SomeBroadcasts) (k : Knowledge) → RecallsBroadcasts (settings_of basis.now) self.old b
+            → RecallsBroadcasts (settings_of basis.now) self.new
+            (with_sent (settings_of basis.now) k timing unit frame.now idle moment line None (b.begun unit) b)) }
+    {
+        let Some(one) = self.of(unit) else {
+            return Ok(());
+        };
+        if is_packet_to_all(frame) {
+            self.take_packet(basis, timing, unit, idle, moment, line, one)
+        } else {
+            Ok(())
+        }
+    }
+
+    // Keeps the broadcast that a message of a unit begins, if it is planned.
+    fn take_announced(
+        &mut self,
+        basis: &Basis<'_>,
+        known: &Known,
+        unit: usize,
+        message: &UnitMessage<'_>,
+        moment: u64,
+        line: u64,
+    )
+        requires { unit < length self.old.begun.items }
+        ensures { (b : SomeBroadcasts) → RecallsBroadcasts (settings_of basis.now) self.old b
+            → RecallsBroadcasts (settings_of basis.now) self.new
+            (with_one unit (broadcast_of (settings_of basis.now) (known_by known.now) (sent_as message.now) moment line) b) }
+    {
+        let one = broadcast_of(basis, known, message, moment, line);
+        self.set(unit, one);
+    }
+
+    // Takes a frame of a unit of the plan, which announces this, if it does.
+    fn take_sent(
+        &mut self,
+        basis: &Basis<'_>,
+        known: &Known,
+        timing: Timing,
+        unit: usize,
+        frame: &Frame,
+        announced: Option<Announcement>,
+        idle: Option<u64>,
+        moment: u64,
+        line: u64,
+    ) -> Result<(), AllocError>
+        requires { unit < length self.old.begun.items }
+        ensures { OnOk result ((b : SomeBroadcasts) → RecallsBroadcasts (settings_of basis.now) self.old b
+            → RecallsBroadcasts (settings_of basis.now) self.new (with_sent (settings_of basis.now) (known_by known.now) timing unit frame.now idle moment line
+            (announced_to_all unit frame.now announced) (b.begun unit) b)) }
+    {
+        match announced_to_all(unit, frame, announced) {
+            Some(message) => {
+                self.take_announced(basis, known, unit, &message, moment, line);
+                Ok(())
+            }
+            None => self.take_other(basis, timing, unit, frame, idle, moment, line),
+        }
+    }
+
+    /// Takes a frame of this time, which announces this and counts for this unit, if it does, at this idle mark.
+    pub fn take(
+        &mut self,
+        basis: &Basis<'_>,
+        known: &Known,
+        unit: Option<usize>,
+        frame: &Frame,
+        announced: Option<Announcement>,
+        time: Option<u64>,
+        idle: Option<u64>,
+        line: u64,
+    ) -> Result<(), AllocError>
+        requires { IfSome time (λ t. t < 2 ^ 61) }
+        ensures { OnOk result ((b : SomeBroadcasts) → RecallsBroadcasts (settings_of basis.now) self.old b
+            → RecallsBroadcasts (settings_of basis.now) self.new
+            (broadcasts_behind (settings_of basis.now) (known_by known.now) unit frame.now announced time idle line b)) }
+    {
+        let Some(timing) = basis.plan.timing else {
+            return Ok(());
+        };
+        let Some(unit) = unit else {
+            return Ok(());
+        };
+        let Some(time) = time else {
+            return Ok(());
+        };
+        if unit >= self.begun.len() {
+            return Ok(());
+        }
+        let moment = time + LONG_BEFORE + basis.logger_error();
+        self.take_sent(
+            basis, known, timing, unit, frame, announced, idle, moment, line,
+        )
+    }
+}
