@@ -357,14 +357,35 @@ def random_line(rng: random.Random) -> Line:
     return Line(top, choices, nevers, {"unit": units, "group": groups, "flow": flows, "need": needs, "request": requests})
 
 
+def timed_line(rng: random.Random) -> Line:
+    """A random line of vehicles nothing of which hides its times."""
+    line = random_line(rng)
+    for number, unit in enumerate(line.tables["unit"]):
+        unit["address"], unit["name"] = (0, 3, 7, 11, 15, 23)[number], {"identity": number + 1}
+    for number, group in enumerate(line.tables["group"]):
+        group.pop("private", None)
+        group["pgn"], group["length"] = rng.choice(((65262 + number, 8), (65262 + number, 8), (65252 + number, 18 + 9 * number)))
+    flows: dict[tuple[object, object], Table] = {}
+    for flow in line.tables["flow"]:
+        flow["to"] = "all"
+        if "period" in flow and rng.random() < 0.2:
+            flow["deadline"] = rng.choice((50, 200))
+        flows.setdefault((flow["group"], flow["from"]), flow)
+    for need in line.tables["need"]:
+        need["within"] = rng.choice((5, 21, 22, 41, 42, 100, 300))
+    tables = {**line.tables, "flow": list(flows.values()), "request": [one for one in line.tables["request"] if one["from"] != one["to"]]}
+    top = line.top if "bitrate" in line.top else f"{line.top}\n[timing]\nbitrate = {rng.choice((125000, 250000, 500000))}\nunplanned = 0\n"
+    return Line(top, line.choices, line.nevers, tables)
+
+
 def main(words: list[str]) -> int:
-    """Compares random lines."""
+    """Compares random lines, every second one a timed one."""
     plans, seed = (int(word) for word in [*words, *("200", "1")[len(words):]])
     rng = random.Random(seed)
     counts: dict[str, int] = {}
-    refused = differences = 0
+    refused = differences = timed = 0
     for number in range(plans):
-        line = random_line(rng)
+        line = timed_line(rng) if number % 2 else random_line(rng)
         written = ask("check", line.text())
         if not written or written[0].startswith("refused"):
             refused += 1
@@ -381,10 +402,11 @@ def main(words: list[str]) -> int:
             counts[one.split()[0]] = counts.get(one.split()[0], 0) + 1
         for command, lines in wanted.items():
             answer = written if command == "check" else ask(command, line.text())
+            timed += bool(answer) and answer[0].startswith("flow")
             if lines != answer:
                 differences += 1
                 print(f"{command} of plan {number} of seed {seed} differs\n{line.text()}", "wanted", *lines, "written", *answer, sep="\n")
-    print(f"plans {plans} refused {refused} differences {differences}", *(f"{key} {count}" for key, count in sorted(counts.items()) if key))
+    print(f"plans {plans} refused {refused} differences {differences} timed {timed}", *(f"{key} {count}" for key, count in sorted(counts.items()) if key))
     return 1 if differences else 0
 
 

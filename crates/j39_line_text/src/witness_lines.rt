@@ -1,7 +1,5 @@
 //! The lines of what is found of a line of vehicles.
-ghost use Rattle.std.specs.Prelude.{◌≡◌, ◌++◌, IfOk, OnOk, length, map};
-ghost use Rattle.std.specs.List.{list_any, range_with_len};
-ghost use Rattle.j39_load.specs.LineLists.{lines_of_each};
+ghost use Rattle.std.specs.Prelude.{◌≡◌, ◌++◌, IfOk, OnOk, map};
 ghost use Rattle.j39_line_findings.specs.AllVariants.{all_variants};
 ghost use Rattle.j39_line_findings.specs.FullVariants.{alternatives_of};
 ghost use Rattle.j39_line_findings.specs.Told.{is_told};
