@@ -390,8 +390,9 @@ def public(source: str) -> str:
 
 def source_of(crate: str) -> str:
     """The sources of a crate."""
-    names = glob.glob(os.path.join(TOP, "crates", crate, "src", "**", "*.rt"), recursive=True)
-    return "\n".join(public(text_of(name)) for name in names if "tests" not in name)
+    folder = os.path.join(TOP, "crates", crate, "src")
+    names = glob.glob("**/*.rt", root_dir=folder, recursive=True)
+    return "\n".join(public(text_of(os.path.join(folder, name))) for name in names if "tests" not in name)
 
 
 def laws_of(crate: str) -> list[str]:

@@ -64,6 +64,13 @@ class Told(WithLog):
         ])
         self.assertEqual([part for part in held if part.address == 3], [Held(3, "TRANSMISSION", 100.0, 110.0, False)])
 
+    def test_claims_of_what_is_held(self) -> None:
+        """Each is told with its time: of a unit that restarts, or is asked."""
+        log = self.write("restart.log", "".join(f"{line}\n" for line in (LINES[0], LINES[1], LINES[0].replace("100.0", "103.0"), *LINES[7:9],
+                                                                         LINES[8].replace("105.5", "106.0"), LINES[9], LINES[10])))
+        _, held = self.told(log)
+        self.assertEqual([(part.address, part.start, part.again) for part in held if part.again], [(0, 100.0, (103.0,)), (129, 105.5, (106.0,))])
+
     def test_without_times(self) -> None:
         """The lines count."""
         bare = self.write("bare.log", "\n18FEEE00#7DFFFFFFFFFFFFFF\n18FEEE00#7DFFFFFFFFFFFFFF\n")
@@ -140,6 +147,17 @@ class Drawn(WithLog):
         texts = self.texts(self.drawn("a.svg", "--addresses"))
         for text in ("address", "129", "SPRAYER", "#0000000012345678", "ENGINE"):
             self.assertIn(text, texts)
+
+    def test_an_svg_of_claims_of_what_is_held(self) -> None:
+        """A stroke for each, but for those that would lie on one another."""
+        again = [LINES[0].replace("100.0", time) for time in ("103.001", "103.002", "104.0")]
+        log = self.write("again.log", "".join(f"{line}\n" for line in (*LINES[:2], *again, LINES[10])))
+        for begin, strokes in (("0", 2), ("3.5", 1)):
+            picture = ElementTree.fromstring(self.drawn("a.svg", "--addresses", "--from", begin, log=log))
+            drawn = [list(part) for part in picture.iter() if part.get("id", "").startswith("LineCollection")]
+            self.assertEqual([len(paths) for paths in drawn], [strokes])
+        picture = ElementTree.fromstring(self.drawn("a.svg", "--addresses"))
+        self.assertFalse([part for part in picture.iter() if part.get("id", "").startswith("LineCollection")])
 
     def test_what_the_axis_counts(self) -> None:
         """Seconds, and lines in a log without times."""

@@ -121,6 +121,19 @@ class Converted(InFolder):
         missing = self.path("none.asc")
         self.assertEqual(run("tolog.py", missing), (4, "", f"tolog: {missing}: No such file or directory\n"))
 
+    def test_a_text_that_is_cut_in_a_line(self) -> None:
+        """Wherever it is: the frames before are written, and of the cut one none, though the reader of ASC makes a shorter frame of it."""
+        for ending in ("asc", "trc", "csv", "asc.gz"):
+            with open(self.recorded(f"whole.{ending.removesuffix('.gz')}", self.messages()), encoding="utf-8") as file:
+                lines = [line for line in file.read().splitlines(keepends=True) if not line.startswith("End")]
+            for left in (1, len(lines[-1]) // 2, len(lines[-1]) - 1):
+                cut = self.path(f"cut.{ending}")
+                with gzip.open(cut, "wt") if ending.endswith(".gz") else open(cut, "w", encoding="utf-8") as text:
+                    text.write("".join(lines[:-1]) + lines[-1].lstrip()[:left].rstrip("\n"))
+                status, answer, said = run("tolog.py", cut)
+                self.assertEqual((status, said), (2, f"tolog: {cut}: can't be read after {len(FRAMES) - 1} frames: its last line is cut\n"), ending)
+                self.assertEqual([line.split()[2] for line in answer.splitlines()], FRAMES[:-1], ending)
+
     def test_a_pipe_that_ends(self) -> None:
         file = self.recorded("drive.asc", self.messages())
         ended = subprocess.run(["sh", "-c", f"{sys.executable} {TOOLS}/tolog.py {file} | head -1"], capture_output=True, text=True, check=False)

@@ -96,11 +96,13 @@ class SerialNumbers(InFolder):
         return run("where.py", name)[1].replace(f"{name}:", "").splitlines()
 
     def test_units_that_may_have_one_name(self) -> None:
-        """Both, or one of them, without a number: only the serial numbers of their boxes tell them apart."""
-        for names in (("manufacturer = 1", "manufacturer = 1"), ("manufacturer = 1", "identity = 7, manufacturer = 1")):
-            self.assertEqual(self.told(*names), [
-                "9: F1 SameName A B  (only serial numbers distinguish A at line 5 from B: give them different function_instance or ecu; or both "
-                "their numbers: then the plan fits one vehicle)", "findings 1"])
+        """Both, or one of them, without a number: at most the serial numbers of their boxes tell them apart."""
+        for why, first, second in (("nothing in the plan distinguishes", "manufacturer = 1", "manufacturer = 1"),
+                                   ("only serial numbers distinguish", "manufacturer = 1", "identity = 7, manufacturer = 1"),
+                                   ("only serial numbers distinguish", "identity = 0, manufacturer = 1", "manufacturer = 1")):
+            self.assertEqual(self.told(first, second), [
+                f"9: F1 SameName A B  ({why} A at line 5 from B: give them different function_instance or ecu; or both their numbers: then the "
+                "plan fits one vehicle)", "findings 1"])
         self.assertEqual(self.told("identity = 7", "identity = 7"), ["9: F1 SameName A B  (key name: the same as of A at line 5)", "findings 1"])
         for names in (("identity = 7", "identity = 8"), ("function = 1", "function = 2"), ("", "identity = 7, ecu = 1")):
             self.assertEqual(self.told(*names), ["ok 2 units 0 groups 0 flows"])

@@ -11,7 +11,7 @@ import stat
 import sys
 from collections import Counter
 from collections.abc import Iterable, Iterator
-from typing import TYPE_CHECKING
+from typing import TYPE_CHECKING, Any, TextIO
 
 from j39plan import program
 from j39plan.j1939 import FRAME_BYTES
@@ -27,6 +27,31 @@ LOGS = (".log", ".log.gz")
 
 # Endings of files whose channels count from 1, and which python-can hands out as they stand; and of those that have none.
 FROM_ONE, WITHOUT_CHANNELS = (".trc", ".trc.gz"), (".csv", ".csv.gz")
+
+# Endings of files of lines.
+TEXTS = (".asc", ".asc.gz", *FROM_ONE, *WITHOUT_CHANNELS)
+
+
+class WholeLines:
+    """The lines of a text without the last one where that is cut: one of a frame, which begins with a digit, and has no end of line. The readers
+    pass a frame over that is cut, or make a shorter one of it."""
+
+    def __init__(self, text: TextIO) -> None:
+        self._text, self.is_cut = text, False
+
+    def __iter__(self) -> Iterator[str]:
+        return self
+
+    def __next__(self) -> str:
+        line = next(self._text)
+        self.is_cut = not line.endswith("\n") and line.lstrip()[:1].isdigit()
+        if self.is_cut:
+            raise StopIteration
+        return line
+
+    def close(self) -> None:
+        """Closes the text."""
+        self._text.close()
 
 
 def interface_of(channel: object) -> str:
@@ -60,8 +85,11 @@ def messages_of(name: str) -> Iterator["Message"]:
         about = os.fstat(file.fileno())
     if stat.S_ISREG(about.st_mode) and about.st_size == 0:
         raise program.Refused(program.UNREADABLE, f"{name} is empty")
+    lines = None
     try:
-        reader = LogReader(name)
+        reader: Any = LogReader(name)
+        if name.lower().endswith(TEXTS):
+            lines = reader.file = WholeLines(reader.file)
     except Exception as fault:  # as below
         raise program.Refused(program.UNREADABLE, f"{name}: {why(name, fault)}") from None
     count = 0
@@ -71,6 +99,8 @@ def messages_of(name: str) -> Iterator["Message"]:
                 message.channel -= 1
             yield message
             count += 1
+        if lines is not None and lines.is_cut:
+            raise ValueError("its last line is cut")
     except (GeneratorExit, KeyboardInterrupt, BrokenPipeError):
         raise
     except Exception as fault:  # whatever a reader makes of bytes that aren't of its format

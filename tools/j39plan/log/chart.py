@@ -223,13 +223,22 @@ def draw_holder(axes: Axes, part: Held, count: int, row: int, window: Window, co
                       annotation_clip=False)
 
 
+def draw_claims(axes: Axes, part: Held, row: int, window: Window) -> None:
+    """A stroke for each claim of an address that its holder had; of those in one column one."""
+    shown = (time for time in part.again if window.has(time))
+    times = [next(some) for _, some in groupby(shown, lambda time: time // window.column)]
+    if times:
+        axes.vlines([window.on_axis(time) for time in times], row - 0.35, row + 0.35, colors="#1b1b1b", linewidth=1.5)
+
+
 def draw_addresses(axes: Axes, held: list[Held], window: Window, colours: Colours) -> None:
     """A row an address, with who held it; what was never claimed is dashed."""
-    axes.set_title("Who holds which address (dashed: planned there, and not claimed so far; hatched: not planned)", loc="left", fontsize=10)
+    axes.set_title("Who holds which address (dashed: planned there, not claimed so far; hatched: not planned; stroke: claimed again)", loc="left", fontsize=10)
     rows = {address: row for row, address in enumerate(sorted({part.address for part in held}))}
     for part, count in merged(held, window.column):
         if part.start <= window.end and part.end >= window.begin:
             draw_holder(axes, part, count, rows[part.address], window, colours)
+            draw_claims(axes, part, rows[part.address], window)
     axes.set_yticks(list(rows.values()), [str(address) for address in rows], fontsize=8)
     axes.set_ylabel("address", fontsize=9)
     axes.set_ylim(max(len(rows), 1) - 0.5, -0.5)

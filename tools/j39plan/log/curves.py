@@ -54,13 +54,14 @@ def curves_of(reports: Iterable[Report], wanted: Wanted[tuple[str, Reading]], cl
 
 class Held(NamedTuple):
     """That a unit, by its label or `#` and its NAME, held an address from one time to another; whether it claimed it, or is only planned
-    there."""
+    there; and when it claimed it again, since it restarted or was asked."""
 
     address: int
     holder: str
     start: float
     end: float
     is_claimed: bool
+    again: tuple[float, ...] = ()
 
     @property
     def is_foreign(self) -> bool:
@@ -94,6 +95,7 @@ class Timeline:
         self.clock = Clock()
         self._at: dict[Box, int] = {}  # where each is that claimed an address
         self._open: dict[int, tuple[Box, float, bool]] = {}
+        self._again: dict[int, list[float]] = {}  # of each address, when its holder claimed it again
         self._held: list[Held] = []
         for address in self._planned:
             self._leave(address, -math.inf)
@@ -132,6 +134,7 @@ class Timeline:
         was_planned, was_at = self._preferred.pop(who.shown, None), self._at.pop(box, None)
         if was_at is not None and was_at == who.address and self._open[was_at][0] == box:
             self._at[box] = was_at
+            self._again.setdefault(was_at, []).append(time)
             return
         for left in (was_planned, was_at):
             if left is not None and left != who.address and self._open.get(left, (None,))[0] in (box, planned):
@@ -150,4 +153,4 @@ class Timeline:
     def _close(self, address: int, time: float) -> None:
         if address in self._open:
             (holder, _), start, is_claimed = self._open.pop(address)
-            self._held.append(Held(address, holder, start, time, is_claimed))
+            self._held.append(Held(address, holder, start, time, is_claimed, tuple(self._again.pop(address, ()))))

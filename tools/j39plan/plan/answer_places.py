@@ -130,7 +130,8 @@ def alike(plan: Source, first: str, second: str, there: str) -> str:
     named = {unit.label: {key: number for key, number in unit.fields.items() if key != "identity"} for unit in plan.tables.units}
     same = [label for label, name in named.items() if name == named[first]]
     if len(same) <= 2:
-        return f"only serial numbers distinguish {there} from {second}: {ALIKE}"
+        numbered = any("identity" in unit.fields for unit in plan.tables.units if unit.label in same)
+        return f"{'only serial numbers distinguish' if numbered else 'nothing in the plan distinguishes'} {there} from {second}: {ALIKE}"
     if same[:2] != [first, second]:
         return ""
     what = "a NAME of zeros, as if none were given" if not any(named[first].values()) else "this NAME but for serial numbers"
