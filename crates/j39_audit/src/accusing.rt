@@ -30,6 +30,8 @@ fn word_text(word: Word) -> &'static str
         Word::Priority => "priority",
         Word::NearFlow | Word::NearRequest => "near",
         Word::SilentFlow => "silent",
+        Word::NearOrLate => "near_or_late",
+        Word::SilentOrLate => "silent_or_late",
         _ => "urgent",
     }
 }
@@ -158,7 +160,9 @@ fn write_subject(
         Word::Layout | Word::NoFlow | Word::Priority => {
             write_unit_and_group(text, plan, mark.subject, mark.group)
         }
-        Word::NearFlow | Word::SilentFlow => write_flow_at(text, plan, mark.subject),
+        Word::NearFlow | Word::SilentFlow | Word::NearOrLate | Word::SilentOrLate => {
+            write_flow_at(text, plan, mark.subject)
+        }
         Word::NearRequest => write_request_at(text, plan, mark.subject),
         _ => write_unit(text, plan, mark.subject),
     }
@@ -178,7 +182,11 @@ fn write_measure(text: &mut TextBuffer, word: Word, told: Told) -> Result<(), Al
     ensures { OnOk result (text.new ≡ text.old ++ measure_text word told) }
 {
     match word {
-        Word::NearFlow | Word::NearRequest | Word::SilentFlow => write_worst(text, told),
+        Word::NearFlow
+        | Word::NearRequest
+        | Word::SilentFlow
+        | Word::NearOrLate
+        | Word::SilentOrLate => write_worst(text, told),
         _ => Ok(()),
     }
 }

@@ -6,6 +6,7 @@ mod answer;
 mod asking;
 mod audit_log;
 mod basis;
+mod by_load;
 mod earliest;
 mod flow_marks;
 mod frame_marks;

@@ -1,7 +1,7 @@
 //! What is counted of a log.
 ghost use Rattle.std.specs.Prelude.{◌≡◌};
 
-/// What is said of a line or a frame. The first nine accuse, and the last four.
+/// What is said of a line or a frame. The first nine accuse, and the last six.
 #[derive(Clone, Copy, PartialEq, Eq)]
 pub enum Word {
     /// A line of an 11-bit identifier.
@@ -42,6 +42,10 @@ pub enum Word {
     SilentFlow,
     /// A unit that claims nothing when it is asked for claims.
     Deaf,
+    /// A message of a flow too soon behind others, or one was sent later than by load.
+    NearOrLate,
+    /// One of which the next one comes too late, or one was sent later than by load.
+    SilentOrLate,
 }
 
 impl Word {
@@ -72,6 +76,8 @@ impl Word {
             Word::NearRequest => 16,
             Word::SilentFlow => 17,
             Word::Deaf => 18,
+            Word::NearOrLate => 19,
+            Word::SilentOrLate => 20,
         }
     }
 }

@@ -15,7 +15,7 @@ use Rattle.j39_audit.specs.SentMessages.{SentMessage, deviation, flows_noted, no
 use Rattle.j39_audit.specs.Settings.{Settings}
 use Rattle.j39_audit.specs.declared.mark.Mark.{Mark}
 use Rattle.j39_audit.specs.declared.mark.Word.{Word}
-use Rattle.j39_audit.specs.declared.mark.Word.TheVariants.{Short, Stranger, Nobody as NobodyThere, Address, Cannot, Layout, NoFlow, Priority, Urgent, Seen, Unclear, Asked, Counted, Unsure, Break, NearFlow, NearRequest, SilentFlow, Deaf}
+use Rattle.j39_audit.specs.declared.mark.Word.TheVariants.{Short, Stranger, Nobody as NobodyThere, Address, Cannot, Layout, NoFlow, Priority, Urgent, Seen, Unclear, Asked, Counted, Unsure, Break, NearFlow, NearRequest, SilentFlow, Deaf, NearOrLate, SilentOrLate}
 use Rattle.j39_audit.specs.declared.senders.SureSender.{SureSender}
 use Rattle.j39_audit.specs.declared.senders.SureSender.TheVariants.{Unit as OfUnit, Nobody, Unknown}
 use Rattle.j39_audit_laws.specs.FoundLines.{Differs, IsAccusing, IsClaimOf, IsAccusedAs, IsSentFrom}
@@ -61,6 +61,8 @@ module _ (s : Settings) (claims : HeardClaims) (f : Frame) (packet : Option Pack
   differs_marked NearRequest u g is differs = absurd (true≢false (sym is))
   differs_marked SilentFlow u g is differs = absurd (true≢false (sym is))
   differs_marked Deaf u g is differs = absurd (true≢false (sym is))
+  differs_marked NearOrLate u g is differs = absurd (true≢false (sym is))
+  differs_marked SilentOrLate u g is differs = absurd (true≢false (sym is))
 
   -- ---- a note has a meaning
 
@@ -246,6 +248,8 @@ module _ (s : Settings) (claims : HeardClaims) (f : Frame) (packet : Option Pack
   marked_noted NearRequest u g never = absurd never
   marked_noted SilentFlow u g never = absurd never
   marked_noted Deaf u g never = absurd never
+  marked_noted NearOrLate u g never = absurd never
+  marked_noted SilentOrLate u g never = absurd never
 
   -- ---- once at most
 

@@ -23,7 +23,7 @@ difference us a b less =
     let sum : us * (b - a) + us * a ≡ us * ((b - a) + a) = omega arith in
     sum ∙ ap (λ (k : ℕ). us * k) whole
 
-rises : (us : ℕ) (clock : ℕ → ℕ) → KeepsTime us clock → (a b : ℕ) → a ≤ b → clock a ≤ clock b
+pub rises : (us : ℕ) (clock : ℕ → ℕ) → KeepsTime us clock → (a b : ℕ) → a ≤ b → clock a ≤ clock b
 rises us clock keeps a b less = let slow = (keeps a b less).0 in omega (arith, slow)
 
 -- what lies within so many microseconds by the bus does by the clock, but for a thousandth

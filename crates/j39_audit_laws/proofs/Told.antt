@@ -7,12 +7,12 @@ use Rattle.std.proofs.lemmas.List.{append_cancel_left, append-nil, length-append
 use Rattle.std.proofs.lemmas.List.Elements.{Contains-append_left, Contains-get_or, Contains-push, Contains-push_cases}
 use Rattle.std.proofs.lemmas.List.Quantifiers.{all_pairs_push}
 use Rattle.j39_id.specs.Lines.{Line}
-use Rattle.j39_audit.specs.AuditText.{AuditPast, AuditsLine, AuditsLines, is_of_asking, is_of_moments, look_at, nothing_read}
+use Rattle.j39_audit.specs.AuditText.{AuditPast, AuditsLine, AuditsLines, is_of_asking, is_of_load, is_of_moments, look_at, mark_by_bus, nothing_read}
 use Rattle.j39_audit.specs.Counting.{Noted, most_times, told_at, told_in, told_of}
 use Rattle.j39_audit.specs.Settings.{Settings}
 use Rattle.j39_audit.specs.declared.mark.Mark.{Mark}
 use Rattle.j39_audit.specs.declared.mark.Word.{Word}
-use Rattle.j39_audit.specs.declared.mark.Word.TheVariants.{Short, Stranger, Nobody as NobodyThere, Address, Cannot, Layout, NoFlow, Priority, Urgent, Seen, Unclear, Asked, Counted, Unsure, Break, NearFlow, NearRequest, SilentFlow, Deaf}
+use Rattle.j39_audit.specs.declared.mark.Word.TheVariants.{Short, Stranger, Nobody as NobodyThere, Address, Cannot, Layout, NoFlow, Priority, Urgent, Seen, Unclear, Asked, Counted, Unsure, Break, NearFlow, NearRequest, SilentFlow, Deaf, NearOrLate, SilentOrLate}
 use Rattle.j39_audit.proofs.Hearing.{line_more}
 use Rattle.j39_audit_laws.specs.FoundLines.{IsAccusing, IsFoundAt, IsLineOf, LinesAreOfLog, IsToldAt}
 use Rattle.j39_audit_laws.proofs.Hits.{hits}
@@ -155,16 +155,21 @@ module _ (s : Settings) (log : List Line) (m : Mark) (accuses : IsAccusing m.wor
       ] refl
 
 -- what accuses so is told by the frames
-by_frames : (w : Word) → IsAccusing w → (is_of_moments w ≡ false) × (is_of_asking w ≡ false)
-by_frames Short is = (refl, refl)
-by_frames Stranger is = (refl, refl)
-by_frames NobodyThere is = (refl, refl)
-by_frames Address is = (refl, refl)
-by_frames Cannot is = (refl, refl)
-by_frames Layout is = (refl, refl)
-by_frames NoFlow is = (refl, refl)
-by_frames Priority is = (refl, refl)
-by_frames Urgent is = (refl, refl)
+record IsByFrames (w : Word) : Type 0 where
+  moments : is_of_moments w ≡ false
+  load : is_of_load w ≡ false
+  asking : is_of_asking w ≡ false
+
+by_frames : (w : Word) → IsAccusing w → IsByFrames w
+by_frames Short is = record { moments = refl; load = refl; asking = refl }
+by_frames Stranger is = record { moments = refl; load = refl; asking = refl }
+by_frames NobodyThere is = record { moments = refl; load = refl; asking = refl }
+by_frames Address is = record { moments = refl; load = refl; asking = refl }
+by_frames Cannot is = record { moments = refl; load = refl; asking = refl }
+by_frames Layout is = record { moments = refl; load = refl; asking = refl }
+by_frames NoFlow is = record { moments = refl; load = refl; asking = refl }
+by_frames Priority is = record { moments = refl; load = refl; asking = refl }
+by_frames Urgent is = record { moments = refl; load = refl; asking = refl }
 by_frames Seen is = absurd is
 by_frames Unclear is = absurd is
 by_frames Asked is = absurd is
@@ -175,11 +180,18 @@ by_frames NearFlow is = absurd is
 by_frames NearRequest is = absurd is
 by_frames SilentFlow is = absurd is
 by_frames Deaf is = absurd is
+by_frames NearOrLate is = absurd is
+by_frames SilentOrLate is = absurd is
 
 looked : (end : AuditPast) (m : Mark) → IsAccusing m.word → told_in end.noted m ≡ look_at end m
 looked end m is =
-    sym (ap (λ (b : Bool). cond b (told_in end.moments.untimely m) (cond (is_of_asking m.word) (told_in end.asking.deaf m) (told_in end.noted m)))
-    (by_frames m.word is).0 ∙ ap (λ (b : Bool). cond b (told_in end.asking.deaf m) (told_in end.noted m)) (by_frames m.word is).1)
+    let by = by_frames m.word is in
+    let late = told_in end.by_load.untimely (mark_by_bus m) in
+    let deaf = told_in end.asking.deaf m in
+    let noted = told_in end.noted m in
+    sym (ap (λ (b : Bool). cond b (told_in end.moments.untimely m) (cond (is_of_load m.word) late (cond (is_of_asking m.word) deaf noted))) by.moments
+    ∙ ap (λ (b : Bool). cond b late (cond (is_of_asking m.word) deaf noted)) by.load
+    ∙ ap (λ (b : Bool). cond b deaf noted) by.asking)
 
 pub lines_are_of_log : LinesAreOfLog
 lines_are_of_log s log end read m accuses =

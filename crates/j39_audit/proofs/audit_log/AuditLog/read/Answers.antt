@@ -26,6 +26,7 @@ returns-in-Line-clause-lines c =
         counted = old.follows.counted;
         newest_is = old.follows.newest_is;
         moments = old.follows.moments;
+        by_load = old.follows.by_load;
         asking = old.follows.asking;
       };
       number_is = ap (λ (n : ℕ). n + 1) old.number_is;
@@ -68,6 +69,7 @@ returns-in-Long-clause-lines c =
         counted = old.follows.counted;
         newest_is = old.follows.newest_is;
         moments = old.follows.moments;
+        by_load = old.follows.by_load;
         asking = old.follows.asking;
       };
       number_is = ap (λ (n : ℕ). n + 1) old.number_is;
