@@ -1,8 +1,9 @@
 #!/usr/bin/env python3
-"""Compares which flows and packets `audit` tells as near or silent, and which units as deaf, with a reference in Python: audit_logs.py [LOGS [SEED]]
+"""Compares which flows and packets `audit` tells as near or silent, or late, and which units as deaf, with a reference in Python: audit_logs.py [LOGS [SEED]]
 
 Each of so many random logs (200) is of a random plan of five units: frames that keep their distances or don't, claims of these units and of others, requests
-for claims, messages that may be of several flows, clocks that are set back, quiet seconds, lines that are bad or without a time. The reference follows pages, not the program.
+for claims, messages that may be of several flows, clocks that are set back, quiet seconds, lines that are bad or without a time. The reference follows pages, not the program, but for response times,
+which `load` answers.
 J39PLAN names the program, else ./j39plan is asked. The status is 1 where an answer differs, which is shown.
 """
 
@@ -10,6 +11,7 @@ from __future__ import annotations
 
 import os
 import random
+import re
 import subprocess
 import sys
 import tempfile
@@ -24,6 +26,8 @@ BIT, SECOND = 4, 1_000_000
 FRAME_BYTES, LONGEST = 8, 1785
 CLAIMS_ASKED, LONGEST_ANSWER_MS = bytes([0x00, 0xEE, 0x00]), 250
 GAP_MS, LONGEST_GAP_MS, PACKET_BYTES = 50, 200, 7
+# What bounds moments: idle bits of the bus, and response times.
+BY_BUS, BY_LOAD = "", "_or_late"
 
 
 class Unit(NamedTuple):
@@ -203,16 +207,17 @@ class Addresses:
 class Reference:
     """What is told of the flows and units of a plan by a log, whose lines' times may differ by so many microseconds."""
 
-    def __init__(self, plan: Plan, is_part: bool, stamps: int) -> None:
-        self.plan, self.is_part, self.stamps = plan, is_part, stamps
+    def __init__(self, plan: Plan, is_part: bool, stamps: int, responses: dict[int, int]) -> None:
+        self.plan, self.is_part, self.stamps, self.responses = plan, is_part, stamps, responses
         self.addresses = Addresses(plan, is_part)
         self.told: dict[tuple[str, int], list[tuple[int, int]]] = {}
         self.greatest: int | None = None  # the greatest time since times began
         self.before: int | None = None  # the time of the line before, where it is a frame
         self.idle: int | None = None
-        self.earliest: dict[int, int | None] = {}
-        self.latest: dict[int, tuple[int, int]] = {}  # the latest moment of the newest message of a flow, and its line
-        self.shown: dict[int, tuple[int, int | None]] = {}  # the line of the last frame of a unit, and its idle mark
+        # By the bus and by load: the earliest moment of the newest message of a stream; of a flow the latest one, and its line.
+        self.earliest: dict[tuple[str, int], int | None] = {}
+        self.latest: dict[tuple[str, int], tuple[int, int]] = {}
+        self.shown: dict[int, tuple[int, int | None, int]] = {}  # the line of the last frame of a unit, its idle mark, and its time
         self.begun: dict[int, tuple[int, int, int]] = {}  # of a unit's planned broadcast the packets left, and the latest end and the line of the frame before
         self.asked: dict[int, tuple[int, int]] = {}  # when the request for claims to a unit ended at the latest, and its line
 
@@ -232,6 +237,13 @@ class Reference:
         is_judged = not self.is_part and is_of_one_sort and all(self.plan.units[end].claims for end in ends)
         return self.longest(flow.pause) if flow.pause and is_judged else None
 
+    def lower(self, bound: str, place: int, idle: int | None, time: int) -> int | None:
+        """No message of a flow had its moment before this, if it comes at this idle mark, or at this time."""
+        if bound == BY_BUS:
+            return None if idle is None else idle - self.jitter(self.plan.flows[place])
+        response = self.responses.get(place)
+        return None if response is None else time - self.stamps - (response + response // 1000 + 1)
+
     def tell(self, word: str, place: int, line: int, by: int) -> None:
         self.told.setdefault((word, place), []).append((line, by))
 
@@ -241,16 +253,18 @@ class Reference:
         """The pause of a flow ends: it is looked at by the last frame of its ends, of which the earlier one counts."""
         flow = self.plan.flows[place]
         pause = self.pause(flow)
-        if place not in self.latest or pause is None:
-            return
-        moment, line = self.latest.pop(place)
         ends = [self.shown.get(end) for end in (flow.sender, flow.to) if end is not None]
         there = [end for end in ends if end is not None]
-        if len(there) < len(ends):
-            return
-        at, idle = min(there, key=lambda it: it[0])
-        if at > line and idle is not None and idle - self.jitter(flow) > moment + pause:
-            self.tell("silent flow", place, line, idle - self.jitter(flow) - moment - pause)
+        for bound in (BY_BUS, BY_LOAD):
+            if (bound, place) not in self.latest or pause is None:
+                continue
+            moment, line = self.latest.pop((bound, place))
+            if len(there) < len(ends):
+                continue
+            at, idle, time = min(there, key=lambda it: it[0])
+            lower = self.lower(bound, place, idle, time)
+            if at > line and lower is not None and lower > moment + pause:
+                self.tell(f"silent{bound} flow", place, line, lower - moment - pause)
 
     def end_all(self) -> None:
         for place in range(len(self.plan.flows)):
@@ -287,7 +301,7 @@ class Reference:
             if frame.pgn == REQUEST and frame.data == CLAIMS_ASKED:
                 self.ask(line, frame.time + self.stamps, frame.source, frame.to)
             if sender is not None:
-                self.shown[sender] = line, self.idle
+                self.shown[sender] = line, self.idle, frame.time
                 self.take_sign(sender)
                 self.take_broadcast(line, frame.time, frame, sender, flows)
         if is_claim:
@@ -356,7 +370,7 @@ class Reference:
             if flows:
                 self.begun[unit] = data[3], latest, line
         elif unit in self.begun and (frame.pgn, frame.to, len(data)) == (PACKETS, ALL, FRAME_BYTES):
-            self.take_step("near packets", -1 - unit, unit, line, latest, self.idle, self.shortest(GAP_MS))
+            self.take_step("near packets", ("packets", unit), unit, line, latest, self.idle, self.shortest(GAP_MS))
             left, end, before = self.begun[unit]
             if left and self.idle is not None and self.idle > end + self.longest(LONGEST_GAP_MS):
                 self.tell("silent packets", unit, before, self.idle - end - self.longest(LONGEST_GAP_MS))
@@ -385,7 +399,7 @@ class Reference:
         near = [it for it in found if is_broadcast or (to := self.plan.flows[it].to) is None or self.addresses.may_be(to, frame.to)]
         return near or found
 
-    def take_step(self, word: str, stream: int, place: int, line: int, upper: int, lower: int | None, step: int) -> None:
+    def take_step(self, word: str, stream: tuple[str, int], place: int, line: int, upper: int, lower: int | None, step: int) -> None:
         """The messages of a stream are a step apart."""
         last = self.earliest.get(stream)
         bounds = [it for it in (lower, None if last is None else last + step) if it is not None]
@@ -396,30 +410,33 @@ class Reference:
         self.earliest[stream] = earliest
 
     def take_message(self, line: int, time: int, place: int, is_single: bool) -> None:
-        flow, upper = self.plan.flows[place], time + self.stamps
-        if (self.plan.groups[flow.group].most <= FRAME_BYTES) != is_single:
-            return
-        lower = None if self.idle is None else self.idle - self.jitter(flow)
-        self.take_step("near flow", place, place, line, upper, lower, self.shortest(flow.period))
+        if (self.plan.groups[self.plan.flows[place].group].most <= FRAME_BYTES) == is_single:
+            for bound in (BY_BUS, BY_LOAD):
+                self.take_bounds(bound, line, place, self.lower(bound, place, self.idle, time), time + self.stamps)
+
+    def take_bounds(self, bound: str, line: int, place: int, lower: int | None, upper: int) -> None:
+        flow, key = self.plan.flows[place], (bound, place)
+        self.take_step(f"near{bound} flow", key, place, line, upper, lower, self.shortest(flow.period))
         pause = self.pause(flow)
         if pause is None:
             return
         latest = upper
-        if place in self.latest:
-            moment, before = self.latest[place]
+        if key in self.latest:
+            moment, before = self.latest[key]
             if lower is not None and lower > moment + pause:
-                self.tell("silent flow", place, before, lower - moment - pause)
+                self.tell(f"silent{bound} flow", place, before, lower - moment - pause)
             else:
                 latest = min(upper, moment + pause)
-        self.latest[place] = latest, line
+        self.latest[key] = latest, line
 
     def lines(self) -> list[str]:
         """What is told, by words and then by units or flows."""
         deaf = [(unit.label, told) for place, unit in enumerate(self.plan.units) if (told := self.told.get(("deaf", place)))]
         found = [f"deaf unit {label} times {len(told)} first {told[0][0]}" for label, told in deaf]
         flows = [f"{at} {self.plan.groups[it.group].label} {self.plan.units[it.sender].label} {self.plan.receiver(it)}" for at, it in enumerate(self.plan.flows, 1)]
-        for word in ("near flow", "near packets", "silent flow", "silent packets"):
-            for place, name in enumerate([unit.label for unit in self.plan.units] if "packets" in word else flows):
+        for first, kind in (("near", "flow"), ("near", "packets"), ("silent", "flow"), ("silent", "packets")):
+            for place, name in enumerate([unit.label for unit in self.plan.units] if kind == "packets" else flows):
+                word = f"{first} {kind}" if kind == "packets" or (f"{first} {kind}", place) in self.told else f"{first}{BY_LOAD} {kind}"
                 if told := self.told.get((word, place)):
                     by = max(it[1] for it in told)
                     worst = next(it[0] for it in told if it[1] == by)
@@ -427,9 +444,9 @@ class Reference:
         return found
 
 
-def wanted(plan: Plan, lines: list[Line], is_part: bool, stamps: int) -> list[str]:
+def wanted(plan: Plan, lines: list[Line], is_part: bool, stamps: int, folder: str) -> list[str]:
     """What the reference tells of a log."""
-    reference = Reference(plan, is_part, stamps)
+    reference = Reference(plan, is_part, stamps, responses_of(plan, folder))
     for number, line in enumerate(lines, 1):
         if isinstance(line, Frame):
             reference.take(number, line)
@@ -439,6 +456,15 @@ def wanted(plan: Plan, lines: list[Line], is_part: bool, stamps: int) -> list[st
             reference.take_skipped()
     reference.end_all()
     return reference.lines()
+
+
+def responses_of(plan: Plan, folder: str) -> dict[int, int]:
+    """The response times of flows in microseconds, as `load` answers them: within the deadline, or late."""
+    path = Path(folder, "plan.toml")
+    path.write_text(plan.toml(), encoding="ascii")
+    ran = subprocess.run([PROGRAM, "load", str(path)], stdin=subprocess.DEVNULL, capture_output=True, text=True, check=False)
+    told = re.findall(r"^flow (\d+) .* (?:within|late) (\d+) of \d+ us$", ran.stdout, re.MULTILINE)
+    return {int(number) - 1: int(us) for number, us in told if plan.groups[plan.flows[int(number) - 1].group].most <= FRAME_BYTES}
 
 
 def answered(plan: Plan, lines: list[Line], is_part: bool, stamps: int, folder: str) -> list[str]:
@@ -451,24 +477,24 @@ def answered(plan: Plan, lines: list[Line], is_part: bool, stamps: int, folder: 
     answer = ran.stdout.splitlines()
     if ran.returncode > 1 or not answer or not answer[-1].startswith("deviations "):
         raise SystemExit(f"audit answers {ran.stdout}{ran.stderr}")
-    return [line for line in answer if line.startswith(("deaf unit ", "near flow ", "near packets ", "silent "))]
+    return [line for line in answer if line.startswith(("deaf unit ", "near flow ", "near packets ", "near_or_late flow ", "silent ", "silent_or_late "))]
 
 
 def main(words: list[str]) -> int:
     count, seed = int(words[0]) if words else 200, int(words[1]) if words[1:] else 1
-    differences, told = 0, {"deaf": 0, "near": 0, "silent": 0}
+    differences, told = 0, {word: 0 for word in ("deaf", "near", "near_or_late", "silent", "silent_or_late")}
     with tempfile.TemporaryDirectory(prefix="j39plan-audits-") as folder:
         for number in range(count):
             dice = random.Random(f"{seed} {number}")
             plan = random_plan(dice)
             lines, is_part, stamps = random_log(dice, plan), dice.random() < 0.1, dice.choice([1000, 1000, 0, 5000])
-            want, have = wanted(plan, lines, is_part, stamps), answered(plan, lines, is_part, stamps, folder)
+            want, have = wanted(plan, lines, is_part, stamps, folder), answered(plan, lines, is_part, stamps, folder)
             for line in want:
                 told[line.split()[0]] += 1
             if want != have:
                 differences += 1
                 print(f"log {number} of seed {seed}: audit tells {have}, the reference {want}")
-    print(f"logs {count} deaf {told['deaf']} near {told['near']} silent {told['silent']} differences {differences}")
+    print(f"logs {count}", *(f"{word} {lines}" for word, lines in told.items()), f"differences {differences}")
     return int(differences > 0)
 
 

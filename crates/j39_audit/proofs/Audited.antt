@@ -1,13 +1,15 @@
 -- What is written of a log that was read is its text.
-use Rattle.std.proofs.Common.{◌≡◌, ℕ, List, Bool, true, false, cond, sym, ap, subst, ◌∙◌}
+use Rattle.std.proofs.Common.{◌≡◌, ℕ, List, Bool, true, false, cond, ap, subst, ◌∙◌}
 use Rattle.j39_id.specs.Lines.{lines}
 use Rattle.j39_log.specs.declared.line_counts.LineCounts.{LineCounts}
-use Rattle.j39_network.specs.declared.plan.Plan.{Plan}
 use Rattle.j39_stream.specs.declared.verdict.Verdict.{Verdict}
-use Rattle.j39_audit.specs.AuditText.{IsAudit, IsAuditedLog, Look, AuditPast, accusation_count, counts_of, is_of_asking, is_of_broadcasts, is_of_moments, log_ended, look_at, text_by, verdict_by}
+use Rattle.j39_audit.specs.AuditText.{IsAudit, IsAuditedLog, Look, AuditPast, accusation_count, counts_of, is_of_asking, is_of_broadcasts, is_of_moments, log_ended, look_at, text_by, verdict_by, is_of_load, mark_by_bus}
 use Rattle.j39_audit.specs.Counting.{key_of}
+use Rattle.j39_audit.specs.Responses.{AreResponses}
 use Rattle.j39_audit.specs.Settings.{AreMoving, Settings}
 use Rattle.j39_audit.specs.declared.audit_log.AuditLog.{AuditLog}
+use Rattle.j39_audit.specs.declared.by_load.Bound.{Bound}
+use Rattle.j39_audit.specs.declared.by_load.Bound.TheVariants.{Bus}
 use Rattle.j39_audit.specs.inside.Auditing.{HasAuditedWhole, IsAuditReport, RecallsAudit, tallied}
 
 both : {X : Type 0} {a b c d : X} (test : Bool) → a ≡ b → c ≡ d → cond test a c ≡ cond test b d
@@ -17,8 +19,9 @@ both false same other = other
 looks : (log : AuditLog) (past : AuditPast) → RecallsAudit log past → tallied log ≡ look_at past
 looks log past recalls = λ i m.
     both (is_of_moments m.word) (recalls.follows.moments.counted (key_of m))
+    (both (is_of_load m.word) (recalls.follows.by_load.counted (key_of (mark_by_bus m)))
     (both (is_of_asking m.word) (recalls.follows.asking.counted (key_of m))
-    (both (is_of_broadcasts m.word) (recalls.follows.broadcasts.counted (key_of m)) (recalls.follows.counted (key_of m)))) i
+    (both (is_of_broadcasts m.word) (recalls.follows.broadcasts.counted (key_of m)) (recalls.follows.counted (key_of m))))) i
 
 counts : (log : AuditLog) (past : AuditPast) → RecallsAudit log past → log.counts ≡ counts_of past
 counts log past recalls =
@@ -43,16 +46,20 @@ audited s log input text verdict has is =
           ∙ ap (λ (l : Look). verdict_by (accusation_count s l)) look;
     }
 
-pub is_audit : (s : Settings) (log : AuditLog) (input text : List ℕ) (verdict : Verdict) → HasAuditedWhole s log (lines input)
-    → AreMoving s.plan s.moving → IsAuditReport log text verdict → IsAudit s.plan s.part s.stamps input text verdict
-is_audit s log input text verdict has moving is = record { moving = s.moving; moving_are = moving; audited = audited s log input text verdict has is }
+-- where the settings are those of the plan
+is_audit : (s : Settings) (input text : List ℕ) (verdict : Verdict) → AreMoving s.plan s.moving → AreResponses s.plan s.responses → s.bound ≡ Bus
+    → IsAuditedLog s input text verdict → IsAudit s.plan s.part s.stamps input text verdict
+is_audit s input text verdict moving responses bus audited = record {
+  moving = s.moving;
+  moving_are = moving;
+  responses = s.responses;
+  responses_are = responses;
+  audited = subst (λ (b : Bound). IsAuditedLog (record s { bound = b }) input text verdict) bus audited;
+}
 
--- by these settings
-pub is_audit_of : (plan : Plan) (part : Bool) (stamps : ℕ) (s : Settings) (log : AuditLog) (input text : List ℕ) (verdict : Verdict) → s.plan ≡ plan
-    → s.part ≡ part → s.stamps ≡ stamps → AreMoving plan s.moving → HasAuditedWhole s log (lines input) → IsAuditReport log text verdict
-    → IsAudit plan part stamps input text verdict
-is_audit_of plan part stamps s log input text verdict same_plan same_part same_stamps moving has is =
-    subst (λ (n : ℕ). IsAudit plan part n input text verdict) same_stamps
-    (subst (λ (b : Bool). IsAudit plan b s.stamps input text verdict) same_part
-    (subst (λ (x : Plan). IsAudit x s.part s.stamps input text verdict) same_plan
-    (is_audit s log input text verdict has (subst (λ (x : Plan). AreMoving x s.moving) (sym same_plan) moving) is)))
+pub is_audit_of : (s t : Settings) → s ≡ t → AreMoving t.plan t.moving → AreResponses t.plan t.responses → t.bound ≡ Bus → (log : AuditLog)
+    (input text : List ℕ) (verdict : Verdict) → HasAuditedWhole s log (lines input) → IsAuditReport log text verdict
+    → IsAudit t.plan t.part t.stamps input text verdict
+is_audit_of s t same moving responses bus log input text verdict has is =
+    is_audit t input text verdict moving responses bus
+    (subst (λ (r : Settings). IsAuditedLog r input text verdict) same (audited s log input text verdict has is))

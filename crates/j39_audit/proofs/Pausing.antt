@@ -68,7 +68,7 @@ listed_more s t ns k m = rw add-one refl
 
 pub record IsAsBefore (m e : Moments) : Type 0 where
   pub before : e.before ≡ m.before
-  pub idle : e.idle ≡ m.idle
+  pub since : e.since ≡ m.since
   pub earliest : (key : Key) → e.earliest key ≡ m.earliest key
   pub untimely : e.untimely ≡ m.untimely
   pub newest : (n : ℕ) → e.newest n ≡ None
@@ -76,7 +76,7 @@ pub record IsAsBefore (m e : Moments) : Type 0 where
 quiet : (s : Settings) (t : Timing) (m e : Moments) (n : ℕ) → IsAsBefore m e → IsAsBefore m (pause_ended s t n e)
 quiet s t m e n was = record {
   before = was.before;
-  idle = was.idle;
+  since = was.since;
   earliest = was.earliest;
   untimely = ap (λ (x : Option Newest). e.untimely ++ silent_noted n x (silence_behind s t n x e.last)) (was.newest n) ∙ append-nil e.untimely ∙ was.untimely;
   newest = λ k. none_either (n == k) (e.newest k) (was.newest k);
@@ -85,7 +85,7 @@ quiet s t m e n was = record {
 pub none_ended : (s : Settings) (t : Timing) (unit : Option ℕ) (m : Moments) → ((k : ℕ) → m.newest k ≡ None) → (n : ℕ)
     → IsAsBefore m (pauses_ended s t unit n m)
 unfolding pauses_ended
-none_ended s t unit m none zero = record { before = refl; idle = refl; earliest = λ key. refl; untimely = refl; newest = none }
+none_ended s t unit m none zero = record { before = refl; since = refl; earliest = λ key. refl; untimely = refl; newest = none }
 none_ended s t unit m none (suc n) = elim (cases_Bool (ends_with s unit n)) [
   | inl ends ↦ rw ends (quiet s t m (pauses_ended s t unit n m) n (none_ended s t unit m none n))
   | inr not ↦ rw not (none_ended s t unit m none n)

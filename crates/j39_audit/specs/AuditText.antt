@@ -32,16 +32,18 @@ use Rattle.j39_audit.specs.Moments.{Moments, all_pauses_ended, begins_anew, behi
 use Rattle.j39_audit.specs.MessageStreams.{nothing_sighted, sighted_behind}
 use Rattle.j39_audit.specs.Pauses.{ending_of}
 use Rattle.j39_audit.specs.SentMessages.{noted_at}
-use Rattle.j39_audit.specs.Settings.{AreMoving, Settings, units_planned}
+use Rattle.j39_audit.specs.Responses.{AreResponses}
+use Rattle.j39_audit.specs.Settings.{AreMoving, Settings, by_load as judged_by_load, units_planned}
+use Rattle.j39_audit.specs.declared.by_load.Bound.TheVariants.{Bus}
 use Rattle.j39_audit.specs.declared.mark.Mark.{Mark}
 use Rattle.j39_audit.specs.declared.mark.Word.{Word}
-use Rattle.j39_audit.specs.declared.mark.Word.TheVariants.{Short, Stranger, Nobody, Address, Cannot, Layout, NoFlow, Priority, Urgent, Seen, Unclear, Asked, Counted, Unsure, Break, NearFlow, NearRequest, SilentFlow, Deaf, NearPackets, SilentPackets}
+use Rattle.j39_audit.specs.declared.mark.Word.TheVariants.{Short, Stranger, Nobody, Address, Cannot, Layout, NoFlow, Priority, Urgent, Seen, Unclear, Asked, Counted, Unsure, Break, NearFlow, NearRequest, SilentFlow, Deaf, NearPackets, SilentPackets, NearOrLate, SilentOrLate}
 use Rattle.j39_audit.specs.declared.tally.Told.{Told}
 
 -- ---- a log
 
--- what came so far: how many lines, the interface of the log, the newest time, the claims, what was noted, what the times tell, who is asked for
--- claims, the planned broadcasts, and how many lines there were of each sort
+-- what came so far: how many lines, the interface of the log, the newest time, the claims, what was noted, what the times tell by the bus and by
+-- load, who is asked for claims, the planned broadcasts, and how many lines there were of each sort
 pub record AuditPast : Type 0 where
   pub number : ℕ
   pub interface : Option (List ℕ)
@@ -49,6 +51,7 @@ pub record AuditPast : Type 0 where
   pub claims : HeardClaims
   pub noted : List Noted
   pub moments : Moments
+  pub by_load : Moments
   pub asking : Asking
   pub broadcasts : Broadcasts
   pub frames : ℕ
@@ -64,6 +67,7 @@ nothing_read = record {
   claims = no_claims;
   noted = [];
   moments = no_moments;
+  by_load = no_moments;
   asking = no_asking;
   broadcasts = no_broadcasts;
   frames = 0;
@@ -76,6 +80,7 @@ abbrev pub bad_line : Settings → AuditPast → AuditPast
 bad_line s past = record past {
   bad = past.bad + 1;
   moments = behind_bad s past.moments;
+  by_load = behind_bad (judged_by_load s) past.by_load;
   asking = all_forgotten past.asking;
   broadcasts = all_broadcasts_ended past.broadcasts;
 }
@@ -86,6 +91,7 @@ skipped_line past = record past {
   skipped = past.skipped + 1;
   noted = past.noted ++ noted_if (nat_lt 0 past.frames) (noted_at past.number Short 0 0);
   moments = behind_gap past.moments;
+  by_load = behind_gap past.by_load;
 }
 
 abbrev pub passed_by : Settings → LineError → AuditPast → AuditPast
@@ -102,10 +108,11 @@ abbrev pub noted_newly : Settings → AuditPast → Option ℕ → Frame → Opt
 noted_newly s past time f packet =
     break_noted past.number (breaks s.stamps past.newest time) ++ frame_noted s (claims_before s past time) f packet past.number
 
-abbrev pub moments_with_frame : Settings → AuditPast → Option ℕ → Frame → Option Packet → Moments
-moments_with_frame s past time f packet =
-    moments_behind s (breaks s.stamps past.newest time) (begins_anew s.stamps past.newest time) time f past.number
-    (noted_newly s past time f packet) (ending_of s (knowledge s (claims_before s past time)) f) past.moments
+-- by settings of this bound
+abbrev pub moments_with_frame : Settings → Settings → AuditPast → Option ℕ → Frame → Option Packet → Moments → Moments
+moments_with_frame bounds s past time f packet m =
+    moments_behind bounds (breaks s.stamps past.newest time) (begins_anew s.stamps past.newest time) time f past.number
+    (noted_newly s past time f packet) (ending_of s (knowledge s (claims_before s past time)) f) m
 
 -- the unit for which it counts, if it does; the broadcasts just before it; and the claims behind it, of which one that announces is none
 abbrev pub counted_for : Settings → AuditPast → Option ℕ → Frame → Option Packet → Option ℕ
@@ -126,11 +133,12 @@ past_with_frame s past time named f packet = record past {
   claims = claims_with_frame s past time f;
   noted = past.noted ++ noted_newly s past time f packet;
   moments = with_packet_stream s time past.number (packet_with s.plan.timing (counted_for s past time f packet) f (broadcasts_there s past time f))
-      (moments_with_frame s past time f packet);
+      (moments_with_frame s s past time f packet past.moments);
+  by_load = moments_with_frame (judged_by_load s) s past time f packet past.by_load;
   asking = asking_behind s (knowledge s (claims_before s past time)) (breaks s.stamps past.newest time) (begins_anew s.stamps past.newest time) time
-      f past.number (counted_for s past time f packet) (moments_with_frame s past time f packet).idle past.asking;
+      f past.number (counted_for s past time f packet) (moments_with_frame s s past time f packet past.moments).since past.asking;
   broadcasts = broadcasts_behind s (knowledge s (claims_with_frame s past time f)) (counted_for s past time f packet) f (announcement_in packet) time
-      (moments_with_frame s past time f packet).idle past.number (broadcasts_there s past time f);
+      (moments_with_frame s s past time f packet past.moments).since past.number (broadcasts_there s past time f);
   frames = past.frames + 1;
 }
 
@@ -164,7 +172,7 @@ AuditsLines s past (line ∷ rest) end = (next : AuditPast) × AuditsLine s past
 
 -- behind the last line all pauses end
 abbrev pub log_ended : Settings → AuditPast → AuditPast
-log_ended s past = record past { moments = all_pauses_ended s past.moments }
+log_ended s past = record past { moments = all_pauses_ended s past.moments; by_load = all_pauses_ended (judged_by_load s) past.by_load }
 
 -- ---- what accuses
 
@@ -207,6 +215,8 @@ word_text NearRequest = codes "near"
 word_text SilentFlow = codes "silent"
 word_text NearPackets = codes "near"
 word_text SilentPackets = codes "silent"
+word_text NearOrLate = codes "near_or_late"
+word_text SilentOrLate = codes "silent_or_late"
 word_text _ = codes "urgent"
 
 unfoldable pub unit_text : Plan → ℕ → List ℕ
@@ -251,6 +261,10 @@ subject_of plan SilentFlow subject group detail =
     option_map_or (λ (flow : FlowPlan). named_flow_text plan subject flow) (slice_get plan.flows.items subject) []
 subject_of plan NearPackets subject group detail = packets_text plan subject
 subject_of plan SilentPackets subject group detail = packets_text plan subject
+subject_of plan NearOrLate subject group detail =
+    option_map_or (λ (flow : FlowPlan). named_flow_text plan subject flow) (slice_get plan.flows.items subject) []
+subject_of plan SilentOrLate subject group detail =
+    option_map_or (λ (flow : FlowPlan). named_flow_text plan subject flow) (slice_get plan.flows.items subject) []
 subject_of plan _ subject group detail = unit_text plan subject
 
 -- by how much at most, and the first line at which it was so much
@@ -263,6 +277,8 @@ measure_text NearRequest t = worst_text t
 measure_text SilentFlow t = worst_text t
 measure_text NearPackets t = worst_text t
 measure_text SilentPackets t = worst_text t
+measure_text NearOrLate t = worst_text t
+measure_text SilentOrLate t = worst_text t
 measure_text _ t = []
 
 -- how often, and the first line
@@ -279,6 +295,15 @@ mark_at word subject group = record { word = word; subject = subject; group = gr
 abbrev pub Look : Type 0
 Look = Mark → Told
 
+-- a flow of which by the bus nothing is told may be told by load
+abbrev pub if_not_by_bus : Look → Mark → Mark → Mark
+if_not_by_bus look by_bus or_late = if (look by_bus).times == 0 then or_late else by_bus
+
+abbrev pub told_mark : Look → Word → ℕ → ℕ → Mark
+told_mark look NearFlow subject group = if_not_by_bus look (mark_at NearFlow subject group) (mark_at NearOrLate subject group)
+told_mark look SilentFlow subject group = if_not_by_bus look (mark_at SilentFlow subject group) (mark_at SilentOrLate subject group)
+told_mark look word subject group = mark_at word subject group
+
 -- the line of a mark, where it was found, and how many lines that is
 unfoldable pub line_of_mark : Plan → Mark → Told → List ℕ
 line_of_mark plan m t = if t.times == 0 then [] else accusing_line plan m t
@@ -286,12 +311,15 @@ line_of_mark plan m t = if t.times == 0 then [] else accusing_line plan m t
 unfoldable pub lines_told : Told → ℕ
 lines_told t = if t.times == 0 then 0 else 1
 
+unfoldable pub line_told : Plan → Look → Mark → List ℕ
+line_told plan look m = line_of_mark plan m (look m)
+
 -- those of a word and a subject, of a word, and of all words
 unfoldable pub subject_lines : Settings → Look → Word → ℕ → List ℕ
-subject_lines s look word u = each_below (λ g. line_of_mark s.plan (mark_at word u g) (look (mark_at word u g))) (groups_named s word)
+subject_lines s look word u = each_below (λ g. line_told s.plan look (told_mark look word u g)) (groups_named s word)
 
 unfoldable pub subject_count : Settings → Look → Word → ℕ → ℕ
-subject_count s look word u = sum_below (λ g. lines_told (look (mark_at word u g))) (groups_named s word)
+subject_count s look word u = sum_below (λ g. lines_told (look (told_mark look word u g))) (groups_named s word)
 
 unfoldable pub word_lines : Settings → Look → Word → List ℕ
 word_lines s look word = each_below (subject_lines s look word) (subjects s word)
@@ -362,14 +390,28 @@ text_by s counts look =
 abbrev pub counts_of : AuditPast → LineCounts
 counts_of past = record { frames = past.frames; skipped = past.skipped; bad = past.bad; elsewhere = past.elsewhere }
 
--- what is told of each mark: of those that speak of times by the times, of units that don't answer by who is asked, of packets that come late by
--- the broadcasts, of the others by the frames
+-- what is told of each mark: of those that speak of times by the times, by the bus or by load, of units that don't answer by who is asked, of
+-- packets that come late by the broadcasts, of the others by the frames
 abbrev pub is_of_moments : Word → Bool
 is_of_moments NearFlow = true
 is_of_moments NearRequest = true
 is_of_moments SilentFlow = true
 is_of_moments NearPackets = true
 is_of_moments _ = false
+
+abbrev pub is_of_load : Word → Bool
+is_of_load NearOrLate = true
+is_of_load SilentOrLate = true
+is_of_load _ = false
+
+-- what is told by load has the marks of what is told by the bus
+abbrev pub word_by_bus : Word → Word
+word_by_bus NearOrLate = NearFlow
+word_by_bus SilentOrLate = SilentFlow
+word_by_bus word = word
+
+abbrev pub mark_by_bus : Mark → Mark
+mark_by_bus m = mark_at (word_by_bus m.word) m.subject m.group
 
 abbrev pub is_of_asking : Word → Bool
 is_of_asking Deaf = true
@@ -382,6 +424,7 @@ is_of_broadcasts _ = false
 abbrev pub look_at : AuditPast → Look
 look_at past m =
     if is_of_moments m.word then told_in past.moments.untimely m
+    else if is_of_load m.word then told_in past.by_load.untimely (mark_by_bus m)
     else if is_of_asking m.word then told_in past.asking.deaf m
     else if is_of_broadcasts m.word then told_in past.broadcasts.late m else told_in past.noted m
 
@@ -405,4 +448,6 @@ pub record IsAuditedLog (s : Settings) (log text : List ℕ) (verdict : Verdict)
 pub record IsAudit (plan : Plan) (part : Bool) (stamps : ℕ) (log text : List ℕ) (verdict : Verdict) : Type 0 where
   pub moving : List Bool
   pub moving_are : AreMoving plan moving
-  pub audited : IsAuditedLog (record { plan = plan; moving = moving; part = part; stamps = stamps }) log text verdict
+  pub responses : List (Option ℕ)
+  pub responses_are : AreResponses plan responses
+  pub audited : IsAuditedLog (record { plan = plan; moving = moving; part = part; stamps = stamps; responses = responses; bound = Bus }) log text verdict

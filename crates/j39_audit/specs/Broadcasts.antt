@@ -86,7 +86,7 @@ is_packet_to_all f = pgn_of f.ident == data_transfer && (f.ident.ps == global_ad
 
 -- the stream of a unit's packets: one is queued at its moment
 abbrev pub packet_stream : Timing → ℕ → MessageStream
-packet_stream t u = record { mark = stream_mark NearPackets u; step = shortest_us t t.broadcast_gap; jitter = 0; pause = None }
+packet_stream t u = record { mark = stream_mark NearPackets u; step = shortest_us t t.broadcast_gap; slack = Some 0; pause = None }
 
 -- the frame is of it, with this broadcast of its unit before it
 abbrev pub packet_of : Timing → ℕ → Frame → Option Broadcast → Option MessageStream

@@ -10,6 +10,7 @@ pub mod MessageStreams
 pub mod Moments
 pub mod Near
 pub mod Pauses
+pub mod Responses
 pub mod SentMessages
 pub mod Settings
 pub mod Silence

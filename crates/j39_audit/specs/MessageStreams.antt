@@ -1,4 +1,4 @@
--- Streams: messages whose moments are a step apart at least, and how long behind its moment one may be queued.
+-- Streams: messages whose moments are a step apart at least, and how long behind its moment one may be queued, or sent.
 use Rattle.std.specs.Prelude.{ℕ, ◌+◌, ◌-◌, ◌*◌, ◌/◌, nat_le, nat_lt, ◌==◌, ◌||◌, ◌&&◌, not, Bool, true, false, if◌then◌else◌, List, [], ◌∷◌, Option, Some, None}
 use Rattle.std.specs.Int.{div_ceil}
 use Rattle.std.specs.List.{slice_get}
@@ -15,7 +15,9 @@ use Rattle.j39_network.specs.declared.plan.request_plan.RequestPlan.{RequestPlan
 use Rattle.j39_network.specs.declared.plan.timing.Timing.{Timing}
 use Rattle.j39_audit.specs.Counting.{Noted}
 use Rattle.j39_audit.specs.Looking.{is_claiming, is_single}
-use Rattle.j39_audit.specs.Settings.{Settings}
+use Rattle.j39_audit.specs.Settings.{Settings, response_of}
+use Rattle.j39_audit.specs.declared.by_load.Bound.{Bound}
+use Rattle.j39_audit.specs.declared.by_load.Bound.TheVariants.{Bus, Load}
 use Rattle.j39_audit.specs.declared.mark.Mark.{Mark}
 use Rattle.j39_audit.specs.declared.mark.Word.TheVariants.{Seen, Asked, Counted, NearFlow, NearRequest}
 use Rattle.j39_audit.specs.declared.mark.Word.{Word}
@@ -48,14 +50,20 @@ abbrev pub is_in_stream : GroupPlan → Bool → Bool
 is_in_stream group true = nat_le group.most frame_bytes
 is_in_stream group false = nat_lt frame_bytes group.most
 
+-- how far behind its moment lies what bounds it at most, where that is known: by the bus it is queued within the jitter, and by load sent in its
+-- response time
+abbrev pub slack_by : Bound → Option ℕ → ℕ → Option ℕ
+slack_by Bus response jitter = Some jitter
+slack_by Load response jitter = response
+
 -- the stream of a flow with a period
-abbrev pub paced_stream : Timing → Frame → ℕ → GroupPlan → Pace → Option ℕ → Option MessageStream
-paced_stream t f n group pace pause =
+abbrev pub paced_stream : Settings → Timing → Frame → ℕ → GroupPlan → Pace → Option ℕ → Option MessageStream
+paced_stream s t f n group pace pause =
     if is_in_stream group (is_single (pgn_of f.ident))
     then Some (record {
       mark = stream_mark NearFlow n;
       step = shortest_us t pace.period;
-      jitter = longest_us t (latest_ms pace (is_single (pgn_of f.ident)));
+      slack = slack_by s.bound (response_of s n) (longest_us t (latest_ms pace (is_single (pgn_of f.ident))));
       pause = pause;
     })
     else None
@@ -80,16 +88,19 @@ abbrev pub shows_silence : Settings → FlowPlan → GroupPlan → Bool
 shows_silence s flow group =
     not s.part && (not flow.on_request && (are_of_one_sort group && (is_claiming s flow.sender && is_claiming_there s flow.to)))
 
--- by that time behind a message's moment, in microseconds, the next one has its own, and within the jitter each one is queued
-abbrev pub flow_pause_of : Settings → Timing → FlowPlan → GroupPlan → Pace → ℕ → Option FlowPause
-flow_pause_of s t flow group pace pause =
+-- by that time behind a message's moment, in microseconds, the next one has its own
+abbrev pub flow_pause_of : Settings → Timing → ℕ → FlowPlan → GroupPlan → Pace → ℕ → Option FlowPause
+flow_pause_of s t n flow group pace pause =
     if shows_silence s flow group
-    then Some (record { pause = longest_us t pause; jitter = longest_us t (latest_ms pace (nat_le group.most frame_bytes)) })
+    then Some (record {
+      pause = longest_us t pause;
+      slack = slack_by s.bound (response_of s n) (longest_us t (latest_ms pace (nat_le group.most frame_bytes)));
+    })
     else None
 
 unfoldable pub flow_pause : Settings → Timing → ℕ → Option FlowPause
 flow_pause s t n = option_and_then (λ (flow : FlowPlan). option_and_then (λ (pause : ℕ). option_and_then (λ (pace : Pace).
-    option_and_then (λ (group : GroupPlan). flow_pause_of s t flow group pace pause) (slice_get s.plan.groups.items flow.group))
+    option_and_then (λ (group : GroupPlan). flow_pause_of s t n flow group pace pause) (slice_get s.plan.groups.items flow.group))
     flow.pace) flow.pause) (slice_get s.plan.flows.items n)
 
 unfoldable pub stream_pause : Settings → Timing → ℕ → Option ℕ
@@ -97,7 +108,7 @@ stream_pause s t n = option_map (λ (p : FlowPause). p.pause) (flow_pause s t n)
 
 unfoldable pub flow_stream : Settings → Timing → Frame → ℕ → Option MessageStream
 flow_stream s t f n =
-    option_and_then (λ (pace : Pace). option_and_then (λ (group : GroupPlan). paced_stream t f n group pace (stream_pause s t n)) (group_in_flow s n)) (flow_pace s n)
+    option_and_then (λ (pace : Pace). option_and_then (λ (group : GroupPlan). paced_stream s t f n group pace (stream_pause s t n)) (group_in_flow s n)) (flow_pace s n)
 
 -- requests have this priority
 abbrev pub request_priority : ℕ
@@ -107,13 +118,13 @@ request_priority = 6
 abbrev pub request_period : Settings → ℕ → Option ℕ
 request_period s n = option_and_then (λ (r : RequestPlan). r.period) (slice_get s.plan.requests.items n)
 
-abbrev pub paced_request : Timing → Frame → ℕ → ℕ → Option MessageStream
-paced_request t f n period =
+abbrev pub paced_request : Settings → Timing → Frame → ℕ → ℕ → Option MessageStream
+paced_request s t f n period =
     if f.ident.priority == request_priority
-    then Some (record { mark = stream_mark NearRequest n; step = shortest_us t period; jitter = 0; pause = None }) else None
+    then Some (record { mark = stream_mark NearRequest n; step = shortest_us t period; slack = slack_by s.bound None 0; pause = None }) else None
 
 unfoldable pub asked_stream : Settings → Timing → Frame → ℕ → Option MessageStream
-asked_stream s t f n = option_and_then (λ (period : ℕ). paced_request t f n period) (request_period s n)
+asked_stream s t f n = option_and_then (λ (period : ℕ). paced_request s t f n period) (request_period s n)
 
 -- ---- a frame
 

@@ -16,6 +16,8 @@ use Rattle.j39_audit.specs.MessageStreams.{flow_pause, nothing_sighted, sighted_
 use Rattle.j39_audit.specs.Pauses.{is_with_unit, last_of_ends, unclear_behind}
 use Rattle.j39_audit.specs.Settings.{Settings, logger_error, units_planned}
 use Rattle.j39_audit.specs.Silence.{lag, latest_next}
+use Rattle.j39_audit.specs.declared.by_load.Bound.{Bound}
+use Rattle.j39_audit.specs.declared.by_load.Bound.TheVariants.{Bus, Load}
 use Rattle.j39_audit.specs.declared.mark.Word.TheVariants.{SilentFlow}
 use Rattle.j39_audit.specs.declared.pauses.Ending.{Ending}
 use Rattle.j39_audit.specs.declared.pauses.Ending.TheVariants.{Nothing, OfUnit, OfAll}
@@ -26,27 +28,32 @@ use Rattle.j39_audit.specs.declared.streams.MessageStream.{MessageStream}
 use Rattle.j39_audit.specs.declared.tally.Sighting.{Sighting}
 use Rattle.j39_audit.specs.declared.window.Window.{Window}
 
--- what the times so far tell: the time of the line before, where it is a frame that has one; the idle mark, behind which all was ready that
--- begins from there on; of each stream the earliest moment of the newest message; and what was found; of each flow with a pause that hasn't
+-- what the times so far tell: the time of the line before, where it is a frame that has one; since when
+-- all was queued that begins from here on, or by load all has ended that ends from here on; of each stream the earliest moment of the newest message; and what was found; of each flow with a pause that hasn't
 -- ended the newest message, and of each unit the last frame since its last claim. Moments are counted in microseconds from 2^33 before the zero
 -- of the log's times, so that no bound lies before it
 pub record Moments : Type 0 where
   pub before : Option ℕ
-  pub idle : Option ℕ
+  pub since : Option ℕ
   pub earliest : Key → Option ℕ
   pub untimely : List Noted
   pub newest : ℕ → Option Newest
   pub last : ℕ → Option LastFrame
 
 abbrev pub no_moments : Moments
-no_moments = record { before = None; idle = None; earliest = λ key. None; untimely = []; newest = λ n. None; last = λ u. None }
+no_moments = record { before = None; since = None; earliest = λ key. None; untimely = []; newest = λ n. None; last = λ u. None }
 
 -- a line that is skipped or bad shows no idle bit
 abbrev pub behind_gap : Moments → Moments
-behind_gap m = record m { before = None; idle = None }
+behind_gap m = record m { before = None; since = None }
 
 abbrev pub long_before : ℕ
 long_before = 2 ^ 33
+
+-- this by the bus, and that by load
+abbrev pub since_by : Bound → Option ℕ → ℕ → Option ℕ
+since_by Bus idle end = idle
+since_by Load idle end = Some end
 
 -- ---- where times begin anew
 
@@ -92,14 +99,26 @@ idle_mark s t bytes time = time + long_before - (reach_back t bytes + logger_err
 abbrev pub idle_behind : Settings → Timing → Bool → ℕ → ℕ → Option ℕ → Option ℕ → Option ℕ
 idle_behind s t broken bytes time before idle = if shows_idle s t broken bytes time before then Some (idle_mark s t bytes time) else idle
 
+-- a frame of this time ended no earlier
+abbrev pub earliest_end : Settings → ℕ → ℕ
+earliest_end s time = time + long_before - logger_error s
+
+-- so what is sent from here on was queued since the idle mark, and by load it has ended since the frame at hand did
+abbrev pub since_behind : Settings → Timing → Bool → ℕ → ℕ → Option ℕ → Option ℕ → Option ℕ
+since_behind s t broken bytes time before since = since_by s.bound (idle_behind s t broken bytes time before since) (earliest_end s time)
+
 abbrev pub with_moment : Settings → Timing → Bool → ℕ → ℕ → Moments → Moments
-with_moment s t broken bytes time m = record m { before = Some time; idle = idle_behind s t broken bytes time m.before m.idle }
+with_moment s t broken bytes time m = record m { before = Some time; since = since_behind s t broken bytes time m.before m.since }
 
 -- ---- messages
 
--- the bounds of the moment of a message of this time and jitter
-abbrev pub moment_window : Settings → ℕ → ℕ → Option ℕ → Window
-moment_window s jitter time idle = record { lower = option_map (λ q. q - jitter) idle; upper = time + long_before + logger_error s }
+-- no message had its moment before this that comes since then, and so far behind it at most
+abbrev pub lower_bound : Option ℕ → Option ℕ → Option ℕ
+lower_bound slack since = option_and_then (λ d. option_map (λ q. q - d) since) slack
+
+-- the bounds of the moment of a message of this time
+abbrev pub moment_window : Settings → Option ℕ → ℕ → Option ℕ → Window
+moment_window s slack time since = record { lower = lower_bound slack since; upper = time + long_before + logger_error s }
 
 abbrev pub near_noted : MessageStream → ℕ → Option ℕ → List Noted
 near_noted stream line None = []
@@ -143,7 +162,7 @@ with_pause (Some pause) n window line m = record m {
 abbrev pub silent_by : FlowPause → Newest → Option LastFrame → Option ℕ
 silent_by p newest None = None
 silent_by p newest (Some last) =
-    if nat_lt newest.line last.line then lag p.pause (Some newest.moment) (option_map (λ q. q - p.jitter) last.idle) else None
+    if nat_lt newest.line last.line then lag p.pause (Some newest.moment) (lower_bound p.slack last.since) else None
 
 abbrev pub last_of_flow : Settings → (ℕ → Option LastFrame) → ℕ → Option LastFrame
 last_of_flow s last n = option_and_then (λ (flow : FlowPlan). last_of_ends last flow.sender flow.to) (slice_get s.plan.flows.items n)
@@ -194,7 +213,7 @@ with_ending s t OfAll m = all_pauses_ended s m
 
 -- a frame that counts for a unit
 abbrev pub with_frame_of : ℕ → ℕ → Moments → Moments
-with_frame_of u line m = record m { last = with_last_frame u (Some (record { line = line; idle = m.idle })) m.last }
+with_frame_of u line m = record m { last = with_last_frame u (Some (record { line = line; since = m.since })) m.last }
 
 abbrev pub with_counted : Settings → Option ℕ → ℕ → Moments → Moments
 with_counted s None line m = m
@@ -203,7 +222,7 @@ with_counted s (Some u) line m =
 
 -- with a packet of a broadcast, if the frame of this time is one
 abbrev pub with_packet_stream : Settings → Option ℕ → ℕ → Option MessageStream → Moments → Moments
-with_packet_stream s (Some time) line (Some stream) m = with_message stream (moment_window s stream.jitter time m.idle) line m
+with_packet_stream s (Some time) line (Some stream) m = with_message stream (moment_window s stream.slack time m.since) line m
 with_packet_stream s _ line _ m = m
 
 -- ---- gaps
@@ -215,7 +234,7 @@ behind_bad s m = behind_gap (all_pauses_ended s m)
 -- just before a frame where times begin anew, or where the log breaks off
 abbrev pub begun_anew : Settings → Bool → Bool → Moments → Moments
 begun_anew s anew broken m =
-    if anew then record (all_pauses_ended s m) { before = None; idle = None; earliest = λ key. None }
+    if anew then record (all_pauses_ended s m) { before = None; since = None; earliest = λ key. None }
     else if broken then pauses_dropped m else m
 
 -- ---- a frame
@@ -224,8 +243,8 @@ begun_anew s anew broken m =
 abbrev pub with_stream : Settings → ℕ → ℕ → Option MessageStream → Moments → Moments
 with_stream s time line None m = m
 with_stream s time line (Some stream) m =
-    with_pause stream.pause stream.mark.subject (moment_window s stream.jitter time m.idle) line
-    (with_message stream (moment_window s stream.jitter time m.idle) line m)
+    with_pause stream.pause stream.mark.subject (moment_window s stream.slack time m.since) line
+    (with_message stream (moment_window s stream.slack time m.since) line m)
 
 -- behind a frame of this time that is seen so, may be a message of each of several flows, and ends these pauses
 abbrev pub with_time : Settings → Option Timing → Bool → Option ℕ → Frame → ℕ → Sighting → List ℕ → Ending → Moments → Moments

@@ -1,21 +1,33 @@
 -- What an audit goes by.
-use Rattle.std.specs.Prelude.{◌≡◌, ℕ, min, ◌&&◌, Bool, false, not, List, length, slice_index_or, Some}
+use Rattle.std.specs.Prelude.{◌≡◌, ℕ, min, ◌&&◌, Bool, false, not, List, length, slice_index_or, Option, Some, None}
 use Rattle.std.specs.List.{slice_get}
 use Rattle.j39_id.specs.Name.{is_arbitrary}
 use Rattle.j39_findings.specs.Standing.{DecidesWhoStays}
 use Rattle.j39_network.specs.declared.plan.Plan.{Plan}
 use Rattle.j39_network.specs.declared.plan.unit_plan.UnitPlan.{UnitPlan}
+use Rattle.j39_audit.specs.declared.by_load.Bound.{Bound}
+use Rattle.j39_audit.specs.declared.by_load.Bound.TheVariants.{Load}
 
--- the plan, which of its units may move to other addresses, whether frames of the bus may be missing in the log, and by how many microseconds
--- the time of a line may differ from the end of its frame
+-- the plan, which of its units may move to other addresses, whether frames of the bus may be missing in the log, by how many microseconds the
+-- time of a line may differ from the end of its frame, how long each flow takes to be sent, and by what the earliest moment of a message is known
 pub record Settings : Type 0 where
   pub plan : Plan
   pub moving : List Bool
   pub part : Bool
   pub stamps : ℕ
+  pub responses : List (Option ℕ)
+  pub bound : Bound
 
 abbrev pub moves : Settings → ℕ → Bool
 moves s u = slice_index_or s.moving u false
+
+-- the same, by load
+abbrev pub by_load : Settings → Settings
+by_load s = record s { bound = Load }
+
+-- how long behind its moment a message of the flow at a place has been sent, where this is known
+abbrev pub response_of : Settings → ℕ → Option ℕ
+response_of s n = slice_index_or s.responses n None
 
 abbrev pub units_planned : Settings → ℕ
 units_planned s = length s.plan.units.items

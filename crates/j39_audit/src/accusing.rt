@@ -30,6 +30,8 @@ fn word_text(word: Word) -> &'static str
         Word::Priority => "priority",
         Word::NearFlow | Word::NearRequest | Word::NearPackets => "near",
         Word::SilentFlow | Word::SilentPackets => "silent",
+        Word::NearOrLate => "near_or_late",
+        Word::SilentOrLate => "silent_or_late",
         _ => "urgent",
     }
 }
@@ -166,7 +168,9 @@ fn write_subject(
         Word::Layout | Word::NoFlow | Word::Priority => {
             write_unit_and_group(text, plan, mark.subject, mark.group)
         }
-        Word::NearFlow | Word::SilentFlow => write_flow_at(text, plan, mark.subject),
+        Word::NearFlow | Word::SilentFlow | Word::NearOrLate | Word::SilentOrLate => {
+            write_flow_at(text, plan, mark.subject)
+        }
         Word::NearRequest => write_request_at(text, plan, mark.subject),
         Word::NearPackets | Word::SilentPackets => write_packets(text, plan, mark.subject),
         _ => write_unit(text, plan, mark.subject),
@@ -191,7 +195,9 @@ fn write_measure(text: &mut TextBuffer, word: Word, told: Told) -> Result<(), Al
         | Word::NearRequest
         | Word::NearPackets
         | Word::SilentFlow
-        | Word::SilentPackets => write_worst(text, told),
+        | Word::SilentPackets
+        | Word::NearOrLate
+        | Word::SilentOrLate => write_worst(text, told),
         _ => Ok(()),
     }
 }

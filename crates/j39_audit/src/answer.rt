@@ -1,11 +1,16 @@
 //! What the audit command writes.
-ghost use Rattle.std.specs.Prelude.{IfOk};
+ghost use Rattle.std.specs.Prelude.{◌≡◌, IfOk};
 ghost use Rattle.j39_audit.specs.AuditText.{IsAudit};
+ghost use Rattle.j39_audit.specs.Responses.{AreResponses};
+ghost use Rattle.j39_audit.specs.Settings.{AreMoving};
+ghost use Rattle.j39_audit.specs.declared.by_load.Bound.TheVariants.{Bus};
 ghost use Rattle.j39_audit.specs.inside.Auditing.{IsAuditReport};
 ghost use Rattle.j39_stream.specs.CommandEnds.{AnswersWhole, IsOfAny, PutsText};
 ghost use Rattle.j39_stream.specs.Streams.{log_limits};
 
 use crate::audit_log::AuditLog;
+use crate::basis::{Basis, moving_of};
+use crate::by_load::{Bound, responses_of};
 use crate::reading::read_log;
 use crate::summary::write_audit;
 use j39_network::Plan;
@@ -35,6 +40,25 @@ fn put_report<W: Sink>(alloc: Global, log: &AuditLog<'_>, sink: &mut W) -> Resul
     Ok(verdict)
 }
 
+// Writes it of a log that is read by this.
+fn audit_by<S: Source, W: Sink>(
+    alloc: Global,
+    basis: Basis<'_>,
+    source: &mut S,
+    sink: &mut W,
+) -> Result<Verdict, Fault>
+    requires moving { AreMoving basis.plan.now basis.moving.now }
+    requires responses { AreResponses basis.plan.now basis.responses.now }
+    requires bus { basis.bound ≡ Bus }
+    ensures { AnswersWhole (IsAudit basis.entry.plan.now basis.entry.part basis.entry.stamps)
+        (IsOfAny (IsAudit basis.entry.plan.now basis.entry.part basis.entry.stamps)) log_limits
+        (S.state source.old) (S.state source.new) W.state sink.old sink.new result }
+{
+    let mut log = AuditLog::new(alloc, basis)?;
+    read_log(&mut log, source)?;
+    put_report(alloc, &log, sink)
+}
+
 /// Writes which premises of a plan a log of its bus refutes, of which unit or flow, and at which lines, once the log
 /// was read to its end.
 pub fn audit_text<S: Source, W: Sink>(
@@ -48,7 +72,15 @@ pub fn audit_text<S: Source, W: Sink>(
     ensures { AnswersWhole (IsAudit plan.now part stamps) (IsOfAny (IsAudit plan.now part stamps)) log_limits
         (S.state source.old) (S.state source.new) W.state sink.old sink.new result }
 {
-    let mut log = AuditLog::new(alloc, plan, part, stamps)?;
-    read_log(&mut log, source)?;
-    put_report(alloc, &log, sink)
+    let moving = moving_of(alloc, plan)?;
+    let responses = responses_of(alloc, plan)?;
+    let basis = Basis {
+        plan,
+        moving: &moving,
+        part,
+        stamps,
+        responses: &responses,
+        bound: Bound::Bus,
+    };
+    audit_by(alloc, basis, source, sink)
 }

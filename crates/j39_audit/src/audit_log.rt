@@ -3,13 +3,13 @@ ghost use Rattle.std.specs.Prelude.{◌≡◌, ◌≤◌, ◌<◌, ◌^◌, ◌+
 ghost use Rattle.std.specs.Option.{option_copied};
 ghost use Rattle.j39_id.specs.Lines.{Line, tells};
 ghost use Rattle.j39_log.specs.LineCounting.{AreWithin, IsLineMore};
-ghost use Rattle.j39_audit.specs.AuditText.{AuditPast, bad_line, is_of_asking, is_of_broadcasts, is_of_moments, passed_by, skipped_line};
+ghost use Rattle.j39_audit.specs.AuditText.{AuditPast, bad_line, is_of_asking, is_of_broadcasts, is_of_load, is_of_moments, mark_by_bus, passed_by, skipped_line, word_by_bus};
 ghost use Rattle.j39_audit.specs.Broadcasts.{Broadcasts as SomeBroadcasts, broadcasts_behind, packet_with};
 ghost use Rattle.j39_audit.specs.Claiming.{HeardClaims, broken_off};
 ghost use Rattle.j39_audit.specs.Looking.{break_noted};
 ghost use Rattle.j39_audit.specs.Moments.{Moments as SomeMoments, with_packet_stream};
-ghost use Rattle.j39_audit.specs.Settings.{AreMoving, Settings};
-ghost use Rattle.j39_audit.specs.inside.Auditing.{AccordsWith, HasAudited, HasAuditedWhole, IsWithinLines, RecallsAudit, TakesFrame, TakesFrameLine, TakesLine};
+ghost use Rattle.j39_audit.specs.Settings.{Settings};
+ghost use Rattle.j39_audit.specs.inside.Auditing.{AccordsWith, AreAllNear, HasAudited, HasAuditedWhole, IsWithinLines, RecallsAudit, TakesFrame, TakesFrameLine, TakesLine};
 ghost use Rattle.j39_audit.specs.inside.Auditing.{tallied};
 ghost use Rattle.j39_audit.specs.inside.Recalling.{AreNear, KnowsClaims, Notes, RecallsBroadcasts, RecallsMoments, known_by, settings_of};
 
@@ -26,7 +26,6 @@ use crate::times::{begins_anew, breaks, line_time, newest_behind};
 use j39_follow::{interface, is_elsewhere, keep_interface, kept_interface, read_part, time_text};
 use j39_id::{Cut, Frame, LineError, read_frame};
 use j39_log::{LineCounts, transport_packet};
-use j39_network::Plan;
 use std::alloc::{AllocError, Global};
 
 /// What an audit keeps of a log.
@@ -41,7 +40,9 @@ pub(crate) struct AuditLog<'a> {
     pub newest: Option<u64>,
     pub known: Known,
     pub tally: MarkTally,
+    // What times tell by the bus, and by load.
     pub moments: Moments,
+    pub by_load: Moments,
     pub asking: Asking,
     pub broadcasts: Broadcasts,
     pub counts: LineCounts,
@@ -84,6 +85,25 @@ fn is_of_moments(word: Word) -> bool
     )
 }
 
+// Whether a word speaks of times by load.
+fn is_of_load(word: Word) -> bool
+    ensures { result ≡ is_of_load word }
+{
+    matches!(word, Word::NearOrLate | Word::SilentOrLate)
+}
+
+// The mark under which what a mark tells by load is found.
+fn mark_by_bus(mark: Mark) -> Mark
+    ensures { result ≡ mark_by_bus mark }
+{
+    let word = match mark.word {
+        Word::NearOrLate => Word::NearFlow,
+        Word::SilentOrLate => Word::SilentFlow,
+        _ => mark.word,
+    };
+    Mark { word, ..mark }
+}
+
 // Whether a word speaks of who is asked for claims.
 fn is_of_asking(word: Word) -> bool
     ensures { result ≡ is_of_asking word }
@@ -117,7 +137,7 @@ fn take_packet(
         → RecallsMoments moments.new (with_packet_stream (settings_of basis.now) time line (packet_with basis.now.plan.now.timing unit frame.now b) m)) }
     ensures broadcasts { OnOk result ((b : SomeBroadcasts) → RecallsBroadcasts (settings_of basis.now) broadcasts.old b
         → RecallsBroadcasts (settings_of basis.now) broadcasts.new
-        (broadcasts_behind (settings_of basis.now) (known_by known.now) unit frame.now announced time moments.old.idle line b)) }
+        (broadcasts_behind (settings_of basis.now) (known_by known.now) unit frame.now announced time moments.old.since line b)) }
 {
     let stream = broadcasts.packet(basis, unit, frame);
     broadcasts.take(
@@ -127,24 +147,21 @@ fn take_packet(
         frame,
         announced,
         time,
-        moments.idle,
+        moments.since,
         line,
     )?;
     moments.take_packet(basis, time, line, stream)
 }
 
 impl<'a> AuditLog<'a> {
-    pub fn new(alloc: Global, plan: &'a Plan, part: bool, stamps: u64) -> Result<Self, AllocError>
-        ensures plan { IfOk result (λ log. log.basis.plan.now ≡ plan.entry.now) }
-        ensures moving { IfOk result (λ log. AreMoving plan.entry.now log.basis.moving.items) }
-        ensures part { IfOk result (λ log. log.basis.part ≡ part) }
-        ensures stamps { IfOk result (λ log. log.basis.stamps ≡ stamps) }
+    pub fn new(alloc: Global, basis: Basis<'a>) -> Result<Self, AllocError>
+        ensures settings { IfOk result (λ log. settings_of log.basis ≡ settings_of basis.entry) }
         ensures nothing { IfOk result (λ log. HasAudited (settings_of log.basis) log []) }
         ensures within { IfOk result (λ log. IsWithinLines log 0) }
     {
-        let basis = Basis::new(alloc, plan, part, stamps)?;
         let known = Known::new(alloc, &basis)?;
         let moments = Moments::new(alloc)?;
+        let by_load = Moments::new(alloc)?;
         let asking = Asking::new(alloc, &basis)?;
         let broadcasts = Broadcasts::new(alloc, &basis)?;
         Ok(AuditLog {
@@ -156,6 +173,7 @@ impl<'a> AuditLog<'a> {
             known,
             tally: MarkTally::new(alloc),
             moments,
+            by_load,
             asking,
             broadcasts,
             counts: LineCounts::new(),
@@ -168,6 +186,8 @@ impl<'a> AuditLog<'a> {
     {
         if is_of_moments(mark.word) {
             self.moments.untimely.told(mark)
+        } else if is_of_load(mark.word) {
+            self.by_load.untimely.told(mark_by_bus(mark))
         } else if is_of_asking(mark.word) {
             self.asking.deaf.told(mark)
         } else if is_of_broadcasts(mark.word) {
@@ -180,8 +200,8 @@ impl<'a> AuditLog<'a> {
     // Takes the frame of a line of this time.
     fn take_timed(&mut self, time: Option<u64>, frame: &Frame) -> Result<(), AllocError>
         requires time { IfSome time (λ t. t < 2 ^ 61) }
-        requires near { AreNear self.old.moments }
-        ensures near { OnOk result (AreNear self.new.moments) }
+        requires near { AreAllNear self.old }
+        ensures near { OnOk result (AreAllNear self.new) }
         ensures basis { self.new.basis ≡ self.old.basis }
         ensures number { self.new.number ≡ self.old.number }
         ensures interface { self.new.interface ≡ self.old.interface }
@@ -221,21 +241,25 @@ impl<'a> AuditLog<'a> {
             packet,
             self.number,
         )?;
-        self.moments.look(
-            &self.basis,
+        let seen = Seen {
+            sighting: self.tally.sighting,
+            unclear: self.tally.unclear.as_slice(),
+            ending,
+        };
+        self.moments
+            .look(&self.basis, broken, anew, time, frame, seen, self.number)?;
+        self.by_load.look(
+            &self.basis.by_load(),
             broken,
             anew,
             time,
             frame,
-            Seen {
-                sighting: self.tally.sighting,
-                unclear: self.tally.unclear.as_slice(),
-                ending,
-            },
+            seen,
             self.number,
         )?;
         let unit = self.tally.sighting.unit;
-        self.asking.take_sign(&self.basis, unit, self.moments.idle)?;
+        self.asking
+            .take_sign(&self.basis, unit, self.moments.since)?;
         take_packet(
             &mut self.broadcasts,
             &mut self.moments,
@@ -253,14 +277,15 @@ impl<'a> AuditLog<'a> {
     // Takes a line of an 11-bit identifier.
     fn take_short(&mut self) -> Result<(), AllocError>
         requires within { AreWithin self.old.counts (2 ^ 62) }
-        requires near { AreNear self.old.moments }
-        ensures near { AreNear self.new.moments }
+        requires near { AreAllNear self.old }
+        ensures near { AreAllNear self.new }
         ensures basis { self.new.basis ≡ self.old.basis }
         ensures number { self.new.number ≡ self.old.number }
         ensures counted { IsLineMore self.old.counts self.new.counts }
         ensures fault { OnOk result ((past : AuditPast) → RecallsAudit self.old past → RecallsAudit self.new (skipped_line past)) }
     {
         self.moments.pass_over();
+        self.by_load.pass_over();
         self.counts.skipped += 1;
         note_if(
             &mut self.tally,
@@ -275,8 +300,8 @@ impl<'a> AuditLog<'a> {
     // Takes a line that has a word and spells no frame.
     fn take_bad(&mut self) -> Result<(), AllocError>
         requires within { AreWithin self.old.counts (2 ^ 62) }
-        requires near { AreNear self.old.moments }
-        ensures near { OnOk result (AreNear self.new.moments) }
+        requires near { AreAllNear self.old }
+        ensures near { OnOk result (AreAllNear self.new) }
         ensures basis { self.new.basis ≡ self.old.basis }
         ensures number { self.new.number ≡ self.old.number }
         ensures counted { IsLineMore self.old.counts self.new.counts }
@@ -286,14 +311,15 @@ impl<'a> AuditLog<'a> {
         self.counts.bad += 1;
         self.asking.forget_all(&self.basis);
         self.broadcasts.forget_all(&self.basis);
-        self.moments.pass_bad(&self.basis)
+        self.moments.pass_bad(&self.basis)?;
+        self.by_load.pass_bad(&self.basis.by_load())
     }
 
     // Takes a line that spells no frame.
     fn take_fault(&mut self, error: LineError) -> Result<(), AllocError>
         requires within { AreWithin self.old.counts (2 ^ 62) }
-        requires near { AreNear self.old.moments }
-        ensures near { OnOk result (AreNear self.new.moments) }
+        requires near { AreAllNear self.old }
+        ensures near { OnOk result (AreAllNear self.new) }
         ensures basis { self.new.basis ≡ self.old.basis }
         ensures fault { OnOk result ((past : AuditPast) → RecallsAudit self.old past → RecallsAudit self.new (passed_by (settings_of self.new.basis) error past)) }
         ensures number { self.new.number ≡ self.old.number }
@@ -318,8 +344,8 @@ impl<'a> AuditLog<'a> {
     ) -> Result<(), AllocError>
         requires within { AreWithin self.old.counts (2 ^ 62) }
         requires time { IfSome time (λ t. t < 2 ^ 61) }
-        requires near { AreNear self.old.moments }
-        ensures near { OnOk result (AreNear self.new.moments) }
+        requires near { AreAllNear self.old }
+        ensures near { OnOk result (AreAllNear self.new) }
         ensures basis { self.new.basis ≡ self.old.basis }
         ensures frame { OnOk result ((past : AuditPast) → RecallsAudit self.old past
             → TakesFrameLine self.new past time (option_copied named.entry) frame.now) }
@@ -335,8 +361,8 @@ impl<'a> AuditLog<'a> {
     // Takes a line.
     fn take_line(&mut self, line: &[u8]) -> Result<(), AllocError>
         requires within { AreWithin self.old.counts (2 ^ 62) }
-        requires near { AreNear self.old.moments }
-        ensures near { OnOk result (AreNear self.new.moments) }
+        requires near { AreAllNear self.old }
+        ensures near { OnOk result (AreAllNear self.new) }
         ensures basis { self.new.basis ≡ self.old.basis }
         ensures line { OnOk result ((past : AuditPast) → RecallsAudit self.old past → TakesLine self.new past line.now) }
         ensures number { self.new.number ≡ self.old.number }
@@ -380,9 +406,10 @@ impl<'a> AuditLog<'a> {
 
     /// Ends what is open when the log has ended.
     pub fn end(&mut self) -> Result<(), AllocError>
-        requires near { AreNear self.old.moments }
+        requires near { AreAllNear self.old }
         ensures { OnOk result ((s : Settings) (ls : List Line) → HasAudited s self.old ls → HasAuditedWhole s self.new ls) }
     {
-        self.moments.end_all(&self.basis)
+        self.moments.end_all(&self.basis)?;
+        self.by_load.end_all(&self.basis.by_load())
     }
 }

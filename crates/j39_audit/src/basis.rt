@@ -2,10 +2,11 @@
 ghost use Rattle.std.specs.Prelude.{◌≡◌, ◌<◌, ◌≤◌, ◌&&◌, not, IfOk};
 ghost use Rattle.j39_findings.specs.Standing.{stays_of};
 ghost use Rattle.j39_id.specs.Name.{is_arbitrary};
-ghost use Rattle.j39_audit.specs.Settings.{AreMoving, logger_error, moves};
+ghost use Rattle.j39_audit.specs.Settings.{AreMoving, by_load, logger_error, moves, response_of};
 ghost use Rattle.j39_audit.specs.Claiming.{has_strangers, is_address_of, is_free_for};
 ghost use Rattle.j39_audit.specs.inside.Recalling.{settings_of};
 
+use crate::by_load::Bound;
 use j39_findings::Standing;
 use j39_id::Address;
 use j39_id::addresses::is_in_pool;
@@ -15,14 +16,17 @@ use std::alloc::{AllocError, Global};
 // The command takes no greater error of a logger.
 const MOST_STAMPS: u64 = 1_000_000;
 
-/// The plan, which of its units may move to other addresses, whether frames of the bus may be missing in the log, and
-/// by how many microseconds the time of a line may differ from the end of its frame.
-#[derive(Drop)]
+/// The plan, which of its units may move to other addresses, whether frames of the bus may be missing in the log, by how
+/// many microseconds the time of a line may differ from the end of its frame, how long each flow takes to be sent, and by
+/// what it is known how early the moment of a message may have been.
+#[derive(Clone, Copy)]
 pub(crate) struct Basis<'a> {
     pub plan: &'a Plan,
-    pub moving: Vec<bool>,
+    pub moving: &'a [bool],
     pub part: bool,
     pub stamps: u64,
+    pub responses: &'a [Option<u64>],
+    pub bound: Bound,
 }
 
 // Whether a unit may choose an address, and doesn't stay at the planned one.
@@ -32,8 +36,8 @@ fn may_move(standing: &Standing, unit: &UnitPlan) -> bool
     unit.name.is_arbitrary() && !standing.stays(unit)
 }
 
-// Which units do.
-fn moving_of(alloc: Global, plan: &Plan) -> Result<Vec<bool>, AllocError>
+/// Which units do.
+pub(crate) fn moving_of(alloc: Global, plan: &Plan) -> Result<Vec<bool>, AllocError>
     ensures { IfOk result (λ moving. AreMoving plan.now moving.items) }
 {
     let standing = Standing::new(plan);
@@ -45,19 +49,29 @@ fn moving_of(alloc: Global, plan: &Plan) -> Result<Vec<bool>, AllocError>
 }
 
 impl<'a> Basis<'a> {
-    pub fn new(alloc: Global, plan: &'a Plan, part: bool, stamps: u64) -> Result<Self, AllocError>
-        ensures plan { IfOk result (λ basis. basis.plan.now ≡ plan.entry.now) }
-        ensures moving { IfOk result (λ basis. AreMoving plan.entry.now basis.moving.items) }
-        ensures part { IfOk result (λ basis. basis.part ≡ part) }
-        ensures stamps { IfOk result (λ basis. basis.stamps ≡ stamps) }
+    /// The same, by load.
+    pub fn by_load(&self) -> Basis<'a>
+        ensures { settings_of result ≡ by_load (settings_of self.now) }
     {
-        let moving = moving_of(alloc, plan)?;
-        Ok(Basis {
-            plan,
-            moving,
-            part,
-            stamps,
-        })
+        Basis {
+            plan: self.plan,
+            moving: self.moving,
+            part: self.part,
+            stamps: self.stamps,
+            responses: self.responses,
+            bound: Bound::Load,
+        }
+    }
+
+    /// How long behind its moment a message of the flow at a place has been sent at most, where this is known.
+    pub fn response(&self, place: usize) -> Option<u64>
+        ensures { result ≡ response_of (settings_of self.now) place }
+    {
+        if place < self.responses.len() {
+            self.responses[place]
+        } else {
+            None
+        }
     }
 
     /// The logger's error in microseconds.

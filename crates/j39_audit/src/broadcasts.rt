@@ -187,7 +187,7 @@ fn packet_stream(timing: Timing, unit: usize) -> MessageStream
     MessageStream {
         mark: make_mark(Word::NearPackets, unit),
         step: shortest_us(timing, timing.broadcast_gap),
-        jitter: 0,
+        slack: Some(0),
         pause: None,
     }
 }

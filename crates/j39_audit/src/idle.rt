@@ -1,9 +1,10 @@
-//! Where a log shows that its bus was idle.
+//! Where a log shows that its bus was idle, and when its frames ended.
 ghost use Rattle.std.specs.Prelude.{◌≡◌, ◌<◌, ◌≤◌, ◌*◌, ◌^◌, IfSome};
-ghost use Rattle.j39_audit.specs.Moments.{bit_us, damaged_at_once, idle_behind, idle_mark, is_apart, leaves_idle, reach_back, shows_idle};
+ghost use Rattle.j39_audit.specs.Moments.{bit_us, damaged_at_once, idle_behind, idle_mark, earliest_end, is_apart, leaves_idle, reach_back, shows_idle, since_behind};
 ghost use Rattle.j39_audit.specs.inside.Recalling.{far_ahead, settings_of};
 
 use crate::basis::Basis;
+use crate::by_load::Bound;
 use j39_network::{Bitrate, Timing};
 
 const MILLION: u64 = 1_000_000;
@@ -104,8 +105,8 @@ fn idle_mark(basis: &Basis<'_>, timing: Timing, bytes: usize, time: u64) -> u64
     (time + LONG_BEFORE).saturating_sub(reach_back(timing, bytes) + basis.logger_error())
 }
 
-/// The idle mark behind a frame of this time, where the frame of the line before had this one, and the mark was this.
-pub(crate) fn idle_behind(
+// The idle mark behind a frame of this time, where the frame of the line before had this one, and the mark was this.
+fn idle_behind(
     basis: &Basis<'_>,
     timing: Timing,
     broken: bool,
@@ -124,5 +125,37 @@ pub(crate) fn idle_behind(
         Some(idle_mark(basis, timing, bytes, time))
     } else {
         idle
+    }
+}
+
+// When a frame of this time ended at the earliest.
+fn earliest_end(basis: &Basis<'_>, time: u64) -> u64
+    requires { time < 2 ^ 61 }
+    ensures value { result ≡ earliest_end (settings_of basis.now) time }
+    ensures few { result < 2 ^ 62 }
+{
+    (time + LONG_BEFORE).saturating_sub(basis.logger_error())
+}
+
+/// Since when all was queued that begins from a frame of this time on, where the frame of the line before had this one,
+/// and it was since then; or by load, since when all has ended that ends from there on.
+pub(crate) fn since_behind(
+    basis: &Basis<'_>,
+    timing: Timing,
+    broken: bool,
+    bytes: usize,
+    time: u64,
+    before: Option<u64>,
+    since: Option<u64>,
+) -> Option<u64>
+    requires bytes { bytes < 2 ^ 16 }
+    requires time { time < 2 ^ 61 }
+    requires near { IfSome since (λ q. q < far_ahead) }
+    ensures value { result ≡ since_behind (settings_of basis.now) timing broken bytes time before since }
+    ensures few { IfSome result (λ q. q < far_ahead) }
+{
+    match basis.bound {
+        Bound::Bus => idle_behind(basis, timing, broken, bytes, time, before, since),
+        Bound::Load => Some(earliest_end(basis, time)),
     }
 }

@@ -7,6 +7,7 @@ mod asking;
 mod audit_log;
 mod basis;
 mod broadcasts;
+mod by_load;
 mod earliest;
 mod flow_marks;
 mod frame_marks;

@@ -1,7 +1,7 @@
 //! What is counted of a log.
 ghost use Rattle.std.specs.Prelude.{◌≡◌};
 
-/// What is said of a line or a frame. The first nine accuse, and the last six.
+/// What is said of a line or a frame. The first nine accuse, and the last eight.
 #[derive(Clone, Copy, PartialEq, Eq)]
 pub enum Word {
     /// A line of an 11-bit identifier.
@@ -46,6 +46,10 @@ pub enum Word {
     NearPackets,
     /// A frame of a broadcast of which the next packet comes too late.
     SilentPackets,
+    /// A message of a flow too soon behind others, or one was sent later than by load.
+    NearOrLate,
+    /// One of which the next one comes too late, or one was sent later than by load.
+    SilentOrLate,
 }
 
 impl Word {
@@ -78,6 +82,8 @@ impl Word {
             Word::Deaf => 18,
             Word::NearPackets => 19,
             Word::SilentPackets => 20,
+            Word::NearOrLate => 21,
+            Word::SilentOrLate => 22,
         }
     }
 }

@@ -2,7 +2,7 @@
 ghost use Rattle.std.specs.Prelude.{◌≡◌, ◌<◌, ◌≤◌, ◌^◌, ◌++◌, [], ℕ, List, Option, IfOk, IfSome, OnOk, Some, length};
 ghost use Rattle.std.specs.Option.{option_map};
 ghost use Rattle.j39_audit.specs.Counting.{Noted};
-ghost use Rattle.j39_audit.specs.Moments.{Moments as AMoments, begun_anew, behind_bad, behind_gap, moments_behind, near_noted, no_moments, with_moment};
+ghost use Rattle.j39_audit.specs.Moments.{Moments as AMoments, begun_anew, behind_bad, behind_gap, lower_bound, moments_behind, near_noted, no_moments, with_moment};
 ghost use Rattle.j39_audit.specs.Moments.{listed_pauses_ended, moment_window, with_counted, with_ending, with_frame_of, with_message, with_packet_stream, with_stream, with_time};
 ghost use Rattle.j39_audit.specs.MessageStreams.{nothing_sighted, sighted_behind, sighted_stream};
 ghost use Rattle.j39_audit.specs.Pauses.{unclear_behind};
@@ -10,7 +10,7 @@ ghost use Rattle.j39_audit.specs.inside.Recalling.{AreNear, Notes, RecallsMoment
 
 use crate::basis::Basis;
 use crate::earliest::Earliest;
-use crate::idle::{LONG_BEFORE, idle_behind};
+use crate::idle::{LONG_BEFORE, since_behind};
 use crate::nearness::{candidate, excess, kept_behind};
 use crate::pauses::{Ending, LastFrame, Pauses};
 use crate::streams::{MessageStream, sighted_stream};
@@ -20,12 +20,13 @@ use j39_id::Frame;
 use j39_network::Timing;
 use std::alloc::{AllocError, Global};
 
-/// What the times of a log tell so far: the time of the line before, where it is a frame that has one, the idle mark, of
-/// each stream the earliest moment of its newest message, of flows with a pause what is kept of these, and what was found.
+/// What the times of a log tell so far: the time of the line before, where it is a frame that has one, since when all was
+/// queued that begins from here on, or by load all has ended that ends from here on, of each stream the earliest moment of
+/// its newest message, of flows with a pause what is kept of these, and what was found.
 #[derive(Drop)]
 pub(crate) struct Moments {
     pub before: Option<u64>,
-    pub idle: Option<u64>,
+    pub since: Option<u64>,
     pub earliest: Earliest,
     pub untimely: MarkTally,
     pub pauses: Pauses,
@@ -40,17 +41,29 @@ pub(crate) struct Seen<'a> {
     pub ending: Ending,
 }
 
-// The bounds of the moment of a message of this time and jitter, where this is the idle mark.
-fn moment_window(basis: &Basis<'_>, jitter: u64, time: u64, idle: Option<u64>) -> Window
-    requires { time < 2 ^ 61 }
-    ensures { result ≡ moment_window (settings_of basis.now) jitter time idle }
+/// Before which no message had its moment that comes since then, and so far behind it at most.
+pub(crate) fn lower_bound(slack: Option<u64>, since: Option<u64>) -> Option<u64>
+    ensures value { result ≡ lower_bound slack since }
+    ensures few { IfSome since (λ q. q < far_ahead) → IfSome result (λ x. x < far_ahead) }
 {
-    let lower = match idle {
-        Some(mark) => Some(mark.saturating_sub(jitter)),
-        None => None,
+    let Some(slack) = slack else {
+        return None;
     };
+    match since {
+        Some(since) => Some(since.saturating_sub(slack)),
+        None => None,
+    }
+}
+
+// The bounds of the moment of a message of this time, with what is known of how late it may be.
+fn moment_window(basis: &Basis<'_>, slack: Option<u64>, time: u64, since: Option<u64>) -> Window
+    requires time { time < 2 ^ 61 }
+    requires near { IfSome since (λ q. q < far_ahead) }
+    ensures value { result ≡ moment_window (settings_of basis.now) slack time since }
+    ensures lower { IfSome result.lower (λ x. x < far_ahead) }
+{
     Window {
-        lower,
+        lower: lower_bound(slack, since),
         upper: time + LONG_BEFORE + basis.logger_error(),
     }
 }
@@ -78,7 +91,7 @@ impl Moments {
         let pauses = Pauses::new(alloc)?;
         Ok(Moments {
             before: None,
-            idle: None,
+            since: None,
             earliest: Earliest::new(alloc),
             untimely: MarkTally::new(alloc),
             pauses,
@@ -91,7 +104,7 @@ impl Moments {
         ensures near { AreNear self.old → AreNear self.new }
     {
         self.before = None;
-        self.idle = None;
+        self.since = None;
     }
 
     /// Passes over a line that is bad, at which a frame may be missing.
@@ -116,7 +129,7 @@ impl Moments {
         if anew {
             self.end_all(basis)?;
             self.before = None;
-            self.idle = None;
+            self.since = None;
             self.earliest.forget();
         } else if broken {
             self.pauses.forget();
@@ -140,7 +153,7 @@ impl Moments {
         ensures moments { (m : AMoments) → RecallsMoments self.old m
             → RecallsMoments self.new (with_moment (settings_of basis.now) timing broken bytes time m) }
     {
-        self.idle = idle_behind(basis, timing, broken, bytes, time, self.before, self.idle);
+        self.since = since_behind(basis, timing, broken, bytes, time, self.before, self.since);
         self.before = Some(time);
     }
 
@@ -184,7 +197,7 @@ impl Moments {
     {
         match stream {
             Some(one) => {
-                let window = moment_window(basis, one.jitter, time, self.idle);
+                let window = moment_window(basis, one.slack, time, self.since);
                 self.take_message(one, window, line)?;
                 self.take_pause(one.mark.subject, one.pause, window, line)
             }
@@ -213,7 +226,7 @@ impl Moments {
         let Some(stream) = stream else {
             return Ok(());
         };
-        let window = moment_window(basis, stream.jitter, time, self.idle);
+        let window = moment_window(basis, stream.slack, time, self.since);
         self.take_message(stream, window, line)
     }
 
@@ -224,8 +237,8 @@ impl Moments {
         ensures near { AreNear self.new }
         ensures moments { (m : AMoments) → RecallsMoments self.old m → RecallsMoments self.new (with_frame_of unit line m) }
     {
-        let idle = self.idle;
-        self.pauses.set_last(unit, LastFrame { line, idle });
+        let since = self.since;
+        self.pauses.set_last(unit, LastFrame { line, since });
     }
 
     // Keeps a frame that counts for a unit, if there is one.

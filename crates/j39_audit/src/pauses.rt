@@ -23,11 +23,12 @@ pub struct Newest {
     pub line: u64,
 }
 
-/// The last frame that counted for a unit: its line, and the idle mark there.
+/// The last frame that counted for a unit: its line, and since when all was queued, or by load has ended, that comes from
+/// there on.
 #[derive(Clone, Copy, PartialEq, Eq)]
 pub struct LastFrame {
     pub line: u64,
-    pub idle: Option<u64>,
+    pub since: Option<u64>,
 }
 
 /// Whose pauses end.

@@ -6,7 +6,7 @@ ghost use Rattle.j39_audit.specs.inside.Recalling.{AreNear, Notes, RecallsMoment
 
 use crate::basis::Basis;
 use crate::mark::{Word, make_mark};
-use crate::moments::Moments;
+use crate::moments::{Moments, lower_bound};
 use crate::pauses::{Ending, LastFrame, Newest, Pauses, is_with_unit};
 use crate::silence::{lag, latest_next};
 use crate::streams::{FlowPause, flow_pause};
@@ -53,10 +53,7 @@ fn silent_by(pause: FlowPause, newest: Newest, last: Option<LastFrame>) -> Optio
         return None;
     };
     if newest.line < last.line {
-        let lower = match last.idle {
-            Some(mark) => Some(mark.saturating_sub(pause.jitter)),
-            None => None,
-        };
+        let lower = lower_bound(pause.slack, last.since);
         lag(pause.pause, Some(newest.moment), lower)
     } else {
         None

@@ -4,10 +4,11 @@ ghost use Rattle.std.specs.Option.{option_and_then, option_copied, option_map};
 ghost use Rattle.j39_id.specs.Ident.{pgn_of};
 ghost use Rattle.j39_audit.specs.Looking.{is_single as is_single_number};
 ghost use Rattle.j39_audit.specs.MessageStreams.{flow_stream, is_in_stream, latest_ms, longest_us, paced_request, paced_stream, asked_stream, shortest_us};
-ghost use Rattle.j39_audit.specs.MessageStreams.{are_of_one_sort, flow_pause, flow_pause_of, is_claiming_there, stream_pause, shows_silence, sighted_stream};
+ghost use Rattle.j39_audit.specs.MessageStreams.{are_of_one_sort, flow_pause, flow_pause_of, is_claiming_there, stream_pause, shows_silence, sighted_stream, slack_by};
 ghost use Rattle.j39_audit.specs.inside.Recalling.{settings_of};
 
 use crate::basis::Basis;
+use crate::by_load::Bound;
 use crate::frame_marks::{is_claiming, is_single};
 use crate::mark::{Mark, Word, make_mark};
 use crate::tally::Sighting;
@@ -22,22 +23,23 @@ const REQUEST_PRIORITY: u8 = 6;
 
 const MILLION: u64 = 1_000_000;
 
-/// How near the moments of a stream's messages come, how long behind its moment one may be queued, how long behind one
-/// another's moments they come at most, where that is seen, all in microseconds, and by which mark it is told.
+/// How near the moments of a stream's messages come, how far behind its moment lies what bounds one, where that is known,
+/// how long behind one another's moments they come at most, where that is seen, all in microseconds, and by which mark it
+/// is told.
 #[derive(Clone, Copy, PartialEq, Eq)]
 pub struct MessageStream {
     pub mark: Mark,
     pub step: u64,
-    pub jitter: u64,
+    pub slack: Option<u64>,
     pub pause: Option<u64>,
 }
 
-/// By what time behind a message's moment the next one of a flow has its own, and how long behind its moment one may be
-/// queued, in microseconds.
+/// By what time behind a message's moment the next one of a flow has its own, and how far behind its moment lies what
+/// bounds one, in microseconds.
 #[derive(Clone, Copy, PartialEq, Eq)]
 pub struct FlowPause {
     pub pause: u64,
-    pub jitter: u64,
+    pub slack: Option<u64>,
 }
 
 /// How many microseconds of the logger's clock so many milliseconds of a unit's last at least.
@@ -66,6 +68,16 @@ fn latest_ms(pace: Pace, single: bool) -> u32
         u32::from(pace.jitter)
     } else {
         u32::from(pace.period) + u32::from(pace.jitter)
+    }
+}
+
+// How far behind its moment lies what bounds a message, of a flow of this response time and this jitter.
+fn slack_by(bound: Bound, response: Option<u64>, jitter: u64) -> Option<u64>
+    ensures { result ≡ slack_by bound response jitter }
+{
+    match bound {
+        Bound::Bus => Some(jitter),
+        Bound::Load => response,
     }
 }
 
@@ -112,20 +124,22 @@ fn shows_silence(basis: &Basis<'_>, flow: &FlowPlan, group: &GroupPlan) -> bool
 fn flow_pause_of(
     basis: &Basis<'_>,
     timing: Timing,
+    place: usize,
     flow: &FlowPlan,
     group: &GroupPlan,
     pace: Pace,
     pause: u16,
 ) -> Option<FlowPause>
-    ensures value { result ≡ flow_pause_of (settings_of basis.now) timing flow.now group.now pace pause }
+    ensures value { result ≡ flow_pause_of (settings_of basis.now) timing place flow.now group.now pace pause }
     ensures few { IfSome result (λ it. it.pause < 2 ^ 40) }
 {
     if !shows_silence(basis, flow, group) {
         return None;
     }
+    let jitter = longest_us(timing, latest_ms(pace, group.most <= FRAME_BYTES));
     Some(FlowPause {
         pause: longest_us(timing, u32::from(pause)),
-        jitter: longest_us(timing, latest_ms(pace, group.most <= FRAME_BYTES)),
+        slack: slack_by(basis.bound, basis.response(place), jitter),
     })
 }
 
@@ -139,7 +153,7 @@ pub(crate) fn flow_pause(basis: &Basis<'_>, timing: Timing, place: usize) -> Opt
     let pause = flow.pause?;
     let pace = flow.pace?;
     let group = basis.plan.groups.get(flow.group)?;
-    flow_pause_of(basis, timing, flow, group, pace, pause)
+    flow_pause_of(basis, timing, place, flow, group, pace, pause)
 }
 
 // Only how long it is.
@@ -156,6 +170,7 @@ fn stream_pause(basis: &Basis<'_>, timing: Timing, place: usize) -> Option<u64>
 
 // The stream of a flow of this pace.
 fn paced_stream(
+    basis: &Basis<'_>,
     timing: Timing,
     frame: &Frame,
     place: usize,
@@ -164,7 +179,7 @@ fn paced_stream(
     pause: Option<u64>,
 ) -> Option<MessageStream>
     requires { IfSome pause (λ it. it < 2 ^ 40) }
-    ensures value { result ≡ paced_stream timing frame.now place group.now pace pause }
+    ensures value { result ≡ paced_stream (settings_of basis.now) timing frame.now place group.now pace pause }
     ensures pause { IfSome result (λ stream. IfSome stream.pause (λ it. it < 2 ^ 40)) }
     ensures place { IfSome result (λ stream. stream.mark.subject ≡ place) }
     ensures few { IfSome result (λ stream. stream.step < 2 ^ 27) }
@@ -173,10 +188,11 @@ fn paced_stream(
     if !is_in_stream(group, single) {
         return None;
     }
+    let jitter = longest_us(timing, latest_ms(pace, single));
     Some(MessageStream {
         mark: make_mark(Word::NearFlow, place),
         step: shortest_us(timing, pace.period),
-        jitter: longest_us(timing, latest_ms(pace, single)),
+        slack: slack_by(basis.bound, basis.response(place), jitter),
         pause,
     })
 }
@@ -198,12 +214,18 @@ fn flow_stream(
     let pace = flow.pace?;
     let group = basis.plan.groups.get(flow.group)?;
     let pause = stream_pause(basis, timing, place);
-    paced_stream(timing, frame, place, group, pace, pause)
+    paced_stream(basis, timing, frame, place, group, pace, pause)
 }
 
 // The stream of a request with this period.
-fn paced_request(timing: Timing, frame: &Frame, place: usize, period: u16) -> Option<MessageStream>
-    ensures value { result ≡ paced_request timing frame.now place period }
+fn paced_request(
+    basis: &Basis<'_>,
+    timing: Timing,
+    frame: &Frame,
+    place: usize,
+    period: u16,
+) -> Option<MessageStream>
+    ensures value { result ≡ paced_request (settings_of basis.now) timing frame.now place period }
     ensures pause { IfSome result (λ stream. stream.pause ≡ None) }
     ensures place { IfSome result (λ stream. stream.mark.subject ≡ place) }
     ensures few { IfSome result (λ stream. stream.step < 2 ^ 27) }
@@ -214,7 +236,7 @@ fn paced_request(timing: Timing, frame: &Frame, place: usize, period: u16) -> Op
     Some(MessageStream {
         mark: make_mark(Word::NearRequest, place),
         step: shortest_us(timing, period),
-        jitter: 0,
+        slack: slack_by(basis.bound, None, 0),
         pause: None,
     })
 }
@@ -234,7 +256,7 @@ fn asked_stream(
 {
     let request = basis.plan.requests.get(place)?;
     let period = request.period?;
-    paced_request(timing, frame, place, period)
+    paced_request(basis, timing, frame, place, period)
 }
 
 /// The stream of which a frame is a message that is seen so.

@@ -1,7 +1,7 @@
 //! What is written of a log that was read.
 ghost use Rattle.std.specs.Prelude.{◌≡◌, ◌≤◌, ◌<◌, ◌++◌, length, IfOk, OnOk};
 ghost use Rattle.j39_audit.specs.AuditText.{accusation_count, accusations, accusing_at, deviations_line, flow_seen};
-ghost use Rattle.j39_audit.specs.AuditText.{flow_seen_line, flows_seen, groups_named, line_of_mark, lines_told};
+ghost use Rattle.j39_audit.specs.AuditText.{flow_seen_line, flows_seen, groups_named, if_not_by_bus, line_told, lines_told, mark_at, told_mark};
 ghost use Rattle.j39_audit.specs.AuditText.{request_seen, request_seen_line, requests_seen, sorts_text, subject_count};
 ghost use Rattle.j39_audit.specs.AuditText.{subject_lines, subjects, text_by, times_of, unit_frames_line, unit_seen};
 ghost use Rattle.j39_audit.specs.AuditText.{units_seen, word_count, word_lines};
@@ -73,15 +73,56 @@ fn groups_named(basis: &Basis<'_>, word: Word) -> usize
     }
 }
 
+// The mark that is told of a flow, where by the bus nothing may be.
+fn if_not_by_bus(log: &AuditLog<'_>, by_bus: Mark, or_late: Mark) -> Mark
+    ensures { result ≡ if_not_by_bus (tallied log.now) by_bus or_late }
+{
+    if log.told(by_bus).times == 0 {
+        or_late
+    } else {
+        by_bus
+    }
+}
+
+// The mark that is told of what a word, a subject and a group name: by load that of a flow of which by the bus nothing is.
+fn told_mark(log: &AuditLog<'_>, word: Word, subject: usize, group: usize) -> Mark
+    ensures { result ≡ told_mark (tallied log.now) word subject group }
+{
+    let mark = Mark {
+        word,
+        subject,
+        group,
+    };
+    match word {
+        Word::NearFlow => if_not_by_bus(
+            log,
+            mark,
+            Mark {
+                word: Word::NearOrLate,
+                ..mark
+            },
+        ),
+        Word::SilentFlow => if_not_by_bus(
+            log,
+            mark,
+            Mark {
+                word: Word::SilentOrLate,
+                ..mark
+            },
+        ),
+        _ => mark,
+    }
+}
+
 // Writes the line of a mark where it was found, and answers how many lines that is.
-#[tactic(auto, unfolding(crate::specs::AuditText::line_of_mark, crate::specs::AuditText::lines_told))]
+#[tactic(auto, unfolding(crate::specs::AuditText::line_told, crate::specs::AuditText::line_of_mark, crate::specs::AuditText::lines_told))]
 fn write_line(
     text: &mut TextBuffer,
     plan: &Plan,
     log: &AuditLog<'_>,
     mark: Mark,
 ) -> Result<u64, AllocError>
-    ensures text { OnOk result (text.new ≡ text.old ++ line_of_mark plan.now mark (tallied log.now mark)) }
+    ensures text { OnOk result (text.new ≡ text.old ++ line_told plan.now (tallied log.now) mark) }
     ensures count { IfOk result (λ n. n ≡ lines_told (tallied log.now mark)) }
     ensures few { IfOk result (λ n. n ≤ 1) }
 {
@@ -107,11 +148,7 @@ fn write_subject_lines(
 {
     let mut count = 0;
     for group in 0..groups_named(basis, word) {
-        let mark = Mark {
-            word,
-            subject,
-            group,
-        };
+        let mark = told_mark(log, word, subject, group);
         count += write_line(text, basis.plan, log, mark)?;
     }
     Ok(count)

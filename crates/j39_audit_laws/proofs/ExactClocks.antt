@@ -7,7 +7,7 @@ use Rattle.j39_audit_laws.specs.ExactClocks.{ExactClocks}
 whole : (n : ℕ) → n * 1000000 / 1000000 ≡ n
 whole n = omega arith
 
-whole_ceil : (n : ℕ) → div_ceil (n * 1000000) 1000000 ≡ n
+pub whole_ceil : (n : ℕ) → div_ceil (n * 1000000) 1000000 ≡ n
 whole_ceil n = omega arith
 
 pub exact_clocks : ExactClocks

@@ -15,7 +15,7 @@ use Rattle.j39_audit.specs.SentMessages.{SentMessage, deviation, flows_noted, no
 use Rattle.j39_audit.specs.Settings.{Settings}
 use Rattle.j39_audit.specs.declared.mark.Mark.{Mark}
 use Rattle.j39_audit.specs.declared.mark.Word.{Word}
-use Rattle.j39_audit.specs.declared.mark.Word.TheVariants.{Short, Stranger, Nobody as NobodyThere, Address, Cannot, Layout, NoFlow, Priority, Urgent, Seen, Unclear, Asked, Counted, Unsure, Break, NearFlow, NearRequest, SilentFlow, Deaf, NearPackets, SilentPackets}
+use Rattle.j39_audit.specs.declared.mark.Word.TheVariants.{Short, Stranger, Nobody as NobodyThere, Address, Cannot, Layout, NoFlow, Priority, Urgent, Seen, Unclear, Asked, Counted, Unsure, Break, NearFlow, NearRequest, SilentFlow, Deaf, NearPackets, SilentPackets, NearOrLate, SilentOrLate}
 use Rattle.j39_audit.specs.declared.senders.SureSender.{SureSender}
 use Rattle.j39_audit.specs.declared.senders.SureSender.TheVariants.{Unit as OfUnit, Nobody, Unknown}
 use Rattle.j39_audit_laws.specs.FoundLines.{Differs, IsAccusing, IsClaimOf, IsAccusedAs, IsSentFrom}
@@ -63,6 +63,8 @@ module _ (s : Settings) (claims : HeardClaims) (f : Frame) (packet : Option Pack
   differs_marked Deaf u g is differs = absurd (true≢false (sym is))
   differs_marked NearPackets u g is differs = absurd (true≢false (sym is))
   differs_marked SilentPackets u g is differs = absurd (true≢false (sym is))
+  differs_marked NearOrLate u g is differs = absurd (true≢false (sym is))
+  differs_marked SilentOrLate u g is differs = absurd (true≢false (sym is))
 
   -- ---- a note has a meaning
 
@@ -250,6 +252,8 @@ module _ (s : Settings) (claims : HeardClaims) (f : Frame) (packet : Option Pack
   marked_noted Deaf u g never = absurd never
   marked_noted NearPackets u g never = absurd never
   marked_noted SilentPackets u g never = absurd never
+  marked_noted NearOrLate u g never = absurd never
+  marked_noted SilentOrLate u g never = absurd never
 
   -- ---- once at most
 

@@ -12,7 +12,9 @@ pub mod Marking
 pub mod Near
 pub mod NearNotes
 pub mod OnBus
+pub mod OnLoad
 pub mod OnLogs
+pub mod ToldTimes
 pub mod OneAudit
 pub mod OneReading
 pub mod Own

@@ -20,7 +20,7 @@ use Rattle.j39_audit.specs.SentMessages.{SentMessage, deviates, deviation, first
 use Rattle.j39_audit.specs.Settings.{Settings, units_planned}
 use Rattle.j39_audit.specs.declared.mark.Mark.{Mark}
 use Rattle.j39_audit.specs.declared.mark.Word.{Word}
-use Rattle.j39_audit.specs.declared.mark.Word.TheVariants.{Short, Stranger, Nobody as NobodyThere, Address, Cannot, Layout, NoFlow, Priority, Urgent, Seen, Unclear, Asked, Counted, Unsure, Break, NearFlow, NearRequest, SilentFlow, Deaf, NearPackets, SilentPackets}
+use Rattle.j39_audit.specs.declared.mark.Word.TheVariants.{Short, Stranger, Nobody as NobodyThere, Address, Cannot, Layout, NoFlow, Priority, Urgent, Seen, Unclear, Asked, Counted, Unsure, Break, NearFlow, NearRequest, SilentFlow, Deaf, NearPackets, SilentPackets, NearOrLate, SilentOrLate}
 use Rattle.j39_audit.specs.declared.messages.Test.{Test}
 use Rattle.j39_audit.specs.declared.messages.Test.TheVariants.{Fitting, Selected, Any}
 use Rattle.j39_audit.specs.declared.senders.SureSender.TheVariants.{Unit as OfUnit, Nobody, Unknown}
@@ -150,6 +150,8 @@ module _ (s : Settings) (claims : HeardClaims) (f : Frame) (packet : Option Pack
   accused_listed Deaf u g never = absurd never
   accused_listed NearPackets u g never = absurd never
   accused_listed SilentPackets u g never = absurd never
+  accused_listed NearOrLate u g never = absurd never
+  accused_listed SilentOrLate u g never = absurd never
 
 pub found_listed : FoundAreListed
 found_listed s log n m (inl (at, is)) = subst (IsListed s) (sym is) (omega arith, omega arith)

@@ -20,7 +20,7 @@ use Rattle.j39_tp.specs.declared.packet.Packet.TheVariants.{Rts, Cts, EndAck, Ba
 use Rattle.j39_audit.specs.Settings.{Settings}
 use Rattle.j39_audit.specs.declared.mark.Mark.{Mark}
 use Rattle.j39_audit.specs.declared.mark.Word.{Word}
-use Rattle.j39_audit.specs.declared.mark.Word.TheVariants.{Short, Stranger, Nobody as NobodyThere, Address, Cannot, Layout, NoFlow, Priority, Urgent, Seen, Unclear, Asked, Counted, Unsure, Break, NearFlow, NearRequest, SilentFlow, Deaf, NearPackets, SilentPackets}
+use Rattle.j39_audit.specs.declared.mark.Word.TheVariants.{Short, Stranger, Nobody as NobodyThere, Address, Cannot, Layout, NoFlow, Priority, Urgent, Seen, Unclear, Asked, Counted, Unsure, Break, NearFlow, NearRequest, SilentFlow, Deaf, NearPackets, SilentPackets, NearOrLate, SilentOrLate}
 use Rattle.j39_audit_laws.specs.FoundLines.{IsAccusing}
 use Rattle.j39_audit_laws.proofs.Hits.{HaveWords, In, words_below}
 
@@ -66,6 +66,8 @@ unseen SilentFlow is = absurd is
 unseen Deaf is = absurd is
 unseen NearPackets is = absurd is
 unseen SilentPackets is = absurd is
+unseen NearOrLate is = absurd is
+unseen SilentOrLate is = absurd is
 
 seen_another : (w : Word) → is_seen w ≡ true → is_another w ≡ true
 seen_another Short is = refl
@@ -89,6 +91,8 @@ seen_another SilentFlow is = refl
 seen_another Deaf is = refl
 seen_another NearPackets is = refl
 seen_another SilentPackets is = refl
+seen_another NearOrLate is = refl
+seen_another SilentOrLate is = refl
 
 -- ---- how a message differs
 
@@ -140,6 +144,8 @@ of_message_another SilentFlow is = refl
 of_message_another Deaf is = refl
 of_message_another NearPackets is = refl
 of_message_another SilentPackets is = refl
+of_message_another NearOrLate is = refl
+of_message_another SilentOrLate is = refl
 
 -- the unit of a message is its sender
 pub sender_of : (u : ℕ) (f : Frame) (packet : Option Packet) (m : SentMessage) → message_sent u f packet ≡ Some m → m.unit ≡ u

@@ -1,5 +1,5 @@
 -- For a plan and a log an audit writes one text.
-use Rattle.std.proofs.Common.{◌≡◌, ◌<◌, ◌&&◌, ℕ, zero, suc, Bool, false, not, List, [], ◌∷◌, length, get_or, Some, inl, inr, refl, sym, ap, subst, ◌∙◌, arith}
+use Rattle.std.proofs.Common.{◌≡◌, ◌<◌, ◌&&◌, ℕ, zero, suc, Bool, false, not, List, [], ◌∷◌, length, map, get_or, Option, Some, None, inl, inr, refl, sym, ap, subst, ◌∙◌, arith}
 use Rattle.std.specs.List.{slice_get}
 use Rattle.std.proofs.lemmas.Bool.{MatchBool-at_false, MatchBool-at_true, cases_Bool}
 use Rattle.j39_id.specs.Lines.{lines}
@@ -8,7 +8,13 @@ use Rattle.j39_network.specs.declared.plan.Plan.{Plan}
 use Rattle.j39_network.specs.declared.plan.unit_plan.UnitPlan.{UnitPlan}
 use Rattle.j39_stream.specs.declared.verdict.Verdict.{Verdict}
 use Rattle.j39_audit.specs.AuditText.{AuditPast, IsAuditedLog, audit_text, audit_verdict, log_ended, nothing_read}
+use Rattle.j39_audit.specs.Responses.{AreResponsesBy, response}
 use Rattle.j39_audit.specs.Settings.{AreMoving, Settings}
+use Rattle.j39_audit.specs.declared.by_load.Bound.TheVariants.{Bus}
+use Rattle.j39_load.specs.BusTimes.{timing_of}
+use Rattle.j39_load.specs.declared.waits.delay.Delay.{Delay}
+use Rattle.j39_load.proofs.OneLoad.{one_asked}
+use Rattle.j39_network.specs.declared.plan.timing.Timing.{Timing}
 use Rattle.j39_audit_laws.specs.OneAudit.{AuditHasOneText}
 use Rattle.j39_audit_laws.proofs.OneReading.{one_log_read}
 
@@ -47,6 +53,14 @@ one_moving plan moving other a b =
       ]
     ]
 
+-- ---- how long flows take
+
+same_responses : (plan : Plan) (timing : Option Timing) (responses other : List (Option ℕ)) → AreResponsesBy plan timing responses
+    → AreResponsesBy plan timing other → responses ≡ other
+same_responses plan None responses other a b = a ∙ sym b
+same_responses plan (Some timing) responses other (stays, delays, asks, is) (stay, others, ask, are) =
+    is ∙ ap (λ (d : List (Option Delay)). map (response timing) d) (one_asked plan timing stays stay delays others asks ask).1 ∙ sym are
+
 -- ---- what is written
 
 one_audited : (s : Settings) (log text other : List ℕ) (verdict outcome : Verdict) → IsAuditedLog s log text verdict → IsAuditedLog s log other outcome
@@ -59,6 +73,10 @@ one_audited s log text other verdict outcome a b =
 
 pub one_audit : AuditHasOneText
 one_audit plan part stamps log text other verdict outcome a b =
-    let by : List Bool → Settings = λ moving. record { plan = plan; moving = moving; part = part; stamps = stamps } in
-    one_audited (by b.moving) log text other verdict outcome
-    (subst (λ (m : List Bool). IsAuditedLog (by m) log text verdict) (one_moving plan a.moving b.moving a.moving_are b.moving_are) a.audited) b.audited
+    let by : List Bool → List (Option ℕ) → Settings = λ moving responses.
+    record { plan = plan; moving = moving; part = part; stamps = stamps; responses = responses; bound = Bus } in
+    one_audited (by b.moving b.responses) log text other verdict outcome
+    (subst (λ (r : List (Option ℕ)). IsAuditedLog (by b.moving r) log text verdict)
+    (same_responses plan (timing_of plan) a.responses b.responses a.responses_are b.responses_are)
+    (subst (λ (m : List Bool). IsAuditedLog (by m a.responses) log text verdict) (one_moving plan a.moving b.moving a.moving_are b.moving_are) a.audited))
+    b.audited

@@ -14,7 +14,7 @@ use Rattle.j39_id.specs.declared.frame.Frame.{Frame}
 use Rattle.j39_network.specs.declared.plan.Plan.{Plan}
 use Rattle.j39_network.specs.declared.plan.timing.Timing.{Timing}
 use Rattle.j39_tp.specs.declared.packet.Packet.{Packet}
-use Rattle.j39_audit.specs.AuditText.{Look, groups_named, line_of_mark, look_at, mark_at, subject_lines}
+use Rattle.j39_audit.specs.AuditText.{Look, groups_named, line_of_mark, line_told, look_at, mark_at, subject_lines, told_mark}
 use Rattle.j39_audit.specs.Below.{each_below}
 use Rattle.j39_audit.specs.Claiming.{HeardClaims, Knowledge, knowledge}
 use Rattle.j39_audit.specs.Looking.{is_above_unplanned, is_claim, is_of_own_group, is_of_transport, is_single, is_urgent, may_be_transport, single}
@@ -22,7 +22,7 @@ use Rattle.j39_audit.specs.SentMessages.{first_group}
 use Rattle.j39_audit.specs.Settings.{AreMoving, Settings}
 use Rattle.j39_audit.specs.declared.mark.Mark.{Mark}
 use Rattle.j39_audit.specs.declared.mark.Word.{Word}
-use Rattle.j39_audit.specs.declared.mark.Word.TheVariants.{Short, Address, Cannot, Layout, NoFlow, Priority, Urgent}
+use Rattle.j39_audit.specs.declared.mark.Word.TheVariants.{Short, Stranger, Nobody as NobodyThere, Address, Cannot, Layout, NoFlow, Priority, Urgent, Seen, Unclear, Asked, Counted, Unsure, Break, NearFlow, NearRequest, SilentFlow, Deaf, NearPackets, SilentPackets, NearOrLate, SilentOrLate}
 use Rattle.j39_audit.specs.declared.messages.Test.TheVariants.{Any}
 use Rattle.j39_audit.specs.declared.tally.Told.{Told}
 use Rattle.j39_audit_laws.specs.FoundLines.{Differs, IsAccusing, IsFoundAt, IsFrameAt, IsAccusedAs, IsToldAt}
@@ -52,13 +52,40 @@ unfolding each_below
 none_below {X} list none zero = refl
 none_below {X} list none (suc n) = ap (λ (l : List X). l ++ list n) (none_below list none n) ∙ none n
 
+-- what accuses so is told itself
+told_itself : (look : Look) (w : Word) (u g : ℕ) → IsAccusing w → told_mark look w u g ≡ mark_at w u g
+told_itself look Short u g is = refl
+told_itself look Stranger u g is = refl
+told_itself look NobodyThere u g is = refl
+told_itself look Address u g is = refl
+told_itself look Cannot u g is = refl
+told_itself look Layout u g is = refl
+told_itself look NoFlow u g is = refl
+told_itself look Priority u g is = refl
+told_itself look Urgent u g is = refl
+told_itself look Seen u g is = absurd is
+told_itself look Unclear u g is = absurd is
+told_itself look Asked u g is = absurd is
+told_itself look Counted u g is = absurd is
+told_itself look Unsure u g is = absurd is
+told_itself look Break u g is = absurd is
+told_itself look NearFlow u g is = absurd is
+told_itself look NearRequest u g is = absurd is
+told_itself look SilentFlow u g is = absurd is
+told_itself look Deaf u g is = absurd is
+told_itself look NearPackets u g is = absurd is
+told_itself look SilentPackets u g is = absurd is
+told_itself look NearOrLate u g is = absurd is
+told_itself look SilentOrLate u g is = absurd is
+
 pub none_of_subject : (s : Settings) (log : List Line) (word : Word) (u : ℕ) → IsAccusing word → ((g n : ℕ) → ¬ IsFoundAt s log n (mark_at word u g))
     → IsNotNamed s log word u
-unfolding subject_lines
+unfolding subject_lines line_told
 none_of_subject s log word u accuses none end read =
     let look : Look = look_at end in
-    none_below (λ (g : ℕ). line_of_mark s.plan (mark_at word u g) (look (mark_at word u g)))
-    (λ g. no_line s.plan (mark_at word u g) (look (mark_at word u g))
+    none_below (λ (g : ℕ). line_told s.plan look (told_mark look word u g))
+    (λ g. ap (λ (m : Mark). line_of_mark s.plan m (look m)) (told_itself look word u g accuses)
+    ∙ no_line s.plan (mark_at word u g) (look (mark_at word u g))
     (told_never s log (mark_at word u g) (look (mark_at word u g)) (lines_are_of_log s log end read (mark_at word u g) accuses) (none g)))
     (groups_named s word)
 

@@ -1,13 +1,13 @@
 -- What is noted of the messages of a flow with a pause, and where it ends, is where the flow is silent.
 use Rattle.std.proofs.Common.{◌≡◌, ℕ, zero, suc, ◌+◌, ◌-◌, ◌<◌, ◌++◌, [], List, Bool, true, false, cond, Option, Some, None, refl, sym, ap, ◌∙◌, append_assoc, arith}
 use Rattle.std.specs.Prelude.{nat_lt}
-use Rattle.std.specs.Option.{option_and_then, option_map}
+use Rattle.std.specs.Option.{option_and_then}
 use Rattle.std.proofs.lemmas.Bool.{eq-eqb, lt-ltb}
 use Rattle.std.proofs.lemmas.List.{append-nil}
 use Rattle.j39_audit.specs.Below.{each_below}
 use Rattle.j39_audit.specs.Counting.{Noted}
 use Rattle.j39_audit.specs.MessageStreams.{flow_pause}
-use Rattle.j39_audit.specs.Moments.{Moments, last_of_flow, newest_moment, silence_behind, silent_by, silent_noted, with_newest}
+use Rattle.j39_audit.specs.Moments.{Moments, last_of_flow, lower_bound, newest_moment, silence_behind, silent_by, silent_noted, with_newest}
 use Rattle.j39_audit.specs.Silence.{lag, latest, latest_next, lies_behind}
 use Rattle.j39_audit.specs.declared.pauses.LastFrame.{LastFrame}
 use Rattle.j39_audit.specs.declared.pauses.Newest.{Newest}
@@ -94,7 +94,7 @@ notes_the_silent pause n windows lines j m none = noted pause n windows lines m 
 -- ---- where a pause ends
 
 looked : (p : FlowPause) (newest : Newest) (last : LastFrame) → newest.line < last.line
-    → silent_by p newest (Some last) ≡ lag p.pause (Some newest.moment) (option_map (λ q. q - p.jitter) last.idle)
+    → silent_by p newest (Some last) ≡ lag p.pause (Some newest.moment) (lower_bound p.slack last.since)
 looked p newest last less = rw (lt-ltb newest.line last.line less) refl
 
 at_end : (pause k : ℕ) (windows : ℕ → Window) (lines : ℕ → ℕ) (i : ℕ) (lower : Option ℕ)
@@ -111,7 +111,7 @@ notes_the_silent_end s t p n windows lines j m last paused none there behind_it 
     let e = with_paused p.pause n windows lines (suc j) m in
     let moment = latest_next p.pause (latest p.pause windows j) (windows j) in
     let newest : Newest = record { moment = moment; line = lines j } in
-    let lower = option_map (λ q. q - p.jitter) last.idle in
+    let lower = lower_bound p.slack last.since in
     let found = newest_is p.pause n windows lines m none j in
     let by : silence_behind s t n (e.newest n) e.last ≡ lag p.pause (Some moment) lower =
     ap (λ (x : Option Newest). silence_behind s t n x e.last) found

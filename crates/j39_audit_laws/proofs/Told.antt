@@ -7,12 +7,12 @@ use Rattle.std.proofs.lemmas.List.{append_cancel_left, append-nil, length-append
 use Rattle.std.proofs.lemmas.List.Elements.{Contains-append_left, Contains-get_or, Contains-push, Contains-push_cases}
 use Rattle.std.proofs.lemmas.List.Quantifiers.{all_pairs_push}
 use Rattle.j39_id.specs.Lines.{Line}
-use Rattle.j39_audit.specs.AuditText.{AuditPast, AuditsLine, AuditsLines, is_of_asking, is_of_broadcasts, is_of_moments, look_at, nothing_read}
+use Rattle.j39_audit.specs.AuditText.{AuditPast, AuditsLine, AuditsLines, is_of_asking, is_of_broadcasts, is_of_moments, look_at, nothing_read, is_of_load, mark_by_bus}
 use Rattle.j39_audit.specs.Counting.{Noted, most_times, told_at, told_in, told_of}
 use Rattle.j39_audit.specs.Settings.{Settings}
 use Rattle.j39_audit.specs.declared.mark.Mark.{Mark}
 use Rattle.j39_audit.specs.declared.mark.Word.{Word}
-use Rattle.j39_audit.specs.declared.mark.Word.TheVariants.{Short, Stranger, Nobody as NobodyThere, Address, Cannot, Layout, NoFlow, Priority, Urgent, Seen, Unclear, Asked, Counted, Unsure, Break, NearFlow, NearRequest, SilentFlow, Deaf, NearPackets, SilentPackets}
+use Rattle.j39_audit.specs.declared.mark.Word.TheVariants.{Short, Stranger, Nobody as NobodyThere, Address, Cannot, Layout, NoFlow, Priority, Urgent, Seen, Unclear, Asked, Counted, Unsure, Break, NearFlow, NearRequest, SilentFlow, Deaf, NearPackets, SilentPackets, NearOrLate, SilentOrLate}
 use Rattle.j39_audit.specs.declared.tally.Told.{Told}
 use Rattle.j39_audit.proofs.Hearing.{line_more}
 use Rattle.j39_audit_laws.specs.FoundLines.{IsAccusing, IsFoundAt, IsLineOf, LinesAreOfLog, IsToldAt}
@@ -156,16 +156,22 @@ module _ (s : Settings) (log : List Line) (m : Mark) (accuses : IsAccusing m.wor
       ] refl
 
 -- what accuses so is told by the frames
-by_frames : (w : Word) → IsAccusing w → (is_of_moments w ≡ false) × (is_of_asking w ≡ false) × (is_of_broadcasts w ≡ false)
-by_frames Short is = (refl, refl, refl)
-by_frames Stranger is = (refl, refl, refl)
-by_frames NobodyThere is = (refl, refl, refl)
-by_frames Address is = (refl, refl, refl)
-by_frames Cannot is = (refl, refl, refl)
-by_frames Layout is = (refl, refl, refl)
-by_frames NoFlow is = (refl, refl, refl)
-by_frames Priority is = (refl, refl, refl)
-by_frames Urgent is = (refl, refl, refl)
+record IsByFrames (w : Word) : Type 0 where
+  moments : is_of_moments w ≡ false
+  load : is_of_load w ≡ false
+  asking : is_of_asking w ≡ false
+  broadcasts : is_of_broadcasts w ≡ false
+
+by_frames : (w : Word) → IsAccusing w → IsByFrames w
+by_frames Short is = record { moments = refl; load = refl; asking = refl; broadcasts = refl }
+by_frames Stranger is = record { moments = refl; load = refl; asking = refl; broadcasts = refl }
+by_frames NobodyThere is = record { moments = refl; load = refl; asking = refl; broadcasts = refl }
+by_frames Address is = record { moments = refl; load = refl; asking = refl; broadcasts = refl }
+by_frames Cannot is = record { moments = refl; load = refl; asking = refl; broadcasts = refl }
+by_frames Layout is = record { moments = refl; load = refl; asking = refl; broadcasts = refl }
+by_frames NoFlow is = record { moments = refl; load = refl; asking = refl; broadcasts = refl }
+by_frames Priority is = record { moments = refl; load = refl; asking = refl; broadcasts = refl }
+by_frames Urgent is = record { moments = refl; load = refl; asking = refl; broadcasts = refl }
 by_frames Seen is = absurd is
 by_frames Unclear is = absurd is
 by_frames Asked is = absurd is
@@ -178,13 +184,18 @@ by_frames SilentFlow is = absurd is
 by_frames Deaf is = absurd is
 by_frames NearPackets is = absurd is
 by_frames SilentPackets is = absurd is
+by_frames NearOrLate is = absurd is
+by_frames SilentOrLate is = absurd is
 
 looked : (end : AuditPast) (m : Mark) → IsAccusing m.word → told_in end.noted m ≡ look_at end m
 looked end m is =
-    let late : Bool → Told = λ b. cond b (told_in end.broadcasts.late m) (told_in end.noted m) in
-    let deaf : Bool → Told = λ b. cond b (told_in end.asking.deaf m) (late (is_of_broadcasts m.word)) in
-    let other = by_frames m.word is in
-    sym (ap (λ (b : Bool). cond b (told_in end.moments.untimely m) (deaf (is_of_asking m.word))) other.0 ∙ ap deaf other.1 ∙ ap late other.2)
+    let by = by_frames m.word is in
+    let late = told_in end.by_load.untimely (mark_by_bus m) in
+    let by_packets : Bool → Told = λ b. cond b (told_in end.broadcasts.late m) (told_in end.noted m) in
+    let by_asking : Bool → Told = λ b. cond b (told_in end.asking.deaf m) (by_packets (is_of_broadcasts m.word)) in
+    let by_load : Bool → Told = λ b. cond b late (by_asking (is_of_asking m.word)) in
+    sym (ap (λ (b : Bool). cond b (told_in end.moments.untimely m) (by_load (is_of_load m.word))) by.moments
+    ∙ ap by_load by.load ∙ ap by_asking by.asking ∙ ap by_packets by.broadcasts)
 
 pub lines_are_of_log : LinesAreOfLog
 lines_are_of_log s log end read m accuses =

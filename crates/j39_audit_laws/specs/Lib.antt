@@ -1,5 +1,6 @@
 pub mod Answering
 pub mod AuditedRuns
+pub mod ByLoad
 pub mod ExactClocks
 pub mod FoundLines
 pub mod InTurn

@@ -1,4 +1,4 @@
--- The bounds of a stream's moments by the lines of a log: each line's own time, and idle marks at it or before it.
+-- The bounds of a stream's moments by the lines of a log: each line's own time, and idle marks at it or before it, or how long messages take.
 use Rattle.std.specs.Prelude.{◌≡◌, ℕ, ◌+◌, ◌-◌, ◌*◌, ◌<◌, ◌≤◌, Some}
 use Rattle.j39_audit.specs.declared.window.Window.{Window}
 use Rattle.j39_audit_laws.specs.MarkRecords.{IsTimeOf, ShowsIdle, longest_reach}
@@ -32,3 +32,14 @@ pub record IsTimedBound (s : Schedule) (log : Lines) (of bound : ℕ) : Type 0 w
 pub record AreOfLog (s : Schedule) (log : Lines) (jitter n : ℕ) (frame : ℕ → ℕ) (windows : ℕ → Window) : Type 0 where
   pub upper : (k : ℕ) → k < n → IsTimedBound s log (frame k) (windows k).upper
   pub lower : (k x : ℕ) → k < n → (windows k).lower ≡ Some x → IsMarkedBound s log jitter (frame k) x
+
+-- a lower bound by load: a message that ended at this line's time or later, so many microseconds behind its moment at most
+pub record IsEndBound (s : Schedule) (log : Lines) (slack of bound : ℕ) : Type 0 where
+  pub ended : frame_end s of ≤ s.now
+  pub time : ℕ
+  pub at : IsTimeOf log.clock log.within time (frame_end s of)
+  pub is : bound ≡ time - log.within - slack
+
+pub record AreOfLoad (s : Schedule) (log : Lines) (slack n : ℕ) (frame : ℕ → ℕ) (windows : ℕ → Window) : Type 0 where
+  pub upper : (k : ℕ) → k < n → IsTimedBound s log (frame k) (windows k).upper
+  pub lower : (k x : ℕ) → k < n → (windows k).lower ≡ Some x → IsEndBound s log slack (frame k) x

@@ -1,12 +1,11 @@
 -- What a flow that keeps its pause does, with bounds that fit it, and what is noted of its messages. Moments are in thousandths of the unit of
 -- the bounds.
 use Rattle.std.specs.Prelude.{◌≡◌, ℕ, zero, suc, ◌+◌, ◌-◌, ◌*◌, ◌<◌, ◌≤◌, ◌⊎◌, ◌++◌, Bool, true, if◌then◌else◌, List, [], ◌∷◌, Option, Some, None}
-use Rattle.std.specs.Option.{option_map}
 use Rattle.j39_network.specs.declared.plan.timing.Timing.{Timing}
 use Rattle.j39_audit.specs.Below.{each_below}
 use Rattle.j39_audit.specs.Counting.{Noted}
 use Rattle.j39_audit.specs.MessageStreams.{flow_pause, stream_mark}
-use Rattle.j39_audit.specs.Moments.{Moments, last_of_flow, pause_ended, with_pause}
+use Rattle.j39_audit.specs.Moments.{Moments, last_of_flow, lower_bound, pause_ended, with_pause}
 use Rattle.j39_audit.specs.Settings.{Settings}
 use Rattle.j39_audit.specs.Silence.{is_silent, lag, latest}
 use Rattle.j39_audit.specs.declared.mark.Word.TheVariants.{SilentFlow}
@@ -51,4 +50,4 @@ abbrev pub NotesTheSilentEnd : Type 0
 NotesTheSilentEnd = (s : Settings) (t : Timing) (p : FlowPause) (n : ℕ) (windows : ℕ → Window) (lines : ℕ → ℕ) (j : ℕ) (m : Moments) (last : LastFrame)
     → flow_pause s t n ≡ Some p → m.newest n ≡ None → last_of_flow s m.last n ≡ Some last → lines j < last.line
     → (pause_ended s t n (with_paused p.pause n windows lines (suc j) m)).untimely ≡ (with_paused p.pause n windows lines (suc j) m).untimely
-    ++ silent_there p.pause n windows lines (suc j) (option_map (λ q. q - p.jitter) last.idle)
+    ++ silent_there p.pause n windows lines (suc j) (lower_bound p.slack last.since)

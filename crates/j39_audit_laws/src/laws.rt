@@ -12,21 +12,26 @@ ghost use Rattle.j39_audit.specs.declared.mark.Word.TheVariants.{Nobody, Short, 
 ghost use Rattle.j39_audit_laws.specs.Answering.{AnswersRequests, AreLinesOfUnit, IsDeafAt, KeepsRequests, NotesTheDeaf, UnitLines};
 ghost use Rattle.j39_audit_laws.specs.Answering.{is_told_deaf};
 ghost use Rattle.j39_audit_laws.specs.AuditedRuns.{ArePartsKept, IsNotWrittenOf};
+ghost use Rattle.j39_audit_laws.specs.ByLoad.{IsNoneNearByLoad};
 ghost use Rattle.j39_audit_laws.specs.ExactClocks.{ExactClocks};
 ghost use Rattle.j39_audit_laws.specs.FoundLines.{FoundAreListed, LinesAreOfLog};
 ghost use Rattle.j39_audit_laws.specs.InTurn.{IsInTurn, NotesTheLate};
-ghost use Rattle.j39_audit_laws.specs.LogBounds.{AreOfLog, IsMarkedBound, IsTimedBound, Lines};
+ghost use Rattle.j39_audit_laws.specs.LogBounds.{AreOfLoad, AreOfLog, IsEndBound, IsMarkedBound, IsTimedBound, Lines};
 ghost use Rattle.j39_audit_laws.specs.OneAudit.{AuditHasOneText};
 ghost use Rattle.j39_audit_laws.specs.OwnPart.{AlwaysCan, AreItsOwn, ClaimsItsOwn, IsNotNamed, LooksAsPlanned, SentBy};
 ghost use Rattle.j39_audit_laws.specs.OwnPart.{WaitsForPlanned};
 ghost use Rattle.j39_audit_laws.specs.MarkRecords.{AreFew, IsMarkOf, KeepsTime, ShowsIdle, longest_reach};
-ghost use Rattle.j39_audit_laws.specs.StreamRecords.{AreAllBefore, AreLines, AreMsApart, AreReleasedFirst, HaveJitter, KeepsMs};
+ghost use Rattle.j39_audit_laws.specs.StreamRecords.{AreAllBefore, AreLines, AreMsApart, AreReleasedFirst, AreSentInTime, HaveJitter, IsOneAtATime, KeepsMs};
 ghost use Rattle.j39_audit_laws.specs.Pausing.{ComesInTime, IsBoundAt, NotesTheSilent, NotesTheSilentEnd};
 ghost use Rattle.j39_audit_laws.specs.Stepping.{AreMomentsWithin, AreStepsApart, NotesTheNear};
+ghost use Rattle.j39_audit.specs.Responses.{us_at_logger};
 ghost use Rattle.j39_findings.specs.Findings.{Clean};
+ghost use Rattle.j39_load.specs.LoadFindings.{AsksOfBus};
+ghost use Rattle.j39_load.specs.declared.waits.delay.Delay.{Delay as Delays};
 ghost use Rattle.j39_id.specs.Lines.{Line as ALine};
 ghost use Rattle.j39_network.specs.declared.plan.Plan.{Plan as Plans};
 ghost use Rattle.j39_network.specs.declared.plan.timing.Timing.{Timing as Timings};
+ghost use Rattle.j39_network.specs.declared.plan.unit_plan.UnitPlan.{UnitPlan as PlannedUnits};
 ghost use Rattle.j39_network.specs.declared.steps.Step.{Step as Steps};
 ghost use Rattle.j39_timing.specs.Errors.{Damaged, IsBusWithErrors};
 ghost use Rattle.j39_timing.specs.Messages.{frame_end};
@@ -191,6 +196,32 @@ pub fn no_stream_is_told_wrongly()
         → (j : ℕ) → j ≤ n → (lower : Option ℕ) → (of : ℕ) → AreAllBefore s is_message frame j of
         → ((x : ℕ) → lower ≡ Some x → IsMarkedBound s log jitter of x × (1000 * x ≤ log.clock to))
         → is_silent (1001 * pause) windows j lower ≡ false }
+{}
+
+/// Nor is one told by load that keeps its period, and its pause, and each message of which has been sent within the
+/// response time that is counted on, where units and the bus have exact clocks, and the logger's may differ by a
+/// thousandth: neither as too near nor as silent, whatever lines of it a log lacks before.
+pub fn who_is_sent_in_time_is_not_told()
+    ensures near { (s : Schedule) (log : Lines) (period bits n : ℕ) (is_message : ℕ → Bool) (release frame : ℕ → ℕ) (windows : ℕ → AWindow)
+        → KeepsTime log.us log.clock → IsOneAtATime s → AreReleasedFirst s is_message release → AreSentInTime s bits is_message release
+        → AreMsApart s log.us period is_message release → AreLines s is_message n frame
+        → AreOfLoad s log (us_at_logger (bits * log.us)) n frame windows
+        → (j : ℕ) → j < n → is_too_near (999 * period) windows j ≡ false }
+    ensures silent { (s : Schedule) (log : Lines) (bits_of_ms pause bits from to n : ℕ) (is_message : ℕ → Bool) (release frame : ℕ → ℕ)
+        (windows : ℕ → AWindow) → log.us * bits_of_ms ≡ 1000 → KeepsTime log.us log.clock → IsOneAtATime s → AreReleasedFirst s is_message release
+        → AreSentInTime s bits is_message release → KeepsMs s log.us pause is_message release from to → from ≤ to
+        → AreLines s is_message n frame → AreOfLoad s log (us_at_logger (bits * log.us)) n frame windows → from ≤ frame_end s (frame 0)
+        → (j : ℕ) → j ≤ n → (lower : Option ℕ) → (of : ℕ) → AreAllBefore s is_message frame j of
+        → ((x : ℕ) → lower ≡ Some x → IsEndBound s log (us_at_logger (bits * log.us)) of x × (1000 * x ≤ log.clock to))
+        → is_silent (1001 * pause) windows j lower ≡ false }
+{}
+
+/// On each bus that keeps to a clean plan in the plan's own words, where clocks of units and the bus don't drift, no flow
+/// each message of which goes in one frame is told as too near by the response time that `load` answers, whether units
+/// keep order or not, and whatever its other messages are that a log lacks.
+pub fn kept_plans_are_not_near_by_load()
+    ensures { (plan : Plans) (timing : Timings) (stays : PlannedUnits → Bool) (delays : List (Option Delays)) → Clean plan
+        → AsksOfBus plan timing stays delays → timing.drift ≡ 0 → IsNoneNearByLoad plan timing delays }
 {}
 
 /// Of each unit the request for claims behind a frame that is kept is told by the one before it (`kept`), and where a frame

@@ -25,7 +25,9 @@ WORDS = {
     "priority": Word("a message of a flow with another priority", "which priority is set"),
     "urgent": Word("a frame that isn't planned, above `unplanned_priority`", "what it is for"),
     "near": Word("messages of a flow, requests or packets sooner than the plan allows, at line M most", "its period and jitter"),
+    "near_or_late": Word("the same of a flow, or one was sent later than `load` answers", "its period and jitter, or what it waits for"),
     "silent": Word("messages of a flow, or packets, later than the plan allows, most behind line M", "its pause and jitter"),
+    "silent_or_late": Word("the same of a flow, or one was sent later than `load` answers", "its pause and jitter, or what it waits for"),
 }
 
 # What may be accused, and the measure that may stand behind.

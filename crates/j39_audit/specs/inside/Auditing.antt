@@ -7,7 +7,7 @@ use Rattle.j39_follow.specs.inside.FollowedSoFar.{interface_of}
 use Rattle.j39_log.specs.LineCounting.{AreWithin}
 use Rattle.j39_stream.specs.declared.verdict.Verdict.{Verdict}
 use Rattle.j39_tp.specs.declared.packet.Packet.{Packet}
-use Rattle.j39_audit.specs.AuditText.{AuditPast, AuditsLines, AuditsShort, accusation_count, is_of_asking, is_of_broadcasts, is_of_moments, log_ended, nothing_read, text_by, verdict_by, past_with_frame}
+use Rattle.j39_audit.specs.AuditText.{AuditPast, AuditsLines, AuditsShort, accusation_count, is_of_asking, is_of_broadcasts, is_of_moments, log_ended, nothing_read, text_by, verdict_by, past_with_frame, is_of_load, mark_by_bus}
 use Rattle.j39_audit.specs.Counting.{key_of}
 use Rattle.j39_audit.specs.Looking.{IsPacketOf}
 use Rattle.j39_audit.specs.Settings.{Settings}
@@ -20,6 +20,7 @@ use Rattle.j39_audit.specs.inside.Recalling.{AreCounted, AreNear, KnowsClaims, R
 abbrev pub tallied : AuditLog → Mark → Told
 tallied log m =
     if is_of_moments m.word then tallied_at log.moments.untimely (key_of m)
+    else if is_of_load m.word then tallied_at log.by_load.untimely (key_of (mark_by_bus m))
     else if is_of_asking m.word then tallied_at log.asking.deaf (key_of m)
     else if is_of_broadcasts m.word then tallied_at log.broadcasts.late (key_of m) else tallied_at log.tally (key_of m)
 
@@ -29,6 +30,7 @@ pub record AccordsWith (log : AuditLog) (past : AuditPast) : Type 0 where
   pub counted : AreCounted log.tally past.noted
   pub newest_is : log.newest ≡ past.newest
   pub moments : RecallsMoments log.moments past.moments
+  pub by_load : RecallsMoments log.by_load past.by_load
   pub asking : RecallsAsking (settings_of log.basis) log.asking past.asking
   pub broadcasts : RecallsBroadcasts (settings_of log.basis) log.broadcasts past.broadcasts
 
@@ -76,11 +78,16 @@ pub record HasAuditedWhole (s : Settings) (log : AuditLog) (ls : List Line) : Ty
   pub recalls : RecallsAudit log (log_ended s past)
   pub settings_are : settings_of log.basis ≡ s
 
+-- no moment that is kept lies far ahead
+pub record AreAllNear (log : AuditLog) : Type 0 where
+  pub by_bus : AreNear log.moments
+  pub by_load : AreNear log.by_load
+
 -- no more lines were counted than this, and no moment that is kept lies far ahead
 pub record IsWithinLines (log : AuditLog) (most : ℕ) : Type 0 where
   pub number : log.number ≤ most
   pub counts : AreWithin log.counts most
-  pub near : AreNear log.moments
+  pub near : AreAllNear log
 
 -- all that was left was read, to its end
 pub record HasReadLog (s : Settings) (log : AuditLog) (old new : Option (List ℕ)) : Type 0 where

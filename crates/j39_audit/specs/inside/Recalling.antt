@@ -30,7 +30,14 @@ use Rattle.j39_audit.specs.declared.tally.MarkTally.{MarkTally}
 use Rattle.j39_audit.specs.declared.tally.Told.{Told}
 
 abbrev pub settings_of : Basis → Settings
-settings_of basis = record { plan = basis.plan.now; moving = basis.moving.items; part = basis.part; stamps = basis.stamps }
+settings_of basis = record {
+  plan = basis.plan.now;
+  moving = basis.moving.now;
+  part = basis.part;
+  stamps = basis.stamps;
+  responses = basis.responses.now;
+  bound = basis.bound;
+}
 
 -- ---- counts
 
@@ -72,14 +79,14 @@ pub record RecallsPauses (pauses : Pauses) (m : Moments) : Type 0 where
 
 pub record ArePausesNear (pauses : Pauses) : Type 0 where
   pub newest : (n : ℕ) → IfSome (newest_in pauses n) (λ x. x.moment < far_ahead)
-  pub last : (u : ℕ) → IfSome (last_in_pauses pauses u) (λ x. IfSome x.idle (λ q. q < far_ahead))
+  pub last : (u : ℕ) → IfSome (last_in_pauses pauses u) (λ x. IfSome x.since (λ q. q < far_ahead))
   pub newest_size : length pauses.newest.items ≡ 512
   pub last_size : length pauses.last.items ≡ 128
 
 -- what the times tell is kept
 pub record RecallsMoments (kept : KeptMoments) (m : Moments) : Type 0 where
   pub before : kept.before ≡ m.before
-  pub idle : kept.idle ≡ m.idle
+  pub since : kept.since ≡ m.since
   pub earliest : (key : Key) → earliest_in kept.earliest key ≡ m.earliest key
   pub counted : AreCounted kept.untimely m.untimely
   pub pauses : RecallsPauses kept.pauses m
@@ -87,7 +94,7 @@ pub record RecallsMoments (kept : KeptMoments) (m : Moments) : Type 0 where
 -- and none of it lies far ahead
 pub record AreNear (kept : KeptMoments) : Type 0 where
   pub earliest : (key : Key) → IfSome (earliest_in kept.earliest key) (λ e. e < far_ahead)
-  pub idle : IfSome kept.idle (λ q. q < far_ahead)
+  pub since : IfSome kept.since (λ q. q < far_ahead)
   pub pauses : ArePausesNear kept.pauses
 
 -- ---- requests for claims

@@ -1,25 +1,9 @@
 use Rattle.std.proofs.Common.{rules}
-use Rattle.j39_stream.proofs.Answering.{not_read, read_and_put}
-use Rattle.j39_audit.specs.inside.Recalling.{settings_of}
-use Rattle.j39_audit.proofs.Audited.{is_audit_of}
+use Rattle.j39_stream.proofs.Answering.{not_read}
 use Rattle.j39_audit.proofs.answer.audit_text.Goals as goal
 
-pub returns-in_err-log : goal.returns-in_err-log
-returns-in_err-log g c = not_read _ (search rules) (search rules) (search rules)
+pub returns-in_err-moving : goal.returns-in_err-moving
+returns-in_err-moving g c = not_read _ (search rules) (search rules) (search rules)
 
-pub returns-in_err-read_log : goal.returns-in_err-read_log
-returns-in_err-read_log g c =
-    not_read _ (search rules) (search (rules, c.read_log.ensures.long, c.in_err-read_log.was, c.from_residual-in_err-read_log.ensures.1))
-    (search (rules, c.read_log.ensures.device, c.in_err-read_log.was, c.from_residual-in_err-read_log.ensures.1))
-
-pub returns : goal.returns
-returns g c =
-    let begun = c.in_ok-log.ensures in
-    let s = settings_of c.in_ok-log.log.basis in
-    let read = c.in_ok-read_log.ensures.read s begun.nothing in
-    read_and_put read.input
-    (λ text verdict is.
-    let audit = is_audit_of c.args.plan.now c.args.part c.args.stamps s c.read_log.new.log read.input text verdict begun.plan begun.part begun.stamps
-    begun.moving read.ended is in
-    (audit, (verdict, audit)))
-    c.put_report.result read.consumed read.end c.in_ok-read_log.ensures.limits (c.in_ok-read_log.ensures.calm (λ e. cc e)) c.put_report.ensures
+pub returns-in_err-responses : goal.returns-in_err-responses
+returns-in_err-responses g c = not_read _ (search rules) (search rules) (search rules)

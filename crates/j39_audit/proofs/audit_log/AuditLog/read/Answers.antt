@@ -26,6 +26,7 @@ returns-in-Line-clause-lines c =
         counted = old.follows.counted;
         newest_is = old.follows.newest_is;
         moments = old.follows.moments;
+        by_load = old.follows.by_load;
         asking = old.follows.asking;
         broadcasts = old.follows.broadcasts;
       };
@@ -69,6 +70,7 @@ returns-in-Long-clause-lines c =
         counted = old.follows.counted;
         newest_is = old.follows.newest_is;
         moments = old.follows.moments;
+        by_load = old.follows.by_load;
         asking = old.follows.asking;
         broadcasts = old.follows.broadcasts;
       };

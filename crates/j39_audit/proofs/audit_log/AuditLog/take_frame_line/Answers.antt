@@ -23,6 +23,7 @@ returns-clause-frame c = λ past recalls.
           counted = took.follows.counted;
           newest_is = took.follows.newest_is;
           moments = took.follows.moments;
+          by_load = took.follows.by_load;
           asking = took.follows.asking;
           broadcasts = took.follows.broadcasts;
         };

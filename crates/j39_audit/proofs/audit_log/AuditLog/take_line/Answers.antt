@@ -38,6 +38,7 @@ returns-then-is_elsewhere-clause-line c = λ past recalls.
           counted = recalls.follows.counted;
           newest_is = recalls.follows.newest_is;
           moments = recalls.follows.moments;
+          by_load = recalls.follows.by_load;
           asking = recalls.follows.asking;
           broadcasts = recalls.follows.broadcasts;
         };

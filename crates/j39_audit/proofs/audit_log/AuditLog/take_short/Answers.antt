@@ -21,6 +21,7 @@ returns-clause-fault c = λ past recalls.
             (c.in_ok-note_if.ensures.counts past.noted recalls.follows.counted)));
         newest_is = recalls.follows.newest_is;
         moments = c.pass_over.ensures.moments past.moments recalls.follows.moments;
+        by_load = c.pass_over-2.ensures.moments past.by_load recalls.follows.by_load;
         asking = recalls.follows.asking;
         broadcasts = recalls.follows.broadcasts;
       };

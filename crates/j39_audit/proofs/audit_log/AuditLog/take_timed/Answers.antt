@@ -11,10 +11,12 @@ use Rattle.j39_audit.specs.Broadcasts.{announcement_in, broadcasts_behind, packe
 use Rattle.j39_audit.specs.Claiming.{Knowledge, broken_off, knowledge}
 use Rattle.j39_audit.specs.Counting.{Noted}
 use Rattle.j39_audit.specs.Looking.{IsPacketOf, break_noted, frame_noted}
-use Rattle.j39_audit.specs.Moments.{begins_anew, moments_behind, with_packet_stream}
+use Rattle.j39_audit.specs.Moments.{Moments, begins_anew, moments_behind, with_packet_stream}
 use Rattle.j39_audit.specs.MessageStreams.{nothing_sighted, sighted_behind}
 use Rattle.j39_audit.specs.Pauses.{ending_of, unclear_behind}
+use Rattle.j39_audit.specs.Settings.{Settings, by_load}
 use Rattle.j39_audit.specs.declared.broadcasts.Announcement.{Announcement}
+use Rattle.j39_audit.specs.declared.moments.Moments.{Moments as KeptMoments}
 use Rattle.j39_audit.specs.declared.pauses.Ending.{Ending}
 use Rattle.j39_audit.specs.declared.tally.Sighting.{Sighting}
 use Rattle.j39_audit.specs.inside.Recalling.{AreCounted, KnowsClaims, Notes, RecallsBroadcasts, RecallsMoments, settings_of}
@@ -55,22 +57,30 @@ returns-clause-frame c = λ past named accords number.
     let ends : Ending = ending_of s (knowledge s before) f in
     let ending : c.ending_of-ending.result ≡ ends = c.ending_of-ending.ensures
     ∙ ap (λ (k : Knowledge). ending_of s k f) (known_knowledge s c.take_break.new.known before known) in
-    let kept = c.look.new.self in
     let same_known = known_knowledge s c.take_break.new.known before known in
-    let timed = subst (λ (n : ℕ). RecallsMoments kept
-    (moments_behind s (breaks s.stamps past.newest time) (begins_anew s.stamps past.newest time) time f n (lines n) ends past.moments)) number
+    let at_line : (bounds : Settings) (kept : KeptMoments) (m : Moments)
+    → RecallsMoments kept (moments_behind bounds c.breaks-broken.result c.begins_anew-anew.result time f number_now (lines number_now) c.ending_of-ending.result m)
+    → RecallsMoments kept (moments_behind bounds (breaks s.stamps past.newest time) (begins_anew s.stamps past.newest time) time f past.number (lines past.number) ends m) =
+    λ bounds kept m looks. subst (λ (n : ℕ). RecallsMoments kept
+    (moments_behind bounds (breaks s.stamps past.newest time) (begins_anew s.stamps past.newest time) time f n (lines n) ends m)) number
     (subst (λ (a : Bool). RecallsMoments kept
-    (moments_behind s (breaks s.stamps past.newest time) a time f number_now (lines number_now) ends past.moments)) anew
+    (moments_behind bounds (breaks s.stamps past.newest time) a time f number_now (lines number_now) ends m)) anew
     (subst (λ (b : Bool). RecallsMoments kept
-    (moments_behind s b c.begins_anew-anew.result time f number_now (lines number_now) ends past.moments)) broken
+    (moments_behind bounds b c.begins_anew-anew.result time f number_now (lines number_now) ends m)) broken
     (subst (λ (e : Ending). RecallsMoments kept
-    (moments_behind s c.breaks-broken.result c.begins_anew-anew.result time f number_now (lines number_now) e past.moments)) ending looked))) in
+    (moments_behind bounds c.breaks-broken.result c.begins_anew-anew.result time f number_now (lines number_now) e m)) ending looks))) in
+    let timed = at_line s c.look.new.self past.moments looked in
+    let late = c.look-2.new.self in
+    let looked_late = subst (λ (t : Settings). RecallsMoments late
+    (moments_behind t c.breaks-broken.result c.begins_anew-anew.result time f number_now (lines number_now) c.ending_of-ending.result past.by_load)) c.by_load.ensures
+    (c.in_ok-look-2.ensures.moments past.by_load (lines number_now) accords.by_load sights unclear) in
+    let timed_late = at_line (by_load s) late past.by_load looked_late in
     let unit = ap (λ (w : Sighting). w.unit) sights ∙ ap (λ (n : ℕ). (sighted_behind nothing_sighted (lines n)).unit) number in
     let timing = s.plan.timing in
     let counted = counted_for s past time f packet in
     let there = broadcasts_there s past time f in
     let packed = c.take_packet.new.moments in
-    let timed_past = moments_with_frame s past time f packet in
+    let timed_past = moments_with_frame s s past time f packet past.moments in
     let announced : c.announcement_in-announced.result ≡ announcement_in packet = c.announcement_in-announced.ensures in
     let came = came_so s c.come_to.new.self past.broadcasts anew broken ending (c.come_to.ensures past.broadcasts accords.broadcasts) in
     record {
@@ -84,12 +94,13 @@ returns-clause-frame c = λ past named accords number.
         moments = subst (λ (n : ℕ). RecallsMoments packed (with_packet_stream s time n (packet_with timing counted f there) timed_past)) number
             (subst (λ (u : Option ℕ). RecallsMoments packed (with_packet_stream s time number_now (packet_with timing u f there) timed_past)) unit
             (c.in_ok-take_packet.ensures.moments timed_past there timed came));
-        asking = asked_so s c.take_sign.new.self time f past.asking same_known broken anew number unit timed.idle
+        by_load = timed_late;
+        asking = asked_so s c.take_sign.new.self time f past.asking same_known broken anew number unit timed.since
             (c.in_ok-take_sign.ensures _ (c.take.ensures past.asking accords.asking));
         broadcasts = subst (λ (a : Option Announcement). RecallsBroadcasts s c.take_packet.new.broadcasts
-            (broadcasts_behind s (knowledge s (claims_with_frame s past time f)) counted f a time timed_past.idle past.number there)) announced
+            (broadcasts_behind s (knowledge s (claims_with_frame s past time f)) counted f a time timed_past.since past.number there)) announced
             (behind_so s c.take_packet.new.broadcasts f c.announcement_in-announced.result time there
-            (known_knowledge s c.take_frame.new.known (claims_with_frame s past time f) took.0) unit timed.idle number
+            (known_knowledge s c.take_frame.new.known (claims_with_frame s past time f) took.0) unit timed.since number
             (c.in_ok-take_packet.ensures.broadcasts there came));
       };
     }

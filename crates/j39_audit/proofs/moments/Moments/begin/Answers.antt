@@ -8,7 +8,7 @@ returns-in_ok-end_all-clause-moments c = λ m recalls.
     let ended = c.in_ok-end_all.ensures.moments m recalls in
     rw c.if-anew.true (record {
       before = refl;
-      idle = refl;
+      since = refl;
       earliest = λ key. c.forget.ensures key;
       counted = ended.counted;
       pauses = record { newest = ended.pauses.newest; last = ended.pauses.last; closed = ended.pauses.closed };
@@ -20,7 +20,7 @@ returns-then-broken-clause-near c =
     let forgot = c.forget-then-broken.ensures in
     record {
       earliest = near.earliest;
-      idle = near.idle;
+      since = near.since;
       pauses = record {
         newest = λ n. none_is (λ x. x.moment < far_ahead) _ (forgot.newest n);
         last = λ u. none_is _ _ (forgot.last u);
@@ -34,7 +34,7 @@ returns-then-broken-clause-moments c = λ m recalls.
     let forgot = c.forget-then-broken.ensures in
     rw (c.if-anew.false, c.if-broken.true) (record {
       before = recalls.before;
-      idle = recalls.idle;
+      since = recalls.since;
       earliest = recalls.earliest;
       counted = recalls.counted;
       pauses = record { newest = forgot.newest; last = forgot.last; closed = λ e. (λ n. refl, λ u. refl) };

@@ -10,7 +10,7 @@ returns-clause-near c =
     let forgot = c.forget.ensures in
     record {
       earliest = near.earliest;
-      idle = near.idle;
+      since = near.since;
       pauses = record {
         newest = λ n. none_is (λ x. x.moment < far_ahead) _ (forgot.newest n);
         last = λ u. none_is _ _ (forgot.last u);
@@ -25,7 +25,7 @@ returns-clause-moments c = λ m recalls.
     let forgot = c.forget.ensures in
     record {
       before = ended.before;
-      idle = ended.idle;
+      since = ended.since;
       earliest = ended.earliest;
       counted = ended.counted;
       pauses = record { newest = forgot.newest; last = forgot.last; closed = λ e. (λ n. refl, λ u. refl) };
@@ -39,7 +39,7 @@ returns-then-not-self-clause-moments c = λ m recalls.
     let as_before = none_ended s c.args.timing None m none.0 (length c.args.basis.now.plan.now.flows.items) in
     record {
       before = recalls.before ∙ sym as_before.before;
-      idle = recalls.idle ∙ sym as_before.idle;
+      since = recalls.since ∙ sym as_before.since;
       earliest = λ key. recalls.earliest key ∙ sym (as_before.earliest key);
       counted = subst (λ (l : List Noted). AreCounted old.untimely l) (sym as_before.untimely) recalls.counted;
       pauses = record {

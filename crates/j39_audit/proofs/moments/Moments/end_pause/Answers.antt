@@ -15,10 +15,10 @@ returns-clause-near c =
     let none = forgotten place c.forget_newest.new.self.newest.items (length c.args.self.now.pauses.newest.items) forgot.size forgot.here in
     record {
       earliest = near.earliest;
-      idle = near.idle;
+      since = near.since;
       pauses = record {
         newest = placed_is (λ x. x.moment < far_ahead) place None _ _ forgot.others none tt near.pauses.newest;
-        last = λ u. subst (λ (t : Vec (Option LastFrame) Global). IfSome (slice_index_or t.items u None) (λ x. IfSome x.idle (λ q. q < far_ahead))) (sym forgot.last)
+        last = λ u. subst (λ (t : Vec (Option LastFrame) Global). IfSome (slice_index_or t.items u None) (λ x. IfSome x.since (λ q. q < far_ahead))) (sym forgot.last)
             (near.pauses.last u);
         newest_size = forgot.size ∙ near.pauses.newest_size;
         last_size = ap (λ (t : Vec (Option LastFrame) Global). length t.items) forgot.last ∙ near.pauses.last_size;
@@ -42,7 +42,7 @@ returns-clause-moments c = λ m recalls.
     let none = forgotten place c.forget_newest.new.self.newest.items (length old.newest.items) forgot.size forgot.here in
     record {
       before = recalls.before;
-      idle = recalls.idle;
+      since = recalls.since;
       earliest = recalls.earliest;
       counted = subst (λ (x : Option Newest). AreCounted c.note_silent.new.untimely (m.untimely ++ silent_noted place x (silence_behind s t place found m.last))) newest
           (subst (λ (b : Option ℕ). AreCounted c.note_silent.new.untimely (m.untimely ++ silent_noted place c.newest-newest.result b)) by

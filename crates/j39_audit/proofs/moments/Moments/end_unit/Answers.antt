@@ -15,11 +15,11 @@ returns-clause-near c =
     let none = forgotten u c.forget_last.new.self.last.items (length c.end_flows.new.self.pauses.last.items) forgot.size forgot.here in
     record {
       earliest = near.earliest;
-      idle = near.idle;
+      since = near.since;
       pauses = record {
         newest = λ n. subst (λ (t : Vec (Option Newest) Global). IfSome (slice_index_or t.items n None) (λ x. x.moment < far_ahead)) (sym forgot.newest)
             (near.pauses.newest n);
-        last = placed_is (λ x. IfSome x.idle (λ q. q < far_ahead)) u None _ _ forgot.others none tt near.pauses.last;
+        last = placed_is (λ x. IfSome x.since (λ q. q < far_ahead)) u None _ _ forgot.others none tt near.pauses.last;
         newest_size = ap (λ (t : Vec (Option Newest) Global). length t.items) forgot.newest ∙ near.pauses.newest_size;
         last_size = forgot.size ∙ near.pauses.last_size;
       };
@@ -35,7 +35,7 @@ returns-clause-moments c = λ m recalls.
     let none = forgotten u c.forget_last.new.self.last.items (length old.last.items) forgot.size forgot.here in
     record {
       before = ended.before;
-      idle = ended.idle;
+      since = ended.since;
       earliest = ended.earliest;
       counted = ended.counted;
       pauses = record {

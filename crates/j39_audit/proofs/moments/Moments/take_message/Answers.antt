@@ -17,7 +17,7 @@ returns-clause-near c =
       earliest = λ key. subst (λ (e : Option ℕ). IfSome e (λ k. k < far_ahead)) (sym (c.in_ok-set.ensures key))
           (one_of (λ k. k < far_ahead) (is_same_key (key_of stream.mark) key) c.kept_behind.result (earliest_in c.args.self.now.earliest key)
           c.kept_behind.ensures.near (c.requires.near.earliest key));
-      idle = c.requires.near.idle;
+      since = c.requires.near.since;
       pauses = c.requires.near.pauses;
     }
 
@@ -36,7 +36,7 @@ returns-clause-moments c = λ m recalls.
     c.excess-by.ensures ∙ ap (λ (d : Option ℕ). excess d window.upper) moment in
     record {
       before = recalls.before;
-      idle = recalls.idle;
+      since = recalls.since;
       earliest = λ key. c.in_ok-set.ensures key
           ∙ ap (λ (e : Option ℕ). with_earliest at e (earliest_in c.args.self.now.earliest) key) kept
           ∙ ap (λ (f : Key → Option ℕ). with_earliest at (earliest_next stream.step (m.earliest at) window) f key) old;

@@ -14,7 +14,7 @@ returns-clause-moments c =
     let time = c.in-Some.time in
     let one = c.in-Some-stream.stream in
     let new = c.take_message.new.self in
-    let at = c.moment_window-window.ensures ∙ ap (λ (i : Option ℕ). moment_window s one.jitter time i) recalls.idle in
+    let at = c.moment_window-window.ensures.value ∙ ap (λ (i : Option ℕ). moment_window s one.slack time i) recalls.since in
     subst (λ (t : Option ℕ). RecallsMoments new (with_packet_stream s t c.args.line c.args.stream m)) (sym c.in-Some.is)
     (subst (λ (o : Option MessageStream). RecallsMoments new (with_packet_stream s (Some time) c.args.line o m)) (sym c.in-Some-stream.is)
     (subst (λ (w : Window). RecallsMoments new (with_message one w c.args.line m)) at (took m recalls))))

@@ -23,10 +23,10 @@ returns-clause-near c =
     let upper = c.requires.upper in
     record {
       earliest = near.earliest;
-      idle = near.idle;
+      since = near.since;
       pauses = record {
         newest = placed_is (λ x. x.moment < far_ahead) c.args.place _ _ _ set.others set.here (omega (arith, most, upper)) near.pauses.newest;
-        last = λ u. subst (λ (t : Vec (Option LastFrame) Global). IfSome (slice_index_or t.items u None) (λ x. IfSome x.idle (λ q. q < far_ahead))) (sym set.last)
+        last = λ u. subst (λ (t : Vec (Option LastFrame) Global). IfSome (slice_index_or t.items u None) (λ x. IfSome x.since (λ q. q < far_ahead))) (sym set.last)
             (near.pauses.last u);
         newest_size = set.size ∙ near.pauses.newest_size;
         last_size = ap (λ (t : Vec (Option LastFrame) Global). length t.items) set.last ∙ near.pauses.last_size;
@@ -50,7 +50,7 @@ returns-clause-moments c = λ m recalls.
     let table : newest_in old ≡ m.newest = λ i n. recalls.pauses.newest n i in
     record {
       before = recalls.before;
-      idle = recalls.idle;
+      since = recalls.since;
       earliest = recalls.earliest;
       counted = subst (λ (x : Option Newest). AreCounted c.note_silent.new.untimely (m.untimely ++ silent_noted place x (lag pause (newest_moment found) window.lower))) newest
           (subst (λ (b : Option ℕ). AreCounted c.note_silent.new.untimely (m.untimely ++ silent_noted place c.newest-newest.result b)) by

@@ -13,7 +13,7 @@ returns-in_ok-take_message-in-Some-clause-moments c =
     let new = c.take_pause.new.self in
     IfOk-weaker c.take_pause.result _ _
     (λ _ paused. λ m recalls.
-    let at = c.moment_window-window.ensures ∙ ap (λ (i : Option ℕ). moment_window s one.jitter c.args.time i) recalls.idle in
+    let at = c.moment_window-window.ensures.value ∙ ap (λ (i : Option ℕ). moment_window s one.slack c.args.time i) recalls.since in
     let by : Window → _ = λ w. with_pause one.pause one.mark.subject w c.args.line (with_message one w c.args.line m) in
     subst (λ (o : Option MessageStream). RecallsMoments new (with_stream s c.args.time c.args.line o m)) (sym c.in-Some.is)
     (subst (λ (w : Window). RecallsMoments new (by w)) at

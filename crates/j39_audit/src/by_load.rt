@@ -1,0 +1,75 @@
+//! How late a message may be, by the load of the bus.
+ghost use Rattle.std.specs.Prelude.{◌≡◌, ◌≤◌, ◌^◌, IfOk, map};
+ghost use Rattle.j39_audit.specs.Responses.{AreResponses, bits_told, response, us_at_logger};
+
+use j39_load::{Delay, Loads, timing_of, us_of_bits};
+use j39_network::{Plan, Timing};
+use std::alloc::{AllocError, Global};
+
+/// By what it is known how early the moment of a message may have been.
+#[derive(Clone, Copy, PartialEq, Eq)]
+pub enum Bound {
+    /// By the last bit before it that the log shows as idle.
+    Bus,
+    /// By its end and the response time of its flow, as the load command answers it.
+    Load,
+}
+
+// The bits of a response time, where one is told.
+fn bits_told(delay: Option<Delay>) -> Option<u32>
+    ensures { result ≡ bits_told delay }
+{
+    match delay {
+        Some(Delay::Within(bits)) => Some(bits),
+        Some(Delay::Beyond(bits)) => Some(bits),
+        Some(Delay::Late) => None,
+        Some(Delay::Long(_)) => None,
+        Some(Delay::Whole(_)) => None,
+        None => None,
+    }
+}
+
+// How long so many microseconds last at most by the logger's clock.
+fn us_at_logger(us: u64) -> u64
+    requires { us ≤ 2 ^ 40 }
+    ensures { result ≡ us_at_logger us }
+{
+    us + us / 1_000 + 1
+}
+
+// How long behind its moment a message of this delay has been sent at most.
+fn response(timing: Timing, delay: &Option<Delay>) -> Option<u64>
+    ensures { result ≡ response timing delay.now }
+{
+    match bits_told(*delay) {
+        Some(bits) => Some(us_at_logger(us_of_bits(timing, u64::from(bits)) as u64)),
+        None => None,
+    }
+}
+
+// The same of each of these.
+fn responses_by(
+    alloc: Global,
+    timing: Timing,
+    delays: &[Option<Delay>],
+) -> Result<Vec<Option<u64>>, AllocError>
+    ensures { IfOk result (λ responses. responses.items ≡ map (response timing) delays.now) }
+{
+    let mut responses = Vec::new(alloc);
+    for delay in delays {
+        responses.push(response(timing, delay))?;
+    }
+    Ok(responses)
+}
+
+/// How long behind its moment a message of each flow has been sent at most, in microseconds of the logger's clock.
+pub(crate) fn responses_of(alloc: Global, plan: &Plan) -> Result<Vec<Option<u64>>, AllocError>
+    ensures { IfOk result (λ responses. AreResponses plan.now responses.items) }
+{
+    let Some(timing) = timing_of(plan) else {
+        return Ok(Vec::new(alloc));
+    };
+    let loads = Loads::new(alloc, timing, plan)?;
+    let delays = loads.delays(alloc)?;
+    responses_by(alloc, timing, &delays)
+}
