@@ -23,7 +23,7 @@ use Rattle.j39_stream.specs.declared.verdict.Verdict.{Verdict}
 use Rattle.j39_stream.specs.declared.verdict.Verdict.TheVariants.{Done, Findings}
 use Rattle.j39_audit.specs.Asking.{Asking, all_forgotten, asking_behind, nobody_asked as no_asking}
 use Rattle.j39_audit.specs.Below.{each_below, sum_below}
-use Rattle.j39_audit.specs.Broadcasts.{Broadcasts, all_ended as all_broadcasts_ended, announcement_in, broadcasts_before, broadcasts_behind, no_broadcasts, packet_with}
+use Rattle.j39_audit.specs.BegunBroadcasts.{BegunBroadcasts, all_ended as all_broadcasts_ended, announcement_in, broadcasts_before, broadcasts_behind, no_broadcasts, packet_with}
 use Rattle.j39_audit.specs.Breaks.{breaks, line_time, newest_behind}
 use Rattle.j39_audit.specs.Claiming.{HeardClaims, broken_off, knowledge, no_claims}
 use Rattle.j39_audit.specs.Counting.{Noted, told_in}
@@ -53,7 +53,7 @@ pub record AuditPast : Type 0 where
   pub moments : Moments
   pub by_load : Moments
   pub asking : Asking
-  pub broadcasts : Broadcasts
+  pub broadcasts : BegunBroadcasts
   pub frames : ℕ
   pub skipped : ℕ
   pub bad : ℕ
@@ -118,7 +118,7 @@ moments_with_frame bounds s past time f packet m =
 abbrev pub counted_for : Settings → AuditPast → Option ℕ → Frame → Option Packet → Option ℕ
 counted_for s past time f packet = (sighted_behind nothing_sighted (noted_newly s past time f packet)).unit
 
-abbrev pub broadcasts_there : Settings → AuditPast → Option ℕ → Frame → Broadcasts
+abbrev pub broadcasts_there : Settings → AuditPast → Option ℕ → Frame → BegunBroadcasts
 broadcasts_there s past time f = broadcasts_before (begins_anew s.stamps past.newest time) (breaks s.stamps past.newest time)
     (ending_of s (knowledge s (claims_before s past time)) f) past.broadcasts
 

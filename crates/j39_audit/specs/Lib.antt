@@ -1,8 +1,8 @@
 pub mod Asking
 pub mod AuditText
+pub mod BegunBroadcasts
 pub mod Below
 pub mod Breaks
-pub mod Broadcasts
 pub mod Claiming
 pub mod Counting
 pub mod Looking

@@ -4,7 +4,7 @@ ghost use Rattle.std.specs.Option.{option_copied};
 ghost use Rattle.j39_id.specs.Lines.{Line, tells};
 ghost use Rattle.j39_log.specs.LineCounting.{AreWithin, IsLineMore};
 ghost use Rattle.j39_audit.specs.AuditText.{AuditPast, bad_line, is_of_asking, is_of_broadcasts, is_of_load, is_of_moments, mark_by_bus, passed_by, skipped_line, word_by_bus};
-ghost use Rattle.j39_audit.specs.Broadcasts.{Broadcasts as SomeBroadcasts, broadcasts_behind, packet_with};
+ghost use Rattle.j39_audit.specs.BegunBroadcasts.{BegunBroadcasts as SomeBroadcasts, broadcasts_behind, packet_with};
 ghost use Rattle.j39_audit.specs.Claiming.{HeardClaims, broken_off};
 ghost use Rattle.j39_audit.specs.Looking.{break_noted};
 ghost use Rattle.j39_audit.specs.Moments.{Moments as SomeMoments, with_packet_stream};
@@ -15,7 +15,7 @@ ghost use Rattle.j39_audit.specs.inside.Recalling.{AreNear, KnowsClaims, Notes, 
 
 use crate::asking::Asking;
 use crate::basis::Basis;
-use crate::broadcasts::{Announcement, Broadcasts, announcement_in};
+use crate::broadcasts::{Announcement, BegunBroadcasts, announcement_in};
 use crate::frame_marks::{note_if, take_frame};
 use crate::known::Known;
 use crate::mark::{Mark, Word, make_mark};
@@ -44,7 +44,7 @@ pub(crate) struct AuditLog<'a> {
     pub moments: Moments,
     pub by_load: Moments,
     pub asking: Asking,
-    pub broadcasts: Broadcasts,
+    pub broadcasts: BegunBroadcasts,
     pub counts: LineCounts,
 }
 
@@ -120,7 +120,7 @@ fn is_of_broadcasts(word: Word) -> bool
 
 // Takes a frame of this time, which announces this and counts for this unit, if it does, for the broadcasts of units.
 fn take_packet(
-    broadcasts: &mut Broadcasts,
+    broadcasts: &mut BegunBroadcasts,
     moments: &mut Moments,
     basis: &Basis<'_>,
     known: &Known,
@@ -163,7 +163,7 @@ impl<'a> AuditLog<'a> {
         let moments = Moments::new(alloc)?;
         let by_load = Moments::new(alloc)?;
         let asking = Asking::new(alloc, &basis)?;
-        let broadcasts = Broadcasts::new(alloc, &basis)?;
+        let broadcasts = BegunBroadcasts::new(alloc, &basis)?;
         Ok(AuditLog {
             alloc,
             basis,

@@ -3,9 +3,9 @@ ghost use Rattle.std.specs.Prelude.{◌≡◌, ◌≢◌, ◌+◌, ◌<◌, ◌^
 ghost use Rattle.std.specs.List.{list_any};
 ghost use Rattle.std.specs.Option.{option_map};
 ghost use Rattle.j39_network.specs.declared.plan.flow_plan.FlowPlan.{FlowPlan as AFlow};
-ghost use Rattle.j39_audit.specs.Broadcasts.{Broadcasts as SomeBroadcasts, all_ended, announced_to_all, announcement_in, broadcast_of, broadcasts_before, broadcasts_behind};
-ghost use Rattle.j39_audit.specs.Broadcasts.{ended_before, ended_with, is_packet_to_all, is_paced, is_unpaced, late_by, late_noted, no_broadcasts};
-ghost use Rattle.j39_audit.specs.Broadcasts.{packet_of, packet_stream, packet_with, with_one, with_packet, with_sent};
+ghost use Rattle.j39_audit.specs.BegunBroadcasts.{BegunBroadcasts as SomeBroadcasts, all_ended, announced_to_all, announcement_in, begun_by, broadcasts_before, broadcasts_behind};
+ghost use Rattle.j39_audit.specs.BegunBroadcasts.{ended_before, ended_with, is_packet_to_all, is_paced, is_unpaced, late_by, late_noted, no_broadcasts};
+ghost use Rattle.j39_audit.specs.BegunBroadcasts.{packet_of, stream_of_packets, packet_with, with_one, with_packet, with_sent};
 ghost use Rattle.j39_audit.specs.Claiming.{Knowledge};
 ghost use Rattle.j39_audit.specs.Near.{excess};
 ghost use Rattle.j39_audit.specs.SentMessages.{is_fit};
@@ -30,7 +30,7 @@ use std::alloc::{AllocError, Global};
 
 /// A planned broadcast: how many of its packets are left, when the frame before these ended at the latest, and its line.
 #[derive(Clone, Copy, PartialEq, Eq)]
-pub struct Broadcast {
+pub struct BegunBroadcast {
     pub left: usize,
     pub moment: u64,
     pub line: u64,
@@ -45,15 +45,15 @@ pub struct Announcement {
 
 /// Of each unit its planned broadcast, and what was found.
 #[derive(Drop)]
-pub(crate) struct Broadcasts {
-    pub begun: Vec<Option<Broadcast>>,
+pub(crate) struct BegunBroadcasts {
+    pub begun: Vec<Option<BegunBroadcast>>,
     // Whether there may be one.
     pub open: bool,
     pub late: MarkTally,
 }
 
 // None of so many units.
-fn none_begun(alloc: Global, count: usize) -> Result<Vec<Option<Broadcast>>, AllocError>
+fn none_begun(alloc: Global, count: usize) -> Result<Vec<Option<BegunBroadcast>>, AllocError>
     ensures size { IfOk result (λ begun. length begun.items ≡ count) }
     ensures none { IfOk result (λ begun. (u : ℕ) → slice_index_or begun.items u None ≡ None) }
 {
@@ -65,7 +65,7 @@ fn none_begun(alloc: Global, count: usize) -> Result<Vec<Option<Broadcast>>, All
 }
 
 // Forgets that of each unit.
-fn forget_begun(begun: &mut Vec<Option<Broadcast>>)
+fn forget_begun(begun: &mut Vec<Option<BegunBroadcast>>)
     ensures size { length begun.new.items ≡ length begun.old.items }
     ensures none { (u : ℕ) → slice_index_or begun.new.items u None ≡ None }
 {
@@ -106,7 +106,7 @@ fn has_unpaced(basis: &Basis<'_>, known: &Known, message: &UnitMessage<'_>) -> b
 }
 
 // Whether a message is planned, and each flow that may bring it has a period.
-#[tactic(auto, unfolding(crate::specs::Broadcasts::is_paced))]
+#[tactic(auto, unfolding(crate::specs::BegunBroadcasts::is_paced))]
 fn is_paced(basis: &Basis<'_>, known: &Known, message: &UnitMessage<'_>) -> bool
     ensures { result ≡ is_paced (settings_of basis.now) (known_by known.now) (sent_as message.now) }
 {
@@ -151,17 +151,17 @@ fn announced_to_all(
 }
 
 // The broadcast that a message begins, if it is planned.
-fn broadcast_of(
+fn begun_by(
     basis: &Basis<'_>,
     known: &Known,
     message: &UnitMessage<'_>,
     moment: u64,
     line: u64,
-) -> Option<Broadcast>
-    ensures { result ≡ broadcast_of (settings_of basis.now) (known_by known.now) (sent_as message.now) moment line }
+) -> Option<BegunBroadcast>
+    ensures { result ≡ begun_by (settings_of basis.now) (known_by known.now) (sent_as message.now) moment line }
 {
     if is_paced(basis, known, message) {
-        Some(Broadcast {
+        Some(BegunBroadcast {
             left: message.size.div_ceil(PACKET_BYTES),
             moment,
             line,
@@ -180,8 +180,8 @@ fn is_packet_to_all(frame: &Frame) -> bool
 }
 
 // The stream of a unit's packets.
-fn packet_stream(timing: Timing, unit: usize) -> MessageStream
-    ensures value { result ≡ packet_stream timing unit }
+fn stream_of_packets(timing: Timing, unit: usize) -> MessageStream
+    ensures value { result ≡ stream_of_packets timing unit }
     ensures few { result.step < 2 ^ 27 }
 {
     MessageStream {
@@ -211,7 +211,7 @@ fn behind(idle: Option<u64>, moment: u64, longest: u64) -> Option<u64>
 }
 
 // By how much a packet comes too late behind the frame before.
-fn late_by(timing: Timing, idle: Option<u64>, one: Broadcast) -> Option<u64>
+fn late_by(timing: Timing, idle: Option<u64>, one: BegunBroadcast) -> Option<u64>
     ensures { result ≡ late_by timing idle one }
 {
     if one.left == 0 {
@@ -237,12 +237,12 @@ fn note_late(
     }
 }
 
-impl Broadcasts {
+impl BegunBroadcasts {
     pub fn new(alloc: Global, basis: &Basis<'_>) -> Result<Self, AllocError>
         ensures { IfOk result (λ new. RecallsBroadcasts (settings_of basis.now) new no_broadcasts) }
     {
         let begun = none_begun(alloc, basis.plan.units.len())?;
-        Ok(Broadcasts {
+        Ok(BegunBroadcasts {
             begun,
             open: false,
             late: MarkTally::new(alloc),
@@ -250,7 +250,7 @@ impl Broadcasts {
     }
 
     // The broadcast of a unit.
-    fn of(&self, unit: usize) -> Option<Broadcast>
+    fn of(&self, unit: usize) -> Option<BegunBroadcast>
         ensures { result ≡ begun_in self.now unit }
     {
         if unit < self.begun.len() {
@@ -261,7 +261,7 @@ impl Broadcasts {
     }
 
     // Keeps this as that of a unit.
-    fn set(&mut self, unit: usize, one: Option<Broadcast>)
+    fn set(&mut self, unit: usize, one: Option<BegunBroadcast>)
         requires { unit < length self.old.begun.items }
         ensures open { self.new.open ≡ true }
         ensures late { self.new.late ≡ self.old.late }
@@ -321,7 +321,7 @@ impl Broadcasts {
 
     /// Comes to a frame, just before which the log breaks off and times begin anew, or they don't, and at which these
     /// pauses end.
-    #[tactic(auto, unfolding(crate::specs::Broadcasts::broadcasts_before))]
+    #[tactic(auto, unfolding(crate::specs::BegunBroadcasts::broadcasts_before))]
     pub fn come_to(&mut self, basis: &Basis<'_>, anew: bool, broken: bool, ending: Ending)
         ensures { (b : SomeBroadcasts) → RecallsBroadcasts (settings_of basis.now) self.old b
             → RecallsBroadcasts (settings_of basis.now) self.new (broadcasts_before anew broken ending b) }
@@ -338,7 +338,7 @@ impl Broadcasts {
         match self.of(unit) {
             Some(_one) => {
                 if is_packet_to_all(frame) {
-                    Some(packet_stream(timing, unit))
+                    Some(stream_of_packets(timing, unit))
                 } else {
                     None
                 }
@@ -376,7 +376,7 @@ impl Broadcasts {
         idle: Option<u64>,
         moment: u64,
         line: u64,
-        one: Broadcast,
+        one: BegunBroadcast,
     ) -> Result<(), AllocError>
         requires { unit < length self.old.begun.items }
         ensures { OnOk result ((b : SomeBroadcasts) → RecallsBroadcasts (settings_of basis.now) self.old b
@@ -384,7 +384,7 @@ impl Broadcasts {
     {
         self.set(
             unit,
-            Some(Broadcast {
+            Some(BegunBroadcast {
                 left: one.left.saturating_sub(1),
                 moment,
                 line,
@@ -432,9 +432,9 @@ impl Broadcasts {
         requires { unit < length self.old.begun.items }
         ensures { (b : SomeBroadcasts) → RecallsBroadcasts (settings_of basis.now) self.old b
             → RecallsBroadcasts (settings_of basis.now) self.new
-            (with_one unit (broadcast_of (settings_of basis.now) (known_by known.now) (sent_as message.now) moment line) b) }
+            (with_one unit (begun_by (settings_of basis.now) (known_by known.now) (sent_as message.now) moment line) b) }
     {
-        let one = broadcast_of(basis, known, message, moment, line);
+        let one = begun_by(basis, known, message, moment, line);
         self.set(unit, one);
     }
 

@@ -8,11 +8,11 @@ use Rattle.j39_timing.specs.Errors.{Damaged, IsBusWithErrors}
 use Rattle.j39_timing.specs.Messages.{frame_end}
 use Rattle.j39_timing.specs.TimedFrames.{Schedule}
 use Rattle.j39_audit.specs.Below.{each_below}
-use Rattle.j39_audit.specs.Broadcasts.{Broadcasts, late_by, late_noted}
+use Rattle.j39_audit.specs.BegunBroadcasts.{BegunBroadcasts, late_by, late_noted}
 use Rattle.j39_audit.specs.Counting.{Noted}
 use Rattle.j39_audit.specs.MessageStreams.{longest_us}
 use Rattle.j39_audit.specs.Near.{excess}
-use Rattle.j39_audit.specs.declared.broadcasts.Broadcast.{Broadcast}
+use Rattle.j39_audit.specs.declared.broadcasts.BegunBroadcast.{BegunBroadcast}
 use Rattle.j39_audit.proofs.Below.{each_more, each_none}
 use Rattle.j39_audit_laws.specs.InTurn.{IsInTurn, NotesTheLate, late_behind, with_next, with_packets}
 use Rattle.j39_audit_laws.specs.LogBounds.{IsMarkedBound, IsTimedBound, Lines}
@@ -34,7 +34,7 @@ unfolding excess
 no_excess None upper below = refl
 no_excess (Some x) upper below = rw (le-ltb upper x (below x refl)) refl
 
-none_late : (t : Timing) (idle : Option ℕ) (one : Broadcast) → excess idle (one.moment + longest_us t t.broadcast_gap_most) ≡ None → late_by t idle one ≡ None
+none_late : (t : Timing) (idle : Option ℕ) (one : BegunBroadcast) → excess idle (one.moment + longest_us t t.broadcast_gap_most) ≡ None → late_by t idle one ≡ None
 none_late t idle one none = elim (cases_Bool (one.left == 0)) [
   | inl last ↦ rw last refl
   | inr more ↦ rw more none
@@ -57,7 +57,7 @@ module _ (s : Schedule) (d : Damaged) (log : Lines) (fast : log.us ≤ 8) (keeps
       let is = timed.is in
       omega (arith, bound, since, at, is)
 
-pub sends_in_turn : (s : Schedule) (d : Damaged) (log : Lines) (t : Timing) (one : Broadcast) (g p : ℕ) (idle : Option ℕ)
+pub sends_in_turn : (s : Schedule) (d : Damaged) (log : Lines) (t : Timing) (one : BegunBroadcast) (g p : ℕ) (idle : Option ℕ)
     → log.us ≤ 8 → KeepsTime log.us log.clock → IsBusWithErrors s d → ((q : ℕ) → q < s.count → s.bits q ≤ 160) → AreFew d log.few
     → IsTimedBound s log g one.moment → IsInTurn s log.us t.broadcast_gap_most g p → ((x : ℕ) → idle ≡ Some x → IsMarkedBound s log 0 p x)
     → late_by t idle one ≡ None
@@ -69,18 +69,18 @@ sends_in_turn s d log t one g p idle fast keeps bus short seldom timed turn mark
 
 -- ---- what is noted
 
-module _ (t : Timing) (u count : ℕ) (moments lines : ℕ → ℕ) (idles : ℕ → Option ℕ) (b : Broadcasts) where
+module _ (t : Timing) (u count : ℕ) (moments lines : ℕ → ℕ) (idles : ℕ → Option ℕ) (b : BegunBroadcasts) where
   there : (n : ℕ) → (with_packets t u count moments lines idles n b).begun u ≡ Some (record { left = count - n; moment = moments n; line = lines n })
   unfolding with_packets
   there zero =
-      let left : ℕ → Option Broadcast = λ k. Some (record { left = k; moment = moments 0; line = lines 0 }) in
+      let left : ℕ → Option BegunBroadcast = λ k. Some (record { left = k; moment = moments 0; line = lines 0 }) in
       let same : count ≡ count - 0 = omega arith in
       ap (λ (i : Bool). cond i (left count) (b.begun u)) (eq-eqb u u refl) ∙ ap left same
   there (suc n) =
       let before = with_packets t u count moments lines idles n b in
-      let left : ℕ → Option Broadcast = λ k. Some (record { left = k; moment = moments (suc n); line = lines (suc n) }) in
+      let left : ℕ → Option BegunBroadcast = λ k. Some (record { left = k; moment = moments (suc n); line = lines (suc n) }) in
       let same : count - n - 1 ≡ count - suc n = omega arith in
-      ap (λ (o : Option Broadcast). (with_next t u (idles (suc n)) (moments (suc n)) (lines (suc n)) o before).begun u) (there n)
+      ap (λ (o : Option BegunBroadcast). (with_next t u (idles (suc n)) (moments (suc n)) (lines (suc n)) o before).begun u) (there n)
       ∙ ap (λ (i : Bool). cond i (left (count - n - 1)) (before.begun u)) (eq-eqb u u refl) ∙ ap left same
 
   late_here : (n : ℕ) → late_noted u (lines n) (late_by t (idles (suc n)) (record { left = count - n; moment = moments n; line = lines n }))
@@ -97,10 +97,10 @@ module _ (t : Timing) (u count : ℕ) (moments lines : ℕ → ℕ) (idles : ℕ
   noted (suc n) =
       let before = with_packets t u count moments lines idles n b in
       let more = late_behind t u count moments lines idles in
-      let one : Broadcast = record { left = count - n; moment = moments n; line = lines n } in
+      let one : BegunBroadcast = record { left = count - n; moment = moments n; line = lines n } in
       let next : suc n ≡ n + 1 = omega arith in
       let whole : each_below more (suc n) ≡ each_below more n ++ more n = ap (λ (k : ℕ). each_below more k) next ∙ each_more more n in
-      ap (λ (o : Option Broadcast). (with_next t u (idles (suc n)) (moments (suc n)) (lines (suc n)) o before).late) (there n)
+      ap (λ (o : Option BegunBroadcast). (with_next t u (idles (suc n)) (moments (suc n)) (lines (suc n)) o before).late) (there n)
       ∙ ap (λ (l : List Noted). l ++ late_noted u one.line (late_by t (idles (suc n)) one)) (noted n)
       ∙ ap (λ (l : List Noted). (b.late ++ each_below more n) ++ l) (late_here n)
       ∙ append_assoc b.late (each_below more n) (more n) ∙ ap (λ (l : List Noted). b.late ++ l) (sym whole)

@@ -3,9 +3,9 @@ ghost use Rattle.std.specs.Prelude.{◌≡◌, ◌↔◌, ◌+◌, ◌-◌, ◌*
 ghost use Rattle.j39_audit.specs.Near.{IsTooNear, is_too_near};
 ghost use Rattle.j39_audit.specs.Silence.{IsTooFar, is_silent};
 ghost use Rattle.j39_audit.specs.Asking.{longest_answer_ms};
-ghost use Rattle.j39_audit.specs.Broadcasts.{late_by};
+ghost use Rattle.j39_audit.specs.BegunBroadcasts.{late_by};
 ghost use Rattle.j39_audit.specs.Settings.{AreMoving, Settings};
-ghost use Rattle.j39_audit.specs.declared.broadcasts.Broadcast.{Broadcast as ABroadcast};
+ghost use Rattle.j39_audit.specs.declared.broadcasts.BegunBroadcast.{BegunBroadcast as ABroadcast};
 ghost use Rattle.j39_audit.specs.declared.window.Window.{Window as AWindow};
 ghost use Rattle.j39_audit.specs.declared.mark.Word.TheVariants.{Address, Cannot, Layout, NoFlow, Priority, Urgent};
 ghost use Rattle.j39_audit.specs.declared.mark.Word.TheVariants.{Nobody, Short, Stranger};

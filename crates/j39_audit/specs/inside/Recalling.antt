@@ -4,7 +4,7 @@ use Rattle.std.specs.HashMap.{get}
 use Rattle.std.specs.Option.{option_copied}
 use Rattle.j39_network.specs.declared.plan.Plan.{Plan}
 use Rattle.j39_audit.specs.Asking.{Asking}
-use Rattle.j39_audit.specs.Broadcasts.{Broadcasts}
+use Rattle.j39_audit.specs.BegunBroadcasts.{BegunBroadcasts}
 use Rattle.j39_audit.specs.Claiming.{HeardClaims, Knowledge, knowledge}
 use Rattle.j39_audit.specs.Counting.{Key, Noted, is_same_key, never, told_at}
 use Rattle.j39_audit.specs.Moments.{Moments}
@@ -14,8 +14,8 @@ use Rattle.j39_audit.specs.MessageStreams.{sighted_behind}
 use Rattle.j39_audit.specs.declared.asking.Asking.{Asking as KeptAsking}
 use Rattle.j39_audit.specs.declared.asking.ClaimRequest.{ClaimRequest}
 use Rattle.j39_audit.specs.declared.basis.Basis.{Basis}
-use Rattle.j39_audit.specs.declared.broadcasts.Broadcast.{Broadcast}
-use Rattle.j39_audit.specs.declared.broadcasts.Broadcasts.{Broadcasts as KeptBroadcasts}
+use Rattle.j39_audit.specs.declared.broadcasts.BegunBroadcast.{BegunBroadcast}
+use Rattle.j39_audit.specs.declared.broadcasts.BegunBroadcasts.{BegunBroadcasts as KeptBroadcasts}
 use Rattle.j39_audit.specs.declared.earliest.Earliest.{Earliest}
 use Rattle.j39_audit.specs.declared.known.Known.{Known}
 use Rattle.j39_audit.specs.declared.messages.UnitMessage.{UnitMessage}
@@ -111,11 +111,11 @@ pub record RecallsAsking (s : Settings) (kept : KeptAsking) (a : Asking) : Type 
 
 -- ---- broadcasts
 
-abbrev pub begun_in : KeptBroadcasts → ℕ → Option Broadcast
+abbrev pub begun_in : KeptBroadcasts → ℕ → Option BegunBroadcast
 begun_in kept u = slice_index_or kept.begun.items u None
 
 -- those that have begun are kept; where it isn't open, none has
-pub record RecallsBroadcasts (s : Settings) (kept : KeptBroadcasts) (b : Broadcasts) : Type 0 where
+pub record RecallsBroadcasts (s : Settings) (kept : KeptBroadcasts) (b : BegunBroadcasts) : Type 0 where
   pub size : length kept.begun.items ≡ length s.plan.units.items
   pub begun : (u : ℕ) → begun_in kept u ≡ b.begun u
   pub closed : kept.open ≡ false → (u : ℕ) → b.begun u ≡ None

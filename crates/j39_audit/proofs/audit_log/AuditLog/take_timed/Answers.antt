@@ -7,7 +7,7 @@ use Rattle.j39_tp.specs.declared.packet.Packet.{Packet}
 use Rattle.j39_audit.specs.AuditText.{broadcasts_there, claims_before, claims_with_frame, counted_for, moments_with_frame, past_with_frame}
 use Rattle.j39_audit.specs.Asking.{asking_behind}
 use Rattle.j39_audit.specs.Breaks.{breaks, newest_behind}
-use Rattle.j39_audit.specs.Broadcasts.{announcement_in, broadcasts_behind, packet_with}
+use Rattle.j39_audit.specs.BegunBroadcasts.{announcement_in, broadcasts_behind, packet_with}
 use Rattle.j39_audit.specs.Claiming.{Knowledge, broken_off, knowledge}
 use Rattle.j39_audit.specs.Counting.{Noted}
 use Rattle.j39_audit.specs.Looking.{IsPacketOf, break_noted, frame_noted}

@@ -1,5 +1,5 @@
 use Rattle.std.proofs.Common.{refl, ◌∙◌}
-use Rattle.j39_audit.proofs.broadcasts.Broadcasts.forget_all.Goals as goal
+use Rattle.j39_audit.proofs.broadcasts.BegunBroadcasts.forget_all.Goals as goal
 
 pub returns-then-self : goal.returns-then-self
 returns-then-self c = λ b recalls. record {

@@ -1,5 +1,5 @@
-use Rattle.j39_audit.proofs.broadcasts.Broadcasts.begin.Goals as goal
-use Rattle.j39_audit.proofs.broadcasts.Broadcasts.begin.Goals.{then-anew-via-then-anew, then-anew-via-else-anew+then-broken}
+use Rattle.j39_audit.proofs.broadcasts.BegunBroadcasts.begin.Goals as goal
+use Rattle.j39_audit.proofs.broadcasts.BegunBroadcasts.begin.Goals.{then-anew-via-then-anew, then-anew-via-else-anew+then-broken}
 
 pub returns-then-anew : goal.returns-then-anew
 returns-then-anew c = λ b recalls.

@@ -1,10 +1,10 @@
 use Rattle.std.proofs.Common.{◌++◌, ℕ, Option, Some, ap, subst, ◌∙◌}
 use Rattle.std.proofs.lemmas.Result.{IfOk-weaker}
-use Rattle.j39_audit.specs.Broadcasts.{late_noted, next_packet}
-use Rattle.j39_audit.specs.declared.broadcasts.Broadcast.{Broadcast}
+use Rattle.j39_audit.specs.BegunBroadcasts.{late_noted, next_packet}
+use Rattle.j39_audit.specs.declared.broadcasts.BegunBroadcast.{BegunBroadcast}
 use Rattle.j39_audit.specs.inside.Recalling.{AreCounted, settings_of}
 use Rattle.j39_audit.proofs.Begun.{kept_one}
-use Rattle.j39_audit.proofs.broadcasts.Broadcasts.take_packet.Goals as goal
+use Rattle.j39_audit.proofs.broadcasts.BegunBroadcasts.take_packet.Goals as goal
 
 pub returns : goal.returns
 returns c =
@@ -12,7 +12,7 @@ returns c =
     (λ _ noted. λ b recalls.
     let is = c.set.ensures in
     let next = Some (next_packet c.args.one c.args.moment c.args.line) in
-    let with_left : ℕ → Option Broadcast = λ n. Some (record { left = n; moment = c.args.moment; line = c.args.line }) in
+    let with_left : ℕ → Option BegunBroadcast = λ n. Some (record { left = n; moment = c.args.moment; line = c.args.line }) in
     let here = is.here ∙ ap with_left c.saturating_sub.ensures in
     let one = kept_one (settings_of c.args.basis.now) c.args.unit next b c.args.self.now c.set.new.self is.open is.late is.size is.others here recalls in
     record {

@@ -20,38 +20,38 @@ use Rattle.j39_audit.specs.Near.{excess}
 use Rattle.j39_audit.specs.SentMessages.{SentMessage, is_fit}
 use Rattle.j39_audit.specs.Settings.{Settings, logger_error, units_planned}
 use Rattle.j39_audit.specs.declared.broadcasts.Announcement.{Announcement}
-use Rattle.j39_audit.specs.declared.broadcasts.Broadcast.{Broadcast}
+use Rattle.j39_audit.specs.declared.broadcasts.BegunBroadcast.{BegunBroadcast}
 use Rattle.j39_audit.specs.declared.mark.Word.TheVariants.{NearPackets, SilentPackets}
 use Rattle.j39_audit.specs.declared.pauses.Ending.{Ending}
 use Rattle.j39_audit.specs.declared.pauses.Ending.TheVariants.{Nothing, OfUnit, OfAll}
 use Rattle.j39_audit.specs.declared.streams.MessageStream.{MessageStream}
 
 -- of each unit its planned broadcast, where none of its packets can be missed; and what was found
-pub record Broadcasts : Type 0 where
-  pub begun : ℕ → Option Broadcast
+pub record BegunBroadcasts : Type 0 where
+  pub begun : ℕ → Option BegunBroadcast
   pub late : List Noted
 
-abbrev pub no_broadcasts : Broadcasts
+abbrev pub no_broadcasts : BegunBroadcasts
 no_broadcasts = record { begun = λ u. None; late = [] }
 
 -- ---- where they end
 
-abbrev pub all_ended : Broadcasts → Broadcasts
+abbrev pub all_ended : BegunBroadcasts → BegunBroadcasts
 all_ended b = record b { begun = λ u. None }
 
 -- just before a frame, where times begin anew or the log breaks off
-abbrev pub ended_before : Bool → Bool → Broadcasts → Broadcasts
+abbrev pub ended_before : Bool → Bool → BegunBroadcasts → BegunBroadcasts
 ended_before anew broken b = if anew then all_ended b else if broken then all_ended b else b
 
-abbrev pub with_begun : ℕ → Option Broadcast → (ℕ → Option Broadcast) → ℕ → Option Broadcast
+abbrev pub with_begun : ℕ → Option BegunBroadcast → (ℕ → Option BegunBroadcast) → ℕ → Option BegunBroadcast
 with_begun u one begun other = if u == other then one else begun other
 
 -- of a unit
-abbrev pub with_one : ℕ → Option Broadcast → Broadcasts → Broadcasts
+abbrev pub with_one : ℕ → Option BegunBroadcast → BegunBroadcasts → BegunBroadcasts
 with_one u one b = record b { begun = with_begun u one b.begun }
 
 -- with the pauses that end at a claim
-abbrev pub ended_with : Ending → Broadcasts → Broadcasts
+abbrev pub ended_with : Ending → BegunBroadcasts → BegunBroadcasts
 ended_with Nothing b = b
 ended_with (OfUnit u) b = with_one u None b
 ended_with OfAll b = all_ended b
@@ -76,8 +76,8 @@ announced_to_all u f None = None
 announced_to_all u f (Some a) = Some (announced_message u f a.size a.number)
 
 -- a broadcast begins, if it is planned
-abbrev pub broadcast_of : Settings → Knowledge → SentMessage → ℕ → ℕ → Option Broadcast
-broadcast_of s k m moment line = if is_paced s k m then Some (record { left = packets_of m.size; moment = moment; line = line }) else None
+abbrev pub begun_by : Settings → Knowledge → SentMessage → ℕ → ℕ → Option BegunBroadcast
+begun_by s k m moment line = if is_paced s k m then Some (record { left = packets_of m.size; moment = moment; line = line }) else None
 
 -- ---- packets
 
@@ -85,27 +85,27 @@ abbrev pub is_packet_to_all : Frame → Bool
 is_packet_to_all f = pgn_of f.ident == data_transfer && (f.ident.ps == global_address && length f.payload.items == frame_bytes)
 
 -- the stream of a unit's packets: one is queued at its moment
-abbrev pub packet_stream : Timing → ℕ → MessageStream
-packet_stream t u = record { mark = stream_mark NearPackets u; step = shortest_us t t.broadcast_gap; slack = Some 0; pause = None }
+abbrev pub stream_of_packets : Timing → ℕ → MessageStream
+stream_of_packets t u = record { mark = stream_mark NearPackets u; step = shortest_us t t.broadcast_gap; slack = Some 0; pause = None }
 
 -- the frame is of it, with this broadcast of its unit before it
-abbrev pub packet_of : Timing → ℕ → Frame → Option Broadcast → Option MessageStream
+abbrev pub packet_of : Timing → ℕ → Frame → Option BegunBroadcast → Option MessageStream
 packet_of t u f None = None
-packet_of t u f (Some one) = if is_packet_to_all f then Some (packet_stream t u) else None
+packet_of t u f (Some one) = if is_packet_to_all f then Some (stream_of_packets t u) else None
 
 -- by how much it comes too late behind the announcement, or behind a packet but the last
-abbrev pub late_by : Timing → Option ℕ → Broadcast → Option ℕ
+abbrev pub late_by : Timing → Option ℕ → BegunBroadcast → Option ℕ
 late_by t idle one = if one.left == 0 then None else excess idle (one.moment + longest_us t t.broadcast_gap_most)
 
 abbrev pub late_noted : ℕ → ℕ → Option ℕ → List Noted
 late_noted u line None = []
 late_noted u line (Some by) = record { mark = stream_mark SilentPackets u; line = line; detail = by } ∷ []
 
-abbrev pub next_packet : Broadcast → ℕ → ℕ → Broadcast
+abbrev pub next_packet : BegunBroadcast → ℕ → ℕ → BegunBroadcast
 next_packet one moment line = record { left = one.left - 1; moment = moment; line = line }
 
 -- with a packet at this idle mark
-abbrev pub with_packet : Timing → ℕ → Option ℕ → ℕ → ℕ → Broadcast → Broadcasts → Broadcasts
+abbrev pub with_packet : Timing → ℕ → Option ℕ → ℕ → ℕ → BegunBroadcast → BegunBroadcasts → BegunBroadcasts
 with_packet t u idle moment line one b = record {
   begun = with_begun u (Some (next_packet one moment line)) b.begun;
   late = b.late ++ late_noted u one.line (late_by t idle one);
@@ -114,25 +114,25 @@ with_packet t u idle moment line one b = record {
 -- ---- a frame
 
 -- of a unit, which announces this to all or announces nothing, and ended by this moment
-abbrev pub with_sent : Settings → Knowledge → Timing → ℕ → Frame → Option ℕ → ℕ → ℕ → Option SentMessage → Option Broadcast → Broadcasts → Broadcasts
-with_sent s k t u f idle moment line (Some m) before b = with_one u (broadcast_of s k m moment line) b
+abbrev pub with_sent : Settings → Knowledge → Timing → ℕ → Frame → Option ℕ → ℕ → ℕ → Option SentMessage → Option BegunBroadcast → BegunBroadcasts → BegunBroadcasts
+with_sent s k t u f idle moment line (Some m) before b = with_one u (begun_by s k m moment line) b
 with_sent s k t u f idle moment line None None b = b
 with_sent s k t u f idle moment line None (Some one) b = if is_packet_to_all f then with_packet t u idle moment line one b else b
 
-abbrev pub with_frame : Settings → Knowledge → Option Timing → Option ℕ → Frame → Option Announcement → Option ℕ → Option ℕ → ℕ → Broadcasts → Broadcasts
-with_frame s k (Some t) (Some u) f announced (Some time) idle line b =
+abbrev pub broadcasts_with_frame : Settings → Knowledge → Option Timing → Option ℕ → Frame → Option Announcement → Option ℕ → Option ℕ → ℕ → BegunBroadcasts → BegunBroadcasts
+broadcasts_with_frame s k (Some t) (Some u) f announced (Some time) idle line b =
     if nat_lt u (units_planned s)
     then with_sent s k t u f idle (time + long_before + logger_error s) line (announced_to_all u f announced) (b.begun u) b else b
-with_frame s k _ _ f announced _ idle line b = b
+broadcasts_with_frame s k _ _ f announced _ idle line b = b
 
 -- and of which unit's packets it is one
-abbrev pub packet_with : Option Timing → Option ℕ → Frame → Broadcasts → Option MessageStream
+abbrev pub packet_with : Option Timing → Option ℕ → Frame → BegunBroadcasts → Option MessageStream
 packet_with (Some t) (Some u) f b = packet_of t u f (b.begun u)
 packet_with _ _ f b = None
 
 -- just before a frame, and behind one
-unfoldable pub broadcasts_before : Bool → Bool → Ending → Broadcasts → Broadcasts
+unfoldable pub broadcasts_before : Bool → Bool → Ending → BegunBroadcasts → BegunBroadcasts
 broadcasts_before anew broken ending b = ended_with ending (ended_before anew broken b)
 
-unfoldable pub broadcasts_behind : Settings → Knowledge → Option ℕ → Frame → Option Announcement → Option ℕ → Option ℕ → ℕ → Broadcasts → Broadcasts
-broadcasts_behind s k unit f announced time idle line b = with_frame s k s.plan.timing unit f announced time idle line b
+unfoldable pub broadcasts_behind : Settings → Knowledge → Option ℕ → Frame → Option Announcement → Option ℕ → Option ℕ → ℕ → BegunBroadcasts → BegunBroadcasts
+broadcasts_behind s k unit f announced time idle line b = broadcasts_with_frame s k s.plan.timing unit f announced time idle line b

@@ -3,18 +3,18 @@ use Rattle.std.specs.Prelude.{nat_lt}
 use Rattle.std.proofs.lemmas.Bool.{le-ltb, lt-ltb}
 use Rattle.std.proofs.lemmas.Result.{IfOk-weaker}
 use Rattle.j39_network.specs.declared.plan.timing.Timing.{Timing}
-use Rattle.j39_audit.specs.Broadcasts.{announced_to_all, broadcasts_behind, with_frame, with_sent}
+use Rattle.j39_audit.specs.BegunBroadcasts.{announced_to_all, broadcasts_behind, broadcasts_with_frame, with_sent}
 use Rattle.j39_audit.specs.Moments.{long_before}
 use Rattle.j39_audit.specs.Settings.{units_planned}
 use Rattle.j39_audit.specs.inside.Recalling.{RecallsBroadcasts, known_by, settings_of}
 use Rattle.j39_audit.proofs.Begun.{framed}
-use Rattle.j39_audit.proofs.broadcasts.Broadcasts.take.Goals as goal
+use Rattle.j39_audit.proofs.broadcasts.BegunBroadcasts.take.Goals as goal
 
 pub returns-in_default : goal.returns-in_default
 unfolding broadcasts_behind
 returns-in_default c = λ b recalls.
     subst (λ (t : Option Timing). RecallsBroadcasts (settings_of c.args.basis.now) c.args.self.now
-    (with_frame (settings_of c.args.basis.now) (known_by c.args.known.now) t c.args.unit c.args.frame.now c.args.announced c.args.time c.args.idle c.args.line b))
+    (broadcasts_with_frame (settings_of c.args.basis.now) (known_by c.args.known.now) t c.args.unit c.args.frame.now c.args.announced c.args.time c.args.idle c.args.line b))
     (sym c.in_default.is) recalls
 
 pub returns-in_default-unit : goal.returns-in_default-unit
@@ -24,8 +24,8 @@ returns-in_default-unit c = λ b recalls.
     let k = known_by c.args.known.now in
     let kept = c.args.self.now in
     let f = c.args.frame.now in
-    subst (λ (t : Option Timing). RecallsBroadcasts s kept (with_frame s k t c.args.unit f c.args.announced c.args.time c.args.idle c.args.line b)) (sym c.in-Some.is)
-    (subst (λ (u : Option ℕ). RecallsBroadcasts s kept (with_frame s k (Some c.in-Some.timing) u f c.args.announced c.args.time c.args.idle c.args.line b))
+    subst (λ (t : Option Timing). RecallsBroadcasts s kept (broadcasts_with_frame s k t c.args.unit f c.args.announced c.args.time c.args.idle c.args.line b)) (sym c.in-Some.is)
+    (subst (λ (u : Option ℕ). RecallsBroadcasts s kept (broadcasts_with_frame s k (Some c.in-Some.timing) u f c.args.announced c.args.time c.args.idle c.args.line b))
     (sym c.in_default-unit.is) recalls)
 
 pub returns-in_default-time : goal.returns-in_default-time
@@ -36,9 +36,9 @@ returns-in_default-time c = λ b recalls.
     let kept = c.args.self.now in
     let f = c.args.frame.now in
     let t = c.in-Some.timing in
-    subst (λ (t : Option Timing). RecallsBroadcasts s kept (with_frame s k t c.args.unit f c.args.announced c.args.time c.args.idle c.args.line b)) (sym c.in-Some.is)
-    (subst (λ (u : Option ℕ). RecallsBroadcasts s kept (with_frame s k (Some t) u f c.args.announced c.args.time c.args.idle c.args.line b)) (sym c.in-Some-unit.is)
-    (subst (λ (o : Option ℕ). RecallsBroadcasts s kept (with_frame s k (Some t) (Some c.in-Some-unit.unit) f c.args.announced o c.args.idle c.args.line b))
+    subst (λ (t : Option Timing). RecallsBroadcasts s kept (broadcasts_with_frame s k t c.args.unit f c.args.announced c.args.time c.args.idle c.args.line b)) (sym c.in-Some.is)
+    (subst (λ (u : Option ℕ). RecallsBroadcasts s kept (broadcasts_with_frame s k (Some t) u f c.args.announced c.args.time c.args.idle c.args.line b)) (sym c.in-Some-unit.is)
+    (subst (λ (o : Option ℕ). RecallsBroadcasts s kept (broadcasts_with_frame s k (Some t) (Some c.in-Some-unit.unit) f c.args.announced o c.args.idle c.args.line b))
     (sym c.in_default-time.is) recalls))
 
 pub returns-then-unit-len : goal.returns-then-unit-len

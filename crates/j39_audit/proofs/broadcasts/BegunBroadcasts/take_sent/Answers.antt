@@ -1,11 +1,11 @@
 use Rattle.std.proofs.Common.{◌≡◌, Option, Some, None, sym, ap, subst, ◌∙◌}
 use Rattle.std.specs.Option.{option_map}
 use Rattle.std.proofs.lemmas.Result.{IfOk-weaker}
-use Rattle.j39_audit.specs.Broadcasts.{announced_to_all, with_sent}
+use Rattle.j39_audit.specs.BegunBroadcasts.{announced_to_all, with_sent}
 use Rattle.j39_audit.specs.SentMessages.{SentMessage}
 use Rattle.j39_audit.specs.declared.messages.UnitMessage.{UnitMessage}
 use Rattle.j39_audit.specs.inside.Recalling.{RecallsBroadcasts, known_by, sent_as, settings_of}
-use Rattle.j39_audit.proofs.broadcasts.Broadcasts.take_sent.Goals as goal
+use Rattle.j39_audit.proofs.broadcasts.BegunBroadcasts.take_sent.Goals as goal
 
 pub returns-in-Some : goal.returns-in-Some
 returns-in-Some c = λ b recalls.

@@ -1,9 +1,9 @@
 use Rattle.std.proofs.Common.{sym, subst}
-use Rattle.j39_audit.specs.Broadcasts.{ended_with}
+use Rattle.j39_audit.specs.BegunBroadcasts.{ended_with}
 use Rattle.j39_audit.specs.declared.pauses.Ending.{Ending}
 use Rattle.j39_audit.specs.inside.Recalling.{RecallsBroadcasts, settings_of}
 use Rattle.j39_audit.proofs.Begun.{forgot_one}
-use Rattle.j39_audit.proofs.broadcasts.Broadcasts.end.Goals as goal
+use Rattle.j39_audit.proofs.broadcasts.BegunBroadcasts.end.Goals as goal
 
 pub returns-in-OfUnit : goal.returns-in-OfUnit
 returns-in-OfUnit c = λ b recalls.
