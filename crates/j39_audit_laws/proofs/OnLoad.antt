@@ -9,11 +9,11 @@ use Rattle.j39_audit.specs.Silence.{is_silent}
 use Rattle.j39_audit.specs.declared.window.Window.{Window}
 use Rattle.j39_audit_laws.specs.LogBounds.{AreOfLoad, IsEndBound, Lines}
 use Rattle.j39_audit_laws.specs.MarkRecords.{KeepsTime}
-use Rattle.j39_audit_laws.specs.StreamRecords.{AreAllBefore, AreBounds, AreLines, AreMsApart, AreReleasedFirst, AreSentWithin, IsBoundFrom, IsOneAtATime, KeepsMs}
+use Rattle.j39_audit_laws.specs.StreamRecords.{AreAllBefore, AreBounds, AreLines, AreMsApart, AreReleasedFirst, AreMessagesInTime, IsBoundFrom, IsOneAtATime, KeepsMs}
 use Rattle.j39_audit_laws.proofs.OnBus.{kept_coming, kept_periods, rises}
 
 module _ (s : Schedule) (log : Lines) (bits n : ℕ) (is_message : ℕ → Bool) (release frame : ℕ → ℕ) (windows : ℕ → Window)
-    (keeps : KeepsTime log.us log.clock) (sent : AreSentWithin s bits is_message release) where
+    (keeps : KeepsTime log.us log.clock) (sent : AreMessagesInTime s bits is_message release) where
   abbrev slack : ℕ
   slack = us_at_logger (bits * log.us)
 
@@ -43,7 +43,7 @@ module _ (s : Schedule) (log : Lines) (bits n : ℕ) (is_message : ℕ → Bool)
   }
 
 pub in_time_not_near : (s : Schedule) (log : Lines) (period bits n : ℕ) (is_message : ℕ → Bool) (release frame : ℕ → ℕ) (windows : ℕ → Window)
-    → KeepsTime log.us log.clock → IsOneAtATime s → AreReleasedFirst s is_message release → AreSentWithin s bits is_message release
+    → KeepsTime log.us log.clock → IsOneAtATime s → AreReleasedFirst s is_message release → AreMessagesInTime s bits is_message release
     → AreMsApart s log.us period is_message release → AreLines s is_message n frame
     → AreOfLoad s log (us_at_logger (bits * log.us)) n frame windows
     → (j : ℕ) → j < n → is_too_near (999 * period) windows j ≡ false
@@ -53,7 +53,7 @@ in_time_not_near s log period bits n is_message release frame windows keeps one 
 
 pub in_time_not_silent : (s : Schedule) (log : Lines) (bits_of_ms pause bits from to n : ℕ) (is_message : ℕ → Bool) (release frame : ℕ → ℕ)
     (windows : ℕ → Window) → log.us * bits_of_ms ≡ 1000 → KeepsTime log.us log.clock → IsOneAtATime s → AreReleasedFirst s is_message release
-    → AreSentWithin s bits is_message release → KeepsMs s log.us pause is_message release from to → from ≤ to
+    → AreMessagesInTime s bits is_message release → KeepsMs s log.us pause is_message release from to → from ≤ to
     → AreLines s is_message n frame → AreOfLoad s log (us_at_logger (bits * log.us)) n frame windows → from ≤ frame_end s (frame 0)
     → (j : ℕ) → j ≤ n → (lower : Option ℕ) → (of : ℕ) → AreAllBefore s is_message frame j of
     → ((x : ℕ) → lower ≡ Some x → IsEndBound s log (us_at_logger (bits * log.us)) of x × (1000 * x ≤ log.clock to))

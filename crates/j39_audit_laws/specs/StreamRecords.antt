@@ -35,8 +35,8 @@ abbrev pub HaveJitter : Schedule → ℕ → ℕ → (ℕ → Bool) → (ℕ →
 HaveJitter s us jitter is_message release = (p : ℕ) → p < s.count → is_message p ≡ true → s.queued p * us ≤ release p * us + 1000 * jitter
 
 -- and has been sent within so many bits of it, as far as it should have been by now
-abbrev pub AreSentWithin : Schedule → ℕ → (ℕ → Bool) → (ℕ → ℕ) → Type 0
-AreSentWithin s bits is_message release = (p : ℕ) → p < s.count → is_message p ≡ true → release p + bits < s.now → frame_end s p ≤ release p + bits
+abbrev pub AreMessagesInTime : Schedule → ℕ → (ℕ → Bool) → (ℕ → ℕ) → Type 0
+AreMessagesInTime s bits is_message release = (p : ℕ) → p < s.count → is_message p ≡ true → release p + bits < s.now → frame_end s p ≤ release p + bits
 
 -- the releases of each two are so many milliseconds apart
 abbrev pub AreMsApart : Schedule → ℕ → ℕ → (ℕ → Bool) → (ℕ → ℕ) → Type 0

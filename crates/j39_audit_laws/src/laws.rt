@@ -21,7 +21,7 @@ ghost use Rattle.j39_audit_laws.specs.OneAudit.{AuditHasOneText};
 ghost use Rattle.j39_audit_laws.specs.OwnPart.{AlwaysCan, AreItsOwn, ClaimsItsOwn, IsNotNamed, LooksAsPlanned, SentBy};
 ghost use Rattle.j39_audit_laws.specs.OwnPart.{WaitsForPlanned};
 ghost use Rattle.j39_audit_laws.specs.MarkRecords.{AreFew, IsMarkOf, KeepsTime, ShowsIdle, longest_reach};
-ghost use Rattle.j39_audit_laws.specs.StreamRecords.{AreAllBefore, AreLines, AreMsApart, AreReleasedFirst, AreSentWithin, HaveJitter, IsOneAtATime, KeepsMs};
+ghost use Rattle.j39_audit_laws.specs.StreamRecords.{AreAllBefore, AreLines, AreMsApart, AreReleasedFirst, AreMessagesInTime, HaveJitter, IsOneAtATime, KeepsMs};
 ghost use Rattle.j39_audit_laws.specs.Pausing.{ComesInTime, IsBoundAt, NotesTheSilent, NotesTheSilentEnd};
 ghost use Rattle.j39_audit_laws.specs.Stepping.{AreMomentsWithin, AreStepsApart, NotesTheNear};
 ghost use Rattle.j39_audit.specs.Responses.{us_at_logger};
@@ -203,13 +203,13 @@ pub fn no_stream_is_told_wrongly()
 /// thousandth: neither as too near nor as silent, whatever lines of it a log lacks before.
 pub fn who_is_sent_in_time_is_not_told()
     ensures near { (s : Schedule) (log : Lines) (period bits n : ℕ) (is_message : ℕ → Bool) (release frame : ℕ → ℕ) (windows : ℕ → AWindow)
-        → KeepsTime log.us log.clock → IsOneAtATime s → AreReleasedFirst s is_message release → AreSentWithin s bits is_message release
+        → KeepsTime log.us log.clock → IsOneAtATime s → AreReleasedFirst s is_message release → AreMessagesInTime s bits is_message release
         → AreMsApart s log.us period is_message release → AreLines s is_message n frame
         → AreOfLoad s log (us_at_logger (bits * log.us)) n frame windows
         → (j : ℕ) → j < n → is_too_near (999 * period) windows j ≡ false }
     ensures silent { (s : Schedule) (log : Lines) (bits_of_ms pause bits from to n : ℕ) (is_message : ℕ → Bool) (release frame : ℕ → ℕ)
         (windows : ℕ → AWindow) → log.us * bits_of_ms ≡ 1000 → KeepsTime log.us log.clock → IsOneAtATime s → AreReleasedFirst s is_message release
-        → AreSentWithin s bits is_message release → KeepsMs s log.us pause is_message release from to → from ≤ to
+        → AreMessagesInTime s bits is_message release → KeepsMs s log.us pause is_message release from to → from ≤ to
         → AreLines s is_message n frame → AreOfLoad s log (us_at_logger (bits * log.us)) n frame windows → from ≤ frame_end s (frame 0)
         → (j : ℕ) → j ≤ n → (lower : Option ℕ) → (of : ℕ) → AreAllBefore s is_message frame j of
         → ((x : ℕ) → lower ≡ Some x → IsEndBound s log (us_at_logger (bits * log.us)) of x × (1000 * x ≤ log.clock to))
