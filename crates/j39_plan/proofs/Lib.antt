@@ -5,6 +5,7 @@ pub mod FourthPlans
 pub mod FourthReads
 pub mod FourthUnits
 pub mod HeadElements
+pub mod KnownRules
 pub mod KnownVersions
 pub mod Labelled
 pub mod NeedSignals

@@ -12,7 +12,7 @@ use Rattle.j39_plan.specs.Words.{word_of}
 use Rattle.j39_toml.specs.TableFaults.{is_key_word, has_only}
 
 -- a key that a version knows, looked for among all keys of the table
-known_word : (version : Version) (keys : List (Key × Version)) (name : List ℕ)
+pub known_word : (version : Version) (keys : List (Key × Version)) (name : List ℕ)
     → is_known_word version keys name ≡ is_key_word word_of (known_keys version keys) name
 known_word version [] name = refl
 known_word version (k ∷ keys) name = elim (cases_Bool (is_known k.1 version)) [

@@ -1,4 +1,5 @@
 pub mod Described
+pub mod KnownRules
 pub mod LabelsSeen
 pub mod PlanFaults
 pub mod FlowTables

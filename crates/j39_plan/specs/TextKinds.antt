@@ -1,5 +1,5 @@
 -- Which texts the keys of a plan take.
-use Rattle.std.specs.Prelude.{ℕ, List, length, Bool, true, ◌&&◌, ◌||◌, ◌==◌, nat_le, codes}
+use Rattle.std.specs.Prelude.{ℕ, List, [], length, Bool, true, ◌&&◌, ◌||◌, ◌==◌, nat_le, codes}
 use Rattle.std.specs.List.{list_all}
 use Rattle.std.specs.Str.{bytes_eq}
 use Rattle.j39_id.specs.LabelForm.{is_label, is_unit_label}
@@ -22,3 +22,9 @@ takes AnySignalKind t =
 takes SignalUnit t = nat_le (length t) 32 && list_all is_printable t
 takes Empty t = length t == 0
 takes Any t = true
+
+-- what stands for an absent text
+abbrev pub usual : TextKind → List ℕ
+usual Chooser = codes "lowest"
+usual Queue = codes "priority"
+usual _ = []

@@ -20,6 +20,7 @@ mod needs;
 mod place;
 mod plan_error;
 mod requests;
+mod rules;
 mod selectors;
 mod signals;
 mod tables;

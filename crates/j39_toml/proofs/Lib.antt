@@ -1,4 +1,5 @@
 pub mod EachElement
 pub mod FirstFaults
+pub mod KeptRules
 pub mod TreesRead
 pub mod TableViews

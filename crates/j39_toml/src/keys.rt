@@ -24,6 +24,13 @@ pub trait TextForm: Copy {
     // Whether a key of this kind takes a text.
     ghost fits: { Self → List ℕ → Bool };
 
+    // The text that stands for an absent key of this kind.
+    ghost usual: { Self → List ℕ };
+
+    /// The text that stands for an absent key of this kind.
+    fn usual(self) -> &'static str
+        ensures { result.now ≡ usual self };
+
     /// Whether a key of this kind takes the text.
     fn is_taken(self, text: &str) -> bool
         ensures { result ≡ fits self text.now };

@@ -31,7 +31,7 @@ found_at : (gs : List GatewayTable) (place : Option ℕ)
 found_at gs None = refl
 found_at gs (Some p) = slice_get-map named_gateway gs p
 
-pub units_found : (gs : List GatewayTable) (t : List ℕ) → units_of_named (map named_gateway gs) (Some t)
+pub units_found : (gs : List GatewayTable) (t : List ℕ) → units_of_named (map named_gateway gs) t
     ≡ option_map_or (λ g. map (λ n. string_bytes n.text) g.units.items) (option_and_then (slice_get gs) (position (λ g. bytes_eq g.label.bytes t) gs)) []
 units_found gs t =
     let units : Option Named → List (List ℕ) = λ found. option_map_or (λ g. g.units) found [] in

@@ -14,7 +14,7 @@ use Rattle.j39_vehicle.specs.VehicleErrors.{VehicleFault}
 use Rattle.j39_vehicle.specs.declared.file.gateway_table.GatewayTable.{GatewayTable}
 use Rattle.j39_vehicle.specs.TextKinds.{name_of, is_name}
 use Rattle.j39_vehicle.specs.VehicleLimits.{gateway_unit_limit}
-use Rattle.j39_vehicle.specs.Schema.{VehicleRule, needed, text_at, elements_at}
+use Rattle.j39_vehicle.specs.Schema.{VehicleRule, needed, text_under, elements_at}
 use Rattle.j39_toml.specs.Rules.{array_up_to}
 use Rattle.j39_toml.specs.TableFaults.{fault, table_faults, table_only_faults}
 use Rattle.j39_vehicle.specs.LabelsSeen.{label_faults, Named, is_label_among, repeated_faults}
@@ -70,7 +70,7 @@ named_gateway g = record { label = g.label.bytes; units = map (λ n. string_byte
 
 -- the gateway that a table tells
 pub record DescribesGateway (ms : Members) (g : GatewayTable) : Type 0 where
-  pub has_label : text_at key.Label ms ≡ Some g.label.bytes
+  pub has_label : g.label.bytes ≡ text_under key.Label ms
   pub has_units : map (λ n. string_bytes n.text) g.units.items ≡ texts_in (elements_at key.Unit ms)
 
 abbrev pub IsGatewayOf : Data → GatewayTable → Type 0
@@ -87,7 +87,7 @@ gateway_keys_faults i seen ms = table_faults word_of (at.Gateway i) gateway_rule
 -- behind the faults of the keys, units on no bus of the vehicle
 unfoldable pub gateway_table_faults : List Named → ℕ → List Named → Members → List VehicleFault
 gateway_table_faults buses i seen ms = gateway_keys_faults i seen ms
-    ++ (repeated_faults (at.Gateway i) key.Label seen (unwrap_or (text_at key.Label ms) [])
+    ++ (repeated_faults (at.Gateway i) key.Label seen (text_under key.Label ms)
     ++ label_faults (at.Gateway i) key.Unit (are_on buses (texts_in (elements_at key.Unit ms))))
 
 -- the faults of the i-th gateway, behind those seen

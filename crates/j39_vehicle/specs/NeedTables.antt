@@ -1,5 +1,5 @@
 -- The tables of needs across buses.
-use Rattle.std.specs.Prelude.{◌≡◌, ℕ, List, [], ◌∷◌, ◌++◌, Bool, false, Some, option_map, string_bytes}
+use Rattle.std.specs.Prelude.{◌≡◌, ℕ, List, [], ◌∷◌, ◌++◌, Bool, option_map, string_bytes}
 use Rattle.std.specs.Option.{option_map_or}
 use Rattle.toml.specs.Data.{Data, Members, as_table}
 use Rattle.j39_toml.specs.InOrder.{inside}
@@ -11,8 +11,7 @@ use Rattle.j39_vehicle.specs.VehicleErrors.{VehicleFault}
 use Rattle.j39_vehicle.specs.declared.reading.text_kind.TextKind.TheVariants as texts
 use Rattle.j39_vehicle.specs.declared.file.need_table.NeedTable.{NeedTable}
 use Rattle.j39_vehicle.specs.TextKinds.{name_of}
-use Rattle.j39_vehicle.specs.Schema.{VehicleRule, needed, optional, text_as, text_at, number_under}
-use Rattle.j39_toml.specs.Rules.{natural_in}
+use Rattle.j39_vehicle.specs.Schema.{VehicleRule, needed, optional, text_as, text_at, text_under, number_under, within_rule}
 use Rattle.j39_toml.specs.TableFaults.{table_faults, table_only_faults}
 use Rattle.j39_vehicle.specs.LabelsSeen.{label_faults, Named, is_label_among}
 
@@ -22,19 +21,19 @@ need_rules =
     ∷ needed key.Group (text_as texts.Any)
     ∷ optional key.Signal (text_as texts.Any)
     ∷ needed key.From (text_as texts.OnBus)
-    ∷ optional key.Within (natural_in 1 65535)
+    ∷ within_rule
     ∷ []
 
 -- the unit at a key is on one of the buses
 abbrev pub is_on_bus : List Named → Key → Members → Bool
-is_on_bus buses unit_key ms = option_map_or (λ t. is_label_among buses (name_of t).bus) (text_at unit_key ms) false
+is_on_bus buses unit_key ms = is_label_among buses (name_of (text_under unit_key ms)).bus
 
 -- the need that a table tells
 pub record DescribesNeed (ms : Members) (d : NeedTable) : Type 0 where
-  pub has_unit : text_at key.Unit ms ≡ Some (string_bytes d.unit.text)
-  pub has_group : text_at key.Group ms ≡ Some (string_bytes d.group)
-  pub has_signal : text_at key.Signal ms ≡ option_map string_bytes d.signal
-  pub has_from : text_at key.From ms ≡ Some (string_bytes d.from.text)
+  pub has_unit : string_bytes d.unit.text ≡ text_under key.Unit ms
+  pub has_group : string_bytes d.group ≡ text_under key.Group ms
+  pub has_signal : option_map string_bytes d.signal ≡ text_at key.Signal ms
+  pub has_from : string_bytes d.from.text ≡ text_under key.From ms
   pub has_within : d.within ≡ number_under key.Within ms
 
 abbrev pub IsNeedOf : Data → NeedTable → Type 0

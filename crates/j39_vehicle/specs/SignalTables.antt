@@ -1,6 +1,6 @@
 -- The tables of the signals of a forward.
-use Rattle.std.specs.Prelude.{◌≡◌, ℕ, List, [], ◌∷◌, ◌++◌, true, unwrap_or, Some, string_bytes}
-use Rattle.std.specs.Option.{option_or, option_map_or}
+use Rattle.std.specs.Prelude.{◌≡◌, ℕ, List, [], ◌∷◌, ◌++◌, true, unwrap_or, string_bytes}
+use Rattle.std.specs.Option.{option_map_or}
 use Rattle.toml.specs.Data.{Data, Members, as_table}
 use Rattle.j39_toml.specs.InOrder.{inside}
 use Rattle.j39_vehicle.specs.Words.{word_of}
@@ -9,7 +9,7 @@ use Rattle.j39_vehicle.specs.declared.reading.place.Table.TheVariants as at
 use Rattle.j39_vehicle.specs.VehicleErrors.{VehicleFault}
 use Rattle.j39_vehicle.specs.declared.reading.text_kind.TextKind.TheVariants as texts
 use Rattle.j39_vehicle.specs.declared.file.signal_table.SignalTable.{SignalTable}
-use Rattle.j39_vehicle.specs.Schema.{VehicleRule, needed, optional, text_as, text_at, truth_at}
+use Rattle.j39_vehicle.specs.Schema.{VehicleRule, needed, optional, text_as, text_at, text_under, truth_at}
 use Rattle.j39_toml.specs.Rules.{truth}
 use Rattle.j39_toml.specs.TableFaults.{table_faults, table_only_faults}
 use Rattle.j39_vehicle.specs.LabelsSeen.{Named, labelled, repeated_faults}
@@ -20,7 +20,7 @@ signal_rules = needed key.Label (text_as texts.Any) ∷ optional key.As (text_as
 
 -- without the key its values go into the signal of the same label
 abbrev pub written_text : Members → List ℕ
-written_text ms = unwrap_or (option_or (text_at key.As ms) (text_at key.Label ms)) []
+written_text ms = unwrap_or (text_at key.As ms) (text_under key.Label ms)
 
 abbrev pub forwarded_name : Data → Named
 forwarded_name d = labelled (written_text (inside d))
@@ -31,8 +31,8 @@ named_signal s = labelled (string_bytes s.written)
 
 -- the signal that a table tells
 pub record DescribesSignal (ms : Members) (s : SignalTable) : Type 0 where
-  pub has_read : text_at key.Label ms ≡ Some (string_bytes s.read)
-  pub has_written : written_text ms ≡ string_bytes s.written
+  pub has_read : string_bytes s.read ≡ text_under key.Label ms
+  pub has_written : string_bytes s.written ≡ written_text ms
   pub has_exact : s.exact ≡ unwrap_or (truth_at key.Exact ms) true
 
 abbrev pub IsSignalOf : Data → SignalTable → Type 0

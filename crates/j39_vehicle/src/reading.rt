@@ -1,14 +1,11 @@
 //! Reading a vehicle file.
-ghost use Rattle.std.specs.Prelude.{◌≡◌, ◌≤◌, length, IsErrOf};
-ghost use Rattle.toml.specs.View.{items_view, table_view};
-ghost use Rattle.j39_network.specs.PlanLimits.{need_limit};
+ghost use Rattle.std.specs.Prelude.{IsErrOf};
+ghost use Rattle.toml.specs.View.{table_view};
 ghost use Rattle.j39_toml.specs.FileTrees.{tree_of, MayAskForRoom};
-ghost use Rattle.j39_toml.specs.Outcome.{Gives, GivesGrowing};
-ghost use Rattle.j39_vehicle.specs.VehicleLimits.{bus_limit, forward_limit, gateway_limit};
-ghost use Rattle.j39_vehicle.specs.Schema.{elements_at};
+ghost use Rattle.j39_toml.specs.Outcome.{GivesGrowing};
 ghost use Rattle.j39_toml.specs.declared.file_error.FileError.TheVariants as errors;
 ghost use Rattle.j39_vehicle.specs.Growing.{FileGrows};
-ghost use Rattle.j39_vehicle.specs.VehicleFaults.{faults, top_faults};
+ghost use Rattle.j39_vehicle.specs.VehicleFaults.{faults};
 ghost use Rattle.j39_vehicle.specs.Described.{Reads, DescribesFile};
 
 mod buses;
@@ -32,72 +29,52 @@ use buses::BusReader;
 use forwards::ForwardReader;
 use gateways::GatewayReader;
 pub use j39_toml::FileError;
-use j39_toml::{elements, only, read_each, read_tree};
+use j39_toml::{KeyRule, ValueKind, checked, read_each, read_tree};
 pub use key::Key;
 use needs::NeedReader;
 pub use place::Table;
 use std::alloc::Global;
-use toml::Value;
-use values::number;
+use text_kind::TextKind;
 pub use vehicle_error::{VehicleError, VehicleFault};
 
-const TOP_KEYS: [Key; 5] = [
-    Key::Version,
-    Key::Bus,
-    Key::Gateway,
-    Key::Forward,
-    Key::Need,
-];
+/// What a table of a vehicle file asks of a key.
+type VehicleRule = KeyRule<Key, TextKind>;
 
-// The tables of the top table's arrays.
-#[derive(Clone, Copy)]
-struct Arrays<'a> {
-    buses: &'a [Value],
-    gateways: &'a [Value],
-    forwards: &'a [Value],
-    needs: &'a [Value],
-    ghost bus_count: { length buses.now ≤ bus_limit },
-    ghost gateway_count: { length gateways.now ≤ gateway_limit },
-    ghost forward_count: { length forwards.now ≤ forward_limit },
-    ghost need_count: { length needs.now ≤ need_limit },
-}
+const VERSION: VehicleRule = KeyRule::Needed(Key::Version, ValueKind::Number(1, 1));
 
-#[tactic(auto, using(j39_toml::proofs::FirstFaults::faults_after))]
-fn top_arrays(members: &toml::Table) -> Result<Arrays<'_>, VehicleError>
-    ensures { Gives result (top_faults (table_view members.now)) (λ a. let ms = table_view members.now in
-        (items_view a.buses.now ≡ elements_at Key.Bus ms) × (items_view a.gateways.now ≡ elements_at Key.Gateway ms)
-        × (items_view a.forwards.now ≡ elements_at Key.Forward ms)
-        × (items_view a.needs.now ≡ elements_at Key.Need ms)) }
-{
-    only(members, Table::Top, &TOP_KEYS)?;
-    number(members, Table::Top, Key::Version, 1, 1, true)?;
-    let buses = elements(members, Table::Top, Key::Bus, BUS_LIMIT, false)?;
-    let gateways = elements(members, Table::Top, Key::Gateway, GATEWAY_LIMIT, false)?;
-    let forwards = elements(members, Table::Top, Key::Forward, FORWARD_LIMIT, false)?;
-    let needs = elements(members, Table::Top, Key::Need, VEHICLE_NEED_LIMIT, false)?;
-    Ok(Arrays {
-        buses,
-        gateways,
-        forwards,
-        needs,
-    })
-}
+const BUSES: VehicleRule = KeyRule::Optional(Key::Bus, ValueKind::Array(BUS_LIMIT));
+
+const GATEWAYS: VehicleRule = KeyRule::Optional(Key::Gateway, ValueKind::Array(GATEWAY_LIMIT));
+
+const FORWARDS: VehicleRule = KeyRule::Optional(Key::Forward, ValueKind::Array(FORWARD_LIMIT));
+
+const NEEDS: VehicleRule = KeyRule::Optional(Key::Need, ValueKind::Array(VEHICLE_NEED_LIMIT));
+
+const RULES: [VehicleRule; 5] = [VERSION, BUSES, GATEWAYS, FORWARDS, NEEDS];
 
 #[tactic(auto, using(j39_toml::proofs::FirstFaults::faults_after))]
 fn read_top(alloc: Global, members: &toml::Table) -> Result<VehicleFile, VehicleError>
     ensures { GivesGrowing (FileGrows (table_view members.now)) result (faults (table_view members.now)) (DescribesFile (table_view members.now)) }
 {
-    let arrays = top_arrays(members)?;
-    let buses = read_each(alloc, &BusReader, arrays.buses)?;
-    let gateways = read_each(alloc, &GatewayReader { buses: &buses }, arrays.gateways)?;
+    checked(members, Table::Top, &RULES)?;
+    let buses = read_each(alloc, &BusReader, BUSES.elements(members))?;
+    let gateways = read_each(
+        alloc,
+        &GatewayReader { buses: &buses },
+        GATEWAYS.elements(members),
+    )?;
     let forwards = read_each(
         alloc,
         &ForwardReader {
             gateways: &gateways,
         },
-        arrays.forwards,
+        FORWARDS.elements(members),
     )?;
-    let needs = read_each(alloc, &NeedReader { buses: &buses }, arrays.needs)?;
+    let needs = read_each(
+        alloc,
+        &NeedReader { buses: &buses },
+        NEEDS.elements(members),
+    )?;
     Ok(VehicleFile {
         buses,
         gateways,

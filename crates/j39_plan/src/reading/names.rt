@@ -4,36 +4,46 @@ ghost use Rattle.toml.specs.View.{table_view};
 ghost use Rattle.j39_id.specs.Name.{name_number, first_out};
 ghost use Rattle.j39_toml.specs.Outcome.{Gives};
 ghost use Rattle.j39_plan.specs.UnitTables.{identity_rule, lacks_identity, name_faults, name_fields_of};
-ghost use Rattle.j39_toml.specs.Rules.{number_of};
-ghost use Rattle.j39_toml.specs.TableFaults.{key_faults};
+ghost use Rattle.j39_toml.specs.KeyRules.{kind_of, IsSure};
+ghost use Rattle.j39_toml.specs.declared.key_rule.ValueKind.TheVariants as kinds;
+ghost use Rattle.j39_plan.specs.KnownRules.{written};
 
-use super::values::{flag, has_key, number};
+use super::rules::PlanRule;
+use super::values::has_key;
 use super::{Key, PlanError, Table, Version};
 use j39_id::{Name, NameFields};
-use j39_toml::only;
+use j39_toml::{KeyRule, ValueKind, checked};
 
-const NAME_KEYS: [Key; 9] = [
-    Key::Identity,
-    Key::Manufacturer,
-    Key::Ecu,
-    Key::FunctionInstance,
-    Key::Function,
-    Key::System,
-    Key::SystemInstance,
-    Key::Industry,
-    Key::Arbitrary,
-];
+const IDENTITY: PlanRule = KeyRule::Needed(Key::Identity, ValueKind::Number(0, 2_097_151));
+
+const OPEN_IDENTITY: PlanRule = KeyRule::NumberOr(Key::Identity, 0, 2_097_151, 0);
+
+const MANUFACTURER: PlanRule = KeyRule::NumberOr(Key::Manufacturer, 0, 2047, 0);
+
+const ECU: PlanRule = KeyRule::NumberOr(Key::Ecu, 0, 7, 0);
+
+const FUNCTION_INSTANCE: PlanRule = KeyRule::NumberOr(Key::FunctionInstance, 0, 31, 0);
+
+const FUNCTION: PlanRule = KeyRule::NumberOr(Key::Function, 0, 255, 0);
+
+const SYSTEM: PlanRule = KeyRule::NumberOr(Key::System, 0, 127, 0);
+
+const SYSTEM_INSTANCE: PlanRule = KeyRule::NumberOr(Key::SystemInstance, 0, 15, 0);
+
+const INDUSTRY: PlanRule = KeyRule::NumberOr(Key::Industry, 0, 7, 0);
+
+const ARBITRARY: PlanRule = KeyRule::TruthOr(Key::Arbitrary, false);
 
 // The identity number, which the fourth version lets be absent.
-fn identity(version: Version, members: &toml::Table, table: Table) -> Result<u32, PlanError>
-    ensures gives { Gives result (key_faults table (table_view members.now) (identity_rule version))
-        (λ n. n ≡ number_of (identity_rule version) (table_view members.now)) }
-    ensures range { IfOk result (λ n. n < 2 ^ 21) }
+fn identity_rule(version: Version) -> PlanRule
+    ensures rule { written result ≡ identity_rule version }
+    ensures sure { IsSure result }
+    ensures kind { kind_of result ≡ kinds.Number 0 2097151 }
 {
     if version.knows(Version::Fourth) {
-        number(members, table, Key::Identity, 0, 2_097_151, Some(0))
+        OPEN_IDENTITY
     } else {
-        number(members, table, Key::Identity, 0, 2_097_151, None)
+        IDENTITY
     }
 }
 
@@ -44,7 +54,7 @@ fn lacks_identity(version: Version, members: &toml::Table) -> bool
     version.knows(Version::Fourth) && !has_key(members, Key::Identity)
 }
 
-#[tactic(auto, using(j39_toml::proofs::FirstFaults::faults_after), unfolding(crate::specs::UnitTables::name_faults, crate::specs::UnitTables::name_fields_of))]
+#[tactic(auto, unfolding(crate::specs::UnitTables::name_faults, crate::specs::UnitTables::name_fields_of))]
 fn name_fields(
     version: Version,
     index: usize,
@@ -53,28 +63,30 @@ fn name_fields(
     ensures gives { Gives result (name_faults version index (table_view members.now)) (λ f. f ≡ name_fields_of version (table_view members.now)) }
     ensures in_range { IfOk result (λ f. first_out f ≡ None) }
 {
-    let table = Table::UnitName(index);
-    only(members, table, &NAME_KEYS)?;
-    let identity = identity(version, members, table)?;
-    let manufacturer = number(members, table, Key::Manufacturer, 0, 2047, Some(0))?;
-    let ecu = number(members, table, Key::Ecu, 0, 7, Some(0))?;
-    let function_instance = number(members, table, Key::FunctionInstance, 0, 31, Some(0))?;
-    let function = number(members, table, Key::Function, 0, 255, Some(0))?;
-    let system = number(members, table, Key::System, 0, 127, Some(0))?;
-    let system_instance = number(members, table, Key::SystemInstance, 0, 15, Some(0))?;
-    let industry = number(members, table, Key::Industry, 0, 7, Some(0))?;
-    let is_arbitrary = flag(members, table, Key::Arbitrary, false)?;
-    Ok(NameFields {
+    let identity = identity_rule(version);
+    let rules = [
         identity,
-        manufacturer: manufacturer as u16,
-        ecu: ecu as u8,
-        function_instance: function_instance as u8,
-        function: function as u8,
+        MANUFACTURER,
+        ECU,
+        FUNCTION_INSTANCE,
+        FUNCTION,
+        SYSTEM,
+        SYSTEM_INSTANCE,
+        INDUSTRY,
+        ARBITRARY,
+    ];
+    checked(members, Table::UnitName(index), &rules)?;
+    Ok(NameFields {
+        identity: identity.number(members),
+        manufacturer: MANUFACTURER.number(members) as u16,
+        ecu: ECU.number(members) as u8,
+        function_instance: FUNCTION_INSTANCE.number(members) as u8,
+        function: FUNCTION.number(members) as u8,
         reserved: 0,
-        system: system as u8,
-        system_instance: system_instance as u8,
-        industry: industry as u8,
-        arbitrary: u8::from(is_arbitrary),
+        system: SYSTEM.number(members) as u8,
+        system_instance: SYSTEM_INSTANCE.number(members) as u8,
+        industry: INDUSTRY.number(members) as u8,
+        arbitrary: u8::from(ARBITRARY.truth(members)),
     })
 }
 

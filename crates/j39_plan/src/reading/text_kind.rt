@@ -49,9 +49,19 @@ impl TextKind {
 }
 
 impl TextForm for TextKind {
-    ghost use Rattle.j39_plan.specs.TextKinds.{takes};
+    ghost use Rattle.j39_plan.specs.TextKinds.{takes, usual};
 
     ghost fits = { takes };
+
+    ghost usual = { usual };
+
+    fn usual(self) -> &'static str {
+        match self {
+            TextKind::Chooser => "lowest",
+            TextKind::Queue => "priority",
+            _other => "",
+        }
+    }
 
     fn is_taken(self, text: &str) -> bool {
         self.takes(text)

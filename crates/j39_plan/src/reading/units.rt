@@ -3,45 +3,58 @@ ghost use Rattle.std.specs.Prelude.{◌≡◌, ◌<◌, false, IfOk};
 ghost use Rattle.j39_id.specs.Addresses.{null_address};
 ghost use Rattle.j39_id.specs.Name.{is_arbitrary};
 ghost use Rattle.toml.specs.View.{table_view};
-ghost use Rattle.j39_toml.specs.Rules.{text_of, number_of};
-ghost use Rattle.j39_toml.specs.TableFaults.{key_faults};
-ghost use Rattle.j39_plan.specs.Since.{since, since_faults};
+ghost use Rattle.j39_toml.specs.Rules.{number_of};
+ghost use Rattle.j39_toml.specs.KeyRules.{IsKept};
+ghost use Rattle.j39_plan.specs.KnownRules.{IsKeptSince};
+ghost use Rattle.j39_plan.specs.Since.{since};
 ghost use Rattle.j39_plan.specs.declared.reading.version.Version.TheVariants.{Fourth};
 ghost use Rattle.j39_toml.specs.Outcome.{Gives};
-ghost use Rattle.j39_plan.specs.UnitTables.{way_of, address_rule, chooser_rule, claims_of, claims_rule, queue_in};
+ghost use Rattle.j39_plan.specs.UnitTables.{way_of, address_rule, claims_of, queue_in};
 ghost use Rattle.j39_plan.specs.UnitTables.{queue_of, queue_rule, silent_faults, unit_table_faults, DescribesUnit};
 
 use super::labels::untaken;
 use super::names::{is_open, name};
-use super::tables::{inner, only_known};
+use super::rules::{PlanRule, SinceRule, WITH_KEY, checked_since};
 use super::text_kind::TextKind;
-use super::values::{flag, number, short_text, text};
+use super::values::label_of;
 use super::{Cause, Key, PlanError, PlanFault, Table, Version};
 use j39_id::{Address, Name};
 use j39_network::{Queue, UnitPlan, Way};
-use j39_toml::{ReadElement, refused, table_of};
+use j39_toml::{KeyRule, ReadElement, ValueKind, refused, table_of};
 use std::alloc::Global;
 use toml::Value;
 
-const KEYS: [(Key, Version); 8] = [
-    (Key::Label, Version::First),
-    (Key::Address, Version::First),
-    (Key::Chooser, Version::First),
-    (Key::Window, Version::First),
-    (Key::Queue, Version::Fourth),
-    (Key::Name, Version::First),
-    (Key::Claims, Version::Fourth),
-    (Key::With, Version::Fourth),
+const LABEL: PlanRule = KeyRule::Needed(Key::Label, ValueKind::Text(TextKind::UnitLabel));
+
+const ADDRESS: PlanRule = KeyRule::Needed(Key::Address, ValueKind::Number(0, 253));
+
+const CHOOSER: PlanRule = KeyRule::TextOr(Key::Chooser, TextKind::Chooser);
+
+const WINDOW: PlanRule = KeyRule::NumberOr(Key::Window, 1, 255, 255);
+
+const QUEUE: PlanRule = KeyRule::TextOr(Key::Queue, TextKind::Queue);
+
+const NAME: PlanRule = KeyRule::Needed(Key::Name, ValueKind::Table);
+
+const CLAIMS: PlanRule = KeyRule::TruthOr(Key::Claims, true);
+
+const RULES: [SinceRule; 7] = [
+    (Version::First, LABEL),
+    (Version::First, ADDRESS),
+    (Version::First, CHOOSER),
+    (Version::First, WINDOW),
+    (Version::Fourth, QUEUE),
+    (Version::First, NAME),
+    (Version::Fourth, CLAIMS),
 ];
 
-fn address(members: &toml::Table, table: Table) -> Result<Address, PlanError>
-    ensures gives { Gives result (key_faults table (table_view members.now) address_rule)
-        (λ a. a ≡ number_of address_rule (table_view members.now)) }
-    ensures range { IfOk result (λ a. a < null_address) }
+fn address(members: &toml::Table) -> Address
+    requires { IsKept (table_view members.now) address_rule }
+    ensures value { result ≡ number_of address_rule (table_view members.now) }
+    ensures range { result < null_address }
 {
-    let number = number(members, table, Key::Address, 0, 253, None)?;
-    match Address::new(number as u8) {
-        Some(address) => Ok(address),
+    match Address::new(ADDRESS.number(members) as u8) {
+        Some(address) => address,
         None => unreachable!(),
     }
 }
@@ -56,20 +69,6 @@ fn way_of(word: &str) -> Way
     }
 }
 
-fn way(members: &toml::Table, table: Table) -> Result<Way, PlanError>
-    ensures { Gives result (key_faults table (table_view members.now) chooser_rule)
-        (λ w. w ≡ way_of (text_of chooser_rule (table_view members.now))) }
-{
-    let word = text(
-        members,
-        table,
-        Key::Chooser,
-        TextKind::Chooser,
-        Some("lowest"),
-    )?;
-    Ok(way_of(word))
-}
-
 fn queue_in(word: &str) -> Queue
     ensures { result ≡ queue_in word.now }
 {
@@ -80,42 +79,26 @@ fn queue_in(word: &str) -> Queue
     }
 }
 
-fn queue(members: &toml::Table, table: Table) -> Result<Queue, PlanError>
-    ensures { Gives result (key_faults table (table_view members.now) queue_rule)
-        (λ q. q ≡ queue_in (text_of queue_rule (table_view members.now))) }
-{
-    let word = text(
-        members,
-        table,
-        Key::Queue,
-        TextKind::Queue,
-        Some("priority"),
-    )?;
-    Ok(queue_in(word))
-}
-
 // How its controller chooses among frames that wait: by priority in a version that knows no other way.
-#[tactic(auto)]
-fn known_queue(version: Version, members: &toml::Table, table: Table) -> Result<Queue, PlanError>
-    ensures { Gives result (since_faults table version (table_view members.now) (since Fourth queue_rule))
-        (λ q. q ≡ queue_of version (table_view members.now)) }
+fn queue(version: Version, members: &toml::Table) -> Queue
+    requires { IsKeptSince version (table_view members.now) (since Fourth queue_rule) }
+    ensures { result ≡ queue_of version (table_view members.now) }
 {
     if version.knows(Version::Fourth) {
-        queue(members, table)
+        queue_in(QUEUE.text_or(members))
     } else {
-        Ok(Queue::Priority)
+        Queue::Priority
     }
 }
 
 // Whether it claims its address: it does in a version that knows no other.
-fn known_claims(version: Version, members: &toml::Table, table: Table) -> Result<bool, PlanError>
-    ensures { Gives result (since_faults table version (table_view members.now) (since Fourth claims_rule))
-        (λ b. b ≡ claims_of version (table_view members.now)) }
+fn claims(version: Version, members: &toml::Table) -> bool
+    ensures { result ≡ claims_of version (table_view members.now) }
 {
     if version.knows(Version::Fourth) {
-        flag(members, table, Key::Claims, true)
+        CLAIMS.truth(members)
     } else {
-        Ok(true)
+        true
     }
 }
 
@@ -137,24 +120,19 @@ fn unit(version: Version, index: usize, members: &toml::Table) -> Result<UnitPla
     ensures { Gives result (unit_table_faults version index (table_view members.now)) (DescribesUnit version (table_view members.now)) }
 {
     let table = Table::Unit(index);
-    only_known(members, table, version, &KEYS)?;
-    let label = short_text(members, table, Key::Label, TextKind::UnitLabel, None)?;
-    let address = address(members, table)?;
-    let way = way(members, table)?;
-    let window = number(members, table, Key::Window, 1, 255, Some(255))?;
-    let queue = known_queue(version, members, table)?;
-    let inside = inner(members, table, Key::Name)?;
-    let claims = known_claims(version, members, table)?;
+    checked_since(members, table, version, &RULES, &WITH_KEY)?;
+    let claims = claims(version, members);
+    let inside = NAME.table(members);
     let name = name(version, index, inside)?;
     silent_stays(index, claims, name)?;
     Ok(UnitPlan {
-        label,
-        address,
+        label: label_of(LABEL.text_or(members), TextKind::UnitLabel),
+        address: address(members),
         name,
         any_identity: is_open(version, inside, name),
-        way,
-        window: window as u8,
-        queue,
+        way: way_of(CHOOSER.text_or(members)),
+        window: WINDOW.number(members) as u8,
+        queue: queue(version, members),
         claims,
     })
 }

@@ -249,3 +249,15 @@ pub fn short_text(
         Err(_) => Err(refused(Cause::Range, table, key)),
     }
 }
+
+/// A text of a kind of short ones.
+pub fn label_of(text: &str, kind: TextKind) -> Label
+    requires short { (t : List ℕ) → takes kind t ≡ true → length t ≤ 32 }
+    requires taken { takes kind text.now ≡ true }
+    ensures { result.bytes ≡ text.now }
+{
+    match ArrayString::from(text) {
+        Ok(label) => label,
+        Err(_) => unreachable!(),
+    }
+}

@@ -7,14 +7,16 @@ ghost use Rattle.j39_vehicle.specs.BusTables.{bus_table_faults, named_bus, Descr
 use super::named::untaken;
 use super::owned::owned;
 use super::text_kind::TextKind;
-use super::values::label;
-use super::{Key, Table, VehicleError, VehicleFault};
+use super::values::{LABEL, label};
+use super::{Key, Table, VehicleError, VehicleFault, VehicleRule};
 use crate::file::BusTable;
-use j39_toml::{ReadElement, only, required_text, table_of};
+use j39_toml::{KeyRule, ReadElement, ValueKind, checked, table_of};
 use std::alloc::Global;
 use toml::Value;
 
-const BUS_KEYS: [Key; 2] = [Key::Label, Key::Plan];
+const PLAN: VehicleRule = KeyRule::Needed(Key::Plan, ValueKind::Text(TextKind::FileName));
+
+const RULES: [VehicleRule; 2] = [LABEL, PLAN];
 
 #[tactic(auto, using(j39_toml::proofs::FirstFaults::faults_after), unfolding(crate::specs::BusTables::bus_table_faults))]
 fn bus(
@@ -27,12 +29,12 @@ fn bus(
         GivesGrowing (faults ≡ []) result faults (DescribesBus (table_view members.now)) }
 {
     let table = Table::Bus(index);
-    only(members, table, &BUS_KEYS)?;
-    let label = label(members, table)?;
-    let plan = required_text(members, table, Key::Plan, TextKind::FileName)?;
-    untaken(seen, label.as_str(), table, Key::Label)?;
-    let plan = owned(alloc, plan)?;
-    Ok(BusTable { label, plan })
+    checked(members, table, &RULES)?;
+    untaken(seen, LABEL.text(members), table, Key::Label)?;
+    Ok(BusTable {
+        label: label(members),
+        plan: owned(alloc, PLAN.text(members))?,
+    })
 }
 
 /// The reader of buses.

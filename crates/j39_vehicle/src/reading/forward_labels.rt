@@ -1,12 +1,14 @@
 //! What a forward names in its own file: its gateway, its buses, and units of the gateway on these.
-ghost use Rattle.std.specs.Prelude.{◌≡◌, ◌&&◌, map, option_and_then, option_map, position, Some, string_bytes};
+ghost use Rattle.std.specs.Prelude.{◌≡◌, ◌&&◌, map, option_and_then, option_map, position, string_bytes};
 ghost use Rattle.std.specs.List.{list_any, slice_get};
 ghost use Rattle.std.specs.Str.{bytes_eq};
+ghost use Rattle.toml.specs.View.{table_view};
 ghost use Rattle.j39_vehicle.specs.TextKinds.{name_of};
 ghost use Rattle.j39_toml.specs.Outcome.{Gives};
 ghost use Rattle.j39_vehicle.specs.GatewayTables.{named_gateway};
 ghost use Rattle.j39_vehicle.specs.ForwardTables as spec;
 
+use super::forwards::{AT, BY, GATEWAY, INPUT, OUTPUT};
 use super::named::{first_place, has_label, known};
 use super::{Key, Table, VehicleError};
 use crate::file::{GatewayTable, NameOnBus, before_point};
@@ -26,7 +28,7 @@ fn gateway_of<'a>(gateways: &'a [GatewayTable], label: &str) -> Option<&'a Gatew
 #[tactic(auto, using(crate::proofs::UnitsOf::units_found))]
 fn units_of<'a>(gateways: &'a [GatewayTable], label: &str) -> &'a [NameOnBus]
     ensures { map (λ n. string_bytes n.text) result.now
-        ≡ spec.units_of_named (map named_gateway gateways.now) (Some label.now) }
+        ≡ spec.units_of_named (map named_gateway gateways.now) label.now }
 {
     match gateway_of(gateways, label) {
         Some(gateway) => gateway.units.as_slice(),
@@ -43,7 +45,7 @@ fn any_on(units: &[NameOnBus], bus: &str) -> bool
 // Whether one of the units is on the bus of a group.
 #[tactic(auto, using(crate::proofs::UnitsOf::on_view))]
 fn is_group_on(units: &[NameOnBus], group: &str) -> bool
-    ensures { result ≡ spec.is_group_on (map (λ n. string_bytes n.text) units.now) (Some group.now) }
+    ensures { result ≡ spec.is_group_on (map (λ n. string_bytes n.text) units.now) group.now }
 {
     any_on(units, before_point(group))
 }
@@ -68,7 +70,7 @@ fn has_unit(units: &[NameOnBus], bus: &str, label: &str) -> bool
 // Whether one of the units is on the bus of a group and has the label, where one is asked for.
 fn is_unit_beside(units: &[NameOnBus], group: &str, label: Option<&str>) -> bool
     ensures { result
-        ≡ spec.is_unit_beside (map (λ n. string_bytes n.text) units.now) (Some group.now) (option_map (λ t. t.now) label.entry) }
+        ≡ spec.is_unit_beside (map (λ n. string_bytes n.text) units.now) group.now (option_map (λ t. t.now) label.entry) }
 {
     match label {
         None => true,
@@ -76,25 +78,31 @@ fn is_unit_beside(units: &[NameOnBus], group: &str, label: Option<&str>) -> bool
     }
 }
 
-/// Refuses the first label that names nothing: a gateway that isn't there, a group on a bus where it has no unit, a
-/// unit that it doesn't have there.
-#[tactic(auto, using(j39_toml::proofs::FirstFaults::faults_after), unfolding(crate::specs::ForwardTables::known_faults))]
+/// Refuses the first label of a forward that names nothing: a gateway that isn't there, a group on a bus where it has
+/// no unit, a unit that it doesn't have there.
+#[tactic(auto, using(j39_toml::proofs::FirstFaults::faults_after), unfolding(crate::specs::ForwardTables::forward_label_faults))]
 pub fn known_labels(
     gateways: &[GatewayTable],
-    table: Table,
-    gateway: &str,
-    heard: &str,
-    at_unit: Option<&str>,
-    sent: &str,
-    by_unit: Option<&str>,
+    index: usize,
+    members: &toml::Table,
 ) -> Result<(), VehicleError>
-    ensures { Gives result (spec.known_faults table (map named_gateway gateways.now) (Some gateway.now) (Some heard.now)
-        (option_map (λ t. t.now) at_unit.entry) (Some sent.now) (option_map (λ t. t.now) by_unit.entry)) (λ _. Unit {0}) }
+    ensures { Gives result (spec.forward_label_faults (map named_gateway gateways.now) index (table_view members.now)) (λ _. Unit {0}) }
 {
+    let table = Table::Forward(index);
+    let gateway = GATEWAY.text(members);
     let units = units_of(gateways, gateway);
+    let (heard, sent) = (INPUT.text(members), OUTPUT.text(members));
     known(has_label(gateways, gateway), table, Key::Gateway)?;
     known(is_group_on(units, heard), table, Key::Group)?;
-    known(is_unit_beside(units, heard, at_unit), table, Key::At)?;
+    known(
+        is_unit_beside(units, heard, AT.given_text(members)),
+        table,
+        Key::At,
+    )?;
     known(is_group_on(units, sent), table, Key::As)?;
-    known(is_unit_beside(units, sent, by_unit), table, Key::By)
+    known(
+        is_unit_beside(units, sent, BY.given_text(members)),
+        table,
+        Key::By,
+    )
 }

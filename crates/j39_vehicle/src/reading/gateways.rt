@@ -7,15 +7,17 @@ ghost use Rattle.j39_vehicle.specs.GatewayTables.{gateway_table_faults, named_ga
 
 use super::gateway_units::{are_on, units, units_cause};
 use super::named::{known, untaken};
-use super::values::label;
-use super::{Key, Table, VehicleError, VehicleFault};
+use super::values::{LABEL, label};
+use super::{Key, Table, VehicleError, VehicleFault, VehicleRule};
 use crate::file::{BusTable, GatewayTable};
 use crate::limits::GATEWAY_UNIT_LIMIT;
-use j39_toml::{ReadElement, elements, only, refused, table_of};
+use j39_toml::{KeyRule, ReadElement, ValueKind, checked, refused, table_of};
 use std::alloc::Global;
 use toml::Value;
 
-const GATEWAY_KEYS: [Key; 2] = [Key::Label, Key::Unit];
+const UNITS: VehicleRule = KeyRule::Needed(Key::Unit, ValueKind::Array(GATEWAY_UNIT_LIMIT));
+
+const RULES: [VehicleRule; 2] = [LABEL, UNITS];
 
 // Refuses a unit that can't stand in the array of units.
 fn may_stand(index: usize, seen: &[GatewayTable], values: &[Value]) -> Result<(), VehicleError>
@@ -39,14 +41,15 @@ fn gateway(
         GivesGrowing (faults ≡ []) result faults (DescribesGateway (table_view members.now)) }
 {
     let table = Table::Gateway(index);
-    only(members, table, &GATEWAY_KEYS)?;
-    let label = label(members, table)?;
-    let values = elements(members, table, Key::Unit, GATEWAY_UNIT_LIMIT, true)?;
+    checked(members, table, &RULES)?;
+    let values = UNITS.elements(members);
     may_stand(index, seen, values)?;
-    untaken(seen, label.as_str(), table, Key::Label)?;
+    untaken(seen, LABEL.text(members), table, Key::Label)?;
     known(are_on(buses, values), table, Key::Unit)?;
-    let units = units(alloc, values)?;
-    Ok(GatewayTable { label, units })
+    Ok(GatewayTable {
+        label: label(members),
+        units: units(alloc, values)?,
+    })
 }
 
 /// The reader of gateways.

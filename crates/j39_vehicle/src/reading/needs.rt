@@ -1,77 +1,47 @@
 //! The needs of a vehicle file.
-ghost use Rattle.std.specs.Prelude.{◌≡◌, ◌≤◌, [], map, option_map, Some, string_bytes, IfOk, IfErr};
-ghost use Rattle.std.specs.Option.{ForSome};
+ghost use Rattle.std.specs.Prelude.{◌≡◌, [], map, IfOk, IfErr};
 ghost use Rattle.toml.specs.View.{table_view};
 ghost use Rattle.j39_toml.specs.declared.file_error.FileError.TheVariants.{Memory};
-ghost use Rattle.j39_vehicle.specs.Words.{word_of};
+ghost use Rattle.j39_toml.specs.KeyRules.{IsKept};
+ghost use Rattle.j39_toml.specs.Outcome.{GivesGrowing};
 ghost use Rattle.j39_vehicle.specs.TextKinds.{name_of};
-ghost use Rattle.j39_vehicle.specs.Schema.{number_under, text_at};
+ghost use Rattle.j39_vehicle.specs.Schema.{within_rule};
 ghost use Rattle.j39_vehicle.specs.LabelsSeen.{is_label_among};
-ghost use Rattle.j39_toml.specs.Outcome.{Gives, GivesGrowing};
-ghost use Rattle.j39_toml.specs.TableFaults.{table_faults};
 ghost use Rattle.j39_vehicle.specs.BusTables.{named_bus};
 ghost use Rattle.j39_vehicle.specs.NeedTables as spec;
 
 use super::named::{has_label, known};
 use super::owned::{name, optional_owned, owned};
 use super::text_kind::TextKind;
-use super::values::number;
-use super::{Key, Table, VehicleError, VehicleFault};
+use super::values::{WITHIN, within};
+use super::{Key, Table, VehicleError, VehicleFault, VehicleRule};
 use crate::file::{BusTable, NeedTable, before_point};
-use j39_toml::{ReadElement, given_text, only, required_text, table_of};
+use j39_toml::{KeyRule, ReadElement, ValueKind, checked, table_of};
 use std::alloc::Global;
 use toml::Value;
 
-const NEED_KEYS: [Key; 5] = [Key::Unit, Key::Group, Key::Signal, Key::From, Key::Within];
+const UNIT: VehicleRule = KeyRule::Needed(Key::Unit, ValueKind::Text(TextKind::OnBus));
 
-// What stands at the keys of a need.
-#[derive(Clone, Copy)]
-struct NeedKeys<'a> {
-    unit: &'a str,
-    group: &'a str,
-    signal: Option<&'a str>,
-    from: &'a str,
-    within: Option<u16>,
-    ghost within_positive: { ForSome within (λ n. 1 ≤ n) },
-}
+const GROUP: VehicleRule = KeyRule::Needed(Key::Group, ValueKind::Text(TextKind::Any));
 
-#[tactic(auto, using(j39_toml::proofs::FirstFaults::faults_after))]
-fn keys(members: &toml::Table, table: Table) -> Result<NeedKeys<'_>, VehicleError>
-    ensures { let ms = table_view members.now in
-        Gives result (table_faults word_of table spec.need_rules ms) (λ k.
-        (text_at Key.Unit ms ≡ Some k.unit.now) × (text_at Key.Group ms ≡ Some k.group.now)
-        × (text_at Key.Signal ms ≡ option_map (λ t. t.now) k.signal) × (text_at Key.From ms ≡ Some k.from.now)
-        × (k.within ≡ number_under Key.Within ms)) }
-{
-    only(members, table, &NEED_KEYS)?;
-    let unit = required_text(members, table, Key::Unit, TextKind::OnBus)?;
-    let group = required_text(members, table, Key::Group, TextKind::Any)?;
-    let signal = given_text(members, table, Key::Signal, TextKind::Any)?;
-    let from = required_text(members, table, Key::From, TextKind::OnBus)?;
-    let within = number(members, table, Key::Within, 1, 65_535, false)?;
-    Ok(NeedKeys {
-        unit,
-        group,
-        signal,
-        from,
-        within,
-    })
-}
+const SIGNAL: VehicleRule = KeyRule::Optional(Key::Signal, ValueKind::Text(TextKind::Any));
 
-// The need of these keys, with texts of its own.
-fn told(alloc: Global, keys: &NeedKeys<'_>) -> Result<NeedTable, VehicleError>
-    ensures told { IfOk result (λ d. (string_bytes d.unit.text ≡ keys.now.unit.now)
-        × (string_bytes d.group ≡ keys.now.group.now)
-        × (option_map string_bytes d.signal ≡ option_map (λ t. t.now) keys.now.signal)
-        × (string_bytes d.from.text ≡ keys.now.from.now) × (d.within ≡ keys.now.within)) }
+const FROM: VehicleRule = KeyRule::Needed(Key::From, ValueKind::Text(TextKind::OnBus));
+
+const RULES: [VehicleRule; 5] = [UNIT, GROUP, SIGNAL, FROM, WITHIN];
+
+// The need of a table that keeps the rules.
+fn read(alloc: Global, members: &toml::Table) -> Result<NeedTable, VehicleError>
+    requires { IsKept (table_view members.now) within_rule }
+    ensures describes { IfOk result (spec.DescribesNeed (table_view members.now)) }
     ensures memory { IfErr result (λ e. e ≡ Memory) }
 {
     Ok(NeedTable {
-        unit: name(alloc, keys.unit)?,
-        group: owned(alloc, keys.group)?,
-        signal: optional_owned(alloc, keys.signal)?,
-        from: name(alloc, keys.from)?,
-        within: keys.within,
+        unit: name(alloc, UNIT.text(members))?,
+        group: owned(alloc, GROUP.text(members))?,
+        signal: optional_owned(alloc, SIGNAL.given_text(members))?,
+        from: name(alloc, FROM.text(members))?,
+        within: within(members),
     })
 }
 
@@ -93,10 +63,10 @@ fn need(
         GivesGrowing (faults ≡ []) result faults (spec.DescribesNeed (table_view members.now)) }
 {
     let table = Table::Need(index);
-    let keys = keys(members, table)?;
-    known(is_on_bus(buses, keys.unit), table, Key::Unit)?;
-    known(is_on_bus(buses, keys.from), table, Key::From)?;
-    told(alloc, &keys)
+    checked(members, table, &RULES)?;
+    known(is_on_bus(buses, UNIT.text(members)), table, Key::Unit)?;
+    known(is_on_bus(buses, FROM.text(members)), table, Key::From)?;
+    read(alloc, members)
 }
 
 /// The reader of needs.

@@ -1,5 +1,5 @@
 //! The signals of a forward.
-ghost use Rattle.std.specs.Prelude.{◌≡◌, [], map, unwrap_or, true};
+ghost use Rattle.std.specs.Prelude.{◌≡◌, [], map};
 ghost use Rattle.toml.specs.View.{table_view};
 ghost use Rattle.j39_toml.specs.Outcome.{GivesGrowing};
 ghost use Rattle.j39_vehicle.specs.SignalTables.{named_signal, signal_table_faults, DescribesSignal};
@@ -7,14 +7,19 @@ ghost use Rattle.j39_vehicle.specs.SignalTables.{named_signal, signal_table_faul
 use super::named::untaken;
 use super::owned::owned;
 use super::text_kind::TextKind;
-use super::values::optional_truth;
-use super::{Key, Table, VehicleError, VehicleFault};
+use super::{Key, Table, VehicleError, VehicleFault, VehicleRule};
 use crate::file::SignalTable;
-use j39_toml::{ReadElement, given_text, only, required_text, table_of};
+use j39_toml::{KeyRule, ReadElement, ValueKind, checked, table_of};
 use std::alloc::Global;
 use toml::Value;
 
-const SIGNAL_KEYS: [Key; 3] = [Key::Label, Key::As, Key::Exact];
+const READ: VehicleRule = KeyRule::Needed(Key::Label, ValueKind::Text(TextKind::Any));
+
+const WRITTEN: VehicleRule = KeyRule::Optional(Key::As, ValueKind::Text(TextKind::Any));
+
+const EXACT: VehicleRule = KeyRule::Optional(Key::Exact, ValueKind::Truth);
+
+const RULES: [VehicleRule; 3] = [READ, WRITTEN, EXACT];
 
 #[tactic(auto, using(j39_toml::proofs::FirstFaults::faults_after), unfolding(crate::specs::SignalTables::signal_table_faults))]
 fn signal(
@@ -28,16 +33,14 @@ fn signal(
         GivesGrowing (faults ≡ []) result faults (DescribesSignal (table_view members.now)) }
 {
     let table = Table::Signal(forward, index);
-    only(members, table, &SIGNAL_KEYS)?;
-    let read = required_text(members, table, Key::Label, TextKind::Any)?;
-    let given = given_text(members, table, Key::As, TextKind::Any)?;
-    let exact = optional_truth(members, table, Key::Exact)?.unwrap_or(true);
-    let written = given.unwrap_or(read);
+    checked(members, table, &RULES)?;
+    let read = READ.text(members);
+    let written = WRITTEN.given_text(members).unwrap_or(read);
     untaken(seen, written, table, Key::As)?;
     Ok(SignalTable {
         read: owned(alloc, read)?,
         written: owned(alloc, written)?,
-        exact,
+        exact: EXACT.given_truth(members).unwrap_or(true),
     })
 }
 

@@ -1,5 +1,5 @@
 //! Kinds of texts.
-ghost use Rattle.std.specs.Prelude.{◌≡◌};
+ghost use Rattle.std.specs.Prelude.{◌≡◌, []};
 ghost use Rattle.j39_vehicle.specs.TextKinds.{is_file_name, is_mode, is_name, takes};
 
 use crate::file::{before_point, behind_point};
@@ -50,6 +50,12 @@ impl TextKind {
 
 impl TextForm for TextKind {
     ghost fits = { takes };
+
+    ghost usual = { λ _. [] };
+
+    fn usual(self) -> &'static str {
+        ""
+    }
 
     fn is_taken(self, text: &str) -> bool {
         self.takes(text)

@@ -1,74 +1,39 @@
-//! The values of a table's keys.
-ghost use Rattle.std.specs.Prelude.{◌≡◌, ◌≤◌, Some, IfSome, IfOk};
+//! Rules that several tables have, and the values at their keys.
+ghost use Rattle.std.specs.Prelude.{◌≡◌, ◌≤◌, IfSome};
 ghost use Rattle.toml.specs.View.{table_view};
-ghost use Rattle.j39_vehicle.specs.declared.reading.text_kind.TextKind.TheVariants as texts;
-ghost use Rattle.j39_vehicle.specs.Schema as schema;
-ghost use Rattle.j39_toml.specs.Rules.{natural_in, truth};
-ghost use Rattle.j39_toml.specs.TableFaults.{key_faults};
-ghost use Rattle.j39_toml.specs.Outcome.{Gives};
+ghost use Rattle.j39_toml.specs.KeyRules.{IsKept};
+ghost use Rattle.j39_vehicle.specs.BusTables.{label_rule};
+ghost use Rattle.j39_vehicle.specs.Schema.{number_under, text_under, within_rule};
 
 use super::text_kind::TextKind;
-use super::{Key, Table, VehicleError};
+use super::{Key, VehicleRule};
 use arrayvec::ArrayString;
 use j39_id::Label;
-use j39_toml::{Cause, given_number, refused, required_text, value_at};
+use j39_toml::{KeyRule, ValueKind};
 
-/// The number at a key, within a range, or none where the key is absent, unless it is needed.
-pub fn number(
-    members: &toml::Table,
-    table: Table,
-    key: Key,
-    low: u16,
-    high: u16,
-    is_needed: bool,
-) -> Result<Option<u16>, VehicleError>
-    ensures gives { let rule = schema.rule key (natural_in low high) is_needed in
-        Gives result (key_faults table (table_view members.now) rule)
-        (λ given. given ≡ schema.number_under key (table_view members.now)) }
-    ensures at_least { IfOk result (λ given. IfSome given (λ n. low ≤ n)) }
+pub const LABEL: VehicleRule = KeyRule::Needed(Key::Label, ValueKind::Text(TextKind::Label));
+
+pub const WITHIN: VehicleRule = KeyRule::Optional(Key::Within, ValueKind::Number(1, 65_535));
+
+/// The label of a table that keeps the rule of labels.
+pub fn label(members: &toml::Table) -> Label
+    requires { IsKept (table_view members.now) label_rule }
+    ensures { result.bytes ≡ text_under Key.Label (table_view members.now) }
 {
-    match given_number(
-        members,
-        table,
-        key,
-        u32::from(low),
-        u32::from(high),
-        is_needed,
-    )? {
-        None => Ok(None),
-        Some(number) => Ok(Some(number as u16)),
+    match ArrayString::from(LABEL.text(members)) {
+        Ok(label) => label,
+        Err(_) => unreachable!(),
     }
 }
 
-/// The truth value at a key, or none where the key is absent.
-#[tactic(auto, unfolding(j39_toml::specs::TableFaults::key_faults, j39_toml::specs::Rules::truth_found, j39_toml::specs::Rules::truth))]
-pub fn optional_truth(
-    members: &toml::Table,
-    table: Table,
-    key: Key,
-) -> Result<Option<bool>, VehicleError>
-    ensures { let rule = schema.optional key truth in
-        Gives result (key_faults table (table_view members.now) rule)
-        (λ given. given ≡ schema.truth_at key (table_view members.now)) }
+/// The milliseconds of a table that keeps their rule.
+pub fn within(members: &toml::Table) -> Option<u16>
+    requires { IsKept (table_view members.now) within_rule }
+    ensures value { result ≡ number_under Key.Within (table_view members.now) }
+    ensures positive { IfSome result (λ n. 1 ≤ n) }
 {
-    match value_at(members, key) {
-        None => Ok(None),
-        Some(value) => match value.as_bool() {
-            None => Err(refused(Cause::WrongType, table, key)),
-            Some(flag) => Ok(Some(flag)),
-        },
-    }
-}
-
-/// The label at the key of labels.
-pub fn label(members: &toml::Table, table: Table) -> Result<Label, VehicleError>
-    ensures { let rule = schema.needed Key.Label (schema.text_as texts.Label) in
-        Gives result (key_faults table (table_view members.now) rule)
-        (λ l. schema.text_at Key.Label (table_view members.now) ≡ Some l.bytes) }
-{
-    let text = required_text(members, table, Key::Label, TextKind::Label)?;
-    match ArrayString::from(text) {
-        Ok(label) => Ok(label),
-        Err(_) => Err(refused(Cause::Range, table, Key::Label)),
+    match WITHIN.given_number(members) {
+        None => None,
+        Some(number) => Some(number as u16),
     }
 }
