@@ -145,28 +145,20 @@ finest-parted n per some =
 
 -- ---- the loop
 
--- where nothing is left, or no place, all is written
-pub ended : (text old : List ℕ) (k left per : ℕ) → 0 < per → left ≡ 0
-    → text ++ without_zeros (last_digits k (left * 10 ^ k / per)) ≡ old → text ≡ old
-ended text old k left per some none written =
+-- where nothing is left, or no place, there are no more decimals
+pub ended : (k left per : ℕ) → 0 < per → left ≡ 0 → without_zeros (last_digits k (left * 10 ^ k / per)) ≡ []
+ended k left per some none =
     let zero-is : left * 10 ^ k / per ≡ 0 = ap (λ r. r * 10 ^ k / per) none ∙ ap (λ n. n / per) (omega arith) ∙ none-of 0 per some in
-    sym (append-nil text)
-    ∙ ap (λ (ds : List ℕ). text ++ ds) (sym (ap (λ n. without_zeros (last_digits k n)) zero-is ∙ zero-none k)) ∙ written
+    ap (λ n. without_zeros (last_digits k n)) zero-is ∙ zero-none k
 
-pub finished : (text old : List ℕ) (k n : ℕ) → k ≡ 0 → text ++ without_zeros (last_digits k n) ≡ old → text ≡ old
+pub finished : (k n : ℕ) → k ≡ 0 → without_zeros (last_digits k n) ≡ []
 unfolding last_digits without_zeros
-finished text old k n none written =
-    sym (append-nil text) ∙ ap (λ i. text ++ without_zeros (last_digits i n)) (sym none) ∙ written
+finished k n none = ap (λ i. without_zeros (last_digits i n)) none
 
 -- a digit further
-pub goes-on : (text new old : List ℕ) (k j left per : ℕ) → k ≡ suc j → 0 < left → left < per → left * 10 ^ k % per ≡ 0
-    → new ≡ text ++ (48 + 10 * left / per) ∷ [] → text ++ without_zeros (last_digits k (left * 10 ^ k / per)) ≡ old
-    → (10 * left % per * 10 ^ j % per ≡ 0) × (new ++ without_zeros (last_digits j (10 * left % per * 10 ^ j / per)) ≡ old)
-goes-on text new old k j left per next some proper whole is written =
+pub goes-on : (k j left per : ℕ) → k ≡ suc j → 0 < left → left < per → left * 10 ^ k % per ≡ 0
+    → (10 * left % per * 10 ^ j % per ≡ 0)
+    × (without_zeros (last_digits k (left * 10 ^ k / per)) ≡ (48 + 10 * left / per) ∷ without_zeros (last_digits j (10 * left % per * 10 ^ j / per)))
+goes-on k j left per next some proper whole =
     let exact : left * 10 ^ suc j % per ≡ 0 = ap (λ i. left * 10 ^ i % per) (sym next) ∙ whole in
-    let rest : List ℕ = without_zeros (last_digits j (10 * left % per * 10 ^ j / per)) in (
-      whole-behind left per j exact,
-      ap (λ (ds : List ℕ). ds ++ rest) is ∙ append_assoc text ((48 + 10 * left / per) ∷ []) rest
-          ∙ ap (λ (ds : List ℕ). text ++ ds) (sym (one-more left per j some proper exact))
-          ∙ ap (λ i. text ++ without_zeros (last_digits i (left * 10 ^ i / per))) (sym next) ∙ written,
-    )
+    (whole-behind left per j exact, ap (λ i. without_zeros (last_digits i (left * 10 ^ i / per))) next ∙ one-more left per j some proper exact)

@@ -1,7 +1,8 @@
 //! What the frame command writes.
-ghost use Rattle.std.specs.Prelude.{◌≡◌, ◌++◌, IfOk, OnOk};
+ghost use Rattle.std.specs.Prelude.{◌≡◌, false, IfOk};
 ghost use Rattle.j39_text.specs.FrameText.{IsFrameText, frame_lines as lines_of, head_lines as heads_of};
 ghost use Rattle.j39_text.specs.FrameText.{refused_frame_line as line_of};
+ghost use Rattle.j39_text.specs.Texts.{Adds};
 ghost use Rattle.j39_stream.specs.CommandEnds.{PutsText};
 
 mod meaning;
@@ -12,31 +13,31 @@ use crate::TextBuffer;
 use j39_id::{Frame, LineError, print_frame, read_frame};
 use j39_stream::{Fault, Sink, Verdict, put_all};
 pub use route::write_destination;
-use std::alloc::{AllocError, Global};
+use std::alloc::Global;
 
-#[tactic(auto, unfolding(crate::specs::FrameText::head_lines))]
-fn write_head(text: &mut TextBuffer, frame: &Frame) -> Result<(), AllocError>
-    ensures { OnOk result (text.new ≡ text.old ++ heads_of frame.now) }
+#[tactic(auto, unfolding(crate::specs::Texts::Adds, crate::specs::FrameText::head_lines))]
+fn write_head(text: &mut TextBuffer, frame: &Frame)
+    ensures { Adds text.old (heads_of frame.now) text.new }
 {
-    text.word("frame ")?;
-    text.bytes(print_frame(frame).as_slice())?;
-    text.end_line()?;
+    text.word("frame ");
+    text.bytes(print_frame(frame).as_slice());
+    text.end_line();
     route::write_route(text, frame.ident)
 }
 
-#[tactic(auto, unfolding(crate::specs::FrameText::frame_lines))]
-fn write_frame(text: &mut TextBuffer, frame: &Frame) -> Result<(), AllocError>
-    ensures { OnOk result (text.new ≡ text.old ++ lines_of frame.now) }
+#[tactic(auto, unfolding(crate::specs::Texts::Adds, crate::specs::FrameText::frame_lines))]
+fn write_frame(text: &mut TextBuffer, frame: &Frame)
+    ensures { Adds text.old (lines_of frame.now) text.new }
 {
-    write_head(text, frame)?;
+    write_head(text, frame);
     meaning::write_meaning(text, frame)
 }
 
-#[tactic(auto, unfolding(crate::specs::FrameText::refused_frame_line))]
-fn write_refusal(text: &mut TextBuffer, error: LineError) -> Result<(), AllocError>
-    ensures { OnOk result (text.new ≡ text.old ++ line_of error) }
+#[tactic(auto, unfolding(crate::specs::Texts::Adds, crate::specs::FrameText::refused_frame_line))]
+fn write_refusal(text: &mut TextBuffer, error: LineError)
+    ensures { Adds text.old (line_of error) text.new }
 {
-    text.word("refused ")?;
+    text.word("refused ");
     text.word(match error {
         LineError::Empty => "Empty",
         LineError::NoHash => "NoHash",
@@ -44,23 +45,23 @@ fn write_refusal(text: &mut TextBuffer, error: LineError) -> Result<(), AllocErr
         LineError::BadIdent => "BadIdent",
         LineError::TooLong => "TooLong",
         LineError::BadData => "BadData",
-    })?;
+    });
     text.end_line()
 }
 
 // What is written for a line, with the verdict.
-fn line_text(alloc: Global, line: &[u8]) -> Result<(TextBuffer, Verdict), AllocError>
-    ensures { IfOk result (λ found. IsFrameText line.now found.0 found.1) }
+fn line_text(alloc: Global, line: &[u8]) -> (TextBuffer, Verdict)
+    ensures { result.0.1 ≡ false → IsFrameText line.now result.0.0 result.1 }
 {
     let mut text = TextBuffer::new(alloc);
     match read_frame(line) {
         Ok(frame) => {
-            write_frame(&mut text, &frame)?;
-            Ok((text, Verdict::Done))
+            write_frame(&mut text, &frame);
+            (text, Verdict::Done)
         }
         Err(error) => {
-            write_refusal(&mut text, error)?;
-            Ok((text, Verdict::Unreadable))
+            write_refusal(&mut text, error);
+            (text, Verdict::Unreadable)
         }
     }
 }
@@ -71,7 +72,7 @@ pub fn frame_text<W: Sink>(alloc: Global, line: &[u8], sink: &mut W) -> Result<V
     ensures puts { PutsText (IsFrameText line.now) W.state sink.old sink.new result }
     ensures calm { IfOk result (λ _. (W.state sink.new).failures ≡ (W.state sink.old).failures) }
 {
-    let (text, verdict) = line_text(alloc, line)?;
-    put_all(sink, text.as_slice())?;
+    let (text, verdict) = line_text(alloc, line);
+    put_all(sink, text.whole()?)?;
     Ok(verdict)
 }

@@ -1,14 +1,14 @@
 //! What a place of a plan names. Past the last place there is nothing.
-ghost use Rattle.std.specs.Prelude.{◌≡◌, ◌++◌, OnOk};
+ghost use Rattle.std.specs.Prelude.{◌≡◌};
 ghost use Rattle.j39_text.specs.Labels.{group_label, group_pgn, group_selector_end, group_text, need_signal_text};
 ghost use Rattle.j39_text.specs.Labels.{need_text};
 ghost use Rattle.j39_text.specs.Labels.{signal_bits, signal_end, signal_label, signals_of, text_end, text_label};
 ghost use Rattle.j39_text.specs.Labels.{texts_of, unit_address, unit_label, units_text};
+ghost use Rattle.j39_text.specs.Texts.{Adds};
 
 use crate::TextBuffer;
 use j39_network::{NeedPlan, Plan, TextPlan};
 use j39_signal::Signal;
-use std::alloc::AllocError;
 
 #[tactic(auto, unfolding(crate::specs::Labels::unit_label))]
 pub fn unit_label(plan: &Plan, unit: usize) -> &str
@@ -137,63 +137,47 @@ pub fn group_selector_end(plan: &Plan, group: usize) -> u32
 }
 
 /// Writes a word and two units.
-#[tactic(auto, unfolding(crate::specs::Labels::units_text))]
-pub fn write_units(
-    text: &mut TextBuffer,
-    word: &str,
-    plan: &Plan,
-    first: usize,
-    second: usize,
-) -> Result<(), AllocError>
-    ensures { OnOk result (text.new ≡ text.old ++ units_text word.now plan.now first second) }
+#[tactic(auto, unfolding(crate::specs::Texts::Adds, crate::specs::Labels::units_text))]
+pub fn write_units(text: &mut TextBuffer, word: &str, plan: &Plan, first: usize, second: usize)
+    ensures { Adds text.old (units_text word.now plan.now first second) text.new }
 {
-    text.word(word)?;
-    text.word(unit_label(plan, first))?;
-    text.word(" ")?;
+    text.word(word);
+    text.word(unit_label(plan, first));
+    text.word(" ");
     text.word(unit_label(plan, second))
 }
 
 /// Writes a word and a group.
-#[tactic(auto, unfolding(crate::specs::Labels::group_text))]
-pub fn write_group(
-    text: &mut TextBuffer,
-    word: &str,
-    plan: &Plan,
-    group: usize,
-) -> Result<(), AllocError>
-    ensures { OnOk result (text.new ≡ text.old ++ group_text word.now plan.now group) }
+#[tactic(auto, unfolding(crate::specs::Texts::Adds, crate::specs::Labels::group_text))]
+pub fn write_group(text: &mut TextBuffer, word: &str, plan: &Plan, group: usize)
+    ensures { Adds text.old (group_text word.now plan.now group) text.new }
 {
-    text.word(word)?;
+    text.word(word);
     text.word(group_label(plan, group))
 }
 
-#[tactic(auto, unfolding(crate::specs::Labels::need_signal_text))]
-fn write_need_signal(text: &mut TextBuffer, plan: &Plan, need: &NeedPlan) -> Result<(), AllocError>
-    ensures { OnOk result (text.new ≡ text.old ++ need_signal_text plan.now need.now) }
+#[tactic(auto, unfolding(crate::specs::Texts::Adds, crate::specs::Labels::need_signal_text))]
+fn write_need_signal(text: &mut TextBuffer, plan: &Plan, need: &NeedPlan)
+    ensures { Adds text.old (need_signal_text plan.now need.now) text.new }
 {
     match need.signal {
         Some(signal) => {
-            text.word(" ")?;
+            text.word(" ");
             text.word(signal_label(plan, need.group, signal))
         }
-        None => Ok(()),
+        None => {}
     }
 }
 
 /// Writes the need at a place: its unit, its group, and its signal where it names one.
-#[tactic(auto, unfolding(crate::specs::Labels::need_text))]
-pub fn write_need(
-    text: &mut TextBuffer,
-    plan: &Plan,
-    place: usize,
-    need: &NeedPlan,
-) -> Result<(), AllocError>
-    ensures { OnOk result (text.new ≡ text.old ++ need_text plan.now place need.now) }
+#[tactic(auto, unfolding(crate::specs::Texts::Adds, crate::specs::Labels::need_text))]
+pub fn write_need(text: &mut TextBuffer, plan: &Plan, place: usize, need: &NeedPlan)
+    ensures { Adds text.old (need_text plan.now place need.now) text.new }
 {
-    text.place("need ", place)?;
-    text.word(" ")?;
-    text.word(unit_label(plan, need.unit))?;
-    text.word(" ")?;
-    text.word(group_label(plan, need.group))?;
+    text.place("need ", place);
+    text.word(" ");
+    text.word(unit_label(plan, need.unit));
+    text.word(" ");
+    text.word(group_label(plan, need.group));
     write_need_signal(text, plan, need)
 }

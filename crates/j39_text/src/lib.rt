@@ -1,5 +1,5 @@
 //! Texts of frames, and the buffer that all texts are written in.
-#![tactic(auto)]
+#![tactic(auto, unfolding(crate::specs::Texts::Adds))]
 
 mod frame;
 mod input;

@@ -1,9 +1,9 @@
 //! Bytes between two quotation marks.
-ghost use Rattle.std.specs.Prelude.{◌≡◌, ◌++◌, OnOk};
+ghost use Rattle.std.specs.Prelude.{◌≡◌};
 ghost use Rattle.j39_text.specs.Quotations.{is_plain, quotation, spelled, spelled_byte};
+ghost use Rattle.j39_text.specs.Texts.{Adds};
 
 use crate::TextBuffer;
-use std::alloc::AllocError;
 
 // Whether a byte stands for itself: a visible ASCII character or a space, but no mark and no backslash.
 fn is_plain(byte: u8) -> bool
@@ -12,34 +12,33 @@ fn is_plain(byte: u8) -> bool
     (b' '..=b'~').contains(&byte) && byte != b'"' && byte != b'\\'
 }
 
-#[tactic(auto, unfolding(crate::specs::Quotations::spelled_byte))]
-fn write_byte(text: &mut TextBuffer, byte: u8) -> Result<(), AllocError>
-    ensures { OnOk result (text.new ≡ text.old ++ spelled_byte byte) }
+#[tactic(auto, unfolding(crate::specs::Texts::Adds, crate::specs::Quotations::spelled_byte))]
+fn write_byte(text: &mut TextBuffer, byte: u8)
+    ensures { Adds text.old (spelled_byte byte) text.new }
 {
     if is_plain(byte) {
         text.bytes(&[byte])
     } else {
-        text.word("\\x")?;
+        text.word("\\x");
         text.hex(&[byte])
     }
 }
 
-fn write_spelled(text: &mut TextBuffer, bytes: &[u8]) -> Result<(), AllocError>
-    ensures { OnOk result (text.new ≡ text.old ++ spelled bytes.now) }
+fn write_spelled(text: &mut TextBuffer, bytes: &[u8])
+    ensures { Adds text.old (spelled bytes.now) text.new }
 {
     for byte in bytes {
-        write_byte(text, *byte)?;
+        write_byte(text, *byte);
     }
-    Ok(())
 }
 
 /// Writes bytes between two quotation marks: visible ASCII characters and spaces as they are, but marks, backslashes
 /// and all other bytes as a backslash, an `x` and two capital digits.
-#[tactic(auto, unfolding(crate::specs::Quotations::quotation))]
-pub fn write_quotation(text: &mut TextBuffer, bytes: &[u8]) -> Result<(), AllocError>
-    ensures { OnOk result (text.new ≡ text.old ++ quotation bytes.now) }
+#[tactic(auto, unfolding(crate::specs::Texts::Adds, crate::specs::Quotations::quotation))]
+pub fn write_quotation(text: &mut TextBuffer, bytes: &[u8])
+    ensures { Adds text.old (quotation bytes.now) text.new }
 {
-    text.word("\"")?;
-    write_spelled(text, bytes)?;
+    text.word("\"");
+    write_spelled(text, bytes);
     text.word("\"")
 }

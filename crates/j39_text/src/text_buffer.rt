@@ -1,7 +1,7 @@
 //! A text that grows, and the one place where numbers, digits and words are written.
-ghost use Rattle.std.specs.Prelude.{◌≡◌, ℕ, ◌≤◌, [], ◌∷◌, ◌++◌, length, OnOk};
+ghost use Rattle.std.specs.Prelude.{◌≡◌, ℕ, ◌≤◌, [], ◌∷◌, true, false, length, IfErr, IfOk};
 ghost use Rattle.hex.specs.Hex.{encode_upper};
-ghost use Rattle.j39_text.specs.Texts.{field_text, place_field};
+ghost use Rattle.j39_text.specs.Texts.{Adds, field_text, place_field};
 
 use arrayvec::ArrayVec;
 use itoa::{Buffer, Integer};
@@ -10,18 +10,19 @@ use std::marker::Model;
 
 const DIGITS: [u8; 16] = *b"0123456789ABCDEF";
 
-/// A text that grows.
+/// A text that grows. Once memory was refused to it, it stays a text that is lost: who takes it learns this.
 #[derive(Drop)]
 pub struct TextBuffer {
     bytes: Vec<u8>,
+    refused: bool,
 }
 
 impl Model for TextBuffer {
-    ghost use Rattle.std.specs.Prelude.{ℕ, List};
+    ghost use Rattle.std.specs.Prelude.{ℕ, List, Bool};
 
-    ghost Value = { List ℕ };
+    ghost Value = { List ℕ × Bool };
 
-    ghost view = { λ text. text.bytes.items };
+    ghost view = { λ text. (text.bytes.items, text.refused) };
 }
 
 // Two capital digits for each of at most eight bytes.
@@ -40,86 +41,95 @@ fn digits_of(bytes: &[u8]) -> ArrayVec<u8, 16>
 
 impl TextBuffer {
     pub fn new(alloc: Global) -> Self
-        ensures { result ≡ [] }
+        ensures { result ≡ ([], false) }
     {
         TextBuffer {
             bytes: Vec::new(alloc),
+            refused: false,
         }
     }
 
-    pub fn as_slice(&self) -> &[u8]
-        ensures { result.now ≡ self.now }
+    /// The text, if no memory was refused to it.
+    pub fn whole(&self) -> Result<&[u8], AllocError>
+        ensures whole { IfOk result (λ bytes. self.now ≡ (bytes.now, false)) }
+        ensures lost { IfErr result (λ _. self.now.1 ≡ true) }
     {
-        self.bytes.as_slice()
+        if self.refused {
+            Err(AllocError)
+        } else {
+            Ok(self.bytes.as_slice())
+        }
     }
 
     pub fn len(&self) -> usize
-        ensures { result ≡ length self.now }
+        ensures { result ≡ length self.now.0 }
     {
         self.bytes.len()
     }
 
     /// Drops the text, and keeps its room for the next one.
     pub fn clear(&mut self)
-        ensures { self.new ≡ [] }
+        ensures { self.new ≡ ([], false) }
     {
         self.bytes.clear();
+        self.refused = false;
     }
 
-    pub fn bytes(&mut self, bytes: &[u8]) -> Result<(), AllocError>
-        ensures { OnOk result (self.new ≡ self.old ++ bytes.now) }
+    pub fn bytes(&mut self, bytes: &[u8])
+        ensures { Adds self.old bytes.now self.new }
     {
-        self.bytes.extend_from_slice(bytes)
+        if self.bytes.extend_from_slice(bytes).is_err() {
+            self.refused = true;
+        }
     }
 
-    pub fn word(&mut self, word: &str) -> Result<(), AllocError>
-        ensures { OnOk result (self.new ≡ self.old ++ word.now) }
+    pub fn word(&mut self, word: &str)
+        ensures { Adds self.old word.now self.new }
     {
         self.bytes(word.as_bytes())
     }
 
     /// Adds the decimal digits of a number.
-    pub fn number<I: Integer>(&mut self, number: I) -> Result<(), AllocError>
-        ensures { OnOk result (self.new ≡ self.old ++ I.text number) }
+    pub fn number<I: Integer>(&mut self, number: I)
+        ensures { Adds self.old (I.text number) self.new }
     {
         let mut buffer = Buffer::new();
         self.word(buffer.format(number))
     }
 
     /// Adds a word and the decimal digits of a number.
-    #[tactic(auto, unfolding(crate::specs::Texts::field_text))]
+    #[tactic(auto, unfolding(crate::specs::Texts::Adds, crate::specs::Texts::field_text))]
     #[inline]
-    pub fn field<I: Integer>(&mut self, word: &str, number: I) -> Result<(), AllocError>
-        ensures { OnOk result (self.new ≡ self.old ++ field_text word.now (I.text number)) }
+    pub fn field<I: Integer>(&mut self, word: &str, number: I)
+        ensures { Adds self.old (field_text word.now (I.text number)) self.new }
     {
-        self.word(word)?;
+        self.word(word);
         self.number(number)
     }
 
     /// Adds a word and a place, which is counted from 0 and written as counted from 1.
-    pub fn place(&mut self, word: &str, place: usize) -> Result<(), AllocError>
-        ensures { OnOk result (self.new ≡ self.old ++ place_field word.now place) }
+    pub fn place(&mut self, word: &str, place: usize)
+        ensures { Adds self.old (place_field word.now place) self.new }
     {
         self.field(word, place as u128 + 1)
     }
 
     /// Adds two capital digits for each byte.
     #[inline(always)]
-    pub fn hex(&mut self, bytes: &[u8]) -> Result<(), AllocError>
-        ensures { OnOk result (self.new ≡ self.old ++ encode_upper bytes.now) }
+    pub fn hex(&mut self, bytes: &[u8])
+        ensures { Adds self.old (encode_upper bytes.now) self.new }
     {
         let mut rest = bytes;
         while rest.len() > 8 {
-            self.bytes(digits_of(&rest[..8]).as_slice())?;
+            self.bytes(digits_of(&rest[..8]).as_slice());
             rest = &rest[8..];
         }
         self.bytes(digits_of(rest).as_slice())
     }
 
-    pub fn end_line(&mut self) -> Result<(), AllocError>
-        ensures { OnOk result (self.new ≡ self.old ++ 10 ∷ []) }
+    pub fn end_line(&mut self)
+        ensures { Adds self.old (10 ∷ []) self.new }
     {
-        self.bytes.push(b'\n')?;
-        Ok(())
+        self.bytes(b"\n")
     }
 }

@@ -1,51 +1,49 @@
 //! The lines of what a frame says besides its route.
-ghost use Rattle.std.specs.Prelude.{◌≡◌, ◌++◌, length, OnOk};
+ghost use Rattle.std.specs.Prelude.{◌≡◌, length};
 ghost use Rattle.j39_text.specs.FrameText.{cannot_claim_lines, claim_lines, meaning_lines, request_line};
+ghost use Rattle.j39_text.specs.Texts.{Adds};
 
 use super::name::write_name;
 use crate::TextBuffer;
 use j39_id::{Frame, cannot_claim, carried_name, claims_address, requested_group, requests_group};
-use std::alloc::AllocError;
 
-#[tactic(auto, unfolding(crate::specs::FrameText::claim_lines))]
-fn write_claim(text: &mut TextBuffer, frame: &Frame) -> Result<(), AllocError>
+#[tactic(auto, unfolding(crate::specs::Texts::Adds, crate::specs::FrameText::claim_lines))]
+fn write_claim(text: &mut TextBuffer, frame: &Frame)
     requires { length frame.now.payload.items ≡ 8 }
-    ensures { OnOk result (text.new ≡ text.old ++ claim_lines frame.now) }
+    ensures { Adds text.old (claim_lines frame.now) text.new }
 {
-    text.field("claim ", frame.ident.sa)?;
-    text.word(" name ")?;
+    text.field("claim ", frame.ident.sa);
+    text.word(" name ");
     write_name(text, carried_name(frame))
 }
 
-#[tactic(auto, unfolding(crate::specs::FrameText::cannot_claim_lines))]
-fn write_cannot_claim(text: &mut TextBuffer, frame: &Frame) -> Result<(), AllocError>
+#[tactic(auto, unfolding(crate::specs::Texts::Adds, crate::specs::FrameText::cannot_claim_lines))]
+fn write_cannot_claim(text: &mut TextBuffer, frame: &Frame)
     requires { length frame.now.payload.items ≡ 8 }
-    ensures { OnOk result (text.new ≡ text.old ++ cannot_claim_lines frame.now) }
+    ensures { Adds text.old (cannot_claim_lines frame.now) text.new }
 {
-    text.word("cannot name ")?;
+    text.word("cannot name ");
     write_name(text, carried_name(frame))
 }
 
-#[tactic(auto, unfolding(crate::specs::FrameText::request_line))]
-fn write_request(text: &mut TextBuffer, frame: &Frame) -> Result<(), AllocError>
+#[tactic(auto, unfolding(crate::specs::Texts::Adds, crate::specs::FrameText::request_line))]
+fn write_request(text: &mut TextBuffer, frame: &Frame)
     requires { length frame.now.payload.items ≡ 3 }
-    ensures { OnOk result (text.new ≡ text.old ++ request_line frame.now) }
+    ensures { Adds text.old (request_line frame.now) text.new }
 {
-    text.field("request ", requested_group(frame))?;
+    text.field("request ", requested_group(frame));
     text.end_line()
 }
 
-#[tactic(auto, unfolding(crate::specs::FrameText::meaning_lines))]
-pub(super) fn write_meaning(text: &mut TextBuffer, frame: &Frame) -> Result<(), AllocError>
-    ensures { OnOk result (text.new ≡ text.old ++ meaning_lines frame.now) }
+#[tactic(auto, unfolding(crate::specs::Texts::Adds, crate::specs::FrameText::meaning_lines))]
+pub(super) fn write_meaning(text: &mut TextBuffer, frame: &Frame)
+    ensures { Adds text.old (meaning_lines frame.now) text.new }
 {
     if claims_address(frame) {
-        write_claim(text, frame)
+        write_claim(text, frame);
     } else if cannot_claim(frame) {
-        write_cannot_claim(text, frame)
+        write_cannot_claim(text, frame);
     } else if requests_group(frame) {
-        write_request(text, frame)
-    } else {
-        Ok(())
+        write_request(text, frame);
     }
 }

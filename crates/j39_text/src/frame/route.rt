@@ -1,17 +1,16 @@
 //! Where a frame comes from and goes to.
-ghost use Rattle.std.specs.Prelude.{◌≡◌, ◌++◌, OnOk};
 ghost use Rattle.j39_text.specs.FrameText.{destination_text, page_text, route_line};
+ghost use Rattle.j39_text.specs.Texts.{Adds};
 
 use crate::TextBuffer;
 use j39_id::Ident;
 use j39_id::addresses::GLOBAL_ADDRESS;
-use std::alloc::AllocError;
 
 /// Writes where a frame goes to: to all, or to an address.
-#[tactic(auto, using(crate::proofs::Destinations::pdu2_kept), unfolding(crate::specs::FrameText::destination_text))]
+#[tactic(auto, using(crate::proofs::Destinations::pdu2_kept), unfolding(crate::specs::Texts::Adds, crate::specs::FrameText::destination_text))]
 #[inline(always)]
-pub fn write_destination(text: &mut TextBuffer, ident: Ident) -> Result<(), AllocError>
-    ensures { OnOk result (text.new ≡ text.old ++ destination_text ident) }
+pub fn write_destination(text: &mut TextBuffer, ident: Ident)
+    ensures { Adds text.old (destination_text ident) text.new }
 {
     match ident.destination() {
         Some(GLOBAL_ADDRESS) | None => text.word("all"),
@@ -19,22 +18,22 @@ pub fn write_destination(text: &mut TextBuffer, ident: Ident) -> Result<(), Allo
     }
 }
 
-#[tactic(auto, unfolding(crate::specs::FrameText::page_text))]
-fn write_page(text: &mut TextBuffer, ident: Ident) -> Result<(), AllocError>
-    ensures { OnOk result (text.new ≡ text.old ++ page_text ident) }
+#[tactic(auto, unfolding(crate::specs::Texts::Adds, crate::specs::FrameText::page_text))]
+fn write_page(text: &mut TextBuffer, ident: Ident)
+    ensures { Adds text.old (page_text ident) text.new }
 {
     text.word(if ident.edp == 1 { " other" } else { "" })
 }
 
-#[tactic(auto, unfolding(crate::specs::FrameText::route_line))]
-pub(super) fn write_route(text: &mut TextBuffer, ident: Ident) -> Result<(), AllocError>
-    ensures { OnOk result (text.new ≡ text.old ++ route_line ident) }
+#[tactic(auto, unfolding(crate::specs::Texts::Adds, crate::specs::FrameText::route_line))]
+pub(super) fn write_route(text: &mut TextBuffer, ident: Ident)
+    ensures { Adds text.old (route_line ident) text.new }
 {
-    text.field("priority ", ident.priority)?;
-    text.field(" pgn ", ident.pgn().number())?;
-    text.field(" from ", ident.sa)?;
-    text.word(" to ")?;
-    write_destination(text, ident)?;
-    write_page(text, ident)?;
+    text.field("priority ", ident.priority);
+    text.field(" pgn ", ident.pgn().number());
+    text.field(" from ", ident.sa);
+    text.word(" to ");
+    write_destination(text, ident);
+    write_page(text, ident);
     text.end_line()
 }

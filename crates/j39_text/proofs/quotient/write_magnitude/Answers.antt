@@ -1,4 +1,5 @@
-use Rattle.std.proofs.Common.{append_assoc, rules, arith}
+use Rattle.std.proofs.Common.{rules, arith}
+use Rattle.j39_text.proofs.Adding.{then}
 use Rattle.j39_text.proofs.Quotients.{point-text, positive, whole, whole-text}
 use Rattle.j39_text.proofs.quotient.write_magnitude.Goals as goal
 
@@ -12,4 +13,4 @@ write_decimals-requires-clause-whole c = whole _ c.args.per c.requires
 pub returns : goal.returns
 returns c =
     let parts = point-text c.args.magnitude c.args.per c.requires (omega arith) in
-    rw parts (rw (c.in_ok-word.ensures {u = tt}, c.in_ok-number.ensures {u = tt}, append_assoc, append_assoc) at c.write_decimals.ensures)
+    rw parts (then _ _ _ _ _ c.number.ensures (then _ _ _ _ _ c.word.ensures c.write_decimals.ensures))
