@@ -1,6 +1,7 @@
 pub mod AllVariants
 pub mod Best
 pub mod Boxes
+pub mod Conditions
 pub mod FullVariants
 pub mod InFile
 pub mod LineAnswers
