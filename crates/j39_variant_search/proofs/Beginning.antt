@@ -8,31 +8,31 @@ use Rattle.std.proofs.lemmas.Bool.{false≢true, eqb-true}
 use Rattle.std.proofs.lemmas.List.{length-append, length-map}
 use Rattle.j39_variants.specs.VariantPlans.{flag_at}
 use Rattle.j39_variants.specs.Variants.{IsEarlier}
-use Rattle.j39_variant_search.specs.BoxParts.{Begins, HasNoneOutside, HasOutside, IsBoxPart, IsNextPlace, IsOutsideNear, NoneBegins, flags_at, hole_at, is_taken_at}
-use Rattle.j39_variant_search.specs.VariantSearch.{IsFirstOutside, IsOutsideBoxes, NoneOutside, box_flags, boxes_flags, is_within}
+use Rattle.j39_variant_search.specs.inside.BoxParts.{StartsWith, HasNoneOutside, HasOutside, IsBoxPart, IsNextPlace, IsOutsideNear, NoneBegins, flags_at, hole_at, is_taken_at}
+use Rattle.j39_variant_search.specs.VariantSearch.{IsFirstOutside, IsOutsideBoxes, NoneOutside, box_flags, boxes_flags, is_in_box}
 use Rattle.j39_variant_search.proofs.InBoxes.{eqb_same, within_at, within_length}
 use Rattle.j39_variant_search.proofs.Leaving.{AreMet, part_back, to_met, to_near}
 use Rattle.j39_variant_search.proofs.Pieces.{part_from, part_passes}
 
-begins_passes : (taken v : List ℕ) → Begins taken v → (k : ℕ) → is_taken_at taken k (slice_index v k) ≡ true
+begins_passes : (taken v : List ℕ) → StartsWith taken v → (k : ℕ) → is_taken_at taken k (slice_index v k) ≡ true
 begins_passes [] v is k = refl
 begins_passes (p ∷ taken) [] is k = absurd is
 begins_passes (p ∷ taken) (q ∷ v) is zero = eqb_same q p (sym is.0)
 begins_passes (p ∷ taken) (q ∷ v) is (suc k) = begins_passes taken v is.1 k
 
-passes_begins : (taken v : List ℕ) → length taken ≤ length v → ((k : ℕ) → k < length v → is_taken_at taken k (slice_index v k) ≡ true) → Begins taken v
+passes_begins : (taken v : List ℕ) → length taken ≤ length v → ((k : ℕ) → k < length v → is_taken_at taken k (slice_index v k) ≡ true) → StartsWith taken v
 passes_begins [] v few passes = tt
 passes_begins (p ∷ taken) [] few passes = absurd (omega arith)
 passes_begins (p ∷ taken) (q ∷ v) few passes =
     (sym (eqb-true q p (passes 0 (omega arith))), passes_begins taken v (omega arith) (λ k below. passes (suc k) (omega arith)))
 
-begins_more : (taken v : List ℕ) → Begins taken v → length taken < length v → Begins (taken ++ slice_index v (length taken) ∷ []) v
+begins_more : (taken v : List ℕ) → StartsWith taken v → length taken < length v → StartsWith (taken ++ slice_index v (length taken) ∷ []) v
 begins_more [] [] is less = absurd (omega arith)
 begins_more [] (q ∷ v) is less = (refl, tt)
 begins_more (p ∷ taken) [] is less = absurd is
 begins_more (p ∷ taken) (q ∷ v) is less = (is.0, begins_more taken v is.1 (omega arith))
 
-begins_all : (taken v : List ℕ) → Begins taken v → length taken ≡ length v → v ≡ taken
+begins_all : (taken v : List ℕ) → StartsWith taken v → length taken ≡ length v → v ≡ taken
 begins_all [] [] is same = refl
 begins_all [] (q ∷ v) is same = absurd (omega arith)
 begins_all (p ∷ taken) [] is same = absurd is
@@ -47,7 +47,7 @@ below_flags (a ∷ flags) (suc place) has = let rest = below_flags flags place h
 
 module _ (within part : List (Vec Bool Global)) (holes : List (Vec (Vec Bool Global) Global)) (near taken : List ℕ) (few : length taken ≤ length within)
     (is : IsBoxPart (is_taken_at taken) (box_flags within) (box_flags part)) where
-  pub one_taken : HasOutside part holes near → (v : List ℕ) × IsOutsideNear within holes near v × Begins taken v
+  pub one_taken : HasOutside part holes near → (v : List ℕ) × IsOutsideNear within holes near v × StartsWith taken v
   one_taken (v, out) =
       let n = length-map within (λ choice. choice.items) in
       let whole = part_back (is_taken_at taken) within part holes near v is out in
@@ -81,7 +81,7 @@ none_next within holes near taken less none v out begins =
 
 pub record IsFirstTo (within : List (Vec Bool Global)) (holes : List (Vec (Vec Bool Global) Global)) (near taken : List ℕ) : Type 0 where
   pub few : length taken ≤ length within
-  pub one : (v : List ℕ) × IsOutsideNear within holes near v × Begins taken v
+  pub one : (v : List ℕ) × IsOutsideNear within holes near v × StartsWith taken v
   pub first : (v : List ℕ) → IsOutsideNear within holes near v → ¬ IsEarlier v taken
 
 not_earlier_none : (v : List ℕ) → IsEarlier v [] → ⊥
@@ -92,7 +92,7 @@ pub first_none : (within : List (Vec Bool Global)) (holes : List (Vec (Vec Bool 
     → IsFirstTo within holes near []
 first_none within holes near (v, out) = record { few = omega arith; one = (v, out, tt); first = λ w is earlier. not_earlier_none w earlier }
 
-earlier_parts : (v taken : List ℕ) (place : ℕ) → IsEarlier v (taken ++ place ∷ []) → IsEarlier v taken ⊎ ((q : ℕ) × (q < place) × Begins (taken ++ q ∷ []) v)
+earlier_parts : (v taken : List ℕ) (place : ℕ) → IsEarlier v (taken ++ place ∷ []) → IsEarlier v taken ⊎ ((q : ℕ) × (q < place) × StartsWith (taken ++ q ∷ []) v)
 earlier_parts [] [] place is = absurd is
 earlier_parts [] (p ∷ taken) place is = absurd is
 earlier_parts (q ∷ v) [] place (inl less) = inr (q, less, (refl, tt))
@@ -135,15 +135,15 @@ any_places test (h ∷ holes) =
     ∙ any_places test holes)
 
 any_boxes : (v : List ℕ) (holes : List (Vec (Vec Bool Global) Global))
-    → list_any (λ hole. is_within (box_flags hole.items) v) holes ≡ list_any (λ hole. is_within hole v) (boxes_flags holes)
+    → list_any (λ hole. is_in_box (box_flags hole.items) v) holes ≡ list_any (λ hole. is_in_box hole v) (boxes_flags holes)
 any_boxes v [] = refl
-any_boxes v (h ∷ holes) = ap (λ b. is_within (box_flags h.items) v || b) (any_boxes v holes)
+any_boxes v (h ∷ holes) = ap (λ b. is_in_box (box_flags h.items) v || b) (any_boxes v holes)
 
 module _ (within : List (Vec Bool Global)) (holes : List (Vec (Vec Bool Global) Global)) (near : List ℕ)
     (same : AreMet within holes (range_with_len 0 (length holes)) near) where
   all_near : (v : List ℕ)
-      → list_any (λ place. is_within (box_flags (hole_at holes place)) v) (range_with_len 0 (length holes)) ≡ list_any (λ hole. is_within hole v) (boxes_flags holes)
-  all_near v = any_places (λ hole. is_within (box_flags hole) v) holes ∙ any_boxes v holes
+      → list_any (λ place. is_in_box (box_flags (hole_at holes place)) v) (range_with_len 0 (length holes)) ≡ list_any (λ hole. is_in_box hole v) (boxes_flags holes)
+  all_near v = any_places (λ hole. is_in_box (box_flags hole) v) holes ∙ any_boxes v holes
 
   from_near : (v : List ℕ) → IsOutsideNear within holes near v → IsOutsideBoxes (box_flags within) (boxes_flags holes) v
   from_near v is = let out = to_near within holes (range_with_len 0 (length holes)) near same v is in record { in_box = out.in_box; in_none = sym (all_near v) ∙ out.in_none }

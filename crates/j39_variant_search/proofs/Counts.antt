@@ -2,7 +2,7 @@
 use Rattle.std.proofs.Common.{◌≡◌, ℕ, zero, suc, ◌+◌, ◌<◌, ◌≤◌, List, [], ◌∷◌, Bool, true, false, length, refl, sym, arith}
 use Rattle.std.proofs.lemmas.Bool.{false≢true}
 use Rattle.j39_variants.specs.VariantPlans.{flag_at}
-use Rattle.j39_variant_search.specs.BoxParts.{has_alternative}
+use Rattle.j39_variant_search.specs.inside.BoxParts.{has_alternative}
 
 abbrev pub flag_count : List Bool → ℕ
 flag_count [] = 0

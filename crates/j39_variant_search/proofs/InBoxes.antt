@@ -6,8 +6,8 @@ use Rattle.std.specs.List.{enumerate_from, list_all, list_any, range_with_len}
 use Rattle.std.proofs.lemmas.Bool.{false≢true, and_parts, or_parts, eqb-true}
 use Rattle.std.proofs.lemmas.List.{length-map}
 use Rattle.j39_variants.specs.VariantPlans.{flag_at}
-use Rattle.j39_variant_search.specs.BoxParts.{are_shared, flags_at, flags_with, has_alternative, is_empty_box, is_left, is_met, is_shared}
-use Rattle.j39_variant_search.specs.VariantSearch.{box_flags, is_within}
+use Rattle.j39_variant_search.specs.inside.BoxParts.{are_common, flags_at, flags_with, has_alternative, is_empty_box, is_left, is_met, is_common}
+use Rattle.j39_variant_search.specs.VariantSearch.{box_flags, is_in_box}
 
 pub both_true : (a b : Bool) → a ≡ true → b ≡ true → (a && b) ≡ true
 both_true true b is also = also
@@ -47,18 +47,18 @@ filter_at kept (x ∷ xs) k below = go (kept x) refl (λ j less. filter_at kept 
 -- ---- choices
 
 -- an alternative that both choices have
-shared : (one other : List Bool) → is_shared one other ≡ true → (place : ℕ) × (flag_at one place ≡ true) × (flag_at other place ≡ true)
+shared : (one other : List Bool) → is_common one other ≡ true → (place : ℕ) × (flag_at one place ≡ true) × (flag_at other place ≡ true)
 shared [] other is = absurd (false≢true is)
 shared (a ∷ one) [] is = absurd (false≢true is)
 shared (true ∷ one) (true ∷ other) is = (0, refl, refl)
 shared (true ∷ one) (false ∷ other) is = let (place, here, there) = shared one other is in (suc place, here, there)
 shared (false ∷ one) (b ∷ other) is = let (place, here, there) = shared one other is in (suc place, here, there)
 
-not_shared : (one other : List Bool) (place : ℕ) → is_shared one other ≡ false → flag_at one place ≡ true → flag_at other place ≡ true → ⊥
+not_shared : (one other : List Bool) (place : ℕ) → is_common one other ≡ false → flag_at one place ≡ true → flag_at other place ≡ true → ⊥
 not_shared [] other place none here there = false≢true here
 not_shared (a ∷ one) [] place none here there = false≢true there
-not_shared (a ∷ one) (b ∷ other) zero none here there = false≢true (sym (or_parts (a && b) (is_shared one other) none).0 ∙ both_true a b here there)
-not_shared (a ∷ one) (b ∷ other) (suc place) none here there = not_shared one other place (or_parts (a && b) (is_shared one other) none).1 here there
+not_shared (a ∷ one) (b ∷ other) zero none here there = false≢true (sym (or_parts (a && b) (is_common one other) none).0 ∙ both_true a b here there)
+not_shared (a ∷ one) (b ∷ other) (suc place) none here there = not_shared one other place (or_parts (a && b) (is_common one other) none).1 here there
 
 not_left_from : (n : ℕ) (one other : List Bool) (place : ℕ) → list_any (λ at. at.1 && not (flag_at other at.0)) (enumerate_from n one) ≡ false
     → flag_at one place ≡ true → flag_at other (n + place) ≡ true
@@ -91,25 +91,25 @@ flag_with test flags place = let e : 0 + place ≡ place = omega arith in rw e a
 
 -- ---- variants in boxes
 
-pub within_length : (within : List (List Bool)) (v : List ℕ) → is_within within v ≡ true → length v ≡ length within
+pub within_length : (within : List (List Bool)) (v : List ℕ) → is_in_box within v ≡ true → length v ≡ length within
 within_length [] [] is = refl
 within_length [] (p ∷ v) is = absurd (false≢true is)
 within_length (f ∷ within) [] is = absurd (false≢true is)
-within_length (f ∷ within) (p ∷ v) is = let rest = within_length within v (and_parts (flag_at f p) (is_within within v) is).1 in omega (arith, rest)
+within_length (f ∷ within) (p ∷ v) is = let rest = within_length within v (and_parts (flag_at f p) (is_in_box within v) is).1 in omega (arith, rest)
 
-pub within_at : (within : List (List Bool)) (v : List ℕ) → is_within within v ≡ true → (k : ℕ) → k < length within → has_alternative within k (slice_index v k) ≡ true
+pub within_at : (within : List (List Bool)) (v : List ℕ) → is_in_box within v ≡ true → (k : ℕ) → k < length within → has_alternative within k (slice_index v k) ≡ true
 within_at [] v is k below = absurd (omega arith)
 within_at (f ∷ within) [] is k below = absurd (false≢true is)
-within_at (f ∷ within) (p ∷ v) is zero below = (and_parts (flag_at f p) (is_within within v) is).0
-within_at (f ∷ within) (p ∷ v) is (suc k) below = within_at within v (and_parts (flag_at f p) (is_within within v) is).1 k (omega arith)
+within_at (f ∷ within) (p ∷ v) is zero below = (and_parts (flag_at f p) (is_in_box within v) is).0
+within_at (f ∷ within) (p ∷ v) is (suc k) below = within_at within v (and_parts (flag_at f p) (is_in_box within v) is).1 k (omega arith)
 
 pub within_from : (within : List (List Bool)) (v : List ℕ) → length v ≡ length within
-    → ((k : ℕ) → k < length within → has_alternative within k (slice_index v k) ≡ true) → is_within within v ≡ true
+    → ((k : ℕ) → k < length within → has_alternative within k (slice_index v k) ≡ true) → is_in_box within v ≡ true
 within_from [] [] same has = refl
 within_from [] (p ∷ v) same has = absurd (omega arith)
 within_from (f ∷ within) [] same has = absurd (omega arith)
 within_from (f ∷ within) (p ∷ v) same has =
-    both_true (flag_at f p) (is_within within v) (has 0 (omega arith)) (within_from within v (omega arith) (λ k below. has (suc k) (omega arith)))
+    both_true (flag_at f p) (is_in_box within v) (has 0 (omega arith)) (within_from within v (omega arith) (λ k below. has (suc k) (omega arith)))
 
 no_flag : (flags : List Bool) (place : ℕ) → list_any (λ flag. flag) flags ≡ false → flag_at flags place ≡ true → ⊥
 no_flag [] place none here = false≢true here
@@ -121,25 +121,25 @@ some_flag [] is = absurd (false≢true is)
 some_flag (true ∷ flags) is = (0, refl)
 some_flag (false ∷ flags) is = let (place, here) = some_flag flags is in (suc place, here)
 
-pub empty_none : (within : List (Vec Bool Global)) (v : List ℕ) → is_empty_box within ≡ true → is_within (box_flags within) v ≡ true → ⊥
+pub empty_none : (within : List (Vec Bool Global)) (v : List ℕ) → is_empty_box within ≡ true → is_in_box (box_flags within) v ≡ true → ⊥
 empty_none [] v is inside = false≢true is
 empty_none (f ∷ within) [] is inside = false≢true inside
 empty_none (f ∷ within) (p ∷ v) is inside =
-    let parts = and_parts (flag_at f.items p) (is_within (box_flags within) v) inside in
+    let parts = and_parts (flag_at f.items p) (is_in_box (box_flags within) v) inside in
     go (list_any (λ flag. flag) f.items) refl parts.0 (λ rest. empty_none within v rest parts.1) where
       go : (b : Bool) → list_any (λ flag. flag) f.items ≡ b → flag_at f.items p ≡ true → (is_empty_box within ≡ true → ⊥) → ⊥
       go true some here rest = rest (rw some at is)
       go false none here rest = no_flag f.items p none here
 
-pub some_within : (within : List (Vec Bool Global)) → is_empty_box within ≡ false → (v : List ℕ) × (is_within (box_flags within) v ≡ true)
+pub some_within : (within : List (Vec Bool Global)) → is_empty_box within ≡ false → (v : List ℕ) × (is_in_box (box_flags within) v ≡ true)
 some_within [] is = ([], refl)
 some_within (f ∷ within) is = go (list_any (λ flag. flag) f.items) refl (λ full. some_within within full) where
-  go : (b : Bool) → list_any (λ flag. flag) f.items ≡ b → (is_empty_box within ≡ false → (v : List ℕ) × (is_within (box_flags within) v ≡ true))
-      → (v : List ℕ) × (is_within (box_flags (f ∷ within)) v ≡ true)
+  go : (b : Bool) → list_any (λ flag. flag) f.items ≡ b → (is_empty_box within ≡ false → (v : List ℕ) × (is_in_box (box_flags within) v ≡ true))
+      → (v : List ℕ) × (is_in_box (box_flags (f ∷ within)) v ≡ true)
   go true some rest =
       let (p, here) = some_flag f.items some in
       let (v, inside) = rest (rw some at is) in
-      (p ∷ v, both_true (flag_at f.items p) (is_within (box_flags within) v) here inside)
+      (p ∷ v, both_true (flag_at f.items p) (is_in_box (box_flags within) v) here inside)
   go false none rest = absurd (false≢true (sym (rw none at is)))
 
 -- ---- boxes that meet
@@ -159,7 +159,7 @@ all_of test a (suc n) holds =
     (all_of test (a + 1) n (λ k below. let e : a + suc k ≡ a + 1 + k = omega arith in rw e at (holds (suc k) (omega arith))))
 
 pub met_length : (within hole : List (Vec Bool Global)) → is_met within hole ≡ true → length within ≡ length hole
-met_length within hole is = eqb-true (length within) (length hole) (and_parts (length within == length hole) (are_shared within hole) is).0
+met_length within hole is = eqb-true (length within) (length hole) (and_parts (length within == length hole) (are_common within hole) is).0
 
 pub met_at : (within hole : List (Vec Bool Global)) → is_met within hole ≡ true → (k : ℕ) → k < length within
     → (place : ℕ) × (has_alternative (box_flags within) k place ≡ true) × (has_alternative (box_flags hole) k place ≡ true)
@@ -167,13 +167,13 @@ met_at within hole is k below =
     shared (flags_at (box_flags within) k) (flags_at (box_flags hole) k)
     (let e : 0 + k ≡ k = omega arith in
     rw e at
-    (all_from (λ choice. is_shared (flags_at (box_flags within) choice) (flags_at (box_flags hole) choice)) 0 (length within) k
-    (and_parts (length within == length hole) (are_shared within hole) is).1 below))
+    (all_from (λ choice. is_common (flags_at (box_flags within) choice) (flags_at (box_flags hole) choice)) 0 (length within) k
+    (and_parts (length within == length hole) (are_common within hole) is).1 below))
 
-share_all : (within hole : List (Vec Bool Global)) (v : List ℕ) → is_within (box_flags within) v ≡ true → is_within (box_flags hole) v ≡ true
-    → length within ≡ length hole → (k : ℕ) → k < length within → is_shared (flags_at (box_flags within) k) (flags_at (box_flags hole) k) ≡ true
-share_all within hole v inside also same k below = go (is_shared (flags_at (box_flags within) k) (flags_at (box_flags hole) k)) refl where
-  go : (b : Bool) → is_shared (flags_at (box_flags within) k) (flags_at (box_flags hole) k) ≡ b → is_shared (flags_at (box_flags within) k) (flags_at (box_flags hole) k) ≡ true
+share_all : (within hole : List (Vec Bool Global)) (v : List ℕ) → is_in_box (box_flags within) v ≡ true → is_in_box (box_flags hole) v ≡ true
+    → length within ≡ length hole → (k : ℕ) → k < length within → is_common (flags_at (box_flags within) k) (flags_at (box_flags hole) k) ≡ true
+share_all within hole v inside also same k below = go (is_common (flags_at (box_flags within) k) (flags_at (box_flags hole) k)) refl where
+  go : (b : Bool) → is_common (flags_at (box_flags within) k) (flags_at (box_flags hole) k) ≡ b → is_common (flags_at (box_flags within) k) (flags_at (box_flags hole) k) ≡ true
   go true is = is
   go false none =
       let n = length-map within (λ choice. choice.items) in
@@ -186,10 +186,10 @@ pub eqb_same : (a b : ℕ) → a ≡ b → (a == b) ≡ true
 eqb_same a b e = search rules
 
 -- no variant is in both of two boxes that don't meet
-pub not_met : (within hole : List (Vec Bool Global)) (v : List ℕ) → is_met within hole ≡ false → is_within (box_flags within) v ≡ true
-    → is_within (box_flags hole) v ≡ false
-not_met within hole v none inside = go (is_within (box_flags hole) v) refl where
-  go : (b : Bool) → is_within (box_flags hole) v ≡ b → is_within (box_flags hole) v ≡ false
+pub not_met : (within hole : List (Vec Bool Global)) (v : List ℕ) → is_met within hole ≡ false → is_in_box (box_flags within) v ≡ true
+    → is_in_box (box_flags hole) v ≡ false
+not_met within hole v none inside = go (is_in_box (box_flags hole) v) refl where
+  go : (b : Bool) → is_in_box (box_flags hole) v ≡ b → is_in_box (box_flags hole) v ≡ false
   go false is = is
   go true also =
       let n = length-map within (λ choice. choice.items) in
@@ -200,6 +200,6 @@ not_met within hole v none inside = go (is_within (box_flags hole) v) refl where
       absurd
       (false≢true
       (sym none
-      ∙ both_true (length within == length hole) (are_shared within hole) (eqb_same (length within) (length hole) same)
-      (all_of (λ choice. is_shared (flags_at (box_flags within) choice) (flags_at (box_flags hole) choice)) 0 (length within)
+      ∙ both_true (length within == length hole) (are_common within hole) (eqb_same (length within) (length hole) same)
+      (all_of (λ choice. is_common (flags_at (box_flags within) choice) (flags_at (box_flags hole) choice)) 0 (length within)
       (λ k below. let e : 0 + k ≡ k = omega arith in rw e (share_all within hole v inside also same k below)))))

@@ -8,8 +8,8 @@ use Rattle.std.proofs.lemmas.Bool.{false≢true, cases_order}
 use Rattle.std.proofs.lemmas.Bool.Decides.{nat_tests}
 use Rattle.std.proofs.lemmas.List.{length-map}
 use Rattle.j39_variants.specs.VariantPlans.{flag_at}
-use Rattle.j39_variant_search.specs.BoxParts.{HasNoneOutside, HasOutside, IsBoxPart, IsOutsideNear, flags_at, has_alternative, hole_at, is_behind, is_empty_box, is_kept, is_left, is_met}
-use Rattle.j39_variant_search.specs.VariantSearch.{box_flags, is_within}
+use Rattle.j39_variant_search.specs.inside.BoxParts.{HasNoneOutside, HasOutside, IsBoxPart, IsOutsideNear, flags_at, has_alternative, hole_at, is_behind, is_empty_box, is_kept, is_left, is_met}
+use Rattle.j39_variant_search.specs.VariantSearch.{box_flags, is_in_box}
 use Rattle.j39_variant_search.proofs.Counts.{box_count}
 use Rattle.j39_variant_search.proofs.InBoxes.{any_at, filter_any, filter_at, met_at, met_length, not_left, not_met, some_within, within_at, within_length}
 use Rattle.j39_variant_search.proofs.Pieces.{part_fewer, part_from, part_in}
@@ -27,12 +27,12 @@ leaves_later f hole p v here (first, below, is) = (suc first, omega arith, recor
   earlier (suc k) less = is.before k (omega arith)
 
 -- each variant that isn't in a hole leaves it
-leaves : (hole : List (List Bool)) (v : List ℕ) → length v ≡ length hole → is_within hole v ≡ false → (first : ℕ) × (first < length hole) × Leaves hole first v
+leaves : (hole : List (List Bool)) (v : List ℕ) → length v ≡ length hole → is_in_box hole v ≡ false → (first : ℕ) × (first < length hole) × Leaves hole first v
 leaves [] [] same out = absurd (false≢true (sym out))
 leaves [] (p ∷ v) same out = absurd (omega arith)
 leaves (f ∷ hole) [] same out = absurd (omega arith)
 leaves (f ∷ hole) (p ∷ v) same out = go (flag_at f p) refl (λ rest. leaves hole v (omega arith) rest) where
-  go : (b : Bool) → flag_at f p ≡ b → (is_within hole v ≡ false → (first : ℕ) × (first < length hole) × Leaves hole first v)
+  go : (b : Bool) → flag_at f p ≡ b → (is_in_box hole v ≡ false → (first : ℕ) × (first < length hole) × Leaves hole first v)
       → (first : ℕ) × (first < length (f ∷ hole)) × Leaves (f ∷ hole) first (p ∷ v)
   go false here rest = (0, omega arith, record { here = here; before = λ k below. absurd (omega arith) })
   go true here rest = leaves_later f hole p v here (rest (rw here at out))
@@ -65,11 +65,11 @@ abbrev pub AreMet : List (Vec Bool Global) → List (Vec (Vec Bool Global) Globa
 AreMet within holes near met = met ≡ filter (λ place. is_met within (hole_at holes place)) near
 
 module _ (within : List (Vec Bool Global)) (holes : List (Vec (Vec Bool Global) Global)) (near met : List ℕ) (same : AreMet within holes near met) where
-  near_alike : (v : List ℕ) → is_within (box_flags within) v ≡ true
-      → list_any (λ place. is_within (box_flags (hole_at holes place)) v) met ≡ list_any (λ place. is_within (box_flags (hole_at holes place)) v) near
+  near_alike : (v : List ℕ) → is_in_box (box_flags within) v ≡ true
+      → list_any (λ place. is_in_box (box_flags (hole_at holes place)) v) met ≡ list_any (λ place. is_in_box (box_flags (hole_at holes place)) v) near
   near_alike v inside =
-      ap (list_any (λ place. is_within (box_flags (hole_at holes place)) v)) same
-      ∙ filter_any (λ place. is_within (box_flags (hole_at holes place)) v) (λ place. is_met within (hole_at holes place)) near
+      ap (list_any (λ place. is_in_box (box_flags (hole_at holes place)) v)) same
+      ∙ filter_any (λ place. is_in_box (box_flags (hole_at holes place)) v) (λ place. is_met within (hole_at holes place)) near
       (λ place none. not_met within (hole_at holes place) v none inside)
 
   pub to_near : (v : List ℕ) → IsOutsideNear within holes met v → IsOutsideNear within holes near v
@@ -81,7 +81,7 @@ module _ (within : List (Vec Bool Global)) (holes : List (Vec (Vec Bool Global) 
   pub none_met : length met ≡ 0 → is_empty_box within ≡ false → HasOutside within holes near
   none_met nothing full =
       let (v, inside) = some_within within full in
-      (v, record { in_box = inside; in_none = sym (near_alike v inside) ∙ ap (list_any (λ place. is_within (box_flags (hole_at holes place)) v)) (empty_list met nothing) })
+      (v, record { in_box = inside; in_none = sym (near_alike v inside) ∙ ap (list_any (λ place. is_in_box (box_flags (hole_at holes place)) v)) (empty_list met nothing) })
 
   pub one_met : (k : ℕ) → k < length met → is_met within (hole_at holes (slice_index met k)) ≡ true
   one_met k below =
@@ -124,8 +124,8 @@ module _ (within hole : List (Vec Bool Global)) (holes : List (Vec (Vec Bool Glo
       let m = length-map hole (λ choice. choice.items) in
       let same = met_length within hole meets in
       let long = within_length (box_flags within) v out.in_box in
-      let not_in : is_within (box_flags hole) v ≡ false =
-      ap (λ h. is_within (box_flags h) v) is ∙ any_at (λ place. is_within (box_flags (hole_at holes place)) v) met k out.in_none below in
+      let not_in : is_in_box (box_flags hole) v ≡ false =
+      ap (λ h. is_in_box (box_flags h) v) is ∙ any_at (λ place. is_in_box (box_flags (hole_at holes place)) v) met k out.in_none below in
       let (first, less, way) = leaves (box_flags hole) v (omega (arith, n, m, same, long)) not_in in
       none first (omega (arith, m, same, less)) v out way
 

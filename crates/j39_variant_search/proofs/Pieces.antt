@@ -7,8 +7,8 @@ use Rattle.std.proofs.Math.Nat.{eq-or-lt_of_le}
 use Rattle.std.proofs.lemmas.Bool.{and_parts}
 use Rattle.std.proofs.lemmas.List.{length-append}
 use Rattle.j39_variants.specs.VariantPlans.{flag_at}
-use Rattle.j39_variant_search.specs.BoxParts.{IsBoxPart, flags_at, flags_with, has_alternative}
-use Rattle.j39_variant_search.specs.VariantSearch.{box_flags, is_within}
+use Rattle.j39_variant_search.specs.inside.BoxParts.{IsBoxPart, flags_at, flags_with, has_alternative}
+use Rattle.j39_variant_search.specs.VariantSearch.{box_flags, is_in_box}
 use Rattle.j39_variant_search.proofs.Counts.{box_count, box_fewer}
 use Rattle.j39_variant_search.proofs.InBoxes.{both_true, flag_with, within_at, within_from, within_length}
 
@@ -63,18 +63,18 @@ part_whole n test within part all is = record {
 }
 
 module _ (test : ℕ → ℕ → Bool) (within part : List (List Bool)) (is : IsBoxPart test within part) where
-  pub part_in : (v : List ℕ) → is_within part v ≡ true → is_within within v ≡ true
+  pub part_in : (v : List ℕ) → is_in_box part v ≡ true → is_in_box within v ≡ true
   part_in v inside =
       let n = is.of_each in
       within_from within v (within_length part v inside ∙ is.of_each)
       (λ k below. (and_parts _ _ (sym (is.has_these k (slice_index v k) below) ∙ within_at part v inside k (omega (arith, n)))).0)
 
-  pub part_passes : (v : List ℕ) → is_within part v ≡ true → (k : ℕ) → k < length within → test k (slice_index v k) ≡ true
+  pub part_passes : (v : List ℕ) → is_in_box part v ≡ true → (k : ℕ) → k < length within → test k (slice_index v k) ≡ true
   part_passes v inside k below =
       let n = is.of_each in
       (and_parts (has_alternative within k (slice_index v k)) _ (sym (is.has_these k (slice_index v k) below) ∙ within_at part v inside k (omega (arith, n)))).1
 
-  pub part_from : (v : List ℕ) → is_within within v ≡ true → ((k : ℕ) → k < length within → test k (slice_index v k) ≡ true) → is_within part v ≡ true
+  pub part_from : (v : List ℕ) → is_in_box within v ≡ true → ((k : ℕ) → k < length within → test k (slice_index v k) ≡ true) → is_in_box part v ≡ true
   part_from v inside passes =
       let n = is.of_each in
       within_from part v (within_length within v inside ∙ sym is.of_each)

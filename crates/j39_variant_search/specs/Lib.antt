@@ -1,2 +1,2 @@
-pub mod BoxParts
 pub mod VariantSearch
+pub mod inside

@@ -12,16 +12,16 @@ abbrev pub boxes_flags : List (Vec (Vec Bool Global) Global) → List (List (Lis
 boxes_flags boxes = map (λ box. box_flags box.items) boxes
 
 -- a variant is in a box: it takes of each choice an alternative that the box has, and of no more choices
-abbrev pub is_within : List (List Bool) → List ℕ → Bool
-is_within [] [] = true
-is_within [] (place ∷ variant) = false
-is_within (choice ∷ within) [] = false
-is_within (choice ∷ within) (place ∷ variant) = flag_at choice place && is_within within variant
+abbrev pub is_in_box : List (List Bool) → List ℕ → Bool
+is_in_box [] [] = true
+is_in_box [] (place ∷ variant) = false
+is_in_box (choice ∷ within) [] = false
+is_in_box (choice ∷ within) (place ∷ variant) = flag_at choice place && is_in_box within variant
 
 -- it is in the box, and in none of the others
 pub record IsOutsideBoxes (within : List (List Bool)) (holes : List (List (List Bool))) (variant : List ℕ) : Type 0 where
-  pub in_box : is_within within variant ≡ true
-  pub in_none : list_any (λ hole. is_within hole variant) holes ≡ false
+  pub in_box : is_in_box within variant ≡ true
+  pub in_none : list_any (λ hole. is_in_box hole variant) holes ≡ false
 
 abbrev pub NoneOutside : List (List Bool) → List (List (List Bool)) → Type 0
 NoneOutside within holes = (variant : List ℕ) → ¬ IsOutsideBoxes within holes variant

@@ -2,7 +2,7 @@
 ghost use Rattle.std.specs.Prelude.{◌≡◌, IfOk};
 ghost use Rattle.j39_variants.specs.VariantPlans.{flag_at};
 ghost use Rattle.j39_variant_search.specs.VariantSearch.{box_flags};
-ghost use Rattle.j39_variant_search.specs.BoxParts.{are_shared, flags_at, has_some, hole_at, is_empty_box, is_left, is_met, is_shared};
+ghost use Rattle.j39_variant_search.specs.inside.BoxParts.{are_common, flags_at, has_some, hole_at, is_empty_box, is_left, is_met, is_common};
 
 pub(crate) fn flag_at(flags: &[bool], place: usize) -> bool
     ensures { result ≡ flag_at flags.now place }
@@ -33,8 +33,8 @@ pub(crate) fn hole_at(holes: &[Vec<Vec<bool>>], place: usize) -> &[Vec<bool>]
 }
 
 // Whether two boxes have an alternative of a choice in common.
-fn is_shared(one: &[bool], other: &[bool]) -> bool
-    ensures { result ≡ is_shared one.now other.now }
+fn is_common(one: &[bool], other: &[bool]) -> bool
+    ensures { result ≡ is_common one.now other.now }
 {
     one.iter().zip(other).any(|(flag, same)| *flag && *same)
 }
@@ -61,15 +61,15 @@ pub(crate) fn is_empty_box(within: &[Vec<bool>]) -> bool
     within.iter().any(|choice| !has_some(choice))
 }
 
-fn are_shared(within: &[Vec<bool>], hole: &[Vec<bool>]) -> bool
-    ensures { result ≡ are_shared within.now hole.now }
+fn are_common(within: &[Vec<bool>], hole: &[Vec<bool>]) -> bool
+    ensures { result ≡ are_common within.now hole.now }
 {
-    (0..within.len()).all(|choice| is_shared(flags_at(within, choice), flags_at(hole, choice)))
+    (0..within.len()).all(|choice| is_common(flags_at(within, choice), flags_at(hole, choice)))
 }
 
 /// Whether some variant is in both of two boxes, none of which is empty.
 pub(crate) fn is_met(within: &[Vec<bool>], hole: &[Vec<bool>]) -> bool
     ensures { result ≡ is_met within.now hole.now }
 {
-    within.len() == hole.len() && are_shared(within, hole)
+    within.len() == hole.len() && are_common(within, hole)
 }

@@ -3,7 +3,7 @@ ghost use Rattle.std.specs.Prelude.{◌≡◌, ◌==◌, ℕ, IfOk};
 ghost use Rattle.std.specs.List.{slice_get};
 ghost use Rattle.j39_variants.specs.VariantPlans.{flag_at};
 ghost use Rattle.j39_variant_search.specs.VariantSearch.{box_flags};
-ghost use Rattle.j39_variant_search.specs.BoxParts.{IsBoxPart, flags_with, is_behind, is_kept, is_taken_at};
+ghost use Rattle.j39_variant_search.specs.inside.BoxParts.{IsBoxPart, flags_with, is_behind, is_kept, is_taken_at};
 
 use crate::flags::{flag_at, flags_at};
 use std::alloc::{AllocError, Global};

@@ -2,7 +2,7 @@
 ghost use Rattle.std.specs.Prelude.{◌≡◌, ◌++◌, ◌∷◌, [], ◌<◌, ◌≤◌, ℕ, IfOk, MatchBool, MatchOption, length, filter};
 ghost use Rattle.std.specs.List.{range_with_len};
 ghost use Rattle.j39_variant_search.specs.VariantSearch.{IsFirstOutside, NoneOutside, box_flags, boxes_flags};
-ghost use Rattle.j39_variant_search.specs.BoxParts.{HasNoneOutside, HasOutside, IsNextPlace, NoneBegins, hole_at, is_met};
+ghost use Rattle.j39_variant_search.specs.inside.BoxParts.{HasNoneOutside, HasOutside, IsNextPlace, NoneBegins, hole_at, is_met};
 
 use crate::flags::{flags_at, hole_at, is_empty_box, is_left, is_met};
 use crate::parts::{part_behind, part_taken};

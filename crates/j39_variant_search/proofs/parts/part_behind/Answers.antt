@@ -1,5 +1,5 @@
 use Rattle.std.proofs.Common.{◌≡◌, arith}
-use Rattle.j39_variant_search.specs.BoxParts.{flags_at, flags_with, is_behind}
+use Rattle.j39_variant_search.specs.inside.BoxParts.{flags_at, flags_with, is_behind}
 use Rattle.j39_variant_search.specs.VariantSearch.{box_flags}
 use Rattle.j39_variant_search.proofs.Pieces.{flags_read, part_more}
 use Rattle.j39_variant_search.proofs.parts.part_behind.Goals as goal

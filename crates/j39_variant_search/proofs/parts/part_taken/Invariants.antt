@@ -1,5 +1,5 @@
 use Rattle.j39_variant_search.specs.VariantSearch.{box_flags}
-use Rattle.j39_variant_search.specs.BoxParts.{is_taken_at}
+use Rattle.j39_variant_search.specs.inside.BoxParts.{is_taken_at}
 use Rattle.j39_variant_search.proofs.Pieces.{IsPartTo}
 use Rattle.j39_variant_search.proofs.parts.part_taken.Given as goal
 

@@ -1,7 +1,7 @@
 use Rattle.std.proofs.Common.{◌≡◌, ℕ, ◌<◌, List, true, false, length, arith, rules, sym, ap, ◌∙◌, below_more}
 use Rattle.std.specs.Prelude.{slice_index}
 use Rattle.std.proofs.lemmas.List.{get_or_read}
-use Rattle.j39_variant_search.specs.BoxParts.{HasNoneOutside, HasOutside, IsOutsideNear, flags_at, hole_at, is_behind, is_left, is_met}
+use Rattle.j39_variant_search.specs.inside.BoxParts.{HasNoneOutside, HasOutside, IsOutsideNear, flags_at, hole_at, is_behind, is_left, is_met}
 use Rattle.j39_variant_search.specs.VariantSearch.{box_flags}
 use Rattle.j39_variant_search.proofs.Counts.{box_count}
 use Rattle.j39_variant_search.proofs.InBoxes.{empty_none}

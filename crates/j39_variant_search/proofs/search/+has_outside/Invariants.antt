@@ -1,5 +1,5 @@
 use Rattle.std.proofs.Common.{ℕ, ◌<◌, List}
-use Rattle.j39_variant_search.specs.BoxParts.{IsOutsideNear}
+use Rattle.j39_variant_search.specs.inside.BoxParts.{IsOutsideNear}
 use Rattle.j39_variant_search.specs.VariantSearch.{box_flags}
 use Rattle.j39_variant_search.proofs.Counts.{box_count}
 use Rattle.j39_variant_search.proofs.Leaving.{Leaves}

@@ -4,7 +4,7 @@ use Rattle.std.specs.Prelude.{Vec, ◌≡◌, ℕ, ◌<◌, ◌==◌, nat_lt, Li
 use Rattle.std.specs.List.{enumerate_from, list_all, list_any, range_with_len, slice_get, zip}
 use Rattle.std.specs.Option.{option_map_or}
 use Rattle.j39_variants.specs.VariantPlans.{flag_at}
-use Rattle.j39_variant_search.specs.VariantSearch.{box_flags, is_within}
+use Rattle.j39_variant_search.specs.VariantSearch.{box_flags, is_in_box}
 
 -- the flags of a choice; a box has no alternative of a choice behind its choices
 abbrev pub flags_at : List (List Bool) → ℕ → List Bool
@@ -17,8 +17,8 @@ abbrev pub hole_at : List (Vec (Vec Bool Global) Global) → ℕ → List (Vec B
 hole_at holes place = unwrap_or (option_map (λ hole. hole.items) (slice_get holes place)) []
 
 -- two boxes have an alternative of a choice in common
-abbrev pub is_shared : List Bool → List Bool → Bool
-is_shared one other = list_any (λ both. both.0 && both.1) (zip one other)
+abbrev pub is_common : List Bool → List Bool → Bool
+is_common one other = list_any (λ both. both.0 && both.1) (zip one other)
 
 -- the first has one that the second hasn't
 abbrev pub is_left : List Bool → List Bool → Bool
@@ -32,12 +32,12 @@ abbrev pub is_empty_box : List (Vec Bool Global) → Bool
 is_empty_box within = list_any (λ choice. not (has_some choice.items)) within
 
 -- they have one of each choice of the first in common
-abbrev pub are_shared : List (Vec Bool Global) → List (Vec Bool Global) → Bool
-are_shared within hole = list_all (λ choice. is_shared (flags_at (box_flags within) choice) (flags_at (box_flags hole) choice)) (range_with_len 0 (length within))
+abbrev pub are_common : List (Vec Bool Global) → List (Vec Bool Global) → Bool
+are_common within hole = list_all (λ choice. is_common (flags_at (box_flags within) choice) (flags_at (box_flags hole) choice)) (range_with_len 0 (length within))
 
 -- some variant is in both, where none is empty
 abbrev pub is_met : List (Vec Bool Global) → List (Vec Bool Global) → Bool
-is_met within hole = (length within == length hole) && are_shared within hole
+is_met within hole = (length within == length hole) && are_common within hole
 
 -- those flags whose place passes a test
 abbrev pub flags_with : (ℕ → Bool) → List Bool → List Bool
@@ -62,8 +62,8 @@ is_taken_at taken choice place = option_map_or (λ other. place == other) (slice
 
 -- a variant is in the box, and in none of these holes
 pub record IsOutsideNear (within : List (Vec Bool Global)) (holes : List (Vec (Vec Bool Global) Global)) (near variant : List ℕ) : Type 0 where
-  pub in_box : is_within (box_flags within) variant ≡ true
-  pub in_none : list_any (λ place. is_within (box_flags (hole_at holes place)) variant) near ≡ false
+  pub in_box : is_in_box (box_flags within) variant ≡ true
+  pub in_none : list_any (λ place. is_in_box (box_flags (hole_at holes place)) variant) near ≡ false
 
 abbrev pub HasOutside : List (Vec Bool Global) → List (Vec (Vec Bool Global) Global) → List ℕ → Type 0
 HasOutside within holes near = (variant : List ℕ) × IsOutsideNear within holes near variant
@@ -72,15 +72,15 @@ abbrev pub HasNoneOutside : List (Vec Bool Global) → List (Vec (Vec Bool Globa
 HasNoneOutside within holes near = (variant : List ℕ) → ¬ IsOutsideNear within holes near variant
 
 -- it begins with these places
-abbrev pub Begins : List ℕ → List ℕ → Type 0
-Begins [] variant = Unit {0}
-Begins (p ∷ taken) [] = ⊥
-Begins (p ∷ taken) (q ∷ variant) = (p ≡ q) × Begins taken variant
+abbrev pub StartsWith : List ℕ → List ℕ → Type 0
+StartsWith [] variant = Unit {0}
+StartsWith (p ∷ taken) [] = ⊥
+StartsWith (p ∷ taken) (q ∷ variant) = (p ≡ q) × StartsWith taken variant
 
 abbrev pub NoneBegins : List (Vec Bool Global) → List (Vec (Vec Bool Global) Global) → List ℕ → List ℕ → Type 0
-NoneBegins within holes near taken = (variant : List ℕ) → IsOutsideNear within holes near variant → ¬ Begins taken variant
+NoneBegins within holes near taken = (variant : List ℕ) → IsOutsideNear within holes near variant → ¬ StartsWith taken variant
 
 -- the first place with which some go on that begin with some places
 pub record IsNextPlace (within : List (Vec Bool Global)) (holes : List (Vec (Vec Bool Global) Global)) (near taken : List ℕ) (place : ℕ) : Type 0 where
-  pub one : (variant : List ℕ) × IsOutsideNear within holes near variant × Begins (taken ++ place ∷ []) variant
+  pub one : (variant : List ℕ) × IsOutsideNear within holes near variant × StartsWith (taken ++ place ∷ []) variant
   pub none : (earlier : ℕ) → earlier < place → NoneBegins within holes near (taken ++ earlier ∷ [])
