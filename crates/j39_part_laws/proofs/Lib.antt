@@ -7,12 +7,12 @@ pub mod Findings
 mod FlowDelays
 mod FlowLoads
 mod Frames
-mod Groups
+pub mod Groups
 pub mod LoadFindings
 mod Loads
 pub mod Places
 mod PlanFrames
 mod Shares
-mod Staying
+pub mod Staying
 mod Sublists
 mod UnitLoads

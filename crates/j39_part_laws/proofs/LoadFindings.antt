@@ -74,10 +74,10 @@ one_of : {Y : Type 0} (x y : Y) → Contains (x ∷ []) y → x ≡ y
 one_of x y (zero, below, is) = is
 one_of x y (suc k, below, is) = absurd (omega (arith, below))
 
-none_of : {Y : Type 0} (y : Y) → Contains [] y → ⊥
+pub none_of : {Y : Type 0} (y : Y) → Contains [] y → ⊥
 none_of y (k, below, is) = omega (arith, below)
 
-itself : {Y : Type 0} (y : Y) → Contains (y ∷ []) y
+pub itself : {Y : Type 0} (y : Y) → Contains (y ∷ []) y
 itself y = (0, omega arith, refl)
 
 -- ---- late flows
@@ -120,7 +120,7 @@ late_here f v finding found = go (is_whole_late v) refl found
     go false is_b told = absurd (none_of finding told)
 
 -- only a late flow is told
-of_late : (f : ℕ) (d : Option Delay) (finding : LoadFinding) → Contains (lateness f d) finding → finding ≡ LateFlow f
+pub of_late : (f : ℕ) (d : Option Delay) (finding : LoadFinding) → Contains (lateness f d) finding → finding ≡ LateFlow f
 of_late f None finding found = absurd (none_of finding found)
 of_late f (Some Late) finding found = sym (one_of (LateFlow f) finding found)
 of_late f (Some (Beyond n)) finding found = sym (one_of (LateFlow f) finding found)
@@ -144,7 +144,7 @@ late_there f g here (Some (Whole w)) (v, is_v, no_later) finding found =
 
 -- ---- flows without a period
 
-of_unpaced : (f : ℕ) (d : Option Delay) (finding : LoadFinding) → Contains (without_period f d) finding → (d ≡ None) × (finding ≡ NoPeriod f)
+pub of_unpaced : (f : ℕ) (d : Option Delay) (finding : LoadFinding) → Contains (without_period f d) finding → (d ≡ None) × (finding ≡ NoPeriod f)
 of_unpaced f None finding found = (refl, sym (one_of (NoPeriod f) finding found))
 of_unpaced f (Some d) finding found = absurd (none_of finding found)
 
@@ -159,7 +159,7 @@ unpaced_there (Some (Whole w)) (v, is_v, no_later) = absurd (none-some (Whole v)
 
 -- ---- the load
 
-of_overload : (timing : Timing) (load : ℕ) (finding : LoadFinding) → Contains (overload timing load) finding
+pub of_overload : (timing : Timing) (load : ℕ) (finding : LoadFinding) → Contains (overload timing load) finding
     → (bits_of_second timing.bitrate < load) × (finding ≡ Overload load)
 of_overload timing load finding found = go (nat_lt (bits_of_second timing.bitrate) load) refl found
   where
@@ -196,7 +196,7 @@ unplanned_there at part whole is timing =
 -- ---- all of them
 
 -- what is told of a need is that it is too old
-of_old : (timing : Timing) (plan : Plan) (delays : List (Option Delay)) (finding : LoadFinding)
+pub of_old : (timing : Timing) (plan : Plan) (delays : List (Option Delay)) (finding : LoadFinding)
     → Contains (old_needs timing plan.requests.items plan.flows.items delays plan.needs.items) finding → (d : ℕ) × (finding ≡ NeedTooOld d)
 of_old timing plan delays finding found =
     let its = told_at (oldness timing plan.requests.items plan.flows.items delays) 0 plan.needs.items finding found in

@@ -1,0 +1,12 @@
+pub mod FilePlaces
+pub mod InWhole
+pub mod InPart
+pub mod Tests
+pub mod SentTogether
+pub mod Contested
+pub mod Periods
+pub mod ContestedFlows
+pub mod SameNumbers
+pub mod FoundTogether
+pub mod ByPresence
+pub mod PartBoxes

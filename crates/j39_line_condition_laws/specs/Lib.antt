@@ -1,0 +1,2 @@
+pub mod ByPresence
+pub mod PartBoxes

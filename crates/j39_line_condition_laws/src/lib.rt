@@ -1,0 +1,8 @@
+//! Laws of the conditions on which a variant has a finding.
+#![tactic(auto)]
+
+mod boxes;
+mod presence;
+
+pub use boxes::parts_are_there_in_their_boxes;
+pub use presence::what_is_there_is_found;
