@@ -1,10 +1,10 @@
-mod Boxes
-mod Filtering
-mod FoundOfCovering
+pub mod Boxes
+pub mod Filtering
+pub mod FoundOfCovering
 mod Full
 mod FullCovers
-mod Parts
-mod Picking
-mod PlacesInFile
+pub mod Parts
+pub mod Picking
+pub mod PlacesInFile
 mod Possible
 mod Suffices

@@ -23,7 +23,7 @@ use Rattle.j39_variants.specs.VariantPlans.{group_places, moved_flow, moved_requ
 use Rattle.j39_variants.specs.Variants.{is_in}
 
 -- the flags of as many values as a file has
-flagged : (test : ℕ → Bool) (bs : List Bool) (n : ℕ) → length bs ≡ n → ((k : ℕ) → k < n → test k ≡ flag_at bs k)
+pub flagged : (test : ℕ → Bool) (bs : List Bool) (n : ℕ) → length bs ≡ n → ((k : ℕ) → k < n → test k ≡ flag_at bs k)
     → places_of_those test n ≡ picked bs (range_with_len 0 n)
 flagged test bs n same each =
     subst (λ m. filter test (range_with_len 0 m) ≡ picked bs (range_with_len 0 m)) same
@@ -37,7 +37,7 @@ place_same bs cs n fewer here there is_here is_there i k at_i =
     ap (λ l. place_in_file l (thin bs cs i)) is_there ∙ ap (λ o. unwrap_or o 0) (are.value_is ∙ ap Some (sym are.meets))
     ∙ sym (ap (λ l. place_in_file l i) is_here ∙ ap (λ o. unwrap_or o 0) at_i)
 
-length-range : (a n : ℕ) → length (range_with_len a n) ≡ n
+pub length-range : (a n : ℕ) → length (range_with_len a n) ≡ n
 length-range a zero = refl
 length-range a (suc n) = ap suc (length-range (a + 1) n)
 

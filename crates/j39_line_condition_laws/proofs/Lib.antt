@@ -1,0 +1,6 @@
+mod AbsenceFound
+mod AbsenceHere
+mod InVariant
+mod Lacking
+mod PickedPlaces
+mod TestsAgree
