@@ -10,3 +10,9 @@ pub mod SameNumbers
 pub mod FoundTogether
 pub mod ByPresence
 pub mod PartBoxes
+mod AbsenceFound
+mod AbsenceHere
+mod InVariant
+mod Lacking
+mod PickedPlaces
+mod TestsAgree

@@ -1,2 +1,3 @@
 pub mod ByPresence
 pub mod PartBoxes
+pub mod ByAbsenceExactly
