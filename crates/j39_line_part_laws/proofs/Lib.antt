@@ -1,10 +1,11 @@
+pub mod Agreeing
 pub mod Boxes
 pub mod Filtering
 pub mod FoundOfCovering
-mod Full
-mod FullCovers
+pub mod Full
+pub mod FullCovers
 pub mod Parts
 pub mod Picking
 pub mod PlacesInFile
-mod Possible
-mod Suffices
+pub mod Possible
+pub mod Suffices

@@ -4,12 +4,12 @@ mod Busier
 pub mod ByAbsence
 mod Delays
 pub mod Findings
-mod FlowDelays
+pub mod FlowDelays
 mod FlowLoads
 mod Frames
 pub mod Groups
 pub mod LoadFindings
-mod Loads
+pub mod Loads
 pub mod Places
 mod PlanFrames
 mod Shares

@@ -70,7 +70,7 @@ line_told tell place (y ∷ ys) (suc k) x line at told =
     Contains-append_right (tell place y) (lines_of_each tell (place + 1) ys) line
     (line_told tell (place + 1) ys k x line at (subst (λ n. Contains (tell n x) line) same told))
 
-one_of : {Y : Type 0} (x y : Y) → Contains (x ∷ []) y → x ≡ y
+pub one_of : {Y : Type 0} (x y : Y) → Contains (x ∷ []) y → x ≡ y
 one_of x y (zero, below, is) = is
 one_of x y (suc k, below, is) = absurd (omega (arith, below))
 
@@ -182,7 +182,7 @@ claiming_there at part whole is =
     let strangers = is.strangers in
     omega (arith, units, strangers)
 
-unplanned_there : (at : Places) (part whole : Plan) → IsPartAt at part whole → (timing : Timing) → unplanned_of part timing ≤ unplanned_of whole timing
+pub unplanned_there : (at : Places) (part whole : Plan) → IsPartAt at part whole → (timing : Timing) → unplanned_of part timing ≤ unplanned_of whole timing
 unplanned_there at part whole is timing =
     let claims = claiming_there at part whole is in
     subst (λ live. (if part.live then max timing.unplanned (claims_told part) else timing.unplanned)
@@ -229,7 +229,7 @@ module _ (at : Places) (part whole : Plan) (is : IsPartAt at part whole) (good :
   all_there = all_findings whole busy load_there es
 
   -- the delay of the same flow in the whole
-  delay_there : (f : ℕ) (d : Option Delay) → slice_get ds f ≡ Some d → (e : Option Delay) × (slice_get es (at.flow f) ≡ Some e) × IsNoLater d e × (f < length part.flows.items)
+  pub delay_there : (f : ℕ) (d : Option Delay) → slice_get ds f ≡ Some d → (e : Option Delay) × (slice_get es (at.flow f) ≡ Some e) × IsNoLater d e × (f < length part.flows.items)
   delay_there f d at_f =
       let below = slice_get_within ds f d at_f in
       let count = here.waits.count in

@@ -1,0 +1,4 @@
+pub mod FoundOfFull
+pub mod InBoxes
+pub mod Origins
+pub mod Staying

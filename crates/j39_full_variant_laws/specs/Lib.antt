@@ -1,0 +1,2 @@
+pub mod FoundOfFull
+pub mod StayingOfFull
