@@ -1,12 +1,18 @@
-pub mod FilePlaces
-pub mod InWhole
-pub mod InPart
-pub mod Tests
-pub mod SentTogether
-pub mod Contested
-pub mod Periods
-pub mod ContestedFlows
-pub mod SameNumbers
-pub mod FoundTogether
+mod AbsenceFound
+mod AbsenceHere
 pub mod ByPresence
+pub mod Contested
+pub mod ContestedFlows
+pub mod FilePlaces
+pub mod FoundTogether
+pub mod InPart
+mod InVariant
+pub mod InWhole
+mod Lacking
 pub mod PartBoxes
+pub mod Periods
+mod PickedPlaces
+pub mod SameNumbers
+pub mod SentTogether
+pub mod Tests
+mod TestsAgree

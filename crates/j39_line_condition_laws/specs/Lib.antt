@@ -1,2 +1,3 @@
+pub mod ByAbsenceExactly
 pub mod ByPresence
 pub mod PartBoxes
