@@ -16,3 +16,5 @@ pub mod SameNumbers
 pub mod SentTogether
 pub mod Tests
 mod TestsAgree
+pub mod ReadLists
+pub mod FoundByConditions
