@@ -1,5 +1,7 @@
 mod AbsenceFound
 mod AbsenceHere
+pub mod AllByConditions
+pub mod BoxedParts
 pub mod ByPresence
 pub mod Contested
 pub mod ContestedFlows
@@ -9,12 +11,10 @@ pub mod InPart
 mod InVariant
 pub mod InWhole
 mod Lacking
-pub mod PartBoxes
 pub mod Periods
 mod PickedPlaces
+pub mod ReadLists
 pub mod SameNumbers
 pub mod SentTogether
 pub mod Tests
 mod TestsAgree
-pub mod ReadLists
-pub mod FoundByConditions

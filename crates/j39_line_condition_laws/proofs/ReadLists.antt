@@ -16,7 +16,7 @@ use Rattle.j39_variants.specs.NeverTables.{IsNeverOf, others}
 use Rattle.j39_variants.specs.declared.line.Alternative.{Alternative}
 use Rattle.j39_variants.specs.declared.line.Choice.{Choice}
 use Rattle.j39_variants.specs.declared.line.ProductLine.{ProductLine}
-use Rattle.j39_line_condition_laws.specs.PartBoxes.{ListsNameChoices, NameChoices, NamesChoices, ReadListsNameChoices}
+use Rattle.j39_line_condition_laws.specs.BoxedParts.{ListsNameChoices, NameChoices, NamesChoices, ReadListsNameChoices}
 
 -- ---- elements
 

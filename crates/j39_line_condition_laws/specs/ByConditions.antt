@@ -12,7 +12,7 @@ use Rattle.j39_line_condition_laws.specs.ByPresence.{IsFoundInFile}
 abbrev pub MayBeFound : ProductLine → LineFinding → Type 0
 MayBeFound line finding = (is_by_absence finding ≡ true) ⊎ IsFoundInFile line finding
 
-abbrev pub FoundByConditions : Type 0
-FoundByConditions = (line : ProductLine) (variant : List ℕ) (findings : List LineFinding) → AreVariantFindings line variant findings
+abbrev pub FindingsGoByConditions : Type 0
+FindingsGoByConditions = (line : ProductLine) (variant : List ℕ) (findings : List LineFinding) → AreVariantFindings line variant findings
     → (finding : LineFinding) → goes_by_conditions line finding ≡ true
     → IsFound findings finding ↔ (MayBeFound line finding × (meets_any line variant (conditions_of line finding) ≡ true))

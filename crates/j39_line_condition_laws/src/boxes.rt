@@ -1,5 +1,5 @@
 //! Boxes of parts.
-ghost use Rattle.j39_line_condition_laws.specs.PartBoxes.{ListsAreBoxes, ReadListsNameChoices, ThereInBoxes};
+ghost use Rattle.j39_line_condition_laws.specs.BoxedParts.{ListsAreBoxes, ReadListsNameChoices, ThereInBoxes};
 
 /// The lists of a line that was read name alternatives of its choices.
 pub fn read_lists_name_choices()

@@ -23,7 +23,7 @@ use Rattle.j39_line_findings.specs.declared.part.LinePart.{LinePart}
 use Rattle.j39_line_findings.specs.declared.part.LinePart.TheVariants.{Unit as AUnit, Group, Flow, Need, Request}
 use Rattle.j39_part_laws.proofs.Places.{value_at}
 use Rattle.j39_line_part_laws.proofs.Boxes.{all_at, any_at, at_all, at_any, place_taken}
-use Rattle.j39_line_condition_laws.specs.PartBoxes.{HasPart, IsInPartBox, ListsAreBoxes, ListsNameChoices, NameChoices, NamesChoices, ThereInBoxes}
+use Rattle.j39_line_condition_laws.specs.BoxedParts.{HasPart, IsInPartBox, ListsAreBoxes, ListsNameChoices, NameChoices, NamesChoices, ThereInBoxes}
 
 -- this is so of each alternative that a variant takes
 abbrev AllTaken : List ℕ → (Alternative → Bool) → Type 0

@@ -12,7 +12,7 @@ use Rattle.j39_variants.specs.declared.line.ProductLine.{ProductLine}
 use Rattle.j39_line_condition_laws.proofs.AbsenceFound.{exactly}
 use Rattle.j39_line_condition_laws.proofs.ByPresence.{found_by_presence}
 use Rattle.j39_line_condition_laws.specs.ByAbsenceExactly.{IsFoundWhereMet}
-use Rattle.j39_line_condition_laws.specs.ByConditions.{FoundByConditions, MayBeFound}
+use Rattle.j39_line_condition_laws.specs.ByConditions.{FindingsGoByConditions, MayBeFound}
 
 module _ (line : ProductLine) (v : List ℕ) (findings : List LineFinding) (has : AreVariantFindings line v findings) where
   -- what comes by absence goes by conditions where it is of a plan
@@ -34,5 +34,5 @@ module _ (line : ProductLine) (v : List ℕ) (findings : List LineFinding) (has 
         )
   ]
 
-pub found_by_conditions : FoundByConditions
+pub found_by_conditions : FindingsGoByConditions
 found_by_conditions = by_conditions
