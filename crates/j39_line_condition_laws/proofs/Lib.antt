@@ -1,18 +1,20 @@
-pub mod FilePlaces
-pub mod InWhole
-pub mod InPart
-pub mod Tests
-pub mod SentTogether
-pub mod Contested
-pub mod Periods
-pub mod ContestedFlows
-pub mod SameNumbers
-pub mod FoundTogether
-pub mod ByPresence
-pub mod PartBoxes
 mod AbsenceFound
 mod AbsenceHere
+pub mod AllByConditions
+pub mod BoxedParts
+pub mod ByPresence
+pub mod Contested
+pub mod ContestedFlows
+pub mod FilePlaces
+pub mod FoundTogether
+pub mod InPart
 mod InVariant
+pub mod InWhole
 mod Lacking
+pub mod Periods
 mod PickedPlaces
+pub mod ReadLists
+pub mod SameNumbers
+pub mod SentTogether
+pub mod Tests
 mod TestsAgree

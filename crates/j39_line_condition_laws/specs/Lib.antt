@@ -1,3 +1,4 @@
-pub mod ByPresence
-pub mod PartBoxes
 pub mod ByAbsenceExactly
+pub mod ByConditions
+pub mod ByPresence
+pub mod BoxedParts

@@ -23,7 +23,7 @@ use Rattle.j39_line_findings.specs.declared.part.LinePart.{LinePart}
 use Rattle.j39_line_findings.specs.declared.part.LinePart.TheVariants.{Unit as AUnit, Group, Flow, Need, Request}
 use Rattle.j39_part_laws.proofs.Places.{value_at}
 use Rattle.j39_line_part_laws.proofs.Boxes.{all_at, any_at, at_all, at_any, place_taken}
-use Rattle.j39_line_condition_laws.specs.PartBoxes.{HasPart, IsInBox, ListsNameChoices, NameChoices, ThereInBoxes}
+use Rattle.j39_line_condition_laws.specs.BoxedParts.{HasPart, IsInPartBox, ListsAreBoxes, ListsNameChoices, NameChoices, NamesChoices, ThereInBoxes}
 
 -- this is so of each alternative that a variant takes
 abbrev AllTaken : List ℕ → (Alternative → Bool) → Type 0
@@ -157,7 +157,7 @@ module _ (line : ProductLine) (v : List ℕ) (is : IsVariant line.choices.items 
         (taken_unit sender in_units (first_taken v (λ a. unit_lets_in line a sender) (λ a. receiver_lets_in line a to) behind))
         (taken_receiver to receiver (second_taken v (λ a. unit_lets_in line a sender) (λ a. receiver_lets_in line a to) behind))))
 
-  flow_boxed : (f : ℕ) → f < length line.plan.flows.items → (is_part_there line v (Flow f) ≡ true) ↔ IsInBox line v (Flow f)
+  flow_boxed : (f : ℕ) → f < length line.plan.flows.items → (is_part_there line v (Flow f) ≡ true) ↔ IsInPartBox line v (Flow f)
   flow_boxed f below =
       let (flow, at_f) = value_at line.plan.flows.items f below in
       let same = line.flow_lists in
@@ -177,7 +177,7 @@ module _ (line : ProductLine) (v : List ℕ) (is : IsVariant line.choices.items 
             (λ c k at. sym (box (alternative_at c k)) ∙ all c k at),
       )
 
-  request_boxed : (r : ℕ) → r < length line.plan.requests.items → (is_part_there line v (Request r) ≡ true) ↔ IsInBox line v (Request r)
+  request_boxed : (r : ℕ) → r < length line.plan.requests.items → (is_part_there line v (Request r) ≡ true) ↔ IsInPartBox line v (Request r)
   request_boxed r below =
       let (request, at_r) = value_at line.plan.requests.items r below in
       let same = line.request_lists in
@@ -197,7 +197,7 @@ module _ (line : ProductLine) (v : List ℕ) (is : IsVariant line.choices.items 
             (λ c k at. sym (box (alternative_at c k)) ∙ all c k at),
       )
 
-  need_boxed : (d : ℕ) → d < length line.plan.needs.items → (is_part_there line v (Need d) ≡ true) ↔ IsInBox line v (Need d)
+  need_boxed : (d : ℕ) → d < length line.plan.needs.items → (is_part_there line v (Need d) ≡ true) ↔ IsInPartBox line v (Need d)
   need_boxed d below =
       let (need, at_d) = value_at line.plan.needs.items d below in
       let same = line.need_lists in
@@ -217,12 +217,16 @@ module _ (line : ProductLine) (v : List ℕ) (is : IsVariant line.choices.items 
             (second_taken v (λ a. lets_in_at line.lists.needs.items a d) (λ a. unit_lets_in line a need.unit) each)),
       )
 
-  boxed : (part : LinePart) → HasPart line part → (is_part_there line v part ≡ true) ↔ IsInBox line v part
+  boxed : (part : LinePart) → HasPart line part → (is_part_there line v part ≡ true) ↔ IsInPartBox line v part
   boxed (AUnit u) below = (unit_taken u, taken_unit u below)
   boxed (Group g) below = (group_taken g, taken_group g below)
   boxed (Flow f) below = flow_boxed f below
   boxed (Need d) below = need_boxed d below
   boxed (Request r) below = request_boxed r below
+
+-- and a variant in that of a list
+pub lists_are_boxes : ListsAreBoxes
+lists_are_boxes line v is list names = (taken_let_in v list, let_in_taken v list (subst (λ n. NamesChoices n list) (sym is.of_each) names))
 
 pub there_in_boxes : ThereInBoxes
 there_in_boxes = boxed
