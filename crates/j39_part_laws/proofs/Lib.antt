@@ -12,7 +12,7 @@ pub mod LoadFindings
 pub mod Loads
 pub mod Places
 mod PlanFrames
-mod Shares
+pub mod Shares
 pub mod Staying
 mod Sublists
 mod UnitLoads

@@ -1,6 +1,4 @@
 use Rattle.j39_full_variant_laws.proofs.Staying.{tell_who_stays}
-use Rattle.j39_full_variant_laws.proofs.InBoxes.{meet_by}
-use Rattle.j39_full_variant_laws.proofs.Origins.{same_places}
 use Rattle.j39_full_variant_laws.proofs.laws.full_variants_tell_who_stays.Goals as goal
 
 pub returns : goal.returns
