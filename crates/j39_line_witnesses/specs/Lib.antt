@@ -1,0 +1,2 @@
+pub mod FlowTests
+pub mod Presences
