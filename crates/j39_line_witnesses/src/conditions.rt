@@ -102,9 +102,7 @@ fn astray_by_each(
 {
     let mut found = Vec::new(alloc);
     for (answered, flow) in line.plan.flows.iter().enumerate() {
-        add_astray_by(
-            alloc, line, &mut found, place, one, other, answered, flow,
-        )?;
+        add_astray_by(alloc, line, &mut found, place, one, other, answered, flow)?;
     }
     Ok(found)
 }
@@ -160,11 +158,7 @@ fn add_contested_by(
     ensures { OnOk result (conditions_in found.new.items ≡ conditions_in found.old.items ++ contested_by line.now place flow.now unit) }
 {
     if is_beside_end(line, flow, unit) {
-        add_together(
-            alloc,
-            found,
-            &[LinePart::Flow(place), LinePart::Unit(unit)],
-        )?;
+        add_together(alloc, found, &[LinePart::Flow(place), LinePart::Unit(unit)])?;
     }
     Ok(())
 }
@@ -218,7 +212,11 @@ fn no_period_conditions(
 
 // ---- what isn't there, of a place
 
-fn conditions_of_unsent(alloc: Global, line: &ProductLine, place: usize) -> Result<Vec<Presence>, AllocError>
+fn conditions_of_unsent(
+    alloc: Global,
+    line: &ProductLine,
+    place: usize,
+) -> Result<Vec<Presence>, AllocError>
     ensures { IfOk result (λ v. conditions_in v.items ≡ conditions_of_plan line.now (PrivateUnsent place)) }
 {
     match line.plan.groups.get(place) {
@@ -227,7 +225,11 @@ fn conditions_of_unsent(alloc: Global, line: &ProductLine, place: usize) -> Resu
     }
 }
 
-fn conditions_of_unmet(alloc: Global, line: &ProductLine, place: usize) -> Result<Vec<Presence>, AllocError>
+fn conditions_of_unmet(
+    alloc: Global,
+    line: &ProductLine,
+    place: usize,
+) -> Result<Vec<Presence>, AllocError>
     ensures { IfOk result (λ v. conditions_in v.items ≡ conditions_of_plan line.now (NeedUnmet place)) }
 {
     match line.plan.needs.get(place) {
@@ -236,7 +238,11 @@ fn conditions_of_unmet(alloc: Global, line: &ProductLine, place: usize) -> Resul
     }
 }
 
-fn conditions_of_unanswered(alloc: Global, line: &ProductLine, place: usize) -> Result<Vec<Presence>, AllocError>
+fn conditions_of_unanswered(
+    alloc: Global,
+    line: &ProductLine,
+    place: usize,
+) -> Result<Vec<Presence>, AllocError>
     ensures { IfOk result (λ v. conditions_in v.items ≡ conditions_of_plan line.now (RequestUnanswered place)) }
 {
     match line.plan.requests.get(place) {
@@ -251,7 +257,11 @@ fn conditions_of_unanswered(alloc: Global, line: &ProductLine, place: usize) -> 
     }
 }
 
-fn conditions_of_unheard(alloc: Global, line: &ProductLine, place: usize) -> Result<Vec<Presence>, AllocError>
+fn conditions_of_unheard(
+    alloc: Global,
+    line: &ProductLine,
+    place: usize,
+) -> Result<Vec<Presence>, AllocError>
     ensures { IfOk result (λ v. conditions_in v.items ≡ conditions_of_plan line.now (RequestUnheard place)) }
 {
     match line.plan.requests.get(place) {
@@ -266,7 +276,11 @@ fn conditions_of_unheard(alloc: Global, line: &ProductLine, place: usize) -> Res
     }
 }
 
-fn conditions_of_astray(alloc: Global, line: &ProductLine, place: usize) -> Result<Vec<Presence>, AllocError>
+fn conditions_of_astray(
+    alloc: Global,
+    line: &ProductLine,
+    place: usize,
+) -> Result<Vec<Presence>, AllocError>
     ensures { IfOk result (λ v. conditions_in v.items ≡ conditions_of_plan line.now (AnswerAstray place)) }
 {
     match line.plan.requests.get(place) {
@@ -275,7 +289,11 @@ fn conditions_of_astray(alloc: Global, line: &ProductLine, place: usize) -> Resu
     }
 }
 
-fn conditions_of_contested(alloc: Global, line: &ProductLine, place: usize) -> Result<Vec<Presence>, AllocError>
+fn conditions_of_contested(
+    alloc: Global,
+    line: &ProductLine,
+    place: usize,
+) -> Result<Vec<Presence>, AllocError>
     ensures { IfOk result (λ v. conditions_in v.items ≡ conditions_of_plan line.now (FlowContested place)) }
 {
     match line.plan.flows.get(place) {
@@ -284,7 +302,11 @@ fn conditions_of_contested(alloc: Global, line: &ProductLine, place: usize) -> R
     }
 }
 
-fn conditions_of_no_period(alloc: Global, line: &ProductLine, place: usize) -> Result<Vec<Presence>, AllocError>
+fn conditions_of_no_period(
+    alloc: Global,
+    line: &ProductLine,
+    place: usize,
+) -> Result<Vec<Presence>, AllocError>
     ensures { IfOk result (λ v. conditions_in v.items ≡ conditions_of_load line.now (NoPeriod place)) }
 {
     match line.plan.flows.get(place) {
@@ -303,12 +325,8 @@ fn conditions_of_plan(
     ensures { IfOk result (λ v. conditions_in v.items ≡ conditions_of_plan line.now finding) }
 {
     match finding {
-        Finding::SameName(i, j)
-        | Finding::SameFixedAddress(i, j)
-        | Finding::SilentAddress(i, j) => where_together(
-            alloc,
-            &[LinePart::Unit(i), LinePart::Unit(j)],
-        ),
+        Finding::SameName(i, j) | Finding::SameFixedAddress(i, j) | Finding::SilentAddress(i, j) =>
+            where_together(alloc, &[LinePart::Unit(i), LinePart::Unit(j)]),
         Finding::TooFewAddresses(_) => Ok(Vec::new(alloc)),
         Finding::BadPgn(g)
         | Finding::SignalWidth(g, _)

@@ -53,10 +53,7 @@ pub(crate) fn where_lacking(
 }
 
 /// That these are there together, whatever else is there.
-pub(crate) fn where_together(
-    alloc: Global,
-    parts: &[LinePart],
-) -> Result<Vec<Presence>, AllocError>
+pub(crate) fn where_together(alloc: Global, parts: &[LinePart]) -> Result<Vec<Presence>, AllocError>
     ensures { IfOk result (λ v. conditions_in v.items ≡ where_together parts.now) }
 {
     where_lacking(alloc, parts, Vec::new(alloc))

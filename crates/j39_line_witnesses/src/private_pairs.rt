@@ -35,13 +35,7 @@ impl PrivatePair<'_> {
         ensures { OnOk result (conditions_in found.new.items ≡ conditions_in found.old.items
             ++ sent_with self.now.line.now self.now.first self.now.second self.now.group.now self.now.other.now place flow.now at beside.now) }
     {
-        if sends_beside(
-            &self.line.plan.groups,
-            self.group,
-            self.other,
-            flow,
-            beside,
-        ) {
+        if sends_beside(&self.line.plan.groups, self.group, self.other, flow, beside) {
             add_together(
                 alloc,
                 found,
@@ -123,10 +117,7 @@ fn conditions_of_both(
         };
         pair.sent_together(alloc)
     } else {
-        where_together(
-            alloc,
-            &[LinePart::Group(first), LinePart::Group(second)],
-        )
+        where_together(alloc, &[LinePart::Group(first), LinePart::Group(second)])
     }
 }
 

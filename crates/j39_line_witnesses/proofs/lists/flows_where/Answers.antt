@@ -1,12 +1,10 @@
-use Rattle.std.proofs.Common.{[], ◌++◌, ◌<◌, length, ap, sym, ◌∙◌, arith}
+use Rattle.std.proofs.Common.{[], ◌++◌, ap, ◌∙◌}
 use Rattle.j39_network.specs.declared.plan.flow_plan.FlowPlan.{FlowPlan}
-use Rattle.j39_network.specs.declared.plan.request_plan.RequestPlan.{RequestPlan}
-use Rattle.std.proofs.lemmas.List.{append-nil}
 use Rattle.j39_load.specs.LineLists.{lines_of_each}
 use Rattle.j39_line_findings.specs.Conditions.{flow_where}
 use Rattle.j39_line_witnesses.specs.FlowTests.{flow_test}
-use Rattle.j39_line_witnesses.specs.Presences.{condition_of, conditions_in, parts_in}
-use Rattle.j39_line_witnesses.proofs.Listing.{one_further, value_in}
+use Rattle.j39_line_witnesses.specs.Presences.{parts_in}
+use Rattle.j39_line_witnesses.proofs.Listing.{one_further}
 use Rattle.j39_line_witnesses.proofs.lists.flows_where.Goals as goal
 
 pub loop-place-init : goal.loop-place-init

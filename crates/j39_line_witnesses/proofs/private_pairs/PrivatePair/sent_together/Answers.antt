@@ -1,11 +1,9 @@
-use Rattle.std.proofs.Common.{[], ◌++◌, ◌<◌, length, ap, sym, ◌∙◌, arith}
+use Rattle.std.proofs.Common.{[], ◌++◌, ap, ◌∙◌}
 use Rattle.j39_network.specs.declared.plan.flow_plan.FlowPlan.{FlowPlan}
-use Rattle.j39_network.specs.declared.plan.request_plan.RequestPlan.{RequestPlan}
-use Rattle.std.proofs.lemmas.List.{append-nil}
 use Rattle.j39_load.specs.LineLists.{lines_of_each}
 use Rattle.j39_line_findings.specs.Conditions.{sent_with_any}
-use Rattle.j39_line_witnesses.specs.Presences.{condition_of, conditions_in, parts_in}
-use Rattle.j39_line_witnesses.proofs.Listing.{one_further, value_in}
+use Rattle.j39_line_witnesses.specs.Presences.{condition_of, conditions_in}
+use Rattle.j39_line_witnesses.proofs.Listing.{one_further}
 use Rattle.j39_line_witnesses.proofs.private_pairs.PrivatePair.sent_together.Goals as goal
 
 pub loop-place-init : goal.loop-place-init
