@@ -40,8 +40,9 @@ fn are_ends_in_pool(line: &ProductLine, flow: &FlowPlan) -> bool
     (0..line.plan.units.len()).any(|unit| is_end_in_pool(line, flow, unit))
 }
 
+/// Whether an end of a flow is planned at an address to which others may move.
 #[tactic(auto, unfolding(crate::specs::Told::has_end_in_pool))]
-fn has_end_in_pool(line: &ProductLine, place: usize) -> bool
+pub fn has_end_in_pool(line: &ProductLine, place: usize) -> bool
     ensures { result ≡ has_end_in_pool line.now place }
 {
     match line.plan.flows.get(place) {
