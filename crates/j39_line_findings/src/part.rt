@@ -25,14 +25,16 @@ pub(crate) fn is_one_alternative(one: &Alternative, other: &Alternative) -> bool
     one.choice == other.choice && one.place == other.place
 }
 
-fn names(list: &[Alternative], alternative: &Alternative) -> bool
+/// Whether a list names an alternative.
+pub fn names(list: &[Alternative], alternative: &Alternative) -> bool
     ensures { result ≡ list_any (λ b. is_one_alternative b alternative.now) list.now }
 {
     list.iter()
         .any(|other| is_one_alternative(other, alternative))
 }
 
-fn names_choice(list: &[Alternative], choice: usize) -> bool
+/// Whether a list names an alternative of a choice.
+pub fn names_choice(list: &[Alternative], choice: usize) -> bool
     ensures { result ≡ list_any (λ b. b.choice == choice) list.now }
 {
     list.iter().any(|other| other.choice == choice)
