@@ -17,7 +17,7 @@ use Rattle.j39_line_findings.specs.declared.line_finding.LineFinding.TheVariants
 use Rattle.j39_line_check.specs.declared.answer.LineAnswer.{LineAnswer}
 use Rattle.j39_line_check.specs.declared.answer.LineAnswer.TheVariants.{NoVariant, Found}
 use Rattle.j39_line_check.specs.declared.answer.LookedAt.{LookedAt}
-use Rattle.j39_line_check.specs.declared.answer.LookedAt.TheVariants.{Full, WithoutNevers, TooMany}
+use Rattle.j39_line_check.specs.declared.answer.LookedAt.TheVariants.{Full, TooMany}
 use Rattle.j39_line_check.specs.declared.answer.ToldFinding.{ToldFinding}
 
 -- ---- what one variant has
@@ -74,7 +74,6 @@ pub record AreTold (line : ProductLine) (many : Option ℕ) (told : List ToldFin
 -- at how many variants would have to be looked, where they are too many
 abbrev pub many_of : LookedAt → Option ℕ
 many_of (Full variants) = None
-many_of (WithoutNevers many) = None
 many_of (TooMany many) = Some many
 
 -- some variant is possible
