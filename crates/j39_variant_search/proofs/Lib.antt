@@ -1,0 +1,5 @@
+pub mod Beginning
+pub mod Counts
+pub mod InBoxes
+pub mod Leaving
+pub mod Pieces
