@@ -1,5 +1,6 @@
 pub mod Adding
 pub mod CountingRanks
-pub mod Inserting
+pub mod FindingKinds
 pub mod NothingTold
 pub mod Pairs
+pub mod ToldInOrder

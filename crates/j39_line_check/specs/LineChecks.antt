@@ -58,7 +58,8 @@ counts_for line full variant finding = goes_by_conditions line finding || takes_
 pub record IsWitnessFor (line : ProductLine) (full : FullAlternatives) (finding : LineFinding) (variant : List ℕ) : Type 0 where
   pub has : HasAtAnyRate line variant finding ⊎ HasIt line variant finding
   pub counts : counts_for line full variant finding ≡ true
-  pub first : (other : List ℕ) → HasIt line other finding → IsSure line finding → counts_for line full other finding ≡ true → ¬ IsEarlier other variant
+  pub first : (other : List ℕ) → HasIt line other finding → HasAtAnyRate line other finding → counts_for line full other finding ≡ true
+      → ¬ IsEarlier other variant
   pub most : (other : List ℕ) (more : LineFinding) → HasIt line other more → IsSure line more → rank_of more ≡ rank_of finding
       → amount_of more ≤ amount_of finding
 

@@ -12,6 +12,12 @@ use j39_line_witnesses::{FoundByCondition, found_by_conditions, is_any_variant_p
 use j39_variants::ProductLine;
 use std::alloc::{AllocError, Global};
 
+fn copied(alloc: Global, variant: &[usize]) -> Result<Vec<usize>, AllocError>
+    ensures { IfOk result (λ v. v.items ≡ variant.now) }
+{
+    variant.to_vec(alloc)
+}
+
 // Those that are found by conditions.
 fn told_by_conditions(
     alloc: Global,
@@ -21,7 +27,7 @@ fn told_by_conditions(
 {
     let mut told = Vec::new(alloc);
     for one in found {
-        let variant = one.witness.to_vec(alloc)?;
+        let variant = copied(alloc, &one.witness)?;
         add(
             &mut told,
             ToldFinding {

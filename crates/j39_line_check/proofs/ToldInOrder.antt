@@ -36,8 +36,8 @@ cases_in x y xs at = elim (Contains-append_cases (x ∷ []) xs y at) [
 ]
   where
     only : {X : Type 0} (x y : X) → Contains (x ∷ []) y → y ≡ x
-    only x y (zero, (less, is)) = sym is
-    only x y (suc i, (less, is)) = absurd (omega (arith, less))
+    only x y (zero, less, is) = sym is
+    only x y (suc i, less, is) = absurd (omega (arith, less))
 
 -- ---- order
 
@@ -65,6 +65,20 @@ inserted (x ∷ xs) ys n is before behind = (
   ],
   inserted xs ys n is.1 (λ t at. before t (later_in x t xs at)) behind,
 )
+
+-- one more from behind that doesn't come before
+pub one_more_behind : (told : List ToldFinding) (p : ℕ) (t : ToldFinding) (r : Rank) → 0 < p → p ≤ length told → t ≡ get_or told (p - 1) t
+    → ((u : ToldFinding) → Contains (drop p told) u → is_below (rank u) r ≡ false) → is_below (rank t) r ≡ false
+    → (u : ToldFinding) → Contains (drop (p - 1) told) u → is_below (rank u) r ≡ false
+one_more_behind told p t r some inside is behind none u at =
+    let k : ℕ = p - 1 in
+    let p_is : suc k ≡ p = omega (arith, some) in
+    let rest : drop k told ≡ t ∷ drop p told =
+    drop-cons told k t (omega (arith, some, inside)) ∙ ap (λ (v : ToldFinding). v ∷ drop (suc k) told) (sym is) ∙ ap (λ (m : ℕ). t ∷ drop m told) p_is in
+    elim (cases_in t u (drop p told) (subst (λ xs. Contains xs u) rest at)) [
+      | inl here ↦ subst (λ v. is_below (rank v) r ≡ false) (sym here) none
+      | inr later ↦ behind u later
+    ]
 
 -- ---- where those before come before, and those behind behind
 
@@ -129,7 +143,7 @@ module _ (told : List ToldFinding) (p : ℕ) (n : ToldFinding) (inside : p ≤ l
   -- the one at the place comes behind, so all from there on do
   all_behind : (p < length told → is_below (rank n) (rank (get_or told p n)) ≡ true) → AreToldInOrder told → (t : ToldFinding) → Contains (drop p told) t → Below n t
   all_behind next is t at = elim (cases_lt p (length told)) [
-    | inr over ↦ absurd (none_in t (subst (λ xs. Contains xs t) (drop_all told p over) at))
+    | inr over ↦ absurd (none_in t (subst (λ xs. Contains xs t) (drop_all p told over) at))
     | inl less ↦
         let e : ToldFinding = get_or told p n in
         let rest : drop p told ≡ e ∷ drop (suc p) told = drop-cons told p n less in
