@@ -2,7 +2,7 @@
 ghost use Rattle.std.specs.Prelude.{◌≡◌, ◌<◌, ◌&&◌, ◌||◌, ℕ, IfOk, MatchBool, MatchOption, length, filter};
 ghost use Rattle.j39_variant_search.specs.VariantSearch.{box_flags};
 ghost use Rattle.j39_variant_search.specs.inside.BoxParts.{hole_at, is_met};
-ghost use Rattle.j39_variant_search.specs.inside.NearHoles.{HasNoneOutside, HasOutside, IsNoneBy, choices_inside, empty_choices, is_by_leaving, joined};
+ghost use Rattle.j39_variant_search.specs.inside.NearHoles.{HasNoneOutside, HasOutside, IsNoneBy, choices_inside, empty_choices, is_by_leaving, in_either};
 
 use crate::flags::{flag_at, has_some, hole_at, is_empty_box, is_left_at, is_met};
 use crate::parts::part_behind;
@@ -67,13 +67,13 @@ fn choices_inside(
         .collect(alloc)
 }
 
-fn joined(
+fn in_either(
     alloc: Global,
     count: usize,
     one: &[bool],
     other: &[bool],
 ) -> Result<Vec<bool>, AllocError>
-    ensures { IfOk result (λ v. v.items ≡ joined count one.now other.now) }
+    ensures { IfOk result (λ v. v.items ≡ in_either count one.now other.now) }
 {
     (0..count)
         .map(|choice| flag_at(one, choice) || flag_at(other, choice))
@@ -122,7 +122,7 @@ fn none_by(
             if !is_by_leaving(&more, within, hole, choice) {
                 return Ok(Some(more));
             }
-            by = joined(alloc, within.len(), &by, &more)?;
+            by = in_either(alloc, within.len(), &by, &more)?;
         }
     }
     Ok(Some(by))

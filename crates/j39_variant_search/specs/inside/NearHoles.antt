@@ -54,8 +54,8 @@ choices_inside whole within hole =
     (range_with_len 0 (length within))
 
 -- the choices of either list
-abbrev pub joined : ℕ → List Bool → List Bool → List Bool
-joined count one other = map (λ choice. flag_at one choice || flag_at other choice) (range_with_len 0 count)
+abbrev pub in_either : ℕ → List Bool → List Bool → List Bool
+in_either count one other = map (λ choice. flag_at one choice || flag_at other choice) (range_with_len 0 count)
 
 -- one of the choices, up to the last one here, is one by which the box leaves the hole
 abbrev pub is_by_leaving : List Bool → List (Vec Bool Global) → List (Vec Bool Global) → ℕ → Bool
