@@ -1,4 +1,4 @@
 pub mod CountedFindings
 pub mod FullSets
-pub mod Looking
+pub mod LookedVariants
 pub mod SetVariants
