@@ -95,7 +95,7 @@ fn is_covered(
 }
 
 /// Whether the flow brings what is needed, whether it is asked for or not.
-pub(crate) fn does_bring(need: &NeedPlan, flow: &FlowPlan) -> bool
+pub fn does_bring(need: &NeedPlan, flow: &FlowPlan) -> bool
     ensures { result ≡ does_bring need.now flow.now }
 {
     let mut by_itself = *flow;

@@ -41,7 +41,7 @@ pub fn names_choice(list: &[Alternative], choice: usize) -> bool
 }
 
 /// Whether the box of a list has an alternative.
-pub(crate) fn lets_in(list: &[Alternative], alternative: &Alternative) -> bool
+pub fn lets_in(list: &[Alternative], alternative: &Alternative) -> bool
     ensures { result ≡ lets_in list.now alternative.now }
 {
     !names_choice(list, alternative.choice) || names(list, alternative)
@@ -117,7 +117,8 @@ pub(crate) fn need_lets_in(line: &ProductLine, alternative: &Alternative, place:
     }
 }
 
-fn part_lets_in(line: &ProductLine, alternative: &Alternative, part: LinePart) -> bool
+/// Whether the box of a part has an alternative.
+pub fn part_lets_in(line: &ProductLine, alternative: &Alternative, part: LinePart) -> bool
     ensures { result ≡ part_lets_in line.now alternative.now part }
 {
     match part {

@@ -21,7 +21,8 @@ fn has_pool_address(line: &ProductLine, unit: usize) -> bool
     }
 }
 
-fn is_end(flow: &FlowPlan, unit: usize) -> bool
+/// Whether a unit sends the flow, or is the one unit to which it goes.
+pub fn is_end(flow: &FlowPlan, unit: usize) -> bool
     ensures { result ≡ is_end flow.now unit }
 {
     flow.sender == unit || flow.to == To::One(unit)

@@ -102,7 +102,7 @@ flag_in v (list ∷ lists) (suc k) = flag_in v lists k
 pub test_in : (v : List ℕ) (lists : List (Vec Alternative Global)) (k : ℕ) → is_in_at v lists k ≡ flag_at (flags v lists) k
 test_in v lists k = sym (flag_in v lists k)
 
-some_place : (v : List ℕ) (lists : List (Vec Alternative Global)) (n i : ℕ) → is_some (place_at (places n (flags v lists)) i) ≡ is_in_at v lists i
+pub some_place : (v : List ℕ) (lists : List (Vec Alternative Global)) (n i : ℕ) → is_some (place_at (places n (flags v lists)) i) ≡ is_in_at v lists i
 some_place v [] n zero = refl
 some_place v [] n (suc i) = refl
 some_place v (list ∷ lists) n zero = by (is_in v list.items)

@@ -38,16 +38,16 @@ use Rattle.j39_line_part_laws.proofs.PlacesInFile.{flow_same, group_same, reques
 
 -- ---- one of some findings
 
-left : (xs ys : List LineFinding) (f : LineFinding) → IsFound xs f → IsFound (xs ++ ys) f
+pub left : (xs ys : List LineFinding) (f : LineFinding) → IsFound xs f → IsFound (xs ++ ys) f
 left [] ys f one = absurd one
 left (x ∷ xs) ys f (inl same) = inl same
 left (x ∷ xs) ys f (inr later) = inr (left xs ys f later)
 
-right : (xs ys : List LineFinding) (f : LineFinding) → IsFound ys f → IsFound (xs ++ ys) f
+pub right : (xs ys : List LineFinding) (f : LineFinding) → IsFound ys f → IsFound (xs ++ ys) f
 right [] ys f one = one
 right (x ∷ xs) ys f one = inr (right xs ys f one)
 
-either : (xs ys : List LineFinding) (f : LineFinding) → IsFound (xs ++ ys) f → IsFound xs f ⊎ IsFound ys f
+pub either : (xs ys : List LineFinding) (f : LineFinding) → IsFound (xs ++ ys) f → IsFound xs f ⊎ IsFound ys f
 either [] ys f one = inr one
 either (x ∷ xs) ys f (inl same) = inl (inl same)
 either (x ∷ xs) ys f (inr later) = elim (either xs ys f later) [
@@ -60,7 +60,7 @@ pub record IsMade {A : Type 0} (make : A → LineFinding) (xs : List A) (f : Lin
   pub among : Contains xs value
   pub made : make value ≡ f
 
-made_of : {A : Type 0} (make : A → LineFinding) (xs : List A) (f : LineFinding) → IsFound (map make xs) f → IsMade make xs f
+pub made_of : {A : Type 0} (make : A → LineFinding) (xs : List A) (f : LineFinding) → IsFound (map make xs) f → IsMade make xs f
 made_of make [] f one = absurd one
 made_of make (x ∷ xs) f (inl same) = record { value = x; among = (0, omega arith, refl); made = same }
 made_of make (x ∷ xs) f (inr later) =
@@ -68,15 +68,15 @@ made_of make (x ∷ xs) f (inr later) =
     let (k, below, is) = its.among in
     record { value = its.value; among = (suc k, omega (arith, below), is); made = its.made }
 
-of_made : {A : Type 0} (make : A → LineFinding) (xs : List A) (x : A) → Contains xs x → IsFound (map make xs) (make x)
+pub of_made : {A : Type 0} (make : A → LineFinding) (xs : List A) (x : A) → Contains xs x → IsFound (map make xs) (make x)
 of_made make [] x (k, below, is) = absurd (omega (arith, below))
 of_made make (y ∷ ys) x (zero, below, is) = inl (ap make is)
 of_made make (y ∷ ys) x (suc k, below, is) = inr (of_made make ys x (k, omega (arith, below), is))
 
-same_plan : (x y : Finding) → OfPlan x ≡ OfPlan y → x ≡ y
+pub same_plan : (x y : Finding) → OfPlan x ≡ OfPlan y → x ≡ y
 same_plan x y is = cc
 
-same_load : (x y : LoadFinding) → OfLoad x ≡ OfLoad y → x ≡ y
+pub same_load : (x y : LoadFinding) → OfLoad x ≡ OfLoad y → x ≡ y
 same_load x y is = cc
 
 one_place : (n j k a b : ℕ) → a ≡ b → rank_by n a j k ≡ rank_by n b j k

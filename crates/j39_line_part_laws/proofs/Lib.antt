@@ -1,10 +1,11 @@
-mod Boxes
-mod Filtering
-mod FoundOfCovering
-mod Full
-mod FullCovers
-mod Parts
-mod Picking
-mod PlacesInFile
-mod Possible
-mod Suffices
+pub mod Agreeing
+pub mod Boxes
+pub mod Filtering
+pub mod FoundOfCovering
+pub mod Full
+pub mod FullCovers
+pub mod Parts
+pub mod Picking
+pub mod PlacesInFile
+pub mod Possible
+pub mod Suffices

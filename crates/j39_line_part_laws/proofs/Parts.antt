@@ -35,7 +35,7 @@ copies_alike g h k one other = record {
 
 -- ---- flows and requests
 
-record IsFlowOf (f : FlowPlan) (g s : Option ℕ) (t : Option To) (y : FlowPlan) : Type 0 where
+pub record IsFlowOf (f : FlowPlan) (g s : Option ℕ) (t : Option To) (y : FlowPlan) : Type 0 where
   pub group : g ≡ Some y.group
   pub sender : s ≡ Some y.sender
   pub to : t ≡ Some y.to
@@ -43,7 +43,7 @@ record IsFlowOf (f : FlowPlan) (g s : Option ℕ) (t : Option To) (y : FlowPlan)
   pub pause : f.pause ≡ y.pause
   pub on_request : f.on_request ≡ y.on_request
 
-flow_of : (f : FlowPlan) (g s : Option ℕ) (t : Option To) (y : FlowPlan) → flow_between f g s t ≡ Some y → IsFlowOf f g s t y
+pub flow_of : (f : FlowPlan) (g s : Option ℕ) (t : Option To) (y : FlowPlan) → flow_between f g s t ≡ Some y → IsFlowOf f g s t y
 flow_of f (Some g) (Some s) (Some t) y e =
     let is = same_Some _ _ e in
     record {
@@ -58,13 +58,13 @@ flow_of f None s t y e = absurd (none-some y e)
 flow_of f (Some g) None t y e = absurd (none-some y e)
 flow_of f (Some g) (Some s) None y e = absurd (none-some y e)
 
-record IsRequestOf (r : RequestPlan) (g s : Option ℕ) (t : Option To) (y : RequestPlan) : Type 0 where
+pub record IsRequestOf (r : RequestPlan) (g s : Option ℕ) (t : Option To) (y : RequestPlan) : Type 0 where
   pub group : g ≡ Some y.group
   pub sender : s ≡ Some y.sender
   pub to : t ≡ Some y.to
   pub period : r.period ≡ y.period
 
-request_of : (r : RequestPlan) (g s : Option ℕ) (t : Option To) (y : RequestPlan) → request_between r g s t ≡ Some y → IsRequestOf r g s t y
+pub request_of : (r : RequestPlan) (g s : Option ℕ) (t : Option To) (y : RequestPlan) → request_between r g s t ≡ Some y → IsRequestOf r g s t y
 request_of r (Some g) (Some s) (Some t) y e =
     let is = same_Some _ _ e in
     record {

@@ -23,7 +23,7 @@ use Rattle.j39_variants.specs.VariantPlans.{group_places, moved_flow, moved_requ
 use Rattle.j39_variants.specs.Variants.{is_in}
 
 -- the flags of as many values as a file has
-flagged : (test : ℕ → Bool) (bs : List Bool) (n : ℕ) → length bs ≡ n → ((k : ℕ) → k < n → test k ≡ flag_at bs k)
+pub flagged : (test : ℕ → Bool) (bs : List Bool) (n : ℕ) → length bs ≡ n → ((k : ℕ) → k < n → test k ≡ flag_at bs k)
     → places_of_those test n ≡ picked bs (range_with_len 0 n)
 flagged test bs n same each =
     subst (λ m. filter test (range_with_len 0 m) ≡ picked bs (range_with_len 0 m)) same
@@ -37,7 +37,7 @@ place_same bs cs n fewer here there is_here is_there i k at_i =
     ap (λ l. place_in_file l (thin bs cs i)) is_there ∙ ap (λ o. unwrap_or o 0) (are.value_is ∙ ap Some (sym are.meets))
     ∙ sym (ap (λ l. place_in_file l i) is_here ∙ ap (λ o. unwrap_or o 0) at_i)
 
-length-range : (a n : ℕ) → length (range_with_len a n) ≡ n
+pub length-range : (a n : ℕ) → length (range_with_len a n) ≡ n
 length-range a zero = refl
 length-range a (suc n) = ap suc (length-range (a + 1) n)
 
@@ -75,20 +75,20 @@ module _ (line : ProductLine) (v w : List ℕ) (covered : IsCoveredBy line v w) 
 
   -- ---- flows
 
-  abbrev flow_flags : List ℕ → List Bool
+  abbrev pub flow_flags : List ℕ → List Bool
   flow_flags x = kept (moved_flow (unit_places line x) (group_places line x)) (flags x line.lists.flows.items) line.plan.flows.items
 
-  flow_count : (x : List ℕ) → length (flags x line.lists.flows.items) ≡ length line.plan.flows.items
+  pub flow_count : (x : List ℕ) → length (flags x line.lists.flows.items) ≡ length line.plan.flows.items
   flow_count x = length-map line.lists.flows.items (λ list. is_in x list.items) ∙ line.flow_lists
 
-  flows_flagged : (x : List ℕ) → places_of_those (is_flow_there line x) (length line.plan.flows.items) ≡ picked (flow_flags x) (range_with_len 0 (length line.plan.flows.items))
+  pub flows_flagged : (x : List ℕ) → places_of_those (is_flow_there line x) (length line.plan.flows.items) ≡ picked (flow_flags x) (range_with_len 0 (length line.plan.flows.items))
   flows_flagged x = flagged (is_flow_there line x) (flow_flags x) (length line.plan.flows.items)
       (length-kept (moved_flow (unit_places line x) (group_places line x)) (flags x line.lists.flows.items) line.plan.flows.items (flow_count x))
       (λ k below. let (f, at_f) = value_at line.plan.flows.items k below in
       flow_test line x k f at_f
       ∙ sym (kept_at (moved_flow (unit_places line x) (group_places line x)) (flags x line.lists.flows.items) line.plan.flows.items k f (flow_count x) at_f))
 
-  flow_flags_fewer : AreFewer (flow_flags v) (flow_flags w)
+  pub flow_flags_fewer : AreFewer (flow_flags v) (flow_flags w)
   flow_flags_fewer = kept_fewer (flow_here line v w covered) (flow_in line v w covered)
       (λ f y moved. let (z, is_z, stands) = flow_there (at line v w covered) (unit_places line v) (unit_places line w) (group_places line v) (group_places line w)
       (units_there line v w covered) (groups_there line v w covered) f y moved in
@@ -105,10 +105,10 @@ module _ (line : ProductLine) (v w : List ℕ) (covered : IsCoveredBy line v w) 
 
   -- ---- requests
 
-  abbrev request_flags : List ℕ → List Bool
+  abbrev pub request_flags : List ℕ → List Bool
   request_flags x = kept (moved_request (unit_places line x) (group_places line x)) (flags x line.lists.requests.items) line.plan.requests.items
 
-  request_count : (x : List ℕ) → length (flags x line.lists.requests.items) ≡ length line.plan.requests.items
+  pub request_count : (x : List ℕ) → length (flags x line.lists.requests.items) ≡ length line.plan.requests.items
   request_count x = length-map line.lists.requests.items (λ list. is_in x list.items) ∙ line.request_lists
 
   requests_flagged : (x : List ℕ) → places_of_those (is_request_there line x) (length line.plan.requests.items)
@@ -119,7 +119,7 @@ module _ (line : ProductLine) (v w : List ℕ) (covered : IsCoveredBy line v w) 
       request_test line x k r at_r
       ∙ sym (kept_at (moved_request (unit_places line x) (group_places line x)) (flags x line.lists.requests.items) line.plan.requests.items k r (request_count x) at_r))
 
-  request_flags_fewer : AreFewer (request_flags v) (request_flags w)
+  pub request_flags_fewer : AreFewer (request_flags v) (request_flags w)
   request_flags_fewer = kept_fewer (request_here line v w covered) (request_in line v w covered)
       (λ r y moved. let (z, is_z, stands) = request_there (at line v w covered) (unit_places line v) (unit_places line w) (group_places line v) (group_places line w)
       (units_there line v w covered) (groups_there line v w covered) r y moved in

@@ -4,15 +4,15 @@ mod Busier
 pub mod ByAbsence
 mod Delays
 pub mod Findings
-mod FlowDelays
+pub mod FlowDelays
 mod FlowLoads
 mod Frames
-mod Groups
+pub mod Groups
 pub mod LoadFindings
-mod Loads
+pub mod Loads
 pub mod Places
 mod PlanFrames
-mod Shares
-mod Staying
+pub mod Shares
+pub mod Staying
 mod Sublists
 mod UnitLoads

@@ -70,14 +70,14 @@ line_told tell place (y ∷ ys) (suc k) x line at told =
     Contains-append_right (tell place y) (lines_of_each tell (place + 1) ys) line
     (line_told tell (place + 1) ys k x line at (subst (λ n. Contains (tell n x) line) same told))
 
-one_of : {Y : Type 0} (x y : Y) → Contains (x ∷ []) y → x ≡ y
+pub one_of : {Y : Type 0} (x y : Y) → Contains (x ∷ []) y → x ≡ y
 one_of x y (zero, below, is) = is
 one_of x y (suc k, below, is) = absurd (omega (arith, below))
 
-none_of : {Y : Type 0} (y : Y) → Contains [] y → ⊥
+pub none_of : {Y : Type 0} (y : Y) → Contains [] y → ⊥
 none_of y (k, below, is) = omega (arith, below)
 
-itself : {Y : Type 0} (y : Y) → Contains (y ∷ []) y
+pub itself : {Y : Type 0} (y : Y) → Contains (y ∷ []) y
 itself y = (0, omega arith, refl)
 
 -- ---- late flows
@@ -120,7 +120,7 @@ late_here f v finding found = go (is_whole_late v) refl found
     go false is_b told = absurd (none_of finding told)
 
 -- only a late flow is told
-of_late : (f : ℕ) (d : Option Delay) (finding : LoadFinding) → Contains (lateness f d) finding → finding ≡ LateFlow f
+pub of_late : (f : ℕ) (d : Option Delay) (finding : LoadFinding) → Contains (lateness f d) finding → finding ≡ LateFlow f
 of_late f None finding found = absurd (none_of finding found)
 of_late f (Some Late) finding found = sym (one_of (LateFlow f) finding found)
 of_late f (Some (Beyond n)) finding found = sym (one_of (LateFlow f) finding found)
@@ -144,7 +144,7 @@ late_there f g here (Some (Whole w)) (v, is_v, no_later) finding found =
 
 -- ---- flows without a period
 
-of_unpaced : (f : ℕ) (d : Option Delay) (finding : LoadFinding) → Contains (without_period f d) finding → (d ≡ None) × (finding ≡ NoPeriod f)
+pub of_unpaced : (f : ℕ) (d : Option Delay) (finding : LoadFinding) → Contains (without_period f d) finding → (d ≡ None) × (finding ≡ NoPeriod f)
 of_unpaced f None finding found = (refl, sym (one_of (NoPeriod f) finding found))
 of_unpaced f (Some d) finding found = absurd (none_of finding found)
 
@@ -159,7 +159,7 @@ unpaced_there (Some (Whole w)) (v, is_v, no_later) = absurd (none-some (Whole v)
 
 -- ---- the load
 
-of_overload : (timing : Timing) (load : ℕ) (finding : LoadFinding) → Contains (overload timing load) finding
+pub of_overload : (timing : Timing) (load : ℕ) (finding : LoadFinding) → Contains (overload timing load) finding
     → (bits_of_second timing.bitrate < load) × (finding ≡ Overload load)
 of_overload timing load finding found = go (nat_lt (bits_of_second timing.bitrate) load) refl found
   where
@@ -182,7 +182,7 @@ claiming_there at part whole is =
     let strangers = is.strangers in
     omega (arith, units, strangers)
 
-unplanned_there : (at : Places) (part whole : Plan) → IsPartAt at part whole → (timing : Timing) → unplanned_of part timing ≤ unplanned_of whole timing
+pub unplanned_there : (at : Places) (part whole : Plan) → IsPartAt at part whole → (timing : Timing) → unplanned_of part timing ≤ unplanned_of whole timing
 unplanned_there at part whole is timing =
     let claims = claiming_there at part whole is in
     subst (λ live. (if part.live then max timing.unplanned (claims_told part) else timing.unplanned)
@@ -196,7 +196,7 @@ unplanned_there at part whole is timing =
 -- ---- all of them
 
 -- what is told of a need is that it is too old
-of_old : (timing : Timing) (plan : Plan) (delays : List (Option Delay)) (finding : LoadFinding)
+pub of_old : (timing : Timing) (plan : Plan) (delays : List (Option Delay)) (finding : LoadFinding)
     → Contains (old_needs timing plan.requests.items plan.flows.items delays plan.needs.items) finding → (d : ℕ) × (finding ≡ NeedTooOld d)
 of_old timing plan delays finding found =
     let its = told_at (oldness timing plan.requests.items plan.flows.items delays) 0 plan.needs.items finding found in
@@ -229,7 +229,7 @@ module _ (at : Places) (part whole : Plan) (is : IsPartAt at part whole) (good :
   all_there = all_findings whole busy load_there es
 
   -- the delay of the same flow in the whole
-  delay_there : (f : ℕ) (d : Option Delay) → slice_get ds f ≡ Some d → (e : Option Delay) × (slice_get es (at.flow f) ≡ Some e) × IsNoLater d e × (f < length part.flows.items)
+  pub delay_there : (f : ℕ) (d : Option Delay) → slice_get ds f ≡ Some d → (e : Option Delay) × (slice_get es (at.flow f) ≡ Some e) × IsNoLater d e × (f < length part.flows.items)
   delay_there f d at_f =
       let below = slice_get_within ds f d at_f in
       let count = here.waits.count in

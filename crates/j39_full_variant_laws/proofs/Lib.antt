@@ -1,0 +1,10 @@
+pub mod Ages
+pub mod FoundOfFull
+pub mod InBoxes
+pub mod NeedsInPlan
+pub mod OldNeeds
+pub mod Origins
+pub mod PlacedTests
+pub mod Sources
+pub mod Staying
+pub mod TooOld

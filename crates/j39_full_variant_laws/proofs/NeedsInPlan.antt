@@ -1,0 +1,124 @@
+-- The needs of a variant's plan, and their places in the file.
+use Rattle.std.proofs.Common.{◌≡◌, ℕ, ◌+◌, ◌<◌, Bool, true, false, ◌&&◌, List, length, Option, Some, None, is_some, option_map, unwrap_or, refl, sym, ◌∙◌, ap, arith}
+use Rattle.std.specs.List.{range_with_len, slice_get}
+use Rattle.std.specs.Option.{option_map_or}
+use Rattle.std.proofs.lemmas.Bool.{and_from, and_parts}
+use Rattle.std.proofs.lemmas.List.{length-map}
+use Rattle.j39_network.specs.declared.plan.Plan.{Plan}
+use Rattle.j39_network.specs.declared.plan.need_plan.NeedPlan.{NeedPlan}
+use Rattle.j39_variants.specs.declared.line.ProductLine.{ProductLine}
+use Rattle.j39_variants.specs.VariantPlans.{flag_at, flags, group_places, IsVariantPlan, moved_from, moved_need, need_between, picked, place_at, unit_places}
+use Rattle.j39_variants.specs.Variants.{is_in}
+use Rattle.j39_line_findings.specs.MissedNeeds.{is_group_there, is_in_at, is_need_asked_for, is_sender_there, is_source_there, is_unit_there}
+use Rattle.j39_line_findings.specs.There.{is_need_there, IsWhatIsThere, place_in_file, places_of_those}
+use Rattle.j39_line_findings.specs.declared.there.WhatIsThere.{WhatIsThere}
+use Rattle.j39_part_laws.proofs.Places.{value_at}
+use Rattle.j39_line_part_laws.proofs.Filtering.{kept_at, length-kept, some_place, test_in}
+use Rattle.j39_line_part_laws.proofs.Picking.{kept}
+use Rattle.j39_line_part_laws.proofs.PlacesInFile.{flagged}
+use Rattle.j39_full_variant_laws.proofs.Origins.{comes_from, stands_at}
+
+together : (a b c d : Bool) → ((a && b) && (c && d)) ≡ (a && (b && (c && d)))
+together false b c d = refl
+together true b c d = refl
+
+some_need : (d : NeedPlan) (u g : Option ℕ) (s : Option (Option ℕ)) → is_some (need_between d u g s) ≡ (is_some u && (is_some g && is_some s))
+some_need d None g s = refl
+some_need d (Some u) None s = refl
+some_need d (Some u) (Some g) None = refl
+some_need d (Some u) (Some g) (Some s) = refl
+
+module _ (line : ProductLine) (v : List ℕ) where
+  abbrev pub move_need : NeedPlan → Option NeedPlan
+  move_need = moved_need (unit_places line v) (group_places line v)
+
+  abbrev need_flags : List Bool
+  need_flags = kept move_need (flags v line.lists.needs.items) line.plan.needs.items
+
+  some_sender : (o : Option ℕ) → is_some (moved_from (unit_places line v) o) ≡ is_sender_there line v o
+  some_sender None = refl
+  some_sender (Some u) = mapped (place_at (unit_places line v) u) ∙ some_place v line.lists.units.items 0 u
+    where
+      mapped : (o : Option ℕ) → is_some (option_map Some o) ≡ is_some o
+      mapped None = refl
+      mapped (Some p) = refl
+
+  need_test : (k : ℕ) (need : NeedPlan) → slice_get line.plan.needs.items k ≡ Some need
+      → is_need_there line v k ≡ (flag_at (flags v line.lists.needs.items) k && is_some (move_need need))
+  need_test k need at =
+      let all : is_some (move_need need) ≡ (is_unit_there line v need.unit && (is_group_there line v need.group && is_sender_there line v need.from)) =
+      some_need need (place_at (unit_places line v) need.unit) (place_at (group_places line v) need.group) (moved_from (unit_places line v) need.from)
+      ∙ ap (λ b. b && (is_some (place_at (group_places line v) need.group) && is_some (moved_from (unit_places line v) need.from)))
+      (some_place v line.lists.units.items 0 need.unit)
+      ∙ ap (λ b. is_unit_there line v need.unit && (b && is_some (moved_from (unit_places line v) need.from))) (some_place v line.lists.groups.items 0 need.group)
+      ∙ ap (λ b. is_unit_there line v need.unit && (is_group_there line v need.group && b)) (some_sender need.from) in
+      ap (λ o. option_map_or (λ (x : NeedPlan). is_in_at v line.lists.needs.items k && is_unit_there line v x.unit) o false
+      && option_map_or (λ (x : NeedPlan). is_group_there line v x.group && is_sender_there line v x.from) o false) at
+      ∙ together (is_in_at v line.lists.needs.items k) (is_unit_there line v need.unit) (is_group_there line v need.group) (is_sender_there line v need.from)
+      ∙ ap (λ b. is_in_at v line.lists.needs.items k && b) (sym all)
+      ∙ ap (λ b. b && is_some (move_need need)) (test_in v line.lists.needs.items k)
+
+  need_count : length (flags v line.lists.needs.items) ≡ length line.plan.needs.items
+  need_count = length-map line.lists.needs.items (λ list. is_in v list.items) ∙ line.need_lists
+
+  needs_flagged : places_of_those (is_need_there line v) (length line.plan.needs.items) ≡ picked need_flags (range_with_len 0 (length line.plan.needs.items))
+  needs_flagged = flagged (is_need_there line v) need_flags (length line.plan.needs.items)
+      (length-kept move_need (flags v line.lists.needs.items) line.plan.needs.items need_count)
+      (λ k below. let (d, at_d) = value_at line.plan.needs.items k below in
+      need_test k d at_d ∙ sym (kept_at move_need (flags v line.lists.needs.items) line.plan.needs.items k d need_count at_d))
+
+  module _ (there : WhatIsThere) (is_there : IsWhatIsThere line v there) (plan : Plan) (is : IsVariantPlan line v plan) where
+    file_place : (k d : ℕ) → slice_get (picked need_flags (range_with_len 0 (length line.plan.needs.items))) k ≡ Some (0 + d) → place_in_file there.needs.items k ≡ d
+    file_place k d at_k =
+        ap (λ l. place_in_file l k) (is_there.has_needs ∙ needs_flagged) ∙ ap (λ o. unwrap_or o 0) at_k ∙ (let e : 0 + d ≡ d = omega arith in e)
+
+    -- a need of the plan is one of the file that is asked for
+    pub record IsNeedOfFile (k : ℕ) (e : NeedPlan) : Type 0 where
+      pub need : NeedPlan
+      pub need_is : slice_get line.plan.needs.items (place_in_file there.needs.items k) ≡ Some need
+      pub made : move_need need ≡ Some e
+      pub asked : is_need_asked_for line v (place_in_file there.needs.items k) ≡ true
+      pub source : is_source_there line v (place_in_file there.needs.items k) ≡ true
+
+    pub need_of_file : (k : ℕ) (e : NeedPlan) → slice_get plan.needs.items k ≡ Some e → IsNeedOfFile k e
+    need_of_file k e at_k =
+        let its = comes_from move_need (flags v line.lists.needs.items) line.plan.needs.items 0 k e (ap (λ l. slice_get l k) (sym is.has_needs) ∙ at_k) in
+        let place = file_place k its.k its.place in
+        let both = need_test its.k its.value its.value_is ∙ and_from _ _ its.flagged (ap is_some its.made) in
+        let (asked, source) = and_parts (is_need_asked_for line v its.k) (is_source_there line v its.k) both in
+        record {
+          need = its.value;
+          need_is = ap (slice_get line.plan.needs.items) place ∙ its.value_is;
+          made = its.made;
+          asked = ap (is_need_asked_for line v) place ∙ asked;
+          source = ap (is_source_there line v) place ∙ source;
+        }
+
+    -- and one of the file that is asked for, and whose source is there, stands in the plan
+    pub record IsNeedInPlan (d : ℕ) (need : NeedPlan) : Type 0 where
+      pub k : ℕ
+      pub value : NeedPlan
+      pub at : slice_get plan.needs.items k ≡ Some value
+      pub made : move_need need ≡ Some value
+      pub place : place_in_file there.needs.items k ≡ d
+      pub stands : slice_get there.needs.items k ≡ Some d
+
+    pub need_in_plan : (d : ℕ) (need : NeedPlan) → slice_get line.plan.needs.items d ≡ Some need → is_need_asked_for line v d ≡ true → is_source_there line v d ≡ true
+        → IsNeedInPlan d need
+    need_in_plan d need at_d asked source =
+        let both = sym (need_test d need at_d) ∙ and_from _ _ asked source in
+        let (flag, some) = and_parts (flag_at (flags v line.lists.needs.items) d) (is_some (move_need need)) both in
+        go (move_need need) refl flag some
+      where
+        go : (o : Option NeedPlan) → move_need need ≡ o → flag_at (flags v line.lists.needs.items) d ≡ true → is_some o ≡ true → IsNeedInPlan d need
+        go None is_o flag none = cc
+        go (Some e) is_o flag some =
+            let its = stands_at move_need (flags v line.lists.needs.items) line.plan.needs.items 0 d need e at_d flag is_o in
+            record {
+              k = its.j;
+              value = e;
+              at = ap (λ l. slice_get l its.j) is.has_needs ∙ its.at;
+              made = is_o;
+              place = file_place its.j d its.place;
+              stands = ap (λ l. slice_get l its.j) (is_there.has_needs ∙ needs_flagged) ∙ its.place ∙ ap Some (let e : 0 + d ≡ d = omega arith in e);
+            }

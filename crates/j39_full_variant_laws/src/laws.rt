@@ -1,0 +1,40 @@
+//! What is told of the full variants of a line of vehicles is told of all possible ones.
+ghost use Rattle.j39_variants.specs.declared.line.ProductLine.{ProductLine};
+ghost use Rattle.j39_full_variant_laws.specs.FoundOfFull.{FullVariantsHaveWhatIsFound, ToldOfFullIsToldOfAll};
+ghost use Rattle.j39_full_variant_laws.specs.OldNeeds.{EachHasFullForNeed, OldNeedsAreFoundOfFull, OldNeedsToldOfFullAreToldOfAll};
+ghost use Rattle.j39_full_variant_laws.specs.StayingOfFull.{FullVariantsTellWhoStays};
+
+/// What is found of a possible variant comes by absence, or is found of a possible one that takes full alternatives
+/// alone, at the same places in the file, with at least its number of addresses or bits; on the load, where no bad number
+/// of a group is found there.
+pub fn full_variants_have_what_is_found()
+    ensures { (line : ProductLine) → FullVariantsHaveWhatIsFound line }
+{}
+
+/// So what is told of each of these is told of each possible variant, with at least its number of addresses or bits.
+pub fn told_of_full_variants_is_told_of_all()
+    ensures { (line : ProductLine) → ToldOfFullIsToldOfAll line }
+{}
+
+/// What is told of the units of these variants is told of those of all possible ones: a unit that stays in each of them
+/// that has it stays in each possible one that has it.
+pub fn full_variants_tell_who_stays()
+    ensures { (line : ProductLine) → FullVariantsTellWhoStays line }
+{}
+
+/// Each possible variant in which a need is asked for is covered by a possible one that takes alternatives alone that are
+/// full for the need: it is asked for there, and the same flows of the file meet it.
+pub fn each_variant_has_a_full_cover_for_a_need()
+    ensures { (line : ProductLine) → EachHasFullForNeed line }
+{}
+
+/// What is too old in a possible variant is too old in a possible one that is full for the need, where no bad number of a
+/// group is found of this one.
+pub fn old_needs_are_found_of_full_variants()
+    ensures { (line : ProductLine) → OldNeedsAreFoundOfFull line }
+{}
+
+/// So where it is told of each variant that is full for the need, it is told of each possible one.
+pub fn old_needs_told_of_full_variants_are_told_of_all()
+    ensures { (line : ProductLine) → OldNeedsToldOfFullAreToldOfAll line }
+{}

@@ -1,0 +1,10 @@
+//! Laws of the full variants of a line of vehicles: what is told of them is told of all possible ones.
+#![tactic(auto)]
+
+mod laws;
+
+pub use laws::{
+    each_variant_has_a_full_cover_for_a_need, full_variants_have_what_is_found,
+    full_variants_tell_who_stays, old_needs_are_found_of_full_variants,
+    old_needs_told_of_full_variants_are_told_of_all, told_of_full_variants_is_told_of_all,
+};
