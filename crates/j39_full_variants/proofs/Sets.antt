@@ -19,10 +19,10 @@ both false b is = absurd (false≢true is)
 pub and_so : (a b : Bool) → a ≡ true → b ≡ true → (a && b) ≡ true
 and_so a b one other = rw (one, other) refl
 
-one_itself : (a : Alternative) → is_one_alternative a a ≡ true
+pub one_itself : (a : Alternative) → is_one_alternative a a ≡ true
 one_itself a = and_so (a.choice == a.choice) (a.place == a.place) (eq-eqb a.choice a.choice refl) (eq-eqb a.place a.place refl)
 
-one_same : (a b : Alternative) → is_one_alternative a b ≡ true → a ≡ b
+pub one_same : (a b : Alternative) → is_one_alternative a b ≡ true → a ≡ b
 one_same a b is =
     let parts = both (a.choice == b.choice) (a.place == b.place) is in
     let choice = eqb-true a.choice b.choice parts.0 in

@@ -8,16 +8,16 @@ use Rattle.j39_full_variants.specs.SetVariants.{AreNotNested, AreWidest, IsSetAm
 use Rattle.j39_full_variants.proofs.Filters.{kept_values, last_kept, last_left}
 use Rattle.j39_full_variants.proofs.Sets.{inside_itself, inside_through}
 
-among_left : (xs ys : List (List Alternative)) (s : List Alternative) → IsSetAmong xs s → IsSetAmong (xs ++ ys) s
+pub among_left : (xs ys : List (List Alternative)) (s : List Alternative) → IsSetAmong xs s → IsSetAmong (xs ++ ys) s
 among_left [] ys s at = absurd at
 among_left (x ∷ xs) ys s (inl same) = inl same
 among_left (x ∷ xs) ys s (inr more) = inr (among_left xs ys s more)
 
-among_right : (xs ys : List (List Alternative)) (s : List Alternative) → IsSetAmong ys s → IsSetAmong (xs ++ ys) s
+pub among_right : (xs ys : List (List Alternative)) (s : List Alternative) → IsSetAmong ys s → IsSetAmong (xs ++ ys) s
 among_right [] ys s at = at
 among_right (x ∷ xs) ys s at = inr (among_right xs ys s at)
 
-among_cases : (xs ys : List (List Alternative)) (s : List Alternative) → IsSetAmong (xs ++ ys) s → IsSetAmong xs s ⊎ IsSetAmong ys s
+pub among_cases : (xs ys : List (List Alternative)) (s : List Alternative) → IsSetAmong (xs ++ ys) s → IsSetAmong xs s ⊎ IsSetAmong ys s
 among_cases [] ys s at = inr at
 among_cases (x ∷ xs) ys s (inl same) = inl (inl same)
 among_cases (x ∷ xs) ys s (inr more) = elim (among_cases xs ys s more) [

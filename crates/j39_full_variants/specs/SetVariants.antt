@@ -1,7 +1,7 @@
 -- Variants that take alternatives of a set alone.
 use Rattle.std.specs.Prelude.{◌≡◌, ◌⊎◌, ℕ, ◌+◌, ◌*◌, ◌==◌, List, [], ◌∷◌, Bool, true, false, ◌&&◌, count_by, filter, length, map}
 use Rattle.std.specs.List.{list_all, list_any, range_with_len}
-use Rattle.j39_variants.specs.Variants.{IsEarlier, IsVariant}
+use Rattle.j39_variants.specs.Variants.{IsEarlier, IsVariant, size_at}
 use Rattle.j39_variants.specs.declared.line.Alternative.{Alternative}
 use Rattle.j39_variants.specs.declared.line.Choice.{Choice}
 use Rattle.j39_line_findings.specs.AllVariants.{IsOneOf}
@@ -45,8 +45,9 @@ pub record AreVariantsOfSets (choices : List Choice) (sets : List (List Alternat
 
 -- ---- how many there are
 
-abbrev pub count_of_choice : List Alternative → ℕ → ℕ
-count_of_choice set c = count_by (λ a. a.choice == c) set
+-- alternatives of a choice that a set has
+abbrev pub count_of_choice : List Choice → List Alternative → ℕ → ℕ
+count_of_choice choices set c = count_by (λ p. has_alternative set (alternative_at c p)) (range_with_len 0 (size_at choices c))
 
 abbrev pub product_of : List ℕ → ℕ
 product_of [] = 1
@@ -54,7 +55,7 @@ product_of (x ∷ xs) = x * product_of xs
 
 -- over the choices, how many alternatives of the choice the set has
 abbrev pub variants_of_set : List Choice → List Alternative → ℕ
-variants_of_set choices set = product_of (map (count_of_choice set) (range_with_len 0 (length choices)))
+variants_of_set choices set = product_of (map (count_of_choice choices set) (range_with_len 0 (length choices)))
 
 -- ---- sets that count
 

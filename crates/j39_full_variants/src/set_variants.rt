@@ -1,6 +1,7 @@
 //! Variants that take alternatives of a set alone.
-ghost use Rattle.std.specs.Prelude.{◌≡◌, ◌==◌, ◌-◌, ◌^◌, IfOk, count_by, filter, map, min};
+ghost use Rattle.std.specs.Prelude.{◌≡◌, ◌-◌, ◌^◌, IfOk, filter, map, min};
 ghost use Rattle.std.specs.List.{list_any};
+ghost use Rattle.j39_variants.specs.Variants.{size_at};
 ghost use Rattle.j39_full_variants.specs.SetVariants.{AreVariantsOfSets, has_alternative, has_each_choice, is_set_inside};
 ghost use Rattle.j39_full_variants.specs.SetVariants.{count_of_choice, takes_alone, variants_of_set};
 
@@ -71,11 +72,29 @@ pub fn variants_of_sets(
     Ok(all)
 }
 
-fn count_of_choice(set: &[Alternative], choice: usize) -> usize
-    ensures { result ≡ count_of_choice set.now choice }
+fn size_at(choices: &[Choice], choice: usize) -> usize
+    ensures { result ≡ size_at choices.now choice }
 {
-    set.iter()
-        .filter(|alternative| alternative.choice == choice)
+    match choices.get(choice) {
+        Some(found) => found.alternatives.len(),
+        None => 0,
+    }
+}
+
+// How many alternatives of a choice a set has.
+fn count_of_choice(choices: &[Choice], set: &[Alternative], choice: usize) -> usize
+    ensures { result ≡ count_of_choice choices.now set.now choice }
+{
+    (0..size_at(choices, choice))
+        .filter(|place| {
+            names(
+                set,
+                &Alternative {
+                    choice,
+                    place: *place,
+                },
+            )
+        })
         .count()
 }
 
@@ -85,7 +104,7 @@ pub fn variants_of_set(choices: &[Choice], set: &[Alternative]) -> u64
 {
     let mut count: u64 = 1;
     for choice in 0..choices.len() {
-        count = count.saturating_mul(count_of_choice(set, choice) as u64);
+        count = count.saturating_mul(count_of_choice(choices, set, choice) as u64);
     }
     count
 }
