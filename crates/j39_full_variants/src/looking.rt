@@ -1,12 +1,12 @@
 //! At which full variants of a line is looked.
 ghost use Rattle.std.specs.Prelude.{◌≡◌, IfOk};
-ghost use Rattle.j39_line_findings.specs.declared.full.Nevers.TheVariants.{Kept};
-ghost use Rattle.j39_full_variants.specs.Looking.{IsLooking, IsLookingWith};
+ghost use Rattle.j39_line_findings.specs.declared.full.LineNevers.TheVariants.{Kept};
+ghost use Rattle.j39_full_variants.specs.LookedVariants.{IsLooking, IsLookingWith};
 ghost use Rattle.j39_full_variants.specs.declared.looking.Looking.TheVariants.{Many};
 
 use crate::counted::counted_findings;
 use crate::full_sets::{looked_at, number_of_variants, widest_sets};
-use j39_line_findings::{FullAlternatives, Nevers, Witnessed, alternatives_of};
+use j39_line_findings::{FullAlternatives, LineNevers, Witnessed, alternatives_of};
 use j39_variants::ProductLine;
 use std::alloc::{AllocError, Global};
 
@@ -34,7 +34,7 @@ pub enum Looking {
 }
 
 // The full variants of a line, with or without its nevers.
-fn look_with(alloc: Global, line: &ProductLine, nevers: Nevers) -> Result<Looking, AllocError>
+fn look_with(alloc: Global, line: &ProductLine, nevers: LineNevers) -> Result<Looking, AllocError>
     ensures { IfOk result (IsLookingWith line.now nevers) }
 {
     let alternatives = alternatives_of(alloc, line)?;
@@ -57,7 +57,7 @@ fn look_with(alloc: Global, line: &ProductLine, nevers: Nevers) -> Result<Lookin
 fn look_without_nevers(alloc: Global, line: &ProductLine, count: u64) -> Result<Looking, AllocError>
     ensures { IfOk result (λ looking. IsLookingWith line.now Kept (Many count) → IsLooking line.now looking) }
 {
-    match look_with(alloc, line, Nevers::LeftOut)? {
+    match look_with(alloc, line, LineNevers::LeftOut)? {
         Looking::Few(found) => {
             if found.told.is_empty() {
                 return Ok(Looking::Few(found));
@@ -73,7 +73,7 @@ fn look_without_nevers(alloc: Global, line: &ProductLine, count: u64) -> Result<
 pub fn look(alloc: Global, line: &ProductLine) -> Result<Looking, AllocError>
     ensures { IfOk result (IsLooking line.now) }
 {
-    match look_with(alloc, line, Nevers::Kept)? {
+    match look_with(alloc, line, LineNevers::Kept)? {
         Looking::Few(found) => Ok(Looking::Few(found)),
         Looking::Many(count) => look_without_nevers(alloc, line, count),
     }

@@ -1,7 +1,7 @@
-use Rattle.std.proofs.Common.{◌≡◌, ℕ, List, [], ◌∷◌, false, inl, inr, length, true, refl, sym, ap, subst, ◌∙◌, arith}
+use Rattle.std.proofs.Common.{◌≡◌, List, [], ◌∷◌, inr, length, refl, sym, ap, subst, ◌∙◌, arith}
 use Rattle.std.proofs.lemmas.Bool.{eq-eqb, eqb-true, true≢false}
-use Rattle.j39_line_findings.specs.declared.full.Nevers.TheVariants.{LeftOut}
-use Rattle.j39_full_variants.specs.Looking.{AreFullVariants, IsLookingWith}
+use Rattle.j39_line_findings.specs.declared.full.LineNevers.TheVariants.{LeftOut}
+use Rattle.j39_full_variants.specs.LookedVariants.{AreFullVariants, IsLookingWith}
 use Rattle.j39_full_variants.proofs.looking.look_without_nevers.Goals as goal
 
 none_left : {X : Type 0} (xs : List X) → length xs ≡ 0 → xs ≡ []

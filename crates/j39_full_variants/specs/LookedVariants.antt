@@ -1,10 +1,10 @@
 -- At which full variants of a line is looked, and that there may be too many.
-use Rattle.std.specs.Prelude.{◌≡◌, ◌≢◌, ◌⊎◌, ℕ, ◌-◌, ◌^◌, ◌<◌, ◌≤◌, List, [], map, min}
+use Rattle.std.specs.Prelude.{◌≡◌, ◌≢◌, ◌⊎◌, ℕ, ◌-◌, ◌^◌, ◌<◌, ◌≤◌, [], map, min}
 use Rattle.j39_variants.specs.declared.line.ProductLine.{ProductLine}
 use Rattle.j39_line_findings.specs.FullVariants.{AreFullAlternatives, line_with}
 use Rattle.j39_line_findings.specs.declared.full.FullAlternatives.{FullAlternatives}
-use Rattle.j39_line_findings.specs.declared.full.Nevers.{Nevers}
-use Rattle.j39_line_findings.specs.declared.full.Nevers.TheVariants.{Kept, LeftOut}
+use Rattle.j39_line_findings.specs.declared.full.LineNevers.{LineNevers}
+use Rattle.j39_line_findings.specs.declared.full.LineNevers.TheVariants.{Kept, LeftOut}
 use Rattle.j39_full_variants.specs.CountedFindings.{AreCountedFindings}
 use Rattle.j39_full_variants.specs.FullSets.{AreLookedAt, IsNumberOfVariants}
 use Rattle.j39_full_variants.specs.declared.looking.FullVariants.{FullVariants}
@@ -16,24 +16,24 @@ abbrev pub looked_limit : ℕ
 looked_limit = 1024
 
 -- a line, with or without its nevers, has so many full variants
-pub record HasFullVariants (line : ProductLine) (nevers : Nevers) (n : ℕ) : Type 0 where
+pub record HasFullVariants (line : ProductLine) (nevers : LineNevers) (n : ℕ) : Type 0 where
   pub full : FullAlternatives
   pub are_full : AreFullAlternatives (line_with nevers line) full
   pub is_number : IsNumberOfVariants line full n
 
 -- these are they, with what is found of them
-pub record AreFullVariants (line : ProductLine) (nevers : Nevers) (x : FullVariants) : Type 0 where
+pub record AreFullVariants (line : ProductLine) (nevers : LineNevers) (x : FullVariants) : Type 0 where
   pub are_full : AreFullAlternatives (line_with nevers line) x.full
   pub are_looked_at : AreLookedAt (line_with nevers line) x.full (map (λ v. v.items) x.variants.items)
   pub are_found : AreCountedFindings line x.full (map (λ v. v.items) x.variants.items) x.told.items
   pub few : (n : ℕ) × IsNumberOfVariants line x.full n × (n ≤ looked_limit)
 
 -- too many with its nevers
-abbrev pub AreManyVariants : ProductLine → Nevers → ℕ → Type 0
+abbrev pub AreManyVariants : ProductLine → LineNevers → ℕ → Type 0
 AreManyVariants line nevers n = HasFullVariants line nevers n × (looked_limit < n)
 
 -- these are looked at, or so many are too many, at most so many as 64 bits tell
-abbrev pub IsLookingWith : ProductLine → Nevers → Looking → Type 0
+abbrev pub IsLookingWith : ProductLine → LineNevers → Looking → Type 0
 IsLookingWith line nevers (Few x) = AreFullVariants line nevers x
 IsLookingWith line nevers (Many m) = (n : ℕ) × AreManyVariants line nevers n × (m ≡ min n (2 ^ 64 - 1))
 
