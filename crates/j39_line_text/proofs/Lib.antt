@@ -1,3 +1,3 @@
 pub mod CertifiedVariants
 pub mod LineTimings
-pub mod ShownLines
+pub mod NothingHides

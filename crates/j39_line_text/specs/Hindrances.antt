@@ -48,7 +48,7 @@ abbrev pub is_hidden : Asked → Option ℕ → List ToldFinding → Bool
 is_hidden asked many told = is_some many || is_any_hiding asked told
 
 -- what check found of a line of which some variant is possible, and at which variants it looked
-pub record IsFoundAt (line : ProductLine) (looked : LookedAt) (told : List ToldFinding) : Type 0 where
+pub record AreToldAt (line : ProductLine) (looked : LookedAt) (told : List ToldFinding) : Type 0 where
   pub some : SomePossible line
   pub are_told : AreTold line (many_of looked) told
 
@@ -58,7 +58,7 @@ pub record IsFoundAt (line : ProductLine) (looked : LookedAt) (told : List ToldF
 pub record IsHiddenLine (asked : Asked) (line : ProductLine) (text : List ℕ) : Type 0 where
   pub looked : LookedAt
   pub told : List ToldFinding
-  pub found : IsFoundAt line looked told
+  pub found : AreToldAt line looked told
   pub hidden : is_hidden asked (too_many looked) told ≡ true
   pub text_is : text ≡ findings_of_line_text line (alternatives_of line) (too_many looked) told
 
@@ -76,6 +76,6 @@ variants_at (TooMany many) = []
 
 -- nothing hides what is asked: it is told of the variants at which check looked
 pub record IsShownLine (asked : Asked) (line : ProductLine) (looked : LookedAt) (told : List ToldFinding) : Type 0 where
-  pub found : IsFoundAt line looked told
+  pub found : AreToldAt line looked told
   pub few : too_many looked ≡ None
   pub shown : AreAllShown asked line

@@ -3,7 +3,7 @@ ghost use Rattle.std.specs.Prelude.{◌≡◌, List, IfOk, map};
 ghost use Rattle.j39_line_bounds.specs.LineStandings.{AreStandingsAmong};
 ghost use Rattle.j39_line_bounds.specs.declared.standing.LineStanding.{LineStanding};
 ghost use Rattle.j39_line_findings.specs.AllVariants.{IsOneOf};
-ghost use Rattle.j39_line_text.specs.Hindrances.{IsFoundAt};
+ghost use Rattle.j39_line_text.specs.Hindrances.{AreToldAt};
 ghost use Rattle.j39_line_text.specs.LineAddressesText.{IsLineAddressesReport, IsLineAddressesText};
 ghost use Rattle.j39_line_text.specs.StandingLines.{standings_text};
 ghost use Rattle.j39_stream.specs.CommandEnds.{AnswersWhole, IsOfAny};
@@ -43,7 +43,7 @@ fn found_addresses(
     told: &[ToldFinding],
     looked: &LookedAt,
 ) -> Result<(TextBuffer, Verdict), AllocError>
-    ensures { IfOk result (λ report. IsFoundAt line.now looked.now told.now → IsLineAddressesReport line.now report.0 report.1) }
+    ensures { IfOk result (λ report. AreToldAt line.now looked.now told.now → IsLineAddressesReport line.now report.0 report.1) }
 {
     who_stays();
     who_stays_with_strangers();

@@ -1,7 +1,7 @@
 //! What the load command writes.
 ghost use Rattle.std.specs.Prelude.{◌≡◌, IfOk, Some};
 ghost use Rattle.j39_load.specs.BusTimes.{timing_of};
-ghost use Rattle.j39_line_text.specs.Hindrances.{IsFoundAt, IsShownLine};
+ghost use Rattle.j39_line_text.specs.Hindrances.{AreToldAt, IsShownLine};
 ghost use Rattle.j39_line_text.specs.LineLoadText.{IsLineLoadReport, IsLineLoadText, IsTimesReport, TellsLineTiming, line_load_verdict};
 ghost use Rattle.j39_line_text.specs.declared.hindrances.Asked.TheVariants.{Times};
 ghost use Rattle.j39_stream.specs.CommandEnds.{AnswersWhole, IsOfAny};
@@ -58,7 +58,7 @@ fn found_load(
     told: &[ToldFinding],
     looked: &LookedAt,
 ) -> Result<(TextBuffer, Verdict), AllocError>
-    ensures { IfOk result (λ report. timing_of line.now.plan ≡ Some timing → IsFoundAt line.now looked.now told.now
+    ensures { IfOk result (λ report. timing_of line.now.plan ≡ Some timing → AreToldAt line.now looked.now told.now
         → IsLineLoadReport line.now timing report.0 report.1) }
 {
     let many = too_many(looked);

@@ -3,7 +3,7 @@ use Rattle.j39_line_bounds.specs.LineStandings.{AreStandingsAmong}
 use Rattle.j39_line_findings.specs.AllVariants.{IsOneOf}
 use Rattle.j39_line_text.specs.Hindrances.{is_hidden, too_many}
 use Rattle.j39_line_text.specs.declared.hindrances.Asked.TheVariants.{Addresses}
-use Rattle.j39_line_text.proofs.ShownLines.{is_shown}
+use Rattle.j39_line_text.proofs.NothingHides.{is_shown}
 use Rattle.j39_line_text.proofs.addresses.found_addresses.Goals as goal
 
 pub returns : goal.returns

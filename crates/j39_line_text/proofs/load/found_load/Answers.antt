@@ -1,7 +1,7 @@
 use Rattle.std.proofs.Common.{◌≡◌, false, inl, sym, ap, ◌∙◌}
 use Rattle.j39_line_text.specs.Hindrances.{is_hidden, too_many}
 use Rattle.j39_line_text.specs.declared.hindrances.Asked.TheVariants.{Times}
-use Rattle.j39_line_text.proofs.ShownLines.{is_shown}
+use Rattle.j39_line_text.proofs.NothingHides.{is_shown}
 use Rattle.j39_line_text.proofs.load.found_load.Goals as goal
 
 pub returns : goal.returns

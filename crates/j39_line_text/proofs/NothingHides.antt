@@ -11,7 +11,7 @@ use Rattle.j39_line_check.specs.LineChecks.{AreTold, IsSure, SomePossible}
 use Rattle.j39_line_check.specs.declared.answer.LookedAt.{LookedAt}
 use Rattle.j39_line_check.specs.declared.answer.LookedAt.TheVariants.{Full, WithoutNevers, TooMany}
 use Rattle.j39_line_check.specs.declared.answer.ToldFinding.{ToldFinding}
-use Rattle.j39_line_text.specs.Hindrances.{AreAllShown, IsFoundAt, IsShownLine, does_hide, hides, is_any_hiding, is_hidden, too_many}
+use Rattle.j39_line_text.specs.Hindrances.{AreAllShown, AreToldAt, IsShownLine, does_hide, hides, is_any_hiding, is_hidden, too_many}
 use Rattle.j39_line_text.specs.declared.hindrances.Asked.{Asked}
 use Rattle.j39_line_text.specs.declared.hindrances.Asked.TheVariants.{Addresses, Times}
 
@@ -43,7 +43,7 @@ all_shown asked line told some are none = record {
 }
 
 pub is_shown : (asked : Asked) (line : ProductLine) (looked : LookedAt) (told : List ToldFinding) → is_hidden asked (too_many looked) told ≡ false
-    → IsFoundAt line looked told → IsShownLine asked line looked told
+    → AreToldAt line looked told → IsShownLine asked line looked told
 is_shown asked line (Full variants) told none found =
     record { found = found; few = refl; shown = all_shown asked line told found.some found.are_told none }
 is_shown asked line (WithoutNevers many) told none found = absurd (true≢false none)
