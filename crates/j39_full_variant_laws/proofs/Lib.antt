@@ -8,3 +8,4 @@ pub mod PlacedTests
 pub mod Sources
 pub mod Staying
 pub mod TooOld
+pub mod WithoutNevers

@@ -3,6 +3,7 @@ ghost use Rattle.j39_variants.specs.declared.line.ProductLine.{ProductLine};
 ghost use Rattle.j39_full_variant_laws.specs.FoundOfFull.{FullVariantsHaveWhatIsFound, ToldOfFullIsToldOfAll};
 ghost use Rattle.j39_full_variant_laws.specs.OldNeeds.{EachHasFullForNeed, OldNeedsAreFoundOfFull, OldNeedsToldOfFullAreToldOfAll};
 ghost use Rattle.j39_full_variant_laws.specs.StayingOfFull.{FullVariantsTellWhoStays};
+ghost use Rattle.j39_full_variant_laws.specs.WithoutNevers.{FullWithoutNeversSuffice, NeversChangeNothingBuilt};
 
 /// What is found of a possible variant comes by absence, or is found of a possible one that takes full alternatives
 /// alone, at the same places in the file, with at least its number of addresses or bits; on the load, where no bad number
@@ -37,4 +38,16 @@ pub fn old_needs_are_found_of_full_variants()
 /// So where it is told of each variant that is full for the need, it is told of each possible one.
 pub fn old_needs_told_of_full_variants_are_told_of_all()
     ensures { (line : ProductLine) → OldNeedsToldOfFullAreToldOfAll line }
+{}
+
+/// A variant has the same plan, findings and times whatever isn't built, and is possible where all is: so what is told of
+/// the full variants of a line without its nevers is told of each of its possible variants.
+pub fn nevers_change_nothing_that_is_built()
+    ensures { NeversChangeNothingBuilt }
+{}
+
+/// Where nothing is found of these, nor of those that are full for a need that asks for an age, that counts what is there,
+/// nothing that does is found of any possible variant of the line.
+pub fn full_variants_without_nevers_suffice()
+    ensures { (line : ProductLine) → FullWithoutNeversSuffice line }
 {}
