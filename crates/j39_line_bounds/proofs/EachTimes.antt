@@ -1,9 +1,8 @@
--- What is told of each possible variant, one after the other.
-use Rattle.std.proofs.Common.{◌≡◌, ◌⊎◌, ℕ, ◌+◌, ◌<◌, List, [], ◌∷◌, ◌++◌, true, false, Option, Some, None, inl, inr, get_or, length, map, take, refl, sym, ap, ◌∙◌, arith, subst}
-use Rattle.std.specs.List.{range_with_len}
+-- What is told of each variant, one after the other.
+use Rattle.std.proofs.Common.{◌≡◌, ◌⊎◌, ℕ, ◌+◌, ◌<◌, List, [], ◌∷◌, ◌++◌, Option, Some, None, inl, inr, get_or, length, map, take, refl, sym, ap, ◌∙◌, arith, subst}
+use Rattle.std.specs.List.{AllZip, range_with_len}
 use Rattle.std.specs.Option.{option_map}
 use Rattle.std.proofs.lemmas.Option.{none-some}
-use Rattle.std.proofs.lemmas.Bool.{false≢true}
 use Rattle.std.proofs.lemmas.List.{map-append, take_more}
 use Rattle.std.proofs.lemmas.List.FromFn.{get_or-map-range_with_len, length-map-range_with_len}
 use Rattle.j39_load.specs.Asked.{total_load}
@@ -14,13 +13,11 @@ use Rattle.j39_load.specs.declared.findings.load_answer.LoadAnswer.{LoadAnswer}
 use Rattle.j39_network.specs.declared.plan.Plan.{Plan}
 use Rattle.j39_network.specs.declared.plan.timing.Timing.{Timing}
 use Rattle.j39_variants.specs.VariantPlans.{IsVariantPlan}
-use Rattle.j39_variants.specs.Variants.{is_possible}
 use Rattle.j39_variants.specs.declared.line.ProductLine.{ProductLine}
 use Rattle.j39_line_findings.specs.There.{IsWhatIsThere}
 use Rattle.j39_line_findings.specs.declared.there.WhatIsThere.{WhatIsThere}
-use Rattle.j39_line_findings.proofs.EveryVariant.{every_variant}
-use Rattle.j39_line_findings.specs.AllVariants.{IsOneOf, all_variants}
-use Rattle.j39_line_bounds.specs.LineTimes.{AreLineTimes, AreTimesAmong, AreTimesOf, AreVariantTimes, AreWorst, BoundEachVariant, IsOfSomeVariant, IsTimesAmong, TimesBoundEachVariant, time_of_flow, flow_time, time_of_need, need_time}
+use Rattle.j39_line_findings.specs.AllVariants.{IsOneOf}
+use Rattle.j39_line_bounds.specs.LineTimes.{AreTimesAmong, AreVariantTimes, AreWorst, BoundEachOf, IsOfSomeVariant, IsTimesAmong, TimesBoundThese, time_of_flow, flow_time, time_of_need, need_time}
 use Rattle.j39_line_bounds.specs.declared.times.FlowTime.TheVariants as flow
 use Rattle.j39_line_bounds.specs.declared.times.LineTimes.{LineTimes as Times}
 use Rattle.j39_line_bounds.specs.declared.times.NeedTime.TheVariants as need
@@ -65,40 +62,22 @@ untimed line plan (Some t) is its none = absurd (none-some (with_claims plan t) 
 
 -- ---- one variant more
 
-module _ (line : ProductLine) where
-  not_counted : (vs : List (List ℕ)) (v : List ℕ) (each : List Times) → is_possible line.nevers.items v ≡ false → AreTimesOf line vs each
-      → AreTimesOf line (vs ++ v ∷ []) each
-  not_counted [] v [] never are = inl (never, tt)
-  not_counted [] v (times ∷ each) never are = absurd are
-  not_counted (w ∷ vs) v each never (inl skipped) = inl (skipped.0, not_counted vs v each never skipped.1)
-  not_counted (w ∷ vs) v each never (inr (possible, (times, others, is, rest, same))) =
-      inr (possible, (times, others, is, not_counted vs v others never rest, same))
-
-  counted : (vs : List (List ℕ)) (v : List ℕ) (each : List Times) (more : Times) → is_possible line.nevers.items v ≡ true → AreVariantTimes line v more
-      → AreTimesOf line vs each → AreTimesOf line (vs ++ v ∷ []) (each ++ more ∷ [])
-  counted [] v [] more possible is are = inr (possible, (more, [], is, tt, refl))
-  counted [] v (times ∷ each) more possible is are = absurd are
-  counted (w ∷ vs) v each more possible is (inl skipped) = inl (skipped.0, counted vs v each more possible is skipped.1)
-  counted (w ∷ vs) v each more possible is (inr (here, (times, others, of_w, rest, same))) =
-      inr (here, (times, others ++ more ∷ [], of_w, counted vs v others more possible is rest, ap (λ xs. xs ++ more ∷ []) same))
+counted : (line : ProductLine) (vs : List (List ℕ)) (v : List ℕ) (each : List Times) (more : Times) → AreVariantTimes line v more
+    → AllZip (AreVariantTimes line) vs each → AllZip (AreVariantTimes line) (vs ++ v ∷ []) (each ++ more ∷ [])
+counted line [] v [] more is are = (is, tt)
+counted line [] v (times ∷ each) more is are = absurd are
+counted line (w ∷ vs) v [] more is are = absurd are
+counted line (w ∷ vs) v (times ∷ each) more is are = (are.0, counted line vs v each more is are.1)
 
 pub none_yet : (line : ProductLine) (told : Times) → AreWorst line [] told → AreTimesAmong line [] told
 none_yet line told are = record { each = []; are_each = tt; worst = are }
 
-pub passed : (line : ProductLine) (vs : List (List ℕ)) (v : List ℕ) (told : Times) → is_possible line.nevers.items v ≡ false → AreTimesAmong line vs told
-    → AreTimesAmong line (vs ++ v ∷ []) told
-passed line vs v told never are = record {
-  each = are.each;
-  are_each = not_counted line vs v are.each never are.are_each;
-  worst = are.worst;
-}
-
-pub one_more : (line : ProductLine) (vs : List (List ℕ)) (v : List ℕ) (old here new : Times) → is_possible line.nevers.items v ≡ true
-    → AreVariantTimes line v here → ((each : List Times) → AreWorst line each old → AreWorst line (each ++ here ∷ []) new)
-    → AreTimesAmong line vs old → AreTimesAmong line (vs ++ v ∷ []) new
-one_more line vs v old here new possible is worse are = record {
+pub one_more : (line : ProductLine) (vs : List (List ℕ)) (v : List ℕ) (old here new : Times) → AreVariantTimes line v here
+    → ((each : List Times) → AreWorst line each old → AreWorst line (each ++ here ∷ []) new) → AreTimesAmong line vs old
+    → AreTimesAmong line (vs ++ v ∷ []) new
+one_more line vs v old here new is worse are = record {
   each = are.each ++ here ∷ [];
-  are_each = counted line vs v are.each here possible is are.are_each;
+  are_each = counted line vs v are.each here is are.are_each;
   worst = worse are.each are.worst;
 }
 
@@ -113,49 +92,38 @@ next_one line f vs k d v old new below is same so_far add =
     let all : map f (take (k + 1) vs) ≡ map f (take k vs) ++ v ∷ [] = longer ∙ ap (λ w. map f (take k vs) ++ w ∷ []) (sym here) in
     subst (λ ws. AreTimesAmong line ws new) (sym all) (add (map f (take k vs)) so_far)
 
--- ---- of the line
+-- ---- of them all
 
 module _ (line : ProductLine) where
-  of_variant : (vs : List (List ℕ)) (each : List Times) → AreTimesOf line vs each → (v : List ℕ) → IsOneOf vs v → is_possible line.nevers.items v ≡ true
+  of_variant : (vs : List (List ℕ)) (each : List Times) → AllZip (AreVariantTimes line) vs each → (v : List ℕ) → IsOneOf vs v
       → (times : Times) × AreVariantTimes line v times × IsTimesAmong each times
-  of_variant [] each are v is possible = absurd is
-  of_variant (w ∷ vs) each (inl skipped) v (inl same) possible =
-      absurd (false≢true (sym skipped.0 ∙ subst (λ x. is_possible line.nevers.items x ≡ true) (sym same) possible))
-  of_variant (w ∷ vs) each (inl skipped) v (inr later) possible = of_variant vs each skipped.1 v later possible
-  of_variant (w ∷ vs) each (inr (here, (times, others, of_w, rest, is))) v (inl same) possible =
-      (times, subst (λ x. AreVariantTimes line x times) same of_w, subst (λ xs. IsTimesAmong xs times) (sym is) (inl refl))
-  of_variant (w ∷ vs) each (inr (here, (times, others, of_w, rest, is))) v (inr later) possible =
-      let found = of_variant vs others rest v later possible in
-      (found.0, found.1, subst (λ xs. IsTimesAmong xs found.0) (sym is) (inr found.2))
+  of_variant [] each are v is = absurd is
+  of_variant (w ∷ vs) [] are v is = absurd are
+  of_variant (w ∷ vs) (times ∷ each) are v (inl same) = (times, subst (λ x. AreVariantTimes line x times) same are.0, inl refl)
+  of_variant (w ∷ vs) (times ∷ each) are v (inr later) =
+      let found = of_variant vs each are.1 v later in (found.0, found.1, inr found.2)
 
-  of_times : (vs : List (List ℕ)) (each : List Times) → AreTimesOf line vs each → (times : Times) → IsTimesAmong each times
-      → (v : List ℕ) × IsOneOf vs v × (is_possible line.nevers.items v ≡ true) × AreVariantTimes line v times
-  of_times [] [] are times among = absurd among
+  of_times : (vs : List (List ℕ)) (each : List Times) → AllZip (AreVariantTimes line) vs each → (times : Times) → IsTimesAmong each times
+      → (v : List ℕ) × IsOneOf vs v × AreVariantTimes line v times
+  of_times vs [] are times among = absurd among
   of_times [] (x ∷ each) are times among = absurd are
-  of_times (w ∷ vs) each (inl skipped) times among =
-      let found = of_times vs each skipped.1 times among in (found.0, inr found.1, found.2, found.3)
-  of_times (w ∷ vs) each (inr (here, (x, others, of_w, rest, is))) times among = elim (subst (λ xs. IsTimesAmong xs times) is among) [
-    | inl same ↦ (w, inl refl, here, subst (λ t. AreVariantTimes line w t) same of_w)
-    | inr later ↦ let found = of_times vs others rest times later in (found.0, inr found.1, found.2, found.3)
-  ]
+  of_times (w ∷ vs) (x ∷ each) are times (inl same) = (w, inl refl, subst (λ t. AreVariantTimes line w t) same are.0)
+  of_times (w ∷ vs) (x ∷ each) are times (inr later) =
+      let found = of_times vs each are.1 times later in (found.0, inr found.1, found.2)
 
-  module _ (told : Times) (are : AreLineTimes line told) where
+  module _ (vs : List (List ℕ)) (told : Times) (are : AreTimesAmong line vs told) where
     of_some : {T : Type 0} (at : Times → T) (nothing worst : T)
-        → (worst ≡ nothing) ⊎ ((times : Times) × IsTimesAmong are.each times × (worst ≡ at times)) → (worst ≡ nothing) ⊎ IsOfSomeVariant line at worst
+        → (worst ≡ nothing) ⊎ ((times : Times) × IsTimesAmong are.each times × (worst ≡ at times))
+        → (worst ≡ nothing) ⊎ IsOfSomeVariant (IsOneOf vs) line at worst
     of_some at nothing worst (inl none) = inl none
     of_some at nothing worst (inr (times, among, same)) =
-        let found = of_times (all_variants line.choices.items) are.each are.are_each times among in
-        inr (
-          found.0,
-          record { is_variant = (every_variant line.choices.items).sound found.0 found.1; possible = found.2 },
-          (times, found.3, same),
-        )
+        let found = of_times vs are.each are.are_each times among in
+        inr (found.0, found.1, (times, found.2, same))
 
-    pub bound : BoundEachVariant line told
+    pub bound : BoundEachOf (IsOneOf vs) line told
     bound = record {
       each = λ v is.
-          let one = (every_variant line.choices.items).complete v is.is_variant in
-          let found = of_variant (all_variants line.choices.items) are.each are.are_each v one is.possible in (
+          let found = of_variant vs are.each are.are_each v is in (
             found.0,
             found.1,
             record {
@@ -169,5 +137,5 @@ module _ (line : ProductLine) where
       load = of_some (λ times. times.load) 0 told.load are.worst.load.one;
     }
 
-pub bound_each_variant : TimesBoundEachVariant
-bound_each_variant line told are = bound line told are
+pub bound_these : TimesBoundThese
+bound_these line vs told are = bound line vs told are

@@ -1,9 +1,8 @@
 -- What is told of units, with one variant more.
-use Rattle.std.proofs.Common.{◌≡◌, ℕ, zero, suc, ◌+◌, ◌<◌, List, [], ◌∷◌, ◌++◌, Bool, true, false, Option, Some, None, inl, inr, get_or, length, map, take, refl, sym, ap, ◌∙◌, arith, subst}
+use Rattle.std.proofs.Common.{◌≡◌, ◌⊎◌, ℕ, zero, suc, ◌+◌, ◌<◌, List, [], ◌∷◌, ◌++◌, Bool, true, false, Option, Some, None, inl, inr, get_or, length, map, take, refl, sym, ap, ◌∙◌, arith, subst}
 use Rattle.std.specs.Bool.{MatchBool}
 use Rattle.std.specs.Prelude.{if◌then◌else◌}
 use Rattle.std.specs.List.{range_with_len, slice_get}
-use Rattle.std.proofs.lemmas.Bool.{false≢true}
 use Rattle.std.proofs.lemmas.List.{length-map, map-append, take_more}
 use Rattle.std.proofs.lemmas.List.FromFn.{get_or-map-range_with_len, length-map-range_with_len}
 use Rattle.j39_findings.specs.Standing.{DecidesWhoStays}
@@ -12,31 +11,14 @@ use Rattle.j39_network.specs.Staying.{StaysBeside}
 use Rattle.j39_network.specs.declared.plan.Plan.{Plan}
 use Rattle.j39_network.specs.declared.plan.unit_plan.UnitPlan.{UnitPlan}
 use Rattle.j39_variants.specs.VariantPlans.{IsVariantPlan}
-use Rattle.j39_variants.specs.Variants.{is_possible}
 use Rattle.j39_variants.specs.declared.line.ProductLine.{ProductLine}
-use Rattle.j39_line_findings.proofs.EveryVariant.{every_variant, one_cases}
-use Rattle.j39_line_findings.specs.AllVariants.{IsOneOf, all_variants}
-use Rattle.j39_line_findings.specs.LineAnswers.{IsPossible}
+use Rattle.j39_line_findings.specs.AllVariants.{IsOneOf}
 use Rattle.j39_line_findings.specs.MissedNeeds.{is_unit_there}
-use Rattle.j39_line_bounds.specs.LineStandings.{AreLineStandings, AreStandingsAmong, HasOneStanding, HasPlace, HasLineUnit, IsLineStanding, IsStandingAmong, LacksUnit, MayMoveIn, StandingsAreExact, StaysIn}
+use Rattle.j39_line_bounds.specs.LineStandings.{AreStandingsAmong, HasOneStanding, HasPlace, HasLineUnit, IsLineStanding, IsStandingAmong, LacksUnit, MayMoveIn, StandingsAreExact, StaysIn}
 use Rattle.j39_line_bounds.specs.declared.standing.LineStanding.{LineStanding}
 use Rattle.j39_line_bounds.specs.declared.standing.LineStanding.TheVariants.{NoVariant, Stays, MayMove}
-use Rattle.j39_line_bounds.specs.inside.StandingSteps.{IsPossibleOf, standing_at, standing_with, stays_in_variant, with_variant}
+use Rattle.j39_line_bounds.specs.inside.StandingSteps.{standing_at, standing_with, stays_in_variant, with_variant}
 use Rattle.j39_line_bounds.proofs.UnitPlaces.{is_lacking, is_there, not_both, same_strangers, same_unit, same_units}
-
--- ---- of the same variants the same is told
-
-module _ (line : ProductLine) (P Q : List ℕ → Type 0) (to : (v : List ℕ) → P v → Q v) (back : (v : List ℕ) → Q v → P v) where
-  standing_same : (u : ℕ) (s : LineStanding) → IsStandingAmong P line u s → IsStandingAmong Q line u s
-  standing_same u NoVariant is = λ v these. is v (back v these)
-  standing_same u Stays is = ((is.0.0, to is.0.0 is.0.1, is.0.2), λ v these. is.1 v (back v these))
-  standing_same u MayMove is = (is.0, to is.0 is.1, is.2)
-
-  pub standings_same : (standings : List LineStanding) → AreStandingsAmong P line standings → AreStandingsAmong Q line standings
-  standings_same standings are = record {
-    count = are.count;
-    each = λ u below. standing_same u (get_or standings u NoVariant) (are.each u below);
-  }
 
 -- ---- what is here
 
@@ -91,54 +73,54 @@ one_last : (xs : List (List ℕ)) (v : List ℕ) → IsOneOf (xs ++ v ∷ []) v
 one_last [] v = inl refl
 one_last (x ∷ xs) v = inr (one_last xs v)
 
+one_cases : (xs ys : List (List ℕ)) (v : List ℕ) → IsOneOf (xs ++ ys) v → IsOneOf xs v ⊎ IsOneOf ys v
+one_cases [] ys v is = inr is
+one_cases (x ∷ xs) ys v (inl is) = inl (inl is)
+one_cases (x ∷ xs) ys v (inr is) = elim (one_cases xs ys v is) [
+  | inl left ↦ inl (inr left)
+  | inr right ↦ inr right
+]
+
 module _ (line : ProductLine) (vs : List (List ℕ)) (v : List ℕ) where
-  more : (w : List ℕ) → IsPossibleOf line vs w → IsPossibleOf line (vs ++ v ∷ []) w
-  more w these = (one_left vs (v ∷ []) w these.0, these.1)
+  more : (w : List ℕ) → IsOneOf vs w → IsOneOf (vs ++ v ∷ []) w
+  more w these = one_left vs (v ∷ []) w these
 
-  last : is_possible line.nevers.items v ≡ true → IsPossibleOf line (vs ++ v ∷ []) v
-  last possible = (one_last vs v, possible)
+  last : IsOneOf (vs ++ v ∷ []) v
+  last = one_last vs v
 
-  each_more : (P : List ℕ → Type 0) → ((w : List ℕ) → IsPossibleOf line vs w → P w) → (is_possible line.nevers.items v ≡ true → P v) → (w : List ℕ)
-      → IsPossibleOf line (vs ++ v ∷ []) w → P w
-  each_more P so_far here w these = elim (one_cases vs (v ∷ []) w these.0) [
-    | inl old ↦ so_far w (old, these.1)
-    | inr (inl same) ↦ subst P same (here (subst (λ x. is_possible line.nevers.items x ≡ true) (sym same) these.1))
+  each_more : (P : List ℕ → Type 0) → ((w : List ℕ) → IsOneOf vs w → P w) → P v → (w : List ℕ) → IsOneOf (vs ++ v ∷ []) w → P w
+  each_more P so_far here w these = elim (one_cases vs (v ∷ []) w these) [
+    | inl old ↦ so_far w old
+    | inr (inl same) ↦ subst P same here
     | inr (inr none) ↦ absurd none
   ]
 
-  -- one that isn't possible changes nothing
-  pub passed : (standings : List LineStanding) → is_possible line.nevers.items v ≡ false → AreStandingsAmong (IsPossibleOf line vs) line standings
-      → AreStandingsAmong (IsPossibleOf line (vs ++ v ∷ [])) line standings
-  passed standings never are =
-      standings_same line (IsPossibleOf line vs) (IsPossibleOf line (vs ++ v ∷ [])) more
-      (each_more (IsPossibleOf line vs) (λ w these. these) (λ possible. absurd (false≢true (sym never ∙ possible)))) standings are
-
-  module _ (possible : is_possible line.nevers.items v ≡ true) (u : ℕ) where
+  module _ (u : ℕ) where
     lacks_stays : LacksUnit line v u → StaysIn line v u
     lacks_stays lacks plan p is has = not_both line v u (StaysBeside plan.strangers (units_of plan) p) lacks p has
 
-    none_stays : ((w : List ℕ) → IsPossibleOf line vs w → LacksUnit line w u) → (w : List ℕ) → IsPossibleOf line vs w → StaysIn line w u
+    none_stays : ((w : List ℕ) → IsOneOf vs w → LacksUnit line w u) → (w : List ℕ) → IsOneOf vs w → StaysIn line w u
     none_stays none w these plan p is has = not_both line w u (StaysBeside plan.strangers (units_of plan) p) (none w these) p has
 
-    pub one_more : (s : LineStanding) (h : Option Bool) → IsStandingAmong (IsPossibleOf line vs) line u s → Here line v u h
-        → IsStandingAmong (IsPossibleOf line (vs ++ v ∷ [])) line u (with_variant s h)
-    one_more NoVariant None so_far here = each_more (λ w. LacksUnit line w u) so_far (λ _. here)
+    pub one_more : (s : LineStanding) (h : Option Bool) → IsStandingAmong (IsOneOf vs) line u s → Here line v u h
+        → IsStandingAmong (IsOneOf (vs ++ v ∷ [])) line u (with_variant s h)
+    one_more NoVariant None so_far here = each_more (λ w. LacksUnit line w u) so_far here
     one_more Stays None so_far here = (
       (so_far.0.0, more so_far.0.0 so_far.0.1, so_far.0.2),
-      each_more (λ w. StaysIn line w u) so_far.1 (λ _. lacks_stays here),
+      each_more (λ w. StaysIn line w u) so_far.1 (lacks_stays here),
     )
     one_more MayMove None so_far here = (so_far.0, more so_far.0 so_far.1, so_far.2)
     one_more NoVariant (Some true) so_far here = (
-      (v, last possible, here.0),
-      each_more (λ w. StaysIn line w u) (none_stays so_far) (λ _. here.1),
+      (v, last, here.0),
+      each_more (λ w. StaysIn line w u) (none_stays so_far) here.1,
     )
     one_more Stays (Some true) so_far here = (
       (so_far.0.0, more so_far.0.0 so_far.0.1, so_far.0.2),
-      each_more (λ w. StaysIn line w u) so_far.1 (λ _. here.1),
+      each_more (λ w. StaysIn line w u) so_far.1 here.1,
     )
     one_more MayMove (Some true) so_far here = (so_far.0, more so_far.0 so_far.1, so_far.2)
-    one_more NoVariant (Some false) so_far here = (v, last possible, here)
-    one_more Stays (Some false) so_far here = (v, last possible, here)
+    one_more NoVariant (Some false) so_far here = (v, last, here)
+    one_more Stays (Some false) so_far here = (v, last, here)
     one_more MayMove (Some false) so_far here = (so_far.0, more so_far.0 so_far.1, so_far.2)
 
 -- a unit of the file
@@ -149,9 +131,9 @@ some_unit (unit ∷ units) (suc u) below = some_unit units u (omega (arith, belo
 
 -- of each unit
 pub all_more : (line : ProductLine) (vs : List (List ℕ)) (v : List ℕ) (plan : Plan) (stays : UnitPlan → Bool) (so_far : List LineStanding)
-    → is_possible line.nevers.items v ≡ true → IsVariantPlan line v plan → DecidesWhoStays plan stays → AreStandingsAmong (IsPossibleOf line vs) line so_far
-    → AreStandingsAmong (IsPossibleOf line (vs ++ v ∷ [])) line (map (standing_with line v stays so_far) (range_with_len 0 (length so_far)))
-all_more line vs v plan stays so_far possible is decides are =
+    → IsVariantPlan line v plan → DecidesWhoStays plan stays → AreStandingsAmong (IsOneOf vs) line so_far
+    → AreStandingsAmong (IsOneOf (vs ++ v ∷ [])) line (map (standing_with line v stays so_far) (range_with_len 0 (length so_far)))
+all_more line vs v plan stays so_far is decides are =
     let with_it = standing_with line v stays so_far in
     let n = length so_far in
     let count : length (map with_it (range_with_len 0 n)) ≡ length so_far = length-map-range_with_len with_it 0 n in
@@ -163,8 +145,8 @@ all_more line vs v plan stays so_far possible is decides are =
           let first : 0 + u ≡ u = omega arith in
           let told : get_or (map with_it (range_with_len 0 n)) u NoVariant ≡ with_it u = get_or-map-range_with_len with_it 0 n u u NoVariant inside first in
           let unit = some_unit line.plan.units.items u in_file in
-          subst (IsStandingAmong (IsPossibleOf line (vs ++ v ∷ [])) line u) (sym told)
-          (one_more line vs v possible u (standing_at so_far u) (stays_in_variant line v stays u) (are.each u inside)
+          subst (IsStandingAmong (IsOneOf (vs ++ v ∷ [])) line u) (sym told)
+          (one_more line vs v u (standing_at so_far u) (stays_in_variant line v stays u) (are.each u inside)
           (what_is_here line v plan stays is decides u unit.0 unit.1));
     }
 
@@ -175,32 +157,23 @@ told_nothing [] u = refl
 told_nothing (x ∷ xs) zero = refl
 told_nothing (x ∷ xs) (suc u) = told_nothing xs u
 
-pub none_yet : (line : ProductLine) → AreStandingsAmong (IsPossibleOf line []) line (map (λ _. NoVariant) line.plan.units.items)
+pub none_yet : (line : ProductLine) → AreStandingsAmong (IsOneOf []) line (map (λ _. NoVariant) line.plan.units.items)
 none_yet line = record {
   count = length-map line.plan.units.items (λ _. NoVariant);
-  each = λ u below. subst (IsStandingAmong (IsPossibleOf line []) line u) (sym (told_nothing line.plan.units.items u)) (λ v these. absurd these.0);
+  each = λ u below. subst (IsStandingAmong (IsOneOf []) line u) (sym (told_nothing line.plan.units.items u)) (λ v these. absurd these);
 }
 
 -- the next one of them
 pub next_one : {V : Type 0} (line : ProductLine) (f : V → List ℕ) (vs : List V) (k : ℕ) (d : V) (v : List ℕ) (old new : List LineStanding) → k < length vs
-    → d ≡ get_or vs k d → v ≡ f d → AreStandingsAmong (IsPossibleOf line (map f (take k vs))) line old
-    → ((ws : List (List ℕ)) → AreStandingsAmong (IsPossibleOf line ws) line old → AreStandingsAmong (IsPossibleOf line (ws ++ v ∷ [])) line new)
-    → AreStandingsAmong (IsPossibleOf line (map f (take (k + 1) vs))) line new
+    → d ≡ get_or vs k d → v ≡ f d → AreStandingsAmong (IsOneOf (map f (take k vs))) line old
+    → ((ws : List (List ℕ)) → AreStandingsAmong (IsOneOf ws) line old → AreStandingsAmong (IsOneOf (ws ++ v ∷ [])) line new)
+    → AreStandingsAmong (IsOneOf (map f (take (k + 1) vs))) line new
 next_one line f vs k d v old new below is same so_far add =
     let longer : map f (take (k + 1) vs) ≡ map f (take k vs) ++ f (get_or vs k d) ∷ [] =
     ap (map f) (take_more vs k d below) ∙ map-append f (take k vs) (get_or vs k d ∷ []) in
     let here : v ≡ f (get_or vs k d) = same ∙ ap f is in
     let all : map f (take (k + 1) vs) ≡ map f (take k vs) ++ v ∷ [] = longer ∙ ap (λ w. map f (take k vs) ++ w ∷ []) (sym here) in
-    subst (λ ws. AreStandingsAmong (IsPossibleOf line ws) line new) (sym all) (add (map f (take k vs)) so_far)
-
--- of all variants those of the line
-pub of_line : (line : ProductLine) (standings : List LineStanding) → AreStandingsAmong (IsPossibleOf line (all_variants line.choices.items)) line standings
-    → AreLineStandings line standings
-of_line line standings are =
-    let all = every_variant line.choices.items in
-    standings_same line (IsPossibleOf line (all_variants line.choices.items)) (IsPossible line)
-    (λ v these. record { is_variant = all.sound v these.0; possible = these.1 }) (λ v possible. (all.complete v possible.is_variant, possible.possible))
-    standings are
+    subst (λ ws. AreStandingsAmong (IsOneOf ws) line new) (sym all) (add (map f (take k vs)) so_far)
 
 -- ---- laws
 

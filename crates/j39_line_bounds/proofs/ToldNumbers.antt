@@ -1,14 +1,13 @@
--- What a number that is told says of each variant.
+-- What a number that is told says of times that are no worse.
 use Rattle.std.proofs.Common.{◌≡◌, ℕ, ◌≤◌, false, Option, Some, None, refl, subst}
 use Rattle.std.proofs.lemmas.Bool.{ltb-false, true≢false}
 use Rattle.j39_load.specs.declared.waits.delay.Delay.TheVariants.{Within, Beyond, Late, Whole}
 use Rattle.j39_variants.specs.declared.line.ProductLine.{ProductLine}
-use Rattle.j39_line_bounds.specs.LineTimes.{AreNoWorse, BoundNumbers, ToldNumbersBoundEachVariant, badness_known, time_of_flow, flow_badness, is_less_bad, time_of_need, need_badness, of_degree, time_told}
+use Rattle.j39_line_bounds.specs.LineTimes.{AreNoWorse, BoundNumbers, ToldNumbersBoundTimes, badness_known, time_of_flow, flow_badness, is_less_bad, time_of_need, need_badness, of_degree, time_told}
 use Rattle.j39_line_bounds.specs.declared.times.Badness.{Badness}
 use Rattle.j39_line_bounds.specs.declared.times.FlowTime.TheVariants as flow
 use Rattle.j39_line_bounds.specs.declared.times.LineTimes.{LineTimes as Times}
 use Rattle.j39_line_bounds.specs.declared.times.NeedTime.TheVariants as need
-use Rattle.j39_line_bounds.proofs.EachTimes.{bound}
 
 no_more : (a b : ℕ) → is_less_bad (of_degree 1 a) (of_degree 1 b) ≡ false → b ≤ a
 no_more a b no_worse = ltb-false a b no_worse
@@ -50,7 +49,5 @@ module _ (line : ProductLine) (told times : Times) (are : AreNoWorse line times 
         (of_both need_badness (time_of_need told d) (time_of_need times d) (need.Age (Some a) y) (need.Age age x) is here (are.needs d below));
   }
 
-pub numbers_bound : ToldNumbersBoundEachVariant
-numbers_bound line told are v is =
-    let one = (bound line told are).each v is in
-    (one.0, one.1, numbers line told one.0 one.2)
+pub numbers_bound : ToldNumbersBoundTimes
+numbers_bound line told times are = numbers line told times are

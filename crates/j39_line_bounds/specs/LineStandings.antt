@@ -1,4 +1,4 @@
--- Which units of a line of vehicles stay, in each possible variant that has them.
+-- Which units of a line of vehicles stay, in each of some variants that has them, and in each possible one.
 use Rattle.std.specs.Prelude.{◌≡◌, ℕ, ◌<◌, List, length, slice_index_or, Some, None}
 use Rattle.j39_network.specs.PlannedUnits.{units_of}
 use Rattle.j39_network.specs.Staying.{StaysBeside}

@@ -1,6 +1,6 @@
--- Times of the flows, ages of what is needed, and the load of a line of vehicles: the greatest of its possible variants.
-use Rattle.std.specs.Prelude.{◌≡◌, ◌≢◌, ◌⊎◌, ℕ, ◌<◌, ◌≤◌, ◌==◌, List, [], ◌∷◌, Bool, true, false, ◌&&◌, ◌||◌, if◌then◌else◌, is_some, length, nat_lt, slice_index_or, Option, Some, None}
-use Rattle.std.specs.List.{position, slice_get}
+-- Times of the flows, ages of what is needed, and the load of a line of vehicles: the greatest of some of its variants.
+use Rattle.std.specs.Prelude.{◌≡◌, ◌≢◌, ◌⊎◌, ℕ, ◌<◌, ◌≤◌, ◌==◌, List, [], ◌∷◌, Bool, false, ◌&&◌, ◌||◌, if◌then◌else◌, is_some, length, nat_lt, slice_index_or, Option, Some, None}
+use Rattle.std.specs.List.{AllZip, position, slice_get}
 use Rattle.std.specs.Option.{option_and_then, option_map, option_map_or}
 use Rattle.j39_load.specs.Ages.{has_several, least_age, youngest_flow}
 use Rattle.j39_load.specs.Asked.{asked_of, total_load}
@@ -15,9 +15,8 @@ use Rattle.j39_network.specs.declared.plan.need_plan.NeedPlan.{NeedPlan}
 use Rattle.j39_network.specs.declared.plan.timing.Timing.{Timing}
 use Rattle.j39_network.specs.declared.plan.unit_plan.UnitPlan.{UnitPlan}
 use Rattle.j39_variants.specs.VariantPlans.{IsVariantPlan}
-use Rattle.j39_variants.specs.Variants.{is_possible}
 use Rattle.j39_variants.specs.declared.line.ProductLine.{ProductLine}
-use Rattle.j39_line_findings.specs.AllVariants.{all_variants}
+use Rattle.j39_line_findings.specs.AllVariants.{IsOneOf}
 use Rattle.j39_line_findings.specs.LineAnswers.{IsPossible}
 use Rattle.j39_line_findings.specs.MissedNeeds.{is_need_asked_for}
 use Rattle.j39_line_findings.specs.There.{IsWhatIsThere, place_in_file}
@@ -97,7 +96,7 @@ need_time line variant there plan timing delays d = if is_need_asked_for line va
     then option_map_or (age_here there.flows.items plan timing delays) (option_and_then (slice_get plan.needs.items) (place_in_variant there.needs.items d)) need.Unmet
     else need.NoVariant
 
--- what is told of a possible variant, of each flow and need of the file, in order
+-- what is told of a variant, of each flow and need of the file, in order
 pub record AreVariantTimes (line : ProductLine) (variant : List ℕ) (times : LineTimes) : Type 0 where
   pub there : WhatIsThere
   pub is_there : IsWhatIsThere line variant there
@@ -146,24 +145,11 @@ pub record AreWorst (line : ProductLine) (each : List LineTimes) (told : LineTim
   pub needs : (d : ℕ) → d < length line.plan.needs.items → IsWorst need_badness need.NoVariant (λ times. time_of_need times d) each (time_of_need told d)
   pub load : IsGreatestLoad each told.load
 
--- those of each of some variants that are possible, in order
-abbrev pub AreTimesOf : ProductLine → List (List ℕ) → List LineTimes → Type 0
-AreTimesOf line [] [] = Unit {0}
-AreTimesOf line [] (times ∷ each) = ⊥
-AreTimesOf line (variant ∷ variants) each =
-    ((is_possible line.nevers.items variant ≡ false) × AreTimesOf line variants each)
-    ⊎ ((is_possible line.nevers.items variant ≡ true)
-    × ((times : LineTimes) × (others : List LineTimes) × AreVariantTimes line variant times × AreTimesOf line variants others × (each ≡ times ∷ others)))
-
--- what is told of some variants: the worst of those that are possible
+-- what is told of some variants: the worst of those of each
 pub record AreTimesAmong (line : ProductLine) (variants : List (List ℕ)) (told : LineTimes) : Type 0 where
   pub each : List LineTimes
-  pub are_each : AreTimesOf line variants each
+  pub are_each : AllZip (AreVariantTimes line) variants each
   pub worst : AreWorst line each told
-
--- and of a line
-abbrev pub AreLineTimes : ProductLine → LineTimes → Type 0
-AreLineTimes line = AreTimesAmong line (all_variants line.choices.items)
 
 -- ---- laws
 
@@ -173,19 +159,27 @@ pub record AreNoWorse (line : ProductLine) (times told : LineTimes) : Type 0 whe
   pub needs : (d : ℕ) → d < length line.plan.needs.items → is_less_bad (need_badness (time_of_need told d)) (need_badness (time_of_need times d)) ≡ false
   pub load : times.load ≤ told.load
 
--- this is told of some possible variant
-abbrev pub IsOfSomeVariant : {T : Type 0} → ProductLine → (LineTimes → T) → T → Type 0
-IsOfSomeVariant line at told = (variant : List ℕ) × IsPossible line variant × ((times : LineTimes) × AreVariantTimes line variant times × (told ≡ at times))
+-- this is told of one of these variants
+abbrev pub IsOfSomeVariant : {T : Type 0} → (List ℕ → Type 0) → ProductLine → (LineTimes → T) → T → Type 0
+IsOfSomeVariant These line at told = (variant : List ℕ) × These variant × ((times : LineTimes) × AreVariantTimes line variant times × (told ≡ at times))
 
--- each possible variant's times and load are no worse than those that are told; and each that is told is that of one, where one has it
-pub record BoundEachVariant (line : ProductLine) (told : LineTimes) : Type 0 where
-  pub each : (variant : List ℕ) → IsPossible line variant → (times : LineTimes) × AreVariantTimes line variant times × AreNoWorse line times told
-  pub flows : (f : ℕ) → f < length line.plan.flows.items → (time_of_flow told f ≡ flow.NoVariant) ⊎ IsOfSomeVariant line (λ times. time_of_flow times f) (time_of_flow told f)
-  pub needs : (d : ℕ) → d < length line.plan.needs.items → (time_of_need told d ≡ need.NoVariant) ⊎ IsOfSomeVariant line (λ times. time_of_need times d) (time_of_need told d)
-  pub load : (told.load ≡ 0) ⊎ IsOfSomeVariant line (λ times. times.load) told.load
+-- the times and the load of each of these variants are no worse than those that are told; and each that is told is that of one, where one has
+-- it
+pub record BoundEachOf (These : List ℕ → Type 0) (line : ProductLine) (told : LineTimes) : Type 0 where
+  pub each : (variant : List ℕ) → These variant → (times : LineTimes) × AreVariantTimes line variant times × AreNoWorse line times told
+  pub flows : (f : ℕ) → f < length line.plan.flows.items
+      → (time_of_flow told f ≡ flow.NoVariant) ⊎ IsOfSomeVariant These line (λ times. time_of_flow times f) (time_of_flow told f)
+  pub needs : (d : ℕ) → d < length line.plan.needs.items
+      → (time_of_need told d ≡ need.NoVariant) ⊎ IsOfSomeVariant These line (λ times. time_of_need times d) (time_of_need told d)
+  pub load : (told.load ≡ 0) ⊎ IsOfSomeVariant These line (λ times. times.load) told.load
 
-abbrev pub TimesBoundEachVariant : Type 0
-TimesBoundEachVariant = (line : ProductLine) (told : LineTimes) → AreLineTimes line told → BoundEachVariant line told
+-- of each possible variant
+abbrev pub BoundEachVariant : ProductLine → LineTimes → Type 0
+BoundEachVariant line = BoundEachOf (IsPossible line) line
+
+abbrev pub TimesBoundThese : Type 0
+TimesBoundThese = (line : ProductLine) (variants : List (List ℕ)) (told : LineTimes) → AreTimesAmong line variants told
+    → BoundEachOf (IsOneOf variants) line told
 
 -- where a number is told, that of one variant is no more: a flow within so many bits is never late, and waits for no more; one that is late
 -- with so many isn't late with more, nor with none; long messages are whole in as many; a need is met, and what it is for is no older
@@ -207,6 +201,5 @@ pub record BoundNumbers (line : ProductLine) (told times : LineTimes) : Type 0 w
   pub ages : (d : ℕ) → d < length line.plan.needs.items → (us : ℕ) (age youngest other : Option ℕ) → time_of_need told d ≡ need.Age (Some us) youngest
       → time_of_need times d ≡ need.Age age other → (fewer : ℕ) × (age ≡ Some fewer) × (fewer ≤ us)
 
-abbrev pub ToldNumbersBoundEachVariant : Type 0
-ToldNumbersBoundEachVariant = (line : ProductLine) (told : LineTimes) → AreLineTimes line told → (variant : List ℕ) → IsPossible line variant
-    → (times : LineTimes) × AreVariantTimes line variant times × BoundNumbers line told times
+abbrev pub ToldNumbersBoundTimes : Type 0
+ToldNumbersBoundTimes = (line : ProductLine) (told times : LineTimes) → AreNoWorse line times told → BoundNumbers line told times

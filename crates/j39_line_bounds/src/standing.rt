@@ -1,25 +1,26 @@
-//! Which units of a line of vehicles stay, in each possible variant that has them.
+//! Which units of a line of vehicles stay, in each of some variants that has them.
 ghost use Rattle.std.specs.Prelude.{◌≡◌, ◌∷◌, ◌++◌, [], ℕ, List, IfOk, length, map};
 ghost use Rattle.std.specs.List.{range_with_len};
 ghost use Rattle.j39_findings.specs.Standing.{stays_of};
-ghost use Rattle.j39_line_bounds.specs.LineStandings.{AreLineStandings, AreStandingsAmong};
+ghost use Rattle.j39_line_findings.specs.AllVariants.{IsOneOf};
+ghost use Rattle.j39_line_bounds.specs.LineStandings.{AreStandingsAmong};
 ghost use Rattle.j39_line_bounds.specs.declared.standing.LineStanding.TheVariants.{NoVariant};
-ghost use Rattle.j39_line_bounds.specs.inside.StandingSteps.{IsPossibleOf, standing_at, standing_with, stays_in_variant, with_variant};
+ghost use Rattle.j39_line_bounds.specs.inside.StandingSteps.{standing_at, standing_with, stays_in_variant, with_variant};
 
 use j39_findings::Standing;
-use j39_line_findings::{all_variants, is_unit_there};
+use j39_line_findings::is_unit_there;
 use j39_network::UnitPlan;
-use j39_variants::{ProductLine, is_possible, plan_of};
+use j39_variants::{ProductLine, plan_of};
 use std::alloc::{AllocError, Global};
 
-/// What is told of a unit of a line.
+/// What is told of a unit of a line, in some of its variants.
 #[derive(Clone, Copy, PartialEq, Eq)]
 pub enum LineStanding {
-    /// No possible variant has it.
+    /// None of them has it.
     NoVariant,
-    /// It stays in each possible variant that has it.
+    /// It stays in each of them that has it.
     Stays,
-    /// In a possible variant that has it it may move.
+    /// In one of them that has it it may move.
     MayMove,
 }
 
@@ -96,20 +97,16 @@ fn each_with(
         .collect(alloc)
 }
 
-// What is told of each unit, with one variant more, which counts where it is possible.
+// What is told of each unit, with one variant more.
 fn standings_with(
     alloc: Global,
     line: &ProductLine,
     variant: &[usize],
     so_far: &[LineStanding],
 ) -> Result<Vec<LineStanding>, AllocError>
-    ensures { IfOk result (λ v. (variants : List (List ℕ)) → AreStandingsAmong (IsPossibleOf line.now variants) line.now so_far.now
-        → AreStandingsAmong (IsPossibleOf line.now (variants ++ variant.now ∷ [])) line.now v.items) }
+    ensures { IfOk result (λ v. (variants : List (List ℕ)) → AreStandingsAmong (IsOneOf variants) line.now so_far.now
+        → AreStandingsAmong (IsOneOf (variants ++ variant.now ∷ [])) line.now v.items) }
 {
-    if !is_possible(&line.nevers, variant) {
-        let same = so_far.to_vec(alloc)?;
-        return Ok(same);
-    }
     let plan = plan_of(alloc, line, variant)?;
     let standing = Standing::new(&plan);
     let standings = each_with(alloc, line, variant, &standing, so_far)?;
@@ -126,26 +123,18 @@ fn no_standings(alloc: Global, units: &[UnitPlan]) -> Result<Vec<LineStanding>, 
         .collect(alloc)
 }
 
-// What is told of each unit, in these variants.
-fn standings_in(
+/// What is told of each unit of a line, in order, in these variants: the places of the alternatives that each takes, choice
+/// by choice.
+pub fn line_standings(
     alloc: Global,
     line: &ProductLine,
     variants: &[Vec<usize>],
 ) -> Result<Vec<LineStanding>, AllocError>
-    ensures { IfOk result (λ v. AreStandingsAmong (IsPossibleOf line.now (map (λ v. v.items) variants.now)) line.now v.items) }
+    ensures { IfOk result (λ v. AreStandingsAmong (IsOneOf (map (λ v. v.items) variants.now)) line.now v.items) }
 {
     let mut standings = no_standings(alloc, &line.plan.units)?;
     for variant in variants {
         standings = standings_with(alloc, line, variant, &standings)?;
     }
-    Ok(standings)
-}
-
-/// What is told of each unit of a line, in order.
-pub fn line_standings(alloc: Global, line: &ProductLine) -> Result<Vec<LineStanding>, AllocError>
-    ensures { IfOk result (λ v. AreLineStandings line.now v.items) }
-{
-    let variants = all_variants(alloc, &line.choices)?;
-    let standings = standings_in(alloc, line, &variants)?;
     Ok(standings)
 }

@@ -1,36 +1,35 @@
-//! Times of the flows, ages of what is needed, and the load of a line of vehicles: the greatest of its possible
-//! variants.
+//! Times of the flows, ages of what is needed, and the load of a line of vehicles: the greatest of some of its variants.
 ghost use Rattle.std.specs.Prelude.{◌≡◌, ◌≢◌, ◌∷◌, ◌++◌, [], ℕ, List, IfOk, None, Some, length, map};
 ghost use Rattle.std.specs.List.{range_with_len};
 ghost use Rattle.j39_load.specs.BusTimes.{timing_of};
 ghost use Rattle.j39_variants.specs.VariantPlans.{IsVariantPlan};
 ghost use Rattle.j39_variants.specs.declared.line.ProductLine.{ProductLine as ALine};
 ghost use Rattle.j39_line_bounds.specs.declared.times.LineTimes.{LineTimes as Times};
-ghost use Rattle.j39_line_bounds.specs.LineTimes.{AreLineTimes, AreTimesAmong, AreVariantTimes, AreWorst, time_of_flow, time_of_need, worse, youngest_here};
+ghost use Rattle.j39_line_bounds.specs.LineTimes.{AreTimesAmong, AreVariantTimes, AreWorst, time_of_flow, time_of_need, worse, youngest_here};
 ghost use Rattle.j39_line_bounds.specs.LineTimes.{age_here, of_degree, badness_known, delay_badness, flow_badness, flow_time};
 ghost use Rattle.j39_line_bounds.specs.LineTimes.{is_less_bad, need_badness, need_time, place_in_variant, time_told};
 
-use j39_line_findings::{WhatIsThere, all_variants, is_need_asked_for, place_in_file};
+use j39_line_findings::{WhatIsThere, is_need_asked_for, place_in_file};
 use j39_load::{Delay, LoadAnswer, WholeTime, has_several, least_age, timing_of, youngest_flow};
 use j39_network::{NeedPlan, Plan, Timing, is_met};
-use j39_variants::{ProductLine, is_possible, plan_of};
+use j39_variants::{ProductLine, plan_of};
 use std::alloc::{AllocError, Global};
 
-/// What is told of a flow of a line.
+/// What is told of a flow of a line, in some of its variants.
 #[derive(Clone, Copy, PartialEq, Eq)]
 pub enum FlowTime {
-    /// No possible variant has it.
+    /// None of them has it.
     NoVariant,
     /// Its worst delay in those that have it; none where it isn't known how often it is sent.
     Told(Option<Delay>),
 }
 
-/// What is told of a need of a line that asks for an age.
+/// What is told of a need of a line that asks for an age, in some of its variants.
 #[derive(Clone, Copy, PartialEq, Eq)]
 pub enum NeedTime {
-    /// No possible variant asks for it.
+    /// None of them asks for it.
     NoVariant,
-    /// In a possible variant that asks for it no flow meets it.
+    /// In one of them that asks for it no flow meets it.
     Unmet,
     /// How old what is needed is at most, in microseconds, where that is known; and the place of the flow that brings
     /// it, where several do.
@@ -345,7 +344,7 @@ fn nothing(alloc: Global, line: &ProductLine) -> Result<LineTimes, AllocError>
     })
 }
 
-// With one variant more, which counts where it is possible.
+// With one variant more.
 fn times_with(
     alloc: Global,
     line: &ProductLine,
@@ -355,9 +354,6 @@ fn times_with(
     ensures { IfOk result (λ times. (variants : List (List ℕ)) → timing_of line.now.plan ≢ None → AreTimesAmong line.now variants so_far
         → AreTimesAmong line.now (variants ++ variant.now ∷ []) times) }
 {
-    if !is_possible(&line.nevers, variant) {
-        return Ok(so_far);
-    }
     let plan = plan_of(alloc, line, variant)?;
     let Some(timing) = timing_of(&plan) else {
         return Ok(so_far);
@@ -367,8 +363,9 @@ fn times_with(
     Ok(times)
 }
 
-// What is told of these variants.
-fn times_among(
+/// What is told of each flow and each need of a line whose bus is known, and its load, in these variants: the places of the
+/// alternatives that each takes, choice by choice.
+pub fn line_times(
     alloc: Global,
     line: &ProductLine,
     variants: &[Vec<usize>],
@@ -379,14 +376,5 @@ fn times_among(
     for variant in variants {
         times = times_with(alloc, line, variant, times)?;
     }
-    Ok(times)
-}
-
-/// What is told of each flow and each need of a line whose bus is known, and its load.
-pub fn line_times(alloc: Global, line: &ProductLine) -> Result<LineTimes, AllocError>
-    ensures { IfOk result (λ times. timing_of line.now.plan ≢ None → AreLineTimes line.now times) }
-{
-    let variants = all_variants(alloc, &line.choices)?;
-    let times = times_among(alloc, line, &variants)?;
     Ok(times)
 }

@@ -28,13 +28,13 @@ one_cases (x ∷ xs) ys v (inr is) = elim (one_cases xs ys v is) [
 
 -- ---- by places
 
-abbrev Fits : List Choice → List ℕ → Type 0
+abbrev pub Fits : List Choice → List ℕ → Type 0
 Fits [] [] = Unit {0}
 Fits [] (p ∷ v) = ⊥
 Fits (c ∷ cs) [] = ⊥
 Fits (c ∷ cs) (p ∷ v) = (p < length c.alternatives.items) × Fits cs v
 
-fits_from : (cs : List Choice) (v : List ℕ) → IsVariant cs v → Fits cs v
+pub fits_from : (cs : List Choice) (v : List ℕ) → IsVariant cs v → Fits cs v
 fits_from [] [] is = tt
 fits_from [] (p ∷ v) is = let none = is.of_each in absurd (omega (arith, none))
 fits_from (c ∷ cs) [] is = let none = is.of_each in absurd (omega (arith, none))
@@ -49,7 +49,7 @@ one_more_fits : (c : Choice) (cs : List Choice) (p : ℕ) (v : List ℕ) → p <
 one_more_fits c cs p v here rest zero below = here
 one_more_fits c cs p v here rest (suc k) below = rest k (omega (arith, below))
 
-fits_to : (cs : List Choice) (v : List ℕ) → Fits cs v → IsVariant cs v
+pub fits_to : (cs : List Choice) (v : List ℕ) → Fits cs v → IsVariant cs v
 fits_to [] [] is = record { fits = λ k below. absurd (omega (arith, below)); of_each = refl }
 fits_to [] (p ∷ v) is = absurd is
 fits_to (c ∷ cs) [] is = absurd is
@@ -66,7 +66,7 @@ in_range f a (suc n) (suc k) below =
     let next : a + 1 + k ≡ a + suc k = omega arith in
     inr (subst (λ m. IsOneOf (map f (range_with_len (a + 1) n)) (f m)) next (in_range f (a + 1) n k (omega (arith, below))))
 
-from_range : (f : ℕ → List ℕ) (a n : ℕ) (v : List ℕ) → IsOneOf (map f (range_with_len a n)) v → (k : ℕ) × (k < n) × (f (a + k) ≡ v)
+pub from_range : (f : ℕ → List ℕ) (a n : ℕ) (v : List ℕ) → IsOneOf (map f (range_with_len a n)) v → (k : ℕ) × (k < n) × (f (a + k) ≡ v)
 from_range f a zero v is = absurd is
 from_range f a (suc n) v (inl is) = (zero, omega arith, ap f (add-zero a) ∙ is)
 from_range f a (suc n) v (inr is) =
@@ -79,7 +79,7 @@ each_has count t p below =
     let from : 0 + p ≡ p = omega arith in
     subst (λ m. IsOneOf (with_each count t) (t ++ m ∷ [])) from (in_range (λ q. t ++ q ∷ []) 0 count p below)
 
-longer_has : (count : ℕ) (vs : List (List ℕ)) (t : List ℕ) (p : ℕ) → IsOneOf vs t → p < count → IsOneOf (longer count vs) (t ++ p ∷ [])
+pub longer_has : (count : ℕ) (vs : List (List ℕ)) (t : List ℕ) (p : ℕ) → IsOneOf vs t → p < count → IsOneOf (longer count vs) (t ++ p ∷ [])
 longer_has count [] t p is below = absurd is
 longer_has count (w ∷ vs) t p (inl same) below =
     one_left (with_each count w) (longer count vs) (t ++ p ∷ [])
@@ -87,7 +87,7 @@ longer_has count (w ∷ vs) t p (inl same) below =
 longer_has count (w ∷ vs) t p (inr more) below =
     one_right (with_each count w) (longer count vs) (t ++ p ∷ []) (longer_has count vs t p more below)
 
-longer_from : (count : ℕ) (vs : List (List ℕ)) (v : List ℕ) → IsOneOf (longer count vs) v
+pub longer_from : (count : ℕ) (vs : List (List ℕ)) (v : List ℕ) → IsOneOf (longer count vs) v
     → (t : List ℕ) × (p : ℕ) × IsOneOf vs t × (p < count) × (v ≡ t ++ p ∷ [])
 longer_from count [] v is = absurd is
 longer_from count (w ∷ vs) v is = elim (one_cases (with_each count w) (longer count vs) v is) [

@@ -1,8 +1,8 @@
 -- On which conditions a variant has a finding that doesn't count what is there: something is there, and something else isn't.
-use Rattle.std.specs.Prelude.{ℕ, ◌==◌, List, [], ◌∷◌, ◌++◌, Bool, true, false, ◌&&◌, ◌||◌, not, if◌then◌else◌, is_some, length}
+use Rattle.std.specs.Prelude.{ℕ, ◌==◌, List, [], ◌∷◌, Bool, true, false, ◌&&◌, not, if◌then◌else◌, is_some, length}
 use Rattle.std.specs.List.{list_all, list_any, range_with_len, slice_get}
 use Rattle.std.specs.Option.{option_map_or}
-use Rattle.j39_findings.specs.Found.{goes_unanswered, may_name_receiver, sends, sends_beside, serves_all, serves_one}
+use Rattle.j39_findings.specs.Found.{may_name_receiver, sends, sends_beside, serves_all, serves_one}
 use Rattle.j39_findings.specs.declared.checking.finding.Finding.{Finding}
 use Rattle.j39_findings.specs.declared.checking.finding.Finding.TheVariants.{SameName, SameFixedAddress, TooFewAddresses, BadPgn, SamePgn, SignalWidth}
 use Rattle.j39_findings.specs.declared.checking.finding.Finding.TheVariants.{SignalOutside, SignalOverlap, FlowToOne, FlowToSelf, FlowRepeated, KeptAddress}
@@ -11,7 +11,7 @@ use Rattle.j39_findings.specs.declared.checking.finding.Finding.TheVariants.{Req
 use Rattle.j39_findings.specs.declared.checking.finding.Finding.TheVariants.{SilentInPool, FlowContested}
 use Rattle.j39_load.specs.LineLists.{lines_of_each}
 use Rattle.j39_load.specs.declared.findings.load_finding.LoadFinding.{LoadFinding}
-use Rattle.j39_load.specs.declared.findings.load_finding.LoadFinding.TheVariants.{NoPeriod, Overload, LateFlow, NeedTooOld}
+use Rattle.j39_load.specs.declared.findings.load_finding.LoadFinding.TheVariants.{NoPeriod}
 use Rattle.j39_network.specs.Serving.{is_to_one, serves}
 use Rattle.j39_network.specs.declared.plan.flow_plan.FlowPlan.{FlowPlan}
 use Rattle.j39_network.specs.declared.plan.group_plan.GroupPlan.{GroupPlan}
@@ -117,7 +117,7 @@ astray_by line r one other f flow =
 abbrev pub astray_conditions : ProductLine → ℕ → RequestPlan → List Condition
 astray_conditions line r request = if is_to_one request.to
     then (if may_name_receiver line.plan.groups.items request
-      then lines_of_each (astray_by line r (serves_all request) (serves_one request)) 0 line.plan.flows.items else [])
+    then lines_of_each (astray_by line r (serves_all request) (serves_one request)) 0 line.plan.flows.items else [])
     else lines_of_each (astray_by line r (serves_one request) (serves_all request)) 0 line.plan.flows.items
 
 -- ---- ends of flows on a live bus

@@ -1,6 +1,7 @@
 -- The fullest variants: those that lack nothing that another one has.
 use Rattle.std.specs.declared.alloc.Global.{Global}
-use Rattle.std.specs.Prelude.{◌≡◌, ℕ, ◌==◌, List, [], ◌∷◌, Bool, true, false, ◌&&◌, ◌||◌, not, filter, is_some, length, map, nat_lt, if◌then◌else◌, Option, Some, None, Vec}
+use Rattle.std.proofs.Common.{zero-le}
+use Rattle.std.specs.Prelude.{◌≡◌, ℕ, ◌==◌, List, [], ◌∷◌, refl, Bool, true, false, ◌&&◌, ◌||◌, not, filter, is_some, length, map, nat_lt, if◌then◌else◌, Option, Some, None, Vec}
 use Rattle.std.specs.List.{list_all, range_with_len, slice_get}
 use Rattle.std.specs.Option.{option_map_or}
 use Rattle.j39_load.specs.LineLists.{lines_of_each}
@@ -12,7 +13,17 @@ use Rattle.j39_variants.specs.declared.line.Choice.{Choice}
 use Rattle.j39_variants.specs.declared.line.ProductLine.{ProductLine}
 use Rattle.j39_line_findings.specs.Boxes.{are_one_answer, do_meet, flow_lets_in, is_one_alternative, lets_in, need_lets_in, request_lets_in}
 use Rattle.j39_line_findings.specs.declared.full.FullAlternatives.{FullAlternatives}
+use Rattle.j39_line_findings.specs.declared.full.Nevers.{Nevers}
+use Rattle.j39_line_findings.specs.declared.full.Nevers.TheVariants.{Kept, LeftOut}
 use Rattle.j39_line_findings.specs.declared.part.LinePart.TheVariants.{Flow, Need, Request}
+
+-- a line, or the same without its nevers
+abbrev pub nevers_with : Nevers → Vec (Vec Alternative Global) Global → Vec (Vec Alternative Global) Global
+nevers_with Kept nevers = nevers
+nevers_with LeftOut nevers = record nevers { len = 0; items = []; ok = (refl, zero-le) }
+
+abbrev pub line_with : Nevers → ProductLine → ProductLine
+line_with nevers line = record line { nevers = nevers_with nevers line.nevers }
 
 -- the alternatives of a choice, and of all choices, in order
 abbrev pub alternative_at : ℕ → ℕ → Alternative

@@ -43,7 +43,12 @@ fn add_each(
     Ok(())
 }
 
-fn longer(alloc: Global, taken: &[Vec<usize>], count: usize) -> Result<Vec<Vec<usize>>, AllocError>
+/// Places that are taken, with each of so many behind them.
+pub fn longer(
+    alloc: Global,
+    taken: &[Vec<usize>],
+    count: usize,
+) -> Result<Vec<Vec<usize>>, AllocError>
     ensures { IfOk result (λ all. map (λ v. v.items) all.items ≡ longer count (map (λ v. v.items) taken.now)) }
 {
     let mut all = Vec::new(alloc);

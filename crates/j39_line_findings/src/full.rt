@@ -8,7 +8,7 @@ ghost use Rattle.j39_line_findings.specs.FullVariants.{agree_on_sending, alterna
 ghost use Rattle.j39_line_findings.specs.Boxes.{are_one_answer};
 ghost use Rattle.j39_line_findings.specs.FullVariants.{compared, do_keep, does_bring, does_leave, does_need_let_in};
 ghost use Rattle.j39_line_findings.specs.FullVariants.{full_alternatives, full_among, full_of_need, is_covered, is_covered_for};
-ghost use Rattle.j39_line_findings.specs.FullVariants.{is_full_among};
+ghost use Rattle.j39_line_findings.specs.FullVariants.{is_full_among, line_with, nevers_with};
 
 use crate::part::{
     LinePart, do_meet, flow_lets_in, is_one_alternative, lets_in, need_lets_in, request_lets_in,
@@ -56,18 +56,41 @@ fn do_keep(lists: &[Vec<Alternative>], one: &Alternative, other: &Alternative) -
         .all(|list| !lets_in(list, one) || lets_in(list, other))
 }
 
-fn is_covered(line: &ProductLine, one: &Alternative, other: &Alternative) -> bool
-    ensures { result ≡ is_covered line.now one.now other.now }
+/// Whether the boxes of what isn't built count.
+#[derive(Clone, Copy, PartialEq, Eq)]
+pub enum Nevers {
+    Kept,
+    /// The line is taken for one that has none.
+    LeftOut,
+}
+
+// Whether nothing is left unbuilt with the other alternative that isn't with the first.
+fn do_nevers_keep(
+    line: &ProductLine,
+    nevers: Nevers,
+    one: &Alternative,
+    other: &Alternative,
+) -> bool
+    ensures { result ≡ do_keep (nevers_with nevers line.now.nevers).items other.now one.now }
+{
+    match nevers {
+        Nevers::Kept => do_keep(&line.nevers, other, one),
+        Nevers::LeftOut => true,
+    }
+}
+
+fn is_covered(line: &ProductLine, nevers: Nevers, one: &Alternative, other: &Alternative) -> bool
+    ensures { result ≡ is_covered (line_with nevers line.now) one.now other.now }
 {
     do_keep(&line.lists.units, one, other)
         && do_keep(&line.lists.groups, one, other)
         && do_keep(&line.lists.flows, one, other)
         && do_keep(&line.lists.requests, one, other)
-        && do_keep(&line.nevers, other, one)
+        && do_nevers_keep(line, nevers, one, other)
 }
 
 /// Whether the flow brings what is needed, whether it is asked for or not.
-pub(crate) fn does_bring(need: &NeedPlan, flow: &FlowPlan) -> bool
+pub fn does_bring(need: &NeedPlan, flow: &FlowPlan) -> bool
     ensures { result ≡ does_bring need.now flow.now }
 {
     let mut by_itself = *flow;
@@ -173,17 +196,19 @@ impl Comparing<'_> {
     }
 }
 
+#[tactic(auto, using(crate::proofs::LeftOutNevers::same_agreement))]
 fn is_covered_for(
     line: &ProductLine,
+    nevers: Nevers,
     alternatives: &[Alternative],
     need: Option<usize>,
     one: &Alternative,
     other: &Alternative,
 ) -> bool
-    ensures { result ≡ is_covered_for line.now alternatives.now need one.now other.now }
+    ensures { result ≡ is_covered_for (line_with nevers line.now) alternatives.now need one.now other.now }
 {
     match need {
-        None => is_covered(line, one, other),
+        None => is_covered(line, nevers, one, other),
         Some(need) => {
             let comparing = Comparing {
                 line,
@@ -192,38 +217,38 @@ fn is_covered_for(
                 one,
                 other,
             };
-            is_covered(line, one, other) && comparing.agree()
+            is_covered(line, nevers, one, other) && comparing.agree()
         }
     }
 }
 
 fn does_leave(
     line: &ProductLine,
+    nevers: Nevers,
     alternatives: &[Alternative],
     need: Option<usize>,
     one: &Alternative,
     other: &Alternative,
 ) -> bool
-    ensures { result ≡ does_leave line.now alternatives.now need one.now other.now }
+    ensures { result ≡ does_leave (line_with nevers line.now) alternatives.now need one.now other.now }
 {
     other.choice != one.choice
         || is_one_alternative(other, one)
-        || !is_covered_for(line, alternatives, need, one, other)
-        || is_covered_for(line, alternatives, need, other, one) && one.place < other.place
+        || !is_covered_for(line, nevers, alternatives, need, one, other)
+        || is_covered_for(line, nevers, alternatives, need, other, one) && one.place < other.place
 }
 
 fn is_full_among(
     line: &ProductLine,
+    nevers: Nevers,
     alternatives: &[Alternative],
     need: Option<usize>,
     these: &[Alternative],
     one: &Alternative,
 ) -> bool
-    ensures { result ≡ is_full_among line.now alternatives.now need these.now one.now }
+    ensures { result ≡ is_full_among (line_with nevers line.now) alternatives.now need these.now one.now }
 {
-    these
-        .iter()
-        .all(|other| does_leave(line, alternatives, need, one, other))
+    these.iter().all(|other| does_leave(line, nevers, alternatives, need, one, other))
 }
 
 fn does_need_let_in(line: &ProductLine, need: Option<usize>, alternative: &Alternative) -> bool
@@ -253,42 +278,45 @@ fn compared(
 fn full_among(
     alloc: Global,
     line: &ProductLine,
+    nevers: Nevers,
     alternatives: &[Alternative],
     need: Option<usize>,
     these: &[Alternative],
 ) -> Result<Vec<Alternative>, AllocError>
-    ensures { IfOk result (λ v. v.items ≡ full_among line.now alternatives.now need these.now) }
+    ensures { IfOk result (λ v. v.items ≡ full_among (line_with nevers line.now) alternatives.now need these.now) }
 {
     these
         .iter()
         .copied()
-        .filter(|alternative| is_full_among(line, alternatives, need, these, alternative))
+        .filter(|alternative| is_full_among(line, nevers, alternatives, need, these, alternative))
         .collect(alloc)
 }
 
 fn full_alternatives(
     alloc: Global,
     line: &ProductLine,
+    nevers: Nevers,
     alternatives: &[Alternative],
     need: Option<usize>,
 ) -> Result<Vec<Alternative>, AllocError>
-    ensures { IfOk result (λ v. v.items ≡ full_alternatives line.now alternatives.now need) }
+    ensures { IfOk result (λ v. v.items ≡ full_alternatives (line_with nevers line.now) alternatives.now need) }
 {
     let these = compared(alloc, line, alternatives, need)?;
-    full_among(alloc, line, alternatives, need, &these)
+    full_among(alloc, line, nevers, alternatives, need, &these)
 }
 
 fn full_of_need(
     alloc: Global,
     line: &ProductLine,
+    nevers: Nevers,
     alternatives: &[Alternative],
     place: usize,
     need: &NeedPlan,
 ) -> Result<Vec<Alternative>, AllocError>
-    ensures { IfOk result (λ v. v.items ≡ full_of_need line.now alternatives.now place need.now) }
+    ensures { IfOk result (λ v. v.items ≡ full_of_need (line_with nevers line.now) alternatives.now place need.now) }
 {
     if need.within.is_some() {
-        full_alternatives(alloc, line, alternatives, Some(place))
+        full_alternatives(alloc, line, nevers, alternatives, Some(place))
     } else {
         Ok(Vec::new(alloc))
     }
@@ -297,15 +325,16 @@ fn full_of_need(
 fn full_of_needs(
     alloc: Global,
     line: &ProductLine,
+    nevers: Nevers,
     alternatives: &[Alternative],
     needs: &[NeedPlan],
 ) -> Result<Vec<Vec<Alternative>>, AllocError>
     ensures { IfOk result (λ v. map (λ list. list.items) v.items
-        ≡ lines_of_each (λ d need. full_of_need line.now alternatives.now d need ∷ []) 0 needs.now) }
+        ≡ lines_of_each (λ d need. full_of_need (line_with nevers line.now) alternatives.now d need ∷ []) 0 needs.now) }
 {
     let mut full = Vec::new(alloc);
     for (place, need) in needs.iter().enumerate() {
-        full.push(full_of_need(alloc, line, alternatives, place, need)?)?;
+        full.push(full_of_need(alloc, line, nevers, alternatives, place, need)?)?;
     }
     Ok(full)
 }
@@ -319,17 +348,18 @@ pub struct FullAlternatives {
 
 impl FullAlternatives {
     /// Those of a line, where these are its alternatives.
-    pub(crate) fn new(
+    pub fn new(
         alloc: Global,
         line: &ProductLine,
+        nevers: Nevers,
         alternatives: &[Alternative],
     ) -> Result<Self, AllocError>
         requires { alternatives.now ≡ alternatives_of line.now }
-        ensures { IfOk result (AreFullAlternatives line.now) }
+        ensures { IfOk result (AreFullAlternatives (line_with nevers line.now)) }
     {
         Ok(FullAlternatives {
-            all: full_alternatives(alloc, line, alternatives, None)?,
-            of_needs: full_of_needs(alloc, line, alternatives, &line.plan.needs)?,
+            all: full_alternatives(alloc, line, nevers, alternatives, None)?,
+            of_needs: full_of_needs(alloc, line, nevers, alternatives, &line.plan.needs)?,
         })
     }
 }

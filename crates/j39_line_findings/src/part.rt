@@ -25,21 +25,23 @@ pub(crate) fn is_one_alternative(one: &Alternative, other: &Alternative) -> bool
     one.choice == other.choice && one.place == other.place
 }
 
-fn names(list: &[Alternative], alternative: &Alternative) -> bool
+/// Whether a list names an alternative.
+pub fn names(list: &[Alternative], alternative: &Alternative) -> bool
     ensures { result ≡ list_any (λ b. is_one_alternative b alternative.now) list.now }
 {
     list.iter()
         .any(|other| is_one_alternative(other, alternative))
 }
 
-fn names_choice(list: &[Alternative], choice: usize) -> bool
+/// Whether a list names an alternative of a choice.
+pub fn names_choice(list: &[Alternative], choice: usize) -> bool
     ensures { result ≡ list_any (λ b. b.choice == choice) list.now }
 {
     list.iter().any(|other| other.choice == choice)
 }
 
 /// Whether the box of a list has an alternative.
-pub(crate) fn lets_in(list: &[Alternative], alternative: &Alternative) -> bool
+pub fn lets_in(list: &[Alternative], alternative: &Alternative) -> bool
     ensures { result ≡ lets_in list.now alternative.now }
 {
     !names_choice(list, alternative.choice) || names(list, alternative)
@@ -115,7 +117,8 @@ pub(crate) fn need_lets_in(line: &ProductLine, alternative: &Alternative, place:
     }
 }
 
-fn part_lets_in(line: &ProductLine, alternative: &Alternative, part: LinePart) -> bool
+/// Whether the box of a part has an alternative.
+pub fn part_lets_in(line: &ProductLine, alternative: &Alternative, part: LinePart) -> bool
     ensures { result ≡ part_lets_in line.now alternative.now part }
 {
     match part {

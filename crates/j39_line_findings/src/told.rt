@@ -21,7 +21,8 @@ fn has_pool_address(line: &ProductLine, unit: usize) -> bool
     }
 }
 
-fn is_end(flow: &FlowPlan, unit: usize) -> bool
+/// Whether a unit sends the flow, or is the one unit to which it goes.
+pub fn is_end(flow: &FlowPlan, unit: usize) -> bool
     ensures { result ≡ is_end flow.now unit }
 {
     flow.sender == unit || flow.to == To::One(unit)
@@ -40,8 +41,9 @@ fn are_ends_in_pool(line: &ProductLine, flow: &FlowPlan) -> bool
     (0..line.plan.units.len()).any(|unit| is_end_in_pool(line, flow, unit))
 }
 
+/// Whether an end of a flow is planned at an address to which others may move.
 #[tactic(auto, unfolding(crate::specs::Told::has_end_in_pool))]
-fn has_end_in_pool(line: &ProductLine, place: usize) -> bool
+pub fn has_end_in_pool(line: &ProductLine, place: usize) -> bool
     ensures { result ≡ has_end_in_pool line.now place }
 {
     match line.plan.flows.get(place) {

@@ -81,7 +81,7 @@ fn replace(told: &mut Vec<Witnessed>, place: usize, new: Witnessed)
 }
 
 /// Adds a finding of a variant to those that are told: each once, with its best witness.
-pub(crate) fn add(told: &mut Vec<Witnessed>, new: Witnessed) -> Result<(), AllocError>
+pub fn add(told: &mut Vec<Witnessed>, new: Witnessed) -> Result<(), AllocError>
     ensures { OnOk result ((all : List Witnesses) → AreBest all told.old.items → AreBest (all ++ new ∷ []) told.new.items) }
 {
     let place = place_of(told, new.finding.rank());

@@ -51,7 +51,7 @@ leads true b both is = both
 leads false b both is = absurd (false≢true is)
 
 -- the place that is taken of the choice of an alternative that is taken
-place_taken : (v : List ℕ) (b : Alternative) → takes_alternative v b ≡ true → slice_get v b.choice ≡ Some b.place
+pub place_taken : (v : List ℕ) (b : Alternative) → takes_alternative v b ≡ true → slice_get v b.choice ≡ Some b.place
 place_taken v b takes = go (slice_get v b.choice) refl takes
   where
     go : (o : Option ℕ) → slice_get v b.choice ≡ o → option_map_or (λ place. place == b.place) o false ≡ true → slice_get v b.choice ≡ Some b.place

@@ -73,7 +73,7 @@ of_made make [] x (k, below, is) = absurd (omega (arith, below))
 of_made make (y ∷ ys) x (zero, below, is) = inl (ap make is)
 of_made make (y ∷ ys) x (suc k, below, is) = inr (of_made make ys x (k, omega (arith, below), is))
 
-same_plan : (x y : Finding) → OfPlan x ≡ OfPlan y → x ≡ y
+pub same_plan : (x y : Finding) → OfPlan x ≡ OfPlan y → x ≡ y
 same_plan x y is = cc
 
 pub same_load : (x y : LoadFinding) → OfLoad x ≡ OfLoad y → x ≡ y

@@ -105,7 +105,7 @@ copy_of C (x ∷ xs) (z ∷ ys) zip zero y at = record { value = x; value_is = r
 copy_of C (x ∷ xs) (z ∷ ys) zip (suc i) y at =
     let its = copy_of C xs ys zip.1 i y at in record { value = its.value; value_is = its.value_is; copies = its.copies }
 
-its_copy : {X : Type 0} (C : X → X → Type 0) (xs ys : List X) → AllZip C xs ys → (i : ℕ) (x : X) → slice_get xs i ≡ Some x → ValueAt (C x) ys i
+pub its_copy : {X : Type 0} (C : X → X → Type 0) (xs ys : List X) → AllZip C xs ys → (i : ℕ) (x : X) → slice_get xs i ≡ Some x → ValueAt (C x) ys i
 its_copy C [] ys zip i x at = absurd (no_value i x at)
 its_copy C (z ∷ xs) [] zip i x at = absurd zip
 its_copy C (z ∷ xs) (y ∷ ys) zip zero x at = record { value = y; value_is = refl; meets = subst (λ a. C a y) (same_Some z x at) zip.0 }

@@ -1,67 +1,44 @@
 -- What stands in the way of what is told of a line of vehicles: findings of possible variants, for which check's answer is written.
-use Rattle.std.specs.Prelude.{◌≡◌, ℕ, ◌<◌, ◌≤◌, List, Bool, true, false}
-use Rattle.j39_findings.specs.Findings.{Holds, finding_number}
-use Rattle.j39_findings.specs.declared.checking.finding.Finding.{Finding}
-use Rattle.j39_network.specs.declared.plan.Plan.{Plan}
+use Rattle.std.specs.Prelude.{◌≡◌, ◌⊎◌, ◌==◌, ◌&&◌, ◌||◌, ℕ, List, Bool, true, false, is_some, nat_lt, Option}
+use Rattle.std.specs.List.{list_any}
 use Rattle.j39_variants.specs.declared.line.ProductLine.{ProductLine}
-use Rattle.j39_variants.specs.VariantPlans.{IsVariantPlan}
-use Rattle.j39_variants.specs.Variants.{is_possible}
-use Rattle.j39_line_findings.specs.AllVariants.{IsOneOf, combinations, variant_limit}
-use Rattle.j39_line_findings.specs.LineAnswers.{IsPossible}
+use Rattle.j39_line_findings.specs.InFile.{rank_of}
+use Rattle.j39_line_findings.specs.declared.line_finding.LineFinding.{LineFinding}
+use Rattle.j39_line_check.specs.LineChecks.{HasIt, SomePossible}
+use Rattle.j39_line_check.specs.declared.answer.ToldFinding.{ToldFinding}
+use Rattle.j39_line_text.specs.LineCheckText.{IsFoundText, IsImpossibleLine}
 use Rattle.j39_line_text.specs.declared.hindrances.Asked.{Asked}
 use Rattle.j39_line_text.specs.declared.hindrances.Asked.TheVariants.{Addresses, Times}
-use Rattle.j39_plan_text.specs.AddressesText.{is_of_addresses}
 use Rattle.j39_plan_text.specs.LoadText.{hides_times}
-use Rattle.j39_line_findings.specs.declared.checking.LineAnswer.{LineAnswer}
-use Rattle.j39_line_findings.specs.declared.checking.LineAnswer.TheVariants.{Clean, Faulty, ManyVariants, NoVariant}
 
--- which findings hide what is asked
-abbrev pub hides : Asked → Finding → Bool
-hides Addresses finding = is_of_addresses finding
-hides Times finding = hides_times (finding_number finding)
+-- a finding of this number is on the NAMEs or the addresses of units
+abbrev pub hides_addresses : ℕ → Bool
+hides_addresses number = (nat_lt 0 number && nat_lt number 4) || (number == 12 || (number == 26 || number == 27))
 
--- of findings that hide something: the plan of a variant has one
-pub record IsHidden (hides : Finding → Bool) (line : ProductLine) (variant : List ℕ) : Type 0 where
-  pub plan : Plan
-  pub is_plan : IsVariantPlan line variant plan
-  pub finding : Finding
-  pub one : hides finding ≡ true
-  pub holds : Holds plan finding
+-- findings of which numbers hide what is asked
+abbrev pub hides : Asked → ℕ → Bool
+hides Addresses number = hides_addresses number
+hides Times number = hides_times number
 
--- or has none
-pub record IsShown (hides : Finding → Bool) (line : ProductLine) (variant : List ℕ) : Type 0 where
-  pub plan : Plan
-  pub is_plan : IsVariantPlan line variant plan
-  pub none : (finding : Finding) → hides finding ≡ true → ¬ Holds plan finding
+abbrev pub does_hide : Asked → LineFinding → Bool
+does_hide asked finding = hides asked (rank_of finding).number
 
--- some variant is possible, and no possible one has one
-pub record AreAllShown (hides : Finding → Bool) (line : ProductLine) : Type 0 where
-  pub looked_at : combinations 1 line.choices.items ≤ variant_limit
-  pub some : (variant : List ℕ) × IsPossible line variant
-  pub each : (variant : List ℕ) → IsPossible line variant → IsShown hides line variant
+-- one of those that are told does
+abbrev pub is_any_hiding : Asked → List ToldFinding → Bool
+is_any_hiding asked told = list_any (λ t. does_hide asked t.finding) told
 
--- what is told: too many variants to look at each; else that none is possible, that no possible one has one, or that one has
-abbrev pub IsHidingAnswer : (Finding → Bool) → ProductLine → LineAnswer → Type 0
-IsHidingAnswer hides line (ManyVariants n) = (variant_limit < n) × (n ≡ combinations 1 line.choices.items)
-IsHidingAnswer hides line NoVariant = (combinations 1 line.choices.items ≤ variant_limit) × ((variant : List ℕ) → ¬ IsPossible line variant)
-IsHidingAnswer hides line Clean = AreAllShown hides line
-IsHidingAnswer hides line Faulty = (combinations 1 line.choices.items ≤ variant_limit)
-    × ((variant : List ℕ) × IsPossible line variant × IsHidden hides line variant)
+-- some variant is possible, and no possible one has such a finding
+pub record AreAllShown (asked : Asked) (line : ProductLine) : Type 0 where
+  pub some : SomePossible line
+  pub each : (variant : List ℕ) (finding : LineFinding) → HasIt line variant finding → does_hide asked finding ≡ false
 
--- ---- of variants that may be possible
+-- too many full variants would have to be looked at, or one that is told hides what is asked
+abbrev pub is_hidden : Asked → Option ℕ → List ToldFinding → Bool
+is_hidden asked many told = is_some many || is_any_hiding asked told
 
-abbrev pub IsHiddenIfPossible : (Finding → Bool) → ProductLine → List ℕ → Type 0
-IsHiddenIfPossible hides line variant = (is_possible line.nevers.items variant ≡ true) × IsHidden hides line variant
+abbrev pub IsHiddenLine : Asked → ProductLine → List ℕ → Type 0
+IsHiddenLine asked line text = (many : Option ℕ) × (told : List ToldFinding) × IsFoundText line many told text × (is_hidden asked many told ≡ true)
 
-abbrev pub IsShownIfPossible : (Finding → Bool) → ProductLine → List ℕ → Type 0
-IsShownIfPossible hides line variant = is_possible line.nevers.items variant ≡ true → IsShown hides line variant
-
--- which of these it is
-abbrev pub TellsWhetherHidden : (Finding → Bool) → ProductLine → List ℕ → Bool → Type 0
-TellsWhetherHidden hides line variant true = IsHiddenIfPossible hides line variant
-TellsWhetherHidden hides line variant false = IsShownIfPossible hides line variant
-
--- of some variants: one is, or none
-abbrev pub TellsWhetherAnyIsHidden : (Finding → Bool) → ProductLine → List (List ℕ) → Bool → Type 0
-TellsWhetherAnyIsHidden hides line variants true = (v : List ℕ) × IsOneOf variants v × IsHiddenIfPossible hides line v
-TellsWhetherAnyIsHidden hides line variants false = (v : List ℕ) → IsOneOf variants v → IsShownIfPossible hides line v
+-- what check writes: that no variant is possible, or all that is found
+abbrev pub IsHiddenReport : Asked → ProductLine → List ℕ → Type 0
+IsHiddenReport asked line text = IsImpossibleLine line text ⊎ IsHiddenLine asked line text

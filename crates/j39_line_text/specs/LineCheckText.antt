@@ -1,17 +1,19 @@
 -- The text that the check command writes for a plan file, also of a line of vehicles.
-use Rattle.std.specs.Prelude.{◌≡◌, ◌≢◌, ◌⊎◌, ℕ, ◌<◌, ◌≤◌, List, [], ◌++◌, false, codes, length}
+use Rattle.std.specs.Prelude.{◌≡◌, ◌≢◌, ◌⊎◌, ℕ, List, [], ◌++◌, ◌==◌, ◌&&◌, ◌||◌, Bool, true, false, not, codes, is_some, length, Option, Some, None}
 use Rattle.j39_findings.specs.Findings.{Clean}
 use Rattle.j39_load.specs.BusTimes.{timing_of}
 use Rattle.j39_load.specs.LoadFindings.{AreLoadFindings}
+use Rattle.j39_load.specs.declared.findings.load_finding.LoadFinding.{LoadFinding}
 use Rattle.j39_network.specs.declared.plan.Plan.{Plan}
 use Rattle.j39_variants.specs.declared.line.ProductLine.{ProductLine}
 use Rattle.j39_variants.specs.VariantPlans.{IsVariantPlan}
-use Rattle.j39_line_findings.specs.AllVariants.{all_variants, combinations, variant_limit}
 use Rattle.j39_line_findings.specs.FullVariants.{alternatives_of}
-use Rattle.j39_line_findings.specs.LineAnswers.{HasFinding, IsPossible}
-use Rattle.j39_line_findings.specs.LineFound.{AreLineFindings}
+use Rattle.j39_line_findings.specs.LineAnswers.{IsPossible}
 use Rattle.j39_line_findings.specs.MissedNeeds.{is_some_need_missed}
-use Rattle.j39_line_findings.specs.declared.witnessed.Witnessed.{Witnessed}
+use Rattle.j39_line_findings.specs.There.{IsWhatIsThere}
+use Rattle.j39_line_findings.specs.declared.there.WhatIsThere.{WhatIsThere}
+use Rattle.j39_line_check.specs.LineChecks.{AreTold, SomePossible}
+use Rattle.j39_line_check.specs.declared.answer.ToldFinding.{ToldFinding}
 use Rattle.j39_line_text.specs.WitnessLines.{findings_of_line_text}
 use Rattle.j39_plan_text.specs.Certified.{IsCertified}
 use Rattle.j39_plan_text.specs.CheckText.{IsReport}
@@ -30,43 +32,50 @@ line_ok_text line =
 unfoldable pub no_variant_text : List ℕ
 no_variant_text = codes "F29 NoVariant\nfindings 1\n"
 
--- there are so many, which are too many to look at each
-unfoldable pub many_variants_text : ℕ → List ℕ
-many_variants_text n = field (codes "F30 ManyVariants ") n ++ codes "\nfindings 1\n"
+-- ---- a line in which nothing is wrong
 
 -- the plan of a variant is clean and certified, and each need that is asked for in the variant is in it
-pub record IsCertifiedVariant (line : ProductLine) (variant : List ℕ) : Type 0 where
-  pub plan : Plan
-  pub is_plan : IsVariantPlan line variant plan
+pub record IsCertifiedPlan (line : ProductLine) (variant : List ℕ) (plan : Plan) (load : List LoadFinding) : Type 0 where
   pub clean : Clean plan
-  pub load : AreLoadFindings plan (timing_of plan) []
+  pub unhurried : load ≡ []
   pub certified : IsCertified plan
   pub asked : is_some_need_missed line variant ≡ false
 
+-- whatever its plan and all that is found of its load are
+abbrev pub IsCertifiedVariant : ProductLine → List ℕ → Type 0
+IsCertifiedVariant line variant = (there : WhatIsThere) (plan : Plan) (load : List LoadFinding) → IsWhatIsThere line variant there
+    → IsVariantPlan line variant plan → AreLoadFindings plan (timing_of plan) load → IsCertifiedPlan line variant plan load
+
 -- nothing is wrong with the plan of any possible variant, and some variant is
 pub record IsCertifiedLine (line : ProductLine) : Type 0 where
-  pub looked_at : combinations 1 line.choices.items ≤ variant_limit
-  pub some : (variant : List ℕ) × IsPossible line variant
+  pub some : SomePossible line
   pub each : (variant : List ℕ) → IsPossible line variant → IsCertifiedVariant line variant
 
--- all that some possible variant has is told, each finding once, with a variant that has it
-abbrev pub IsFindingsText : ProductLine → List ℕ → Type 0
-IsFindingsText line text = (told : List Witnessed) × AreLineFindings line told
-    × (text ≡ findings_of_line_text line (alternatives_of line) (all_variants line.choices.items) told)
+-- ---- a line in which something is
 
--- some possible variant has a finding, and all are told
-pub record IsFaultyLine (line : ProductLine) (text : List ℕ) : Type 0 where
-  pub looked_at : combinations 1 line.choices.items ≤ variant_limit
-  pub some : (variant : List ℕ) × IsPossible line variant × HasFinding line variant
-  pub text_is : IsFindingsText line text
+-- all that some possible variant has is told, each finding once, with a variant that has it
+pub record IsFoundText (line : ProductLine) (many : Option ℕ) (told : List ToldFinding) (text : List ℕ) : Type 0 where
+  pub some : SomePossible line
+  pub are_told : AreTold line many told
+  pub text_is : text ≡ findings_of_line_text line (alternatives_of line) many told
+
+-- something is told
+abbrev pub is_some_told : Option ℕ → List ToldFinding → Bool
+is_some_told many told = is_some many || not (length told == 0)
+
+abbrev pub IsFaultyLine : ProductLine → List ℕ → Type 0
+IsFaultyLine line text = (many : Option ℕ) × (told : List ToldFinding) × IsFoundText line many told text × (is_some_told many told ≡ true)
+
+-- none is possible
+abbrev pub IsImpossibleLine : ProductLine → List ℕ → Type 0
+IsImpossibleLine line text = (¬ SomePossible line) × (text ≡ no_variant_text)
+
+-- ---- the texts
 
 -- what is written for a line of vehicles, with the verdict
 abbrev pub IsLineReport : ProductLine → List ℕ → Verdict → Type 0
 IsLineReport line text Done = IsCertifiedLine line × (text ≡ line_ok_text line)
-IsLineReport line text Findings =
-    ((variant_limit < combinations 1 line.choices.items) × (text ≡ many_variants_text (combinations 1 line.choices.items)))
-    ⊎ (((combinations 1 line.choices.items ≤ variant_limit) × ((variant : List ℕ) → ¬ IsPossible line variant) × (text ≡ no_variant_text))
-    ⊎ IsFaultyLine line text)
+IsLineReport line text Findings = IsImpossibleLine line text ⊎ IsFaultyLine line text
 IsLineReport line text Refused = ⊥
 IsLineReport line text Unreadable = ⊥
 

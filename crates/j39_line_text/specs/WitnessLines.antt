@@ -1,5 +1,5 @@
 -- The lines of what is found of a line of vehicles, with what is told of the variants that are its witnesses.
-use Rattle.std.specs.Prelude.{ℕ, List, [], ◌∷◌, ◌++◌, ◌==◌, Bool, codes, count_by, if◌then◌else◌, length, not, unwrap_or}
+use Rattle.std.specs.Prelude.{ℕ, ◌+◌, List, [], ◌∷◌, ◌++◌, ◌==◌, Bool, Option, Some, None, codes, count_by, if◌then◌else◌, length, not, unwrap_or}
 use Rattle.std.specs.List.{list_any, range_with_len, slice_get}
 use Rattle.std.specs.Option.{option_map_or}
 use Rattle.j39_load.specs.LineLists.{lines_of_each}
@@ -11,7 +11,7 @@ use Rattle.j39_line_findings.specs.Told.{is_told}
 use Rattle.j39_plan_text.specs.FoundInPlan.{is_of_times}
 use Rattle.j39_line_findings.specs.declared.line_finding.LineFinding.{LineFinding}
 use Rattle.j39_line_findings.specs.declared.line_finding.LineFinding.TheVariants.{OfPlan, OfLoad}
-use Rattle.j39_line_findings.specs.declared.witnessed.Witnessed.{Witnessed}
+use Rattle.j39_line_check.specs.declared.answer.ToldFinding.{ToldFinding}
 use Rattle.j39_plan_text.specs.FindingLines.{finding_text, run_lines}
 use Rattle.j39_plan_text.specs.LoadLines.{load_finding_text}
 use Rattle.j39_text.specs.Texts.{field}
@@ -65,17 +65,22 @@ witness_report line alternatives variant finding = witness_line line alternative
 
 -- ---- all of them
 
-abbrev pub variant_at : List (List ℕ) → ℕ → List ℕ
-variant_at variants k = unwrap_or (slice_get variants k) []
+abbrev pub witness_reports : ProductLine → List Alternative → List ToldFinding → List ℕ
+witness_reports line alternatives = lines_of_each (λ _ t. witness_report line alternatives t.variant.items t.finding) 0
 
-abbrev pub witness_reports : ProductLine → List Alternative → List (List ℕ) → List Witnessed → List ℕ
-witness_reports line alternatives variants =
-    lines_of_each (λ _ w. witness_report line alternatives (variant_at variants w.variant) w.finding) 0
+-- that so many full variants are too many to look at each, and one finding more
+unfoldable pub many_text : Option ℕ → List ℕ
+many_text None = []
+many_text (Some many) = field (codes "F30 ManyVariants ") many ++ 10 ∷ []
+
+abbrev pub count_with : Option ℕ → ℕ → ℕ
+count_with None count = count
+count_with (Some many) count = count + 1
 
 -- a line for each, and how many they are
-unfoldable pub findings_of_line_text : ProductLine → List Alternative → List (List ℕ) → List Witnessed → List ℕ
-findings_of_line_text line alternatives variants told = witness_reports line alternatives variants told
-    ++ (field (codes "findings ") (length told) ++ 10 ∷ [])
+unfoldable pub findings_of_line_text : ProductLine → List Alternative → Option ℕ → List ToldFinding → List ℕ
+findings_of_line_text line alternatives many told = witness_reports line alternatives told
+    ++ (many_text many ++ (field (codes "findings ") (count_with many (length told)) ++ 10 ∷ []))
 
 -- ---- those of which the lines of the times don't tell
 
@@ -83,17 +88,16 @@ findings_of_line_text line alternatives variants told = witness_reports line alt
 abbrev pub is_of_line_times : LineFinding → Bool
 is_of_line_times finding = is_of_times (rank_of finding).number
 
-abbrev pub is_untold_of_line : Witnessed → Bool
-is_untold_of_line w = not (is_of_line_times w.finding)
+abbrev pub is_untold_of_line : ToldFinding → Bool
+is_untold_of_line t = not (is_of_line_times t.finding)
 
 unfoldable pub untold_report : ProductLine → List Alternative → List ℕ → LineFinding → List ℕ
 untold_report line alternatives variant finding = if is_of_line_times finding then [] else witness_report line alternatives variant finding
 
-abbrev pub untold_reports : ProductLine → List Alternative → List (List ℕ) → List Witnessed → List ℕ
-untold_reports line alternatives variants =
-    lines_of_each (λ _ w. untold_report line alternatives (variant_at variants w.variant) w.finding) 0
+abbrev pub untold_reports : ProductLine → List Alternative → List ToldFinding → List ℕ
+untold_reports line alternatives = lines_of_each (λ _ t. untold_report line alternatives t.variant.items t.finding) 0
 
 -- a line for each, and how many they are, where there are any
-unfoldable pub untold_of_line_text : ProductLine → List Alternative → List (List ℕ) → List Witnessed → List ℕ
-untold_of_line_text line alternatives variants told = if count_by is_untold_of_line told == 0 then []
-    else untold_reports line alternatives variants told ++ (field (codes "findings ") (count_by is_untold_of_line told) ++ 10 ∷ [])
+unfoldable pub untold_of_line_text : ProductLine → List Alternative → List ToldFinding → List ℕ
+untold_of_line_text line alternatives told = if count_by is_untold_of_line told == 0 then []
+    else untold_reports line alternatives told ++ (field (codes "findings ") (count_by is_untold_of_line told) ++ 10 ∷ [])

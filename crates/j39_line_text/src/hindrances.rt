@@ -1,13 +1,10 @@
 //! Findings of possible variants for which check's answer is written.
-ghost use Rattle.std.specs.Prelude.{◌≡◌, IfOk, map};
-ghost use Rattle.std.specs.List.{list_any};
-ghost use Rattle.j39_line_text.specs.Hindrances.{IsHidingAnswer, TellsWhetherAnyIsHidden, TellsWhetherHidden, hides};
+ghost use Rattle.std.specs.Prelude.{◌≡◌};
+ghost use Rattle.j39_line_text.specs.Hindrances.{does_hide, hides, hides_addresses, is_any_hiding, is_hidden};
 
-use j39_findings::{Finding, check};
-use j39_line_findings::{LineAnswer, VARIANT_LIMIT, all_variants, combinations, is_any_possible};
-use j39_plan_text::{hides_times, is_of_addresses};
-use j39_variants::{ProductLine, is_possible, plan_of};
-use std::alloc::{AllocError, Global};
+use j39_line_check::ToldFinding;
+use j39_line_findings::LineFinding;
+use j39_plan_text::hides_times;
 
 /// What is asked of a line.
 #[derive(Clone, Copy, PartialEq, Eq)]
@@ -18,77 +15,38 @@ pub(crate) enum Asked {
     Times,
 }
 
-// Whether a finding hides what is asked.
-fn hides(asked: Asked, finding: &Finding) -> bool
-    ensures { result ≡ hides asked finding.now }
+fn hides_addresses(number: u8) -> bool
+    ensures { result ≡ hides_addresses number }
+{
+    0 < number && number < 4 || number == 12 || number == 26 || number == 27
+}
+
+// Whether a finding of this number hides what is asked.
+fn hides(asked: Asked, number: u8) -> bool
+    ensures { result ≡ hides asked number }
 {
     match asked {
-        Asked::Addresses => is_of_addresses(finding),
-        Asked::Times => hides_times(finding.number()),
+        Asked::Addresses => hides_addresses(number),
+        Asked::Times => hides_times(number),
     }
 }
 
-fn is_any_hiding(asked: Asked, findings: &[Finding]) -> bool
-    ensures { result ≡ list_any (hides asked) findings.now }
+fn does_hide(asked: Asked, finding: LineFinding) -> bool
+    ensures { result ≡ does_hide asked finding }
 {
-    findings.iter().any(|finding| hides(asked, finding))
+    hides(asked, finding.rank().number)
 }
 
-// Whether a variant is possible, and its plan has a finding that hides what is asked.
-fn is_hidden(
-    alloc: Global,
-    asked: Asked,
-    line: &ProductLine,
-    variant: &[usize],
-) -> Result<bool, AllocError>
-    ensures { IfOk result (TellsWhetherHidden (hides asked) line.now variant.now) }
+fn is_any_hiding(asked: Asked, told: &[ToldFinding]) -> bool
+    ensures { result ≡ is_any_hiding asked told.now }
 {
-    if !is_possible(&line.nevers, variant) {
-        return Ok(false);
-    }
-    let plan = plan_of(alloc, line, variant)?;
-    let findings = check(alloc, &plan)?;
-    Ok(is_any_hiding(asked, &findings))
+    told.iter().any(|one| does_hide(asked, one.finding))
 }
 
-// Whether one of these variants is.
-fn is_any_hidden(
-    alloc: Global,
-    asked: Asked,
-    line: &ProductLine,
-    variants: &[Vec<usize>],
-) -> Result<bool, AllocError>
-    ensures { IfOk result (TellsWhetherAnyIsHidden (hides asked) line.now (map (λ v. v.items) variants.now)) }
+/// Whether something stands in the way of what is told of a line: too many full variants to look at each, or a finding
+/// that hides what is asked.
+pub(crate) fn is_hidden(asked: Asked, told: &[ToldFinding], many: Option<u64>) -> bool
+    ensures { result ≡ is_hidden asked many told.now }
 {
-    for variant in variants {
-        let hidden = is_hidden(alloc, asked, line, variant)?;
-        if hidden {
-            return Ok(true);
-        }
-    }
-    Ok(false)
-}
-
-/// Whether something stands in the way of what is told of a line: too many variants to look at each, none that is
-/// possible, or a possible one with a finding that hides what is asked.
-pub(crate) fn check_for(
-    alloc: Global,
-    asked: Asked,
-    line: &ProductLine,
-) -> Result<LineAnswer, AllocError>
-    ensures { IfOk result (IsHidingAnswer (hides asked) line.now) }
-{
-    let count = combinations(&line.choices);
-    if VARIANT_LIMIT < count {
-        return Ok(LineAnswer::ManyVariants(count));
-    }
-    let variants = all_variants(alloc, &line.choices)?;
-    if !is_any_possible(line, &variants) {
-        return Ok(LineAnswer::NoVariant);
-    }
-    let hidden = is_any_hidden(alloc, asked, line, &variants)?;
-    if hidden {
-        return Ok(LineAnswer::Faulty);
-    }
-    Ok(LineAnswer::Clean)
+    many.is_some() || is_any_hiding(asked, told)
 }

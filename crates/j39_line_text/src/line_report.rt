@@ -1,11 +1,12 @@
 //! What is written for a line of vehicles.
-ghost use Rattle.std.specs.Prelude.{◌≡◌, ◌++◌, IfOk, OnOk};
+ghost use Rattle.std.specs.Prelude.{◌≡◌, IfOk};
 ghost use Rattle.j39_plan_text.specs.CheckText.{IsReport};
-ghost use Rattle.j39_line_text.specs.LineCheckText.{IsFindingsText, IsLineReport, line_ok_text, many_variants_text, no_variant_text};
+ghost use Rattle.j39_line_check.specs.LineChecks.{AreTold, SomePossible};
+ghost use Rattle.j39_line_text.specs.LineCheckText.{IsLineReport, is_some_told, line_ok_text, no_variant_text};
 
 use crate::certificate::variants_without_findings_are_certified;
 use crate::witness_lines::findings_text;
-use j39_line_findings::{LineAnswer, check_line, line_findings};
+use j39_line_check::{LineAnswer, ToldFinding, check_line};
 use j39_network::Plan;
 use j39_plan_text::{PlanFindings, write_check};
 use j39_stream::Verdict;
@@ -35,29 +36,29 @@ pub(crate) fn no_variant_text(alloc: Global) -> Result<TextBuffer, AllocError>
     Ok(text)
 }
 
-#[tactic(auto, unfolding(crate::specs::LineCheckText::many_variants_text))]
-fn write_many_variants(text: &mut TextBuffer, count: u64) -> Result<(), AllocError>
-    ensures { OnOk result (text.new ≡ text.old ++ many_variants_text count) }
+// Whether something is told.
+fn is_some_told(told: &[ToldFinding], many: Option<u64>) -> bool
+    ensures { result ≡ is_some_told many told.now }
 {
-    text.field("F30 ManyVariants ", count)?;
-    text.word("\nfindings 1\n")
+    many.is_some() || !told.is_empty()
 }
 
-pub(crate) fn many_variants(alloc: Global, count: u64) -> Result<TextBuffer, AllocError>
-    ensures { IfOk result (λ text. text ≡ many_variants_text count) }
+// What is written where something is found of a line, or nothing.
+fn found_report(
+    alloc: Global,
+    line: &ProductLine,
+    told: &[ToldFinding],
+    many: Option<u64>,
+) -> Result<(TextBuffer, Verdict), AllocError>
+    ensures { IfOk result (λ report. SomePossible line.now → AreTold line.now many told.now → IsLineReport line.now report.0 report.1) }
 {
-    let mut text = TextBuffer::new(alloc);
-    write_many_variants(&mut text, count)?;
-    Ok(text)
-}
-
-// What is found of a line in which some possible variant has a finding.
-pub(crate) fn faulty_text(alloc: Global, line: &ProductLine) -> Result<TextBuffer, AllocError>
-    ensures { IfOk result (IsFindingsText line.now) }
-{
-    let told = line_findings(alloc, line)?;
-    let text = findings_text(alloc, line, &told)?;
-    Ok(text)
+    variants_without_findings_are_certified();
+    if is_some_told(told, many) {
+        let text = findings_text(alloc, line, told, many)?;
+        return Ok((text, Verdict::Findings));
+    }
+    let text = ok_text(alloc, line)?;
+    Ok((text, Verdict::Done))
 }
 
 /// What is written for a line of vehicles, with the verdict.
@@ -67,24 +68,15 @@ pub(crate) fn line_report(
 ) -> Result<(TextBuffer, Verdict), AllocError>
     ensures { IfOk result (λ report. IsLineReport line.now report.0 report.1) }
 {
-    variants_without_findings_are_certified();
     let answer = check_line(alloc, line)?;
     match answer {
-        LineAnswer::ManyVariants(count) => {
-            let text = many_variants(alloc, count)?;
-            Ok((text, Verdict::Findings))
-        }
         LineAnswer::NoVariant => {
             let text = no_variant_text(alloc)?;
             Ok((text, Verdict::Findings))
         }
-        LineAnswer::Clean => {
-            let text = ok_text(alloc, line)?;
-            Ok((text, Verdict::Done))
-        }
-        LineAnswer::Faulty => {
-            let text = faulty_text(alloc, line)?;
-            Ok((text, Verdict::Findings))
+        LineAnswer::Found(told, looked) => {
+            let report = found_report(alloc, line, &told, looked.many())?;
+            Ok(report)
         }
     }
 }

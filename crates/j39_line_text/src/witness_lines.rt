@@ -1,14 +1,15 @@
 //! The lines of what is found of a line of vehicles.
-ghost use Rattle.std.specs.Prelude.{◌≡◌, ◌++◌, IfOk, OnOk, map};
-ghost use Rattle.j39_line_findings.specs.AllVariants.{all_variants};
+ghost use Rattle.std.specs.Prelude.{◌≡◌, ◌++◌, IfOk, OnOk, length};
 ghost use Rattle.j39_line_findings.specs.FullVariants.{alternatives_of};
 ghost use Rattle.j39_line_findings.specs.Told.{is_told};
 ghost use Rattle.j39_line_text.specs.WitnessLines.{alternative_label, findings_of_line_text, is_any_told, label_of_alternative, place_taken, run_of_line};
-ghost use Rattle.j39_line_text.specs.WitnessLines.{told_alternative, told_alternatives, variant_at, witness_line, witness_text};
+ghost use Rattle.j39_line_text.specs.WitnessLines.{count_with, many_text};
+ghost use Rattle.j39_line_text.specs.WitnessLines.{told_alternative, told_alternatives, witness_line, witness_text};
 ghost use Rattle.j39_line_text.specs.WitnessLines.{line_finding_text, witness_report, witness_reports};
 ghost use Rattle.j39_line_text.specs.WitnessLines.{is_of_line_times, untold_of_line_text, untold_report, untold_reports};
 
-use j39_line_findings::{LineFinding, Telling, Witnessed, all_variants, alternatives_of};
+use j39_line_check::ToldFinding;
+use j39_line_findings::{LineFinding, Telling, alternatives_of};
 use j39_plan_text::{write_finding, write_load_finding, write_run};
 use j39_text::TextBuffer;
 use j39_variants::{Alternative, Choice, ProductLine};
@@ -174,47 +175,59 @@ fn write_report(
     write_line_run(alloc, text, line, finding)
 }
 
-// The variant at a place.
-fn variant_at(variants: &[Vec<usize>], place: usize) -> &[usize]
-    ensures { result.now ≡ variant_at (map (λ v. v.items) variants.now) place }
-{
-    match variants.get(place) {
-        Some(variant) => variant,
-        None => &[],
-    }
-}
-
 fn write_reports(
     alloc: Global,
     text: &mut TextBuffer,
     line: &ProductLine,
     alternatives: &[Alternative],
-    variants: &[Vec<usize>],
-    told: &[Witnessed],
+    told: &[ToldFinding],
 ) -> Result<(), AllocError>
-    ensures { OnOk result (text.new ≡ text.old ++ witness_reports line.now alternatives.now (map (λ v. v.items) variants.now) told.now) }
+    ensures { OnOk result (text.new ≡ text.old ++ witness_reports line.now alternatives.now told.now) }
 {
-    for witnessed in told {
-        let variant = variant_at(variants, witnessed.variant);
-        write_report(alloc, text, line, alternatives, variant, witnessed.finding)?;
+    for one in told {
+        write_report(alloc, text, line, alternatives, &one.variant, one.finding)?;
     }
     Ok(())
 }
 
-// How many there are, behind their lines.
+// That there are so many full variants, where these are too many.
+#[tactic(auto, unfolding(crate::specs::WitnessLines::many_text))]
+fn write_many(text: &mut TextBuffer, many: Option<u64>) -> Result<(), AllocError>
+    ensures { OnOk result (text.new ≡ text.old ++ many_text many) }
+{
+    match many {
+        Some(count) => {
+            text.field("F30 ManyVariants ", count)?;
+            text.end_line()
+        }
+        None => Ok(()),
+    }
+}
+
+fn count_with(many: Option<u64>, told: &[ToldFinding]) -> usize
+    ensures { result ≡ count_with many (length told.now) }
+{
+    match many {
+        Some(_count) => told.len() + 1,
+        None => told.len(),
+    }
+}
+
+// How many findings there are, behind their lines.
 #[tactic(auto, unfolding(crate::specs::WitnessLines::findings_of_line_text))]
 fn write_all(
     alloc: Global,
     text: &mut TextBuffer,
     line: &ProductLine,
     alternatives: &[Alternative],
-    variants: &[Vec<usize>],
-    told: &[Witnessed],
+    told: &[ToldFinding],
+    many: Option<u64>,
 ) -> Result<(), AllocError>
-    ensures { OnOk result (text.new ≡ text.old ++ findings_of_line_text line.now alternatives.now (map (λ v. v.items) variants.now) told.now) }
+    ensures { OnOk result (text.new ≡ text.old ++ findings_of_line_text line.now alternatives.now many told.now) }
 {
-    write_reports(alloc, text, line, alternatives, variants, told)?;
-    text.field("findings ", told.len())?;
+    write_reports(alloc, text, line, alternatives, told)?;
+    write_many(text, many)?;
+    text.field("findings ", count_with(many, told))?;
     text.end_line()
 }
 
@@ -222,14 +235,14 @@ fn write_all(
 pub(crate) fn findings_text(
     alloc: Global,
     line: &ProductLine,
-    told: &[Witnessed],
+    told: &[ToldFinding],
+    many: Option<u64>,
 ) -> Result<TextBuffer, AllocError>
-    ensures { IfOk result (λ text. text ≡ findings_of_line_text line.now (alternatives_of line.now) (all_variants line.now.choices.items) told.now) }
+    ensures { IfOk result (λ text. text ≡ findings_of_line_text line.now (alternatives_of line.now) many told.now) }
 {
     let alternatives = alternatives_of(alloc, line)?;
-    let variants = all_variants(alloc, &line.choices)?;
     let mut text = TextBuffer::new(alloc);
-    write_all(alloc, &mut text, line, &alternatives, &variants, told)?;
+    write_all(alloc, &mut text, line, &alternatives, told, many)?;
     Ok(text)
 }
 
@@ -262,14 +275,12 @@ fn write_untold_reports(
     text: &mut TextBuffer,
     line: &ProductLine,
     alternatives: &[Alternative],
-    variants: &[Vec<usize>],
-    told: &[Witnessed],
+    told: &[ToldFinding],
 ) -> Result<(), AllocError>
-    ensures { OnOk result (text.new ≡ text.old ++ untold_reports line.now alternatives.now (map (λ v. v.items) variants.now) told.now) }
+    ensures { OnOk result (text.new ≡ text.old ++ untold_reports line.now alternatives.now told.now) }
 {
-    for witnessed in told {
-        let variant = variant_at(variants, witnessed.variant);
-        write_untold_report(alloc, text, line, alternatives, variant, witnessed.finding)?;
+    for one in told {
+        write_untold_report(alloc, text, line, alternatives, &one.variant, one.finding)?;
     }
     Ok(())
 }
@@ -281,20 +292,19 @@ pub(crate) fn write_untold(
     alloc: Global,
     text: &mut TextBuffer,
     line: &ProductLine,
-    told: &[Witnessed],
+    told: &[ToldFinding],
 ) -> Result<(), AllocError>
-    ensures { OnOk result (text.new ≡ text.old ++ untold_of_line_text line.now (alternatives_of line.now) (all_variants line.now.choices.items) told.now) }
+    ensures { OnOk result (text.new ≡ text.old ++ untold_of_line_text line.now (alternatives_of line.now) told.now) }
 {
     let count = told
         .iter()
-        .filter(|witnessed| !is_of_times(witnessed.finding))
+        .filter(|one| !is_of_times(one.finding))
         .count();
     if count == 0 {
         return Ok(());
     }
     let alternatives = alternatives_of(alloc, line)?;
-    let variants = all_variants(alloc, &line.choices)?;
-    write_untold_reports(alloc, text, line, &alternatives, &variants, told)?;
+    write_untold_reports(alloc, text, line, &alternatives, told)?;
     text.field("findings ", count)?;
     text.end_line()
 }

@@ -56,7 +56,7 @@ module _ (at : Places) (part whole : Plan) (is : IsPartAt at part whole) where
       → ValueAt P part.groups.items f.group → ValueAt Q whole.groups.items h.group
   sent_there P Q over f h stands sent = subst (ValueAt Q whole.groups.items) (sym stands.group) (group_there P Q over f.group sent)
 
-  sends_there : (g x : GroupPlan) → IsGroupThere g x → (f h : FlowPlan) → IsFlowThere at f h → Sends part.groups.items g f → Sends whole.groups.items x h
+  pub sends_there : (g x : GroupPlan) → IsGroupThere g x → (f h : FlowPlan) → IsFlowThere at f h → Sends part.groups.items g f → Sends whole.groups.items x h
   sends_there g x same = sent_there (λ sent. sent.label.bytes ≡ g.label.bytes) (λ sent. sent.label.bytes ≡ x.label.bytes)
       (λ sent there one label. one.label ∙ label ∙ sym same.label)
 
@@ -74,7 +74,7 @@ module _ (at : Places) (part whole : Plan) (is : IsPartAt at part whole) where
   )
 
   module _ (g h v w : GroupPlan) (same : IsGroupThere g v) (also : IsGroupThere h w) where
-    receivers_there : (f k x y : FlowPlan) → IsFlowThere at f x → IsFlowThere at k y → DoReceiversMeet g h f k → DoReceiversMeet v w x y
+    pub receivers_there : (f k x y : FlowPlan) → IsFlowThere at f x → IsFlowThere at k y → DoReceiversMeet g h f k → DoReceiversMeet v w x y
     receivers_there f k x y one other (inl to) = inl (one.to ∙ ap (to_in at) to)
     receivers_there f k x y one other (inr (inl to)) = inr (inl (other.to ∙ ap (to_in at) to))
     receivers_there f k x y one other (inr (inr (inl equal))) = inr (inr (inl (one.to ∙ ap (to_in at) equal ∙ sym other.to)))

@@ -7,7 +7,7 @@ pub mod Findings
 pub mod FlowDelays
 mod FlowLoads
 mod Frames
-mod Groups
+pub mod Groups
 pub mod LoadFindings
 pub mod Loads
 pub mod Places

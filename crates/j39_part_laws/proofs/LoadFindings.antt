@@ -196,7 +196,7 @@ unplanned_there at part whole is timing =
 -- ---- all of them
 
 -- what is told of a need is that it is too old
-of_old : (timing : Timing) (plan : Plan) (delays : List (Option Delay)) (finding : LoadFinding)
+pub of_old : (timing : Timing) (plan : Plan) (delays : List (Option Delay)) (finding : LoadFinding)
     → Contains (old_needs timing plan.requests.items plan.flows.items delays plan.needs.items) finding → (d : ℕ) × (finding ≡ NeedTooOld d)
 of_old timing plan delays finding found =
     let its = told_at (oldness timing plan.requests.items plan.flows.items delays) 0 plan.needs.items finding found in

@@ -1,18 +1,12 @@
 -- What is told of units in some variants, one after the other.
-use Rattle.std.specs.Prelude.{◌≡◌, ℕ, List, Bool, true, false, if◌then◌else◌, slice_index_or, Option, Some, None}
+use Rattle.std.specs.Prelude.{ℕ, List, Bool, true, false, if◌then◌else◌, slice_index_or, Option, Some, None}
 use Rattle.std.specs.List.{slice_get}
 use Rattle.std.specs.Option.{option_and_then}
 use Rattle.j39_network.specs.declared.plan.unit_plan.UnitPlan.{UnitPlan}
 use Rattle.j39_variants.specs.declared.line.ProductLine.{ProductLine}
-use Rattle.j39_variants.specs.Variants.{is_possible}
-use Rattle.j39_line_findings.specs.AllVariants.{IsOneOf}
 use Rattle.j39_line_findings.specs.MissedNeeds.{is_unit_there}
 use Rattle.j39_line_bounds.specs.declared.standing.LineStanding.{LineStanding}
 use Rattle.j39_line_bounds.specs.declared.standing.LineStanding.TheVariants.{NoVariant, Stays, MayMove}
-
--- one of these variants, and possible
-abbrev pub IsPossibleOf : ProductLine → List (List ℕ) → List ℕ → Type 0
-IsPossibleOf line variants v = IsOneOf variants v × (is_possible line.nevers.items v ≡ true)
 
 -- whether a unit stays in a variant in whose plan these do; none where it isn't there
 abbrev pub stays_in_variant : ProductLine → List ℕ → (UnitPlan → Bool) → ℕ → Option Bool

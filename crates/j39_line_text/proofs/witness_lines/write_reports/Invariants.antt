@@ -1,7 +1,6 @@
-use Rattle.std.proofs.Common.{◌≡◌, ◌++◌, map, take}
+use Rattle.std.proofs.Common.{◌≡◌, ◌++◌, take}
 use Rattle.j39_line_text.specs.WitnessLines.{witness_reports}
 use Rattle.j39_line_text.proofs.witness_lines.write_reports.Given as goal
 
-abbrev pub invariant-loop-witnessed : goal.invariant-loop-witnessed
-invariant-loop-witnessed l = l.text ≡ l.initial.text
-    ++ witness_reports l.line l.alternatives (map (λ v. v.items) l.variants) (take l.witnessed-index l.told)
+abbrev pub invariant-loop-one : goal.invariant-loop-one
+invariant-loop-one l = l.text ≡ l.initial.text ++ witness_reports l.line l.alternatives (take l.one-index l.told)

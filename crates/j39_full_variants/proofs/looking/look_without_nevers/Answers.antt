@@ -1,0 +1,30 @@
+use Rattle.std.proofs.Common.{◌≡◌, ℕ, List, [], ◌∷◌, false, inl, inr, length, true, refl, sym, ap, subst, ◌∙◌, arith}
+use Rattle.std.proofs.lemmas.Bool.{eq-eqb, eqb-true, true≢false}
+use Rattle.j39_line_findings.specs.declared.full.Nevers.TheVariants.{LeftOut}
+use Rattle.j39_full_variants.specs.Looking.{AreFullVariants, IsLookingWith}
+use Rattle.j39_full_variants.proofs.looking.look_without_nevers.Goals as goal
+
+none_left : {X : Type 0} (xs : List X) → length xs ≡ 0 → xs ≡ []
+none_left [] is = refl
+none_left (x ∷ xs) is = absurd (omega (arith, is))
+
+pub returns-then-is_empty : goal.returns-then-is_empty
+returns-then-is_empty c many =
+    let found : AreFullVariants c.args.line.now LeftOut c.in-Few.found = subst (IsLookingWith c.args.line.now LeftOut) c.in-Few.is c.in_ok-found.ensures in
+    let told = c.in-Few.found.told in
+    let none = eqb-true told.len 0 (sym c.is_empty.ensures ∙ c.if-is_empty.true) in
+    inr ((many.0, many.1), found, none_left told.items (sym told.ok.0 ∙ none))
+
+pub returns-else-is_empty : goal.returns-else-is_empty
+returns-else-is_empty c many =
+    let found : AreFullVariants c.args.line.now LeftOut c.in-Few.found = subst (IsLookingWith c.args.line.now LeftOut) c.in-Few.is c.in_ok-found.ensures in
+    let told = c.in-Few.found.told in (
+      many,
+      inr (
+        c.in-Few.found,
+        found,
+        λ none.
+            let empty : told.len ≡ 0 = told.ok.0 ∙ ap length none in
+            absurd (true≢false (sym (eq-eqb told.len 0 empty) ∙ sym c.is_empty.ensures ∙ c.if-is_empty.false)),
+      ),
+    )

@@ -1,0 +1,4 @@
+pub mod CountedFindings
+pub mod FullSets
+pub mod Looking
+pub mod SetVariants

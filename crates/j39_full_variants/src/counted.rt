@@ -1,0 +1,147 @@
+//! What is found of full variants that counts what is there.
+ghost use Rattle.std.specs.Prelude.{◌≡◌, ◌++◌, List, IfOk, OnOk, map, not};
+ghost use Rattle.j39_line_findings.specs.Best.{AreBest};
+ghost use Rattle.j39_line_findings.specs.Conditions.{goes_by_conditions};
+ghost use Rattle.j39_line_findings.specs.LineFound.{AreVariantFindings};
+ghost use Rattle.j39_line_findings.specs.declared.line_finding.LineFinding.{LineFinding as LineFindings};
+ghost use Rattle.j39_line_findings.specs.declared.witnessed.Witnessed.{Witnessed as Witnesses};
+ghost use Rattle.j39_full_variants.specs.CountedFindings.{AreCountedFindings, AreCountedIn, counted_of, is_looked_for, takes_full_for, takes_full_of_need};
+ghost use Rattle.j39_full_variants.specs.SetVariants.{AreEarliestFirst, takes_alone};
+
+use crate::set_variants::takes_alone;
+use j39_findings::Finding;
+use j39_line_findings::{
+    FullAlternatives, LineFinding, Witnessed, add, has_end_in_pool, variant_findings,
+};
+use j39_load::LoadFinding;
+use j39_variants::ProductLine;
+use std::alloc::{AllocError, Global};
+
+// Whether a finding counts what is there.
+fn counts_what_is_there(line: &ProductLine, finding: LineFinding) -> bool
+    ensures { result ≡ not (goes_by_conditions line.now finding) }
+{
+    match finding {
+        LineFinding::OfPlan(Finding::TooFewAddresses(_)) => true,
+        LineFinding::OfPlan(Finding::FlowContested(flow)) => has_end_in_pool(line, flow),
+        LineFinding::OfPlan(_) | LineFinding::OfLoad(LoadFinding::NoPeriod(_)) => false,
+        LineFinding::OfLoad(_) => true,
+    }
+}
+
+// Whether a variant takes those alternatives alone that are full for a need.
+fn takes_full_of_need(
+    line: &ProductLine,
+    full: &FullAlternatives,
+    variant: &[usize],
+    need: usize,
+) -> bool
+    ensures { result ≡ takes_full_of_need line.now full.now variant.now need }
+{
+    match full.of_needs.get(need) {
+        Some(set) => line.plan.timing.is_some() && takes_alone(set, variant),
+        None => false,
+    }
+}
+
+// Whether it takes full alternatives alone, by which a finding is looked for.
+fn takes_full_for(
+    line: &ProductLine,
+    full: &FullAlternatives,
+    variant: &[usize],
+    finding: LineFinding,
+) -> bool
+    ensures { result ≡ takes_full_for line.now full.now variant.now finding }
+{
+    match finding {
+        LineFinding::OfLoad(LoadFinding::NeedTooOld(need)) => {
+            takes_full_of_need(line, full, variant, need)
+        }
+        _ => takes_alone(&full.all, variant),
+    }
+}
+
+fn is_looked_for(
+    line: &ProductLine,
+    full: &FullAlternatives,
+    variant: &[usize],
+    finding: LineFinding,
+) -> bool
+    ensures { result ≡ is_looked_for line.now full.now variant.now finding }
+{
+    counts_what_is_there(line, finding) && takes_full_for(line, full, variant, finding)
+}
+
+// Adds what is looked for of what the variant at a place has.
+fn add_counted(
+    told: &mut Vec<Witnessed>,
+    line: &ProductLine,
+    full: &FullAlternatives,
+    place: usize,
+    variant: &[usize],
+    findings: &[LineFinding],
+) -> Result<(), AllocError>
+    ensures { OnOk result ((all : List Witnesses) → AreBest all told.old.items
+        → AreBest (all ++ counted_of line.now full.now place variant.now findings.now) told.new.items) }
+{
+    for finding in findings {
+        if is_looked_for(line, full, variant, *finding) {
+            let new = Witnessed {
+                finding: *finding,
+                variant: place,
+                counted: true,
+            };
+            add(told, new)?;
+        }
+    }
+    Ok(())
+}
+
+// Adds what is looked for in the variant at a place.
+fn add_of_variant(
+    alloc: Global,
+    told: &mut Vec<Witnessed>,
+    line: &ProductLine,
+    full: &FullAlternatives,
+    place: usize,
+    variant: &[usize],
+) -> Result<(), AllocError>
+    ensures { OnOk result ((all : List Witnesses) → AreBest all told.old.items → (findings : List LineFindings) × AreVariantFindings line.now variant.now findings
+        × AreBest (all ++ counted_of line.now full.now place variant.now findings) told.new.items) }
+{
+    let findings = variant_findings(alloc, line, variant)?;
+    add_counted(told, line, full, place, variant, &findings)?;
+    Ok(())
+}
+
+fn find_counted(
+    alloc: Global,
+    line: &ProductLine,
+    full: &FullAlternatives,
+    variants: &[Vec<usize>],
+) -> Result<Vec<Witnessed>, AllocError>
+    ensures { IfOk result (λ told. AreCountedIn line.now full.now (map (λ v. v.items) variants.now) told.items) }
+{
+    let mut told = Vec::new(alloc);
+    for (place, variant) in variants.iter().enumerate() {
+        add_of_variant(alloc, &mut told, line, full, place, variant)?;
+    }
+    Ok(told)
+}
+
+/// What these variants, which stand in order, have that counts what is there: too few addresses, too high a load, late
+/// flows, and flows with an end that is contested at an address to which units move, where a variant takes full
+/// alternatives of the line alone; and needs that are too old, where it takes those alone that are full for the need. Each
+/// once, with the greatest number of addresses or bits, and with the place of the first variant that has it so.
+pub fn counted_findings(
+    alloc: Global,
+    line: &ProductLine,
+    full: &FullAlternatives,
+    variants: &[Vec<usize>],
+) -> Result<Vec<Witnessed>, AllocError>
+    requires { AreEarliestFirst (map (λ v. v.items) variants.now) }
+    ensures { IfOk result (λ told. AreCountedFindings line.now full.now (map (λ v. v.items) variants.now) told.items) }
+{
+    let told = find_counted(alloc, line, full, variants)?;
+    Ok(told)
+}

@@ -1,0 +1,12 @@
+//! The fullest variants of a line of vehicles, and what is found of them that counts what is there.
+#![tactic(auto)]
+
+mod counted;
+mod full_sets;
+mod looking;
+mod set_variants;
+
+pub use counted::counted_findings;
+pub use full_sets::{looked_at, number_of_variants, widest_sets};
+pub use looking::{FullVariants, LOOKED_LIMIT, Looking, look};
+pub use set_variants::{variants_of_set, variants_of_sets};

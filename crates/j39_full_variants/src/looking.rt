@@ -1,0 +1,80 @@
+//! At which full variants of a line is looked.
+ghost use Rattle.std.specs.Prelude.{◌≡◌, IfOk};
+ghost use Rattle.j39_line_findings.specs.declared.full.Nevers.TheVariants.{Kept};
+ghost use Rattle.j39_full_variants.specs.Looking.{IsLooking, IsLookingWith};
+ghost use Rattle.j39_full_variants.specs.declared.looking.Looking.TheVariants.{Many};
+
+use crate::counted::counted_findings;
+use crate::full_sets::{looked_at, number_of_variants, widest_sets};
+use j39_line_findings::{FullAlternatives, Nevers, Witnessed, alternatives_of};
+use j39_variants::ProductLine;
+use std::alloc::{AllocError, Global};
+
+/// So many full variants are looked at.
+pub const LOOKED_LIMIT: u64 = 1024;
+
+/// Full variants that are looked at, and what is found of them that counts what is there.
+#[derive(Drop)]
+pub struct FullVariants {
+    /// The alternatives that they take alone: one that is full for a need takes those for it.
+    pub full: FullAlternatives,
+    /// Each once, in order.
+    pub variants: Vec<Vec<usize>>,
+    /// Each finding by the place of its witness among the variants.
+    pub told: Vec<Witnessed>,
+}
+
+/// Which full variants of a line are looked at.
+#[derive(Drop)]
+pub enum Looking {
+    /// These.
+    Few(FullVariants),
+    /// None: so many are too many, and those of the line without its nevers don't do in their place.
+    Many(u64),
+}
+
+// The full variants of a line, with or without its nevers.
+fn look_with(alloc: Global, line: &ProductLine, nevers: Nevers) -> Result<Looking, AllocError>
+    ensures { IfOk result (IsLookingWith line.now nevers) }
+{
+    let alternatives = alternatives_of(alloc, line)?;
+    let full = FullAlternatives::new(alloc, line, nevers, &alternatives)?;
+    let sets = widest_sets(alloc, line, &full)?;
+    let count = number_of_variants(line, &sets);
+    if LOOKED_LIMIT < count {
+        return Ok(Looking::Many(count));
+    }
+    let variants = looked_at(alloc, line, nevers, &sets)?;
+    let told = counted_findings(alloc, line, &full, &variants)?;
+    Ok(Looking::Few(FullVariants {
+        full,
+        variants,
+        told,
+    }))
+}
+
+// The same of a line that has too many full variants, where those of it without its nevers stand in for them.
+fn look_without_nevers(alloc: Global, line: &ProductLine, count: u64) -> Result<Looking, AllocError>
+    ensures { IfOk result (λ looking. IsLookingWith line.now Kept (Many count) → IsLooking line.now looking) }
+{
+    match look_with(alloc, line, Nevers::LeftOut)? {
+        Looking::Few(found) => {
+            if found.told.is_empty() {
+                return Ok(Looking::Few(found));
+            }
+            Ok(Looking::Many(count))
+        }
+        Looking::Many(_) => Ok(Looking::Many(count)),
+    }
+}
+
+/// The full variants of a line, and what is found of them. Where they are too many, those of the line without its nevers,
+/// where these aren't, and nothing is found of them.
+pub fn look(alloc: Global, line: &ProductLine) -> Result<Looking, AllocError>
+    ensures { IfOk result (IsLooking line.now) }
+{
+    match look_with(alloc, line, Nevers::Kept)? {
+        Looking::Few(found) => Ok(Looking::Few(found)),
+        Looking::Many(count) => look_without_nevers(alloc, line, count),
+    }
+}

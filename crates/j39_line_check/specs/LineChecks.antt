@@ -1,0 +1,94 @@
+-- What is told of a line of vehicles: what some possible variant has, each once, with the variant that is its witness.
+use Rattle.std.specs.Prelude.{◌≡◌, ◌⊎◌, ℕ, ◌≤◌, List, [], ◌∷◌, true, Contains, Option, Some, None}
+use Rattle.j39_findings.specs.declared.checking.finding.Finding.TheVariants.{BadPgn}
+use Rattle.j39_load.specs.declared.findings.load_finding.LoadFinding.TheVariants.{NoPeriod}
+use Rattle.j39_variants.specs.Variants.{IsEarlier}
+use Rattle.j39_variants.specs.declared.line.ProductLine.{ProductLine}
+use Rattle.j39_line_findings.specs.Conditions.{goes_by_conditions}
+use Rattle.j39_line_findings.specs.FullVariants.{AreFullAlternatives}
+use Rattle.j39_line_findings.specs.InFile.{amount_of, is_below, rank_of}
+use Rattle.j39_line_findings.specs.LineAnswers.{IsPossible}
+use Rattle.j39_line_findings.specs.LineFindingLaws.{IsFound}
+use Rattle.j39_line_findings.specs.LineFound.{AreVariantFindings}
+use Rattle.j39_line_findings.specs.Told.{counts_as_witness}
+use Rattle.j39_line_findings.specs.declared.full.FullAlternatives.{FullAlternatives}
+use Rattle.j39_line_findings.specs.declared.line_finding.LineFinding.{LineFinding}
+use Rattle.j39_line_findings.specs.declared.line_finding.LineFinding.TheVariants.{OfPlan, OfLoad}
+use Rattle.j39_line_check.specs.declared.answer.LineAnswer.{LineAnswer}
+use Rattle.j39_line_check.specs.declared.answer.LineAnswer.TheVariants.{NoVariant, Found}
+use Rattle.j39_line_check.specs.declared.answer.LookedAt.{LookedAt}
+use Rattle.j39_line_check.specs.declared.answer.LookedAt.TheVariants.{Full, WithoutNevers, TooMany}
+use Rattle.j39_line_check.specs.declared.answer.ToldFinding.{ToldFinding}
+
+-- ---- what one variant has
+
+-- a possible variant has the finding
+pub record HasIt (line : ProductLine) (variant : List ℕ) (finding : LineFinding) : Type 0 where
+  pub possible : IsPossible line variant
+  pub findings : List LineFinding
+  pub are_findings : AreVariantFindings line variant findings
+  pub one : IsFound findings finding
+
+-- no possible variant has a bad number of a group
+abbrev pub AreNumbersGood : ProductLine → Type 0
+AreNumbersGood line = (variant : List ℕ) (g : ℕ) → ¬ HasIt line variant (OfPlan (BadPgn g))
+
+-- what is found of times is told where the numbers of groups are good
+abbrev pub IsSure : ProductLine → LineFinding → Type 0
+IsSure line (OfPlan finding) = Unit {0}
+IsSure line (OfLoad (NoPeriod f)) = Unit {0}
+IsSure line (OfLoad finding) = AreNumbersGood line
+
+-- ---- witnesses
+
+-- the variant has the finding and counts as its witness, and no earlier one does; of those that are told alike none has a greater number of
+-- addresses or bits
+pub record IsWitnessOf (line : ProductLine) (full : FullAlternatives) (finding : LineFinding) (variant : List ℕ) : Type 0 where
+  pub has : HasIt line variant finding
+  pub counts : counts_as_witness line full variant finding ≡ true
+  pub first : (other : List ℕ) → HasIt line other finding → counts_as_witness line full other finding ≡ true → ¬ IsEarlier other variant
+  pub most : (other : List ℕ) (more : LineFinding) → HasIt line other more → IsSure line more → rank_of more ≡ rank_of finding
+      → amount_of more ≤ amount_of finding
+
+-- ---- all of them
+
+-- each is told before those behind it, by number and then by places
+abbrev pub AreToldInOrder : List ToldFinding → Type 0
+AreToldInOrder [] = Unit {0}
+AreToldInOrder (t ∷ told) = ((u : ToldFinding) → Contains told u → is_below (rank_of t.finding) (rank_of u.finding) ≡ true) × AreToldInOrder told
+
+-- where so many full variants are too many, only findings that go by conditions are told
+abbrev pub IsTold : ProductLine → Option ℕ → LineFinding → Type 0
+IsTold line None finding = Unit {0}
+IsTold line (Some many) finding = goes_by_conditions line finding ≡ true
+
+-- what is told is had by the variant that is told with it, and all that some possible variant has is told
+pub record AreTold (line : ProductLine) (many : Option ℕ) (told : List ToldFinding) : Type 0 where
+  pub full : FullAlternatives
+  pub are_full : AreFullAlternatives line full
+  pub sound : (t : ToldFinding) → Contains told t → IsTold line many t.finding × IsWitnessOf line full t.finding t.variant.items
+  pub complete : (variant : List ℕ) (finding : LineFinding) → HasIt line variant finding → IsSure line finding → IsTold line many finding
+      → (t : ToldFinding) × Contains told t × (rank_of t.finding ≡ rank_of finding)
+  pub in_order : AreToldInOrder told
+
+-- at how many variants would have to be looked, where they are too many
+abbrev pub many_of : LookedAt → Option ℕ
+many_of (Full variants) = None
+many_of (WithoutNevers many) = None
+many_of (TooMany many) = Some many
+
+-- some variant is possible
+abbrev pub SomePossible : ProductLine → Type 0
+SomePossible line = (variant : List ℕ) × IsPossible line variant
+
+-- what is found of a line: that no variant is possible, or this
+abbrev pub IsCheckOf : ProductLine → LineAnswer → Type 0
+IsCheckOf line NoVariant = ¬ SomePossible line
+IsCheckOf line (Found told looked) = SomePossible line × AreTold line (many_of looked) told.items
+
+-- ---- laws
+
+-- where nothing is told, no possible variant has a finding
+abbrev pub NothingToldIsNothingFound : Type 0
+NothingToldIsNothingFound = (line : ProductLine) → AreTold line None [] → (variant : List ℕ) → IsPossible line variant
+    → (findings : List LineFinding) → AreVariantFindings line variant findings → findings ≡ []

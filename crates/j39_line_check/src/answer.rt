@@ -1,0 +1,46 @@
+//! What is told of a line of vehicles.
+ghost use Rattle.std.specs.Prelude.{◌≡◌};
+ghost use Rattle.j39_line_check.specs.LineChecks.{many_of};
+
+use j39_line_findings::LineFinding;
+
+/// A finding, and a possible variant that has it.
+#[derive(Drop)]
+pub struct ToldFinding {
+    pub finding: LineFinding,
+    /// The places of the alternatives that it takes, choice by choice.
+    pub variant: Vec<usize>,
+}
+
+/// At which variants is looked for what counts what is there.
+#[derive(Drop)]
+pub enum LookedAt {
+    /// At the full variants of the line, and at those that are full for a need.
+    Full(Vec<Vec<usize>>),
+    /// The line has so many, but without what isn't built few, of which nothing is found.
+    WithoutNevers(u64),
+    /// So many are too many: what counts what is there isn't told.
+    TooMany(u64),
+}
+
+impl LookedAt {
+    /// How many full variants there are, where they are too many.
+    pub fn many(&self) -> Option<u64>
+        ensures { result ≡ many_of self.now }
+    {
+        match self {
+            LookedAt::TooMany(count) => Some(*count),
+            LookedAt::Full(_) | LookedAt::WithoutNevers(_) => None,
+        }
+    }
+}
+
+/// What is found of a line.
+#[derive(Drop)]
+pub enum LineAnswer {
+    /// No variant is possible.
+    NoVariant,
+    /// What some possible variant has, each once, by number and then by places in the file; and at which variants was
+    /// looked.
+    Found(Vec<ToldFinding>, LookedAt),
+}

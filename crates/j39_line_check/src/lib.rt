@@ -1,0 +1,10 @@
+//! What is found of a line of vehicles: what some possible variant has, with the variant that is its witness.
+#![tactic(auto)]
+
+mod answer;
+mod check;
+mod laws;
+
+pub use answer::{LineAnswer, LookedAt, ToldFinding};
+pub use check::check_line;
+pub use laws::nothing_told_is_nothing_found;

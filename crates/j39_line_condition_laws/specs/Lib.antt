@@ -1,0 +1,4 @@
+pub mod ByAbsenceExactly
+pub mod ByConditions
+pub mod ByPresence
+pub mod BoxedParts

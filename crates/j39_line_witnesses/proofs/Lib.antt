@@ -1,0 +1,7 @@
+pub mod Earlier
+pub mod Listing
+pub mod Meeting
+pub mod Shown
+pub mod Tests
+pub mod Told
+pub mod Within

@@ -1,0 +1,6 @@
+pub mod Candidates
+pub mod FirstMeeting
+pub mod FlowTests
+pub mod PartBoxes
+pub mod Presences
+pub mod WitnessedFindings

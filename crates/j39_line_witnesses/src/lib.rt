@@ -1,0 +1,23 @@
+//! Which possible variant of a line of vehicles is the first that has a finding, where it has it by what is there and
+//! what isn't.
+#![tactic(auto)]
+
+mod asked;
+mod boxes;
+mod conditions;
+mod flow_tests;
+mod found;
+mod known;
+mod lists;
+mod order;
+mod presence;
+mod private_pairs;
+mod witness;
+
+pub use asked::candidates;
+pub use boxes::{list_box, never_holes, parts_box};
+pub use conditions::conditions_of;
+pub use found::{FoundByCondition, found_by_conditions};
+pub use order::is_earlier;
+pub use presence::Presence;
+pub use witness::{first_witness, is_any_variant_possible};

@@ -1,0 +1,7 @@
+use Rattle.j39_variant_search.specs.VariantSearch.{box_flags}
+use Rattle.j39_variant_search.specs.inside.BoxParts.{is_behind}
+use Rattle.j39_variant_search.proofs.Pieces.{IsPartTo}
+use Rattle.j39_variant_search.proofs.parts.part_behind.Given as goal
+
+abbrev pub invariant-loop-choice : goal.invariant-loop-choice
+invariant-loop-choice l = IsPartTo l.choice (is_behind (box_flags l.hole) l.first) (box_flags l.within) (box_flags l.part.items)

@@ -1,0 +1,2 @@
+pub mod VariantSearch
+pub mod inside
