@@ -1,6 +1,5 @@
 -- The full variants of a line without its nevers suffice.
-use Rattle.std.specs.declared.alloc.Global.{Global}
-use Rattle.std.proofs.Common.{◌≡◌, ◌⊎◌, ℕ, Bool, true, false, not, ◌&&◌, ◌||◌, ◌==◌, List, [], Vec, refl, sym, ◌∙◌, ap, inl, inr}
+use Rattle.std.proofs.Common.{◌≡◌, ◌⊎◌, ℕ, Bool, true, false, not, ◌&&◌, ◌||◌, ◌==◌, List, refl, sym, ◌∙◌, ap, inl, inr}
 use Rattle.std.proofs.lemmas.Bool.{cases_Bool, true≢false}
 use Rattle.j39_findings.specs.declared.checking.finding.Finding.{Finding}
 use Rattle.j39_findings.specs.declared.checking.finding.Finding.TheVariants.{SameName, SameFixedAddress, TooFewAddresses, BadPgn, SamePgn, SignalWidth}
@@ -13,32 +12,32 @@ use Rattle.j39_load.specs.declared.findings.load_finding.LoadFinding.TheVariants
 use Rattle.j39_network.specs.declared.plan.Plan.{Plan}
 use Rattle.j39_variants.specs.Variants.{is_possible}
 use Rattle.j39_variants.specs.VariantPlans.{IsVariantPlan}
-use Rattle.j39_variants.specs.declared.line.Alternative.{Alternative}
 use Rattle.j39_variants.specs.declared.line.ProductLine.{ProductLine}
 use Rattle.j39_line_findings.specs.Conditions.{goes_by_conditions}
+use Rattle.j39_line_findings.specs.FullVariants.{line_with}
 use Rattle.j39_line_findings.specs.InFile.{rank_of}
 use Rattle.j39_line_findings.specs.LineAnswers.{IsPossible}
 use Rattle.j39_line_findings.specs.LineFindingLaws.{IsFound}
 use Rattle.j39_line_findings.specs.LineFound.{AreVariantFindings}
 use Rattle.j39_line_findings.specs.There.{IsWhatIsThere}
 use Rattle.j39_line_findings.specs.Told.{has_end_in_pool}
+use Rattle.j39_line_findings.specs.declared.full.Nevers.{Nevers}
+use Rattle.j39_line_findings.specs.declared.full.Nevers.TheVariants.{Kept, LeftOut}
 use Rattle.j39_line_findings.specs.declared.line_finding.LineFinding.{LineFinding}
 use Rattle.j39_line_findings.specs.declared.line_finding.LineFinding.TheVariants.{OfPlan, OfLoad}
 use Rattle.j39_line_findings.specs.declared.rank.Rank.{Rank}
 use Rattle.j39_line_findings.specs.declared.there.WhatIsThere.{WhatIsThere}
 use Rattle.j39_line_part_laws.specs.FoundOfCovering.{IsAbsentOrFound, is_by_absence}
-use Rattle.j39_line_bounds.specs.LineTimes.{AreVariantTimes}
-use Rattle.j39_line_bounds.specs.declared.times.LineTimes.{LineTimes}
 use Rattle.j39_full_variant_laws.specs.OldNeeds.{AsksForAge, HasNoBadNumber}
-use Rattle.j39_full_variant_laws.specs.WithoutNevers.{CountNothingWithoutNevers, CountsNothing, FullWithoutNeversSuffice, NeversChangeNothingBuilt, with_nevers}
+use Rattle.j39_full_variant_laws.specs.WithoutNevers.{CountNothingWith, CountsNothing, FullVariantsCountAll, NeversChangeNothingBuilt}
 use Rattle.j39_full_variant_laws.proofs.FoundOfFull.{have_what_is_found}
 use Rattle.j39_full_variant_laws.proofs.OldNeeds.{old_found}
 
 -- ---- nothing but what is possible goes by what isn't built
 
-module _ (line : ProductLine) (nevers : Vec (Vec Alternative Global) Global) (v : List ℕ) where
+module _ (line : ProductLine) (nevers : Nevers) (v : List ℕ) where
   abbrev others : ProductLine
-  others = with_nevers line nevers
+  others = line_with nevers line
 
   plan_to : (plan : Plan) → IsVariantPlan line v plan → IsVariantPlan others v plan
   plan_to plan is = record {
@@ -106,33 +105,16 @@ module _ (line : ProductLine) (nevers : Vec (Vec Alternative Global) Global) (v 
     are_all = are.are_all;
   }
 
-  times_back : (times : LineTimes) → AreVariantTimes others v times → AreVariantTimes line v times
-  times_back times are = record {
-    there = are.there;
-    is_there = there_back are.there are.is_there;
-    plan = are.plan;
-    is_plan = plan_back are.plan are.is_plan;
-    timing = are.timing;
-    timed = are.timed;
-    stays = are.stays;
-    delays = are.delays;
-    asks = are.asks;
-    flow_count = are.flow_count;
-    flows = are.flows;
-    need_count = are.need_count;
-    needs = are.needs;
-    load = are.load;
-  }
-
-  pub possible_to : nevers.items ≡ [] → IsPossible line v → IsPossible others v
-  possible_to none is = record { is_variant = is.is_variant; possible = ap (λ boxes. is_possible boxes v) none }
+pub possible_to : (line : ProductLine) (nevers : Nevers) (v : List ℕ) → IsPossible line v → IsPossible (line_with nevers line) v
+possible_to line Kept v is = record { is_variant = is.is_variant; possible = is.possible }
+possible_to line LeftOut v is = record { is_variant = is.is_variant; possible = refl }
 
 pub change_nothing : NeversChangeNothingBuilt
 change_nothing line nevers v = record {
   plans = plan_back line nevers v;
+  plans_too = plan_to line nevers v;
   findings = findings_back line nevers v;
-  stay = λ u stays plan place is. stays plan place (plan_to line nevers v plan is);
-  times = times_back line nevers v;
+  findings_too = findings_to line nevers v;
   possible = possible_to line nevers v;
 }
 
@@ -203,10 +185,10 @@ plan_present line (FlowContested f) counts = refl
 
 -- ---- the five
 
-module _ (line : ProductLine) (none : Vec (Vec Alternative Global) Global) (empty : none.items ≡ []) (count : CountNothingWithoutNevers line none) (v : List ℕ)
+module _ (line : ProductLine) (nevers : Nevers) (count : CountNothingWith line nevers) (v : List ℕ)
     (possible : IsPossible line v) (here : List LineFinding) (of_here : AreVariantFindings line v here) where
   abbrev bare : ProductLine
-  bare = with_nevers line none
+  bare = line_with nevers line
 
   -- one with the same number and place isn't found there
   not_there : (finding : LineFinding) (there : List LineFinding)
@@ -218,23 +200,23 @@ module _ (line : ProductLine) (none : Vec (Vec Alternative Global) Global) (empt
 
   plan_goes : (finding : Finding) → IsFound here (OfPlan finding) → goes_by_conditions line (OfPlan finding) ≡ false → goes_by_conditions line (OfPlan finding) ≡ true
   plan_goes finding one counts =
-      let (w, full, covers) = have_what_is_found bare v (possible_to line none v empty possible) here (findings_to line none v here of_here) in
+      let (w, full, covers) = have_what_is_found bare v (possible_to line nevers v possible) here (findings_to line nevers v here of_here) in
       let nothing = count.full w full in
       not_there (OfPlan finding) nothing.findings nothing.none (plan_present line finding counts)
-      ((covers nothing.findings (findings_to line none w nothing.findings nothing.are_findings)).plans finding one)
+      ((covers nothing.findings (findings_to line nevers w nothing.findings nothing.are_findings)).plans finding one)
 
   load_goes : (finding : LoadFinding) → IsFound here (OfLoad finding) → is_by_absence (OfLoad finding) ≡ false → goes_by_conditions line (OfLoad finding) ≡ true
   load_goes finding one present =
-      let (w, full, covers) = have_what_is_found bare v (possible_to line none v empty possible) here (findings_to line none v here of_here) in
+      let (w, full, covers) = have_what_is_found bare v (possible_to line nevers v possible) here (findings_to line nevers v here of_here) in
       let nothing = count.full w full in
       not_there (OfLoad finding) nothing.findings nothing.none present
-      ((covers nothing.findings (findings_to line none w nothing.findings nothing.are_findings)).loads nothing.good finding one)
+      ((covers nothing.findings (findings_to line nevers w nothing.findings nothing.are_findings)).loads nothing.good finding one)
 
   age_goes : (d : ℕ) → IsFound here (OfLoad (NeedTooOld d)) → goes_by_conditions line (OfLoad (NeedTooOld d)) ≡ true
   age_goes d one =
-      let (ages, (w, full, covers)) = old_found bare v (possible_to line none v empty possible) here (findings_to line none v here of_here) d one in
+      let (ages, (w, full, covers)) = old_found bare v (possible_to line nevers v possible) here (findings_to line nevers v here of_here) d one in
       let young = count.of_needs d ages w full in
-      absurd (young.none (covers young.findings (findings_to line none w young.findings young.are_findings) young.good))
+      absurd (young.none (covers young.findings (findings_to line nevers w young.findings young.are_findings) young.good))
 
   goes : (finding : LineFinding) → IsFound here finding → goes_by_conditions line finding ≡ true
   goes (OfPlan finding) one = elim (cases_Bool (goes_by_conditions line (OfPlan finding))) [
@@ -246,5 +228,5 @@ module _ (line : ProductLine) (none : Vec (Vec Alternative Global) Global) (empt
   goes (OfLoad (LateFlow f)) one = load_goes (LateFlow f) one refl
   goes (OfLoad (NeedTooOld d)) one = age_goes d one
 
-pub suffice_without_nevers : (line : ProductLine) → FullWithoutNeversSuffice line
-suffice_without_nevers line none empty count v possible here of_here finding one = goes line none empty count v possible here of_here finding one
+pub count_all : (line : ProductLine) (nevers : Nevers) → FullVariantsCountAll line nevers
+count_all line nevers count v possible here of_here finding one = goes line nevers count v possible here of_here finding one

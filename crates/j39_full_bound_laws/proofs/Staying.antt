@@ -18,7 +18,7 @@ use Rattle.j39_part_laws.proofs.Staying.{stay_there}
 use Rattle.j39_line_part_laws.specs.Covering.{IsCoveredBy}
 use Rattle.j39_line_part_laws.proofs.Parts.{at, is_part_at, unit_place, units_there}
 use Rattle.j39_full_variant_laws.specs.FoundOfFull.{IsPossibleFull}
-use Rattle.j39_full_variant_laws.specs.StayingOfFull.{FullVariantsTellWhoStays, HavePlans}
+use Rattle.j39_full_bound_laws.specs.StayingOfFull.{FullVariantsTellWhoStays, HavePlans}
 use Rattle.j39_full_variant_laws.proofs.FoundOfFull.{full_cover}
 
 module _ (line : ProductLine) (plans : HavePlans line) where
