@@ -1,1 +1,4 @@
+mod Badness
+mod FilePlaces
+mod FlowTimes
 mod Staying
