@@ -3,4 +3,7 @@
 
 mod laws;
 
-pub use laws::full_variants_tell_who_stays;
+pub use laws::{
+    flows_of_full_variants_bound_all, full_variants_tell_of_units, full_variants_tell_who_stays,
+    needs_of_full_variants_bound_all,
+};

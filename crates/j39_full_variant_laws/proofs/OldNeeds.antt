@@ -117,7 +117,7 @@ module _ (line : ProductLine) (v : List ℕ) (here : List LineFinding) (of_here 
 
 -- ---- of a possible variant, and of the one that is full for the need
 
-source_too : (line : ProductLine) (v w : List ℕ) → IsCoveredBy line v w → (d : ℕ) → is_source_there line v d ≡ true → is_source_there line w d ≡ true
+pub source_too : (line : ProductLine) (v w : List ℕ) → IsCoveredBy line v w → (d : ℕ) → is_source_there line v d ≡ true → is_source_there line w d ≡ true
 source_too line v w covered d there = go (slice_get line.plan.needs.items d) there
   where
     sender : (o : Option ℕ) → is_sender_there line v o ≡ true → is_sender_there line w o ≡ true

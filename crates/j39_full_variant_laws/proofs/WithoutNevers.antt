@@ -39,7 +39,7 @@ module _ (line : ProductLine) (nevers : Nevers) (v : List ℕ) where
   abbrev others : ProductLine
   others = line_with nevers line
 
-  plan_to : (plan : Plan) → IsVariantPlan line v plan → IsVariantPlan others v plan
+  pub plan_to : (plan : Plan) → IsVariantPlan line v plan → IsVariantPlan others v plan
   plan_to plan is = record {
     has_keep_free = is.has_keep_free;
     has_strangers = is.has_strangers;
@@ -52,7 +52,7 @@ module _ (line : ProductLine) (nevers : Nevers) (v : List ℕ) where
     has_requests = is.has_requests;
   }
 
-  plan_back : (plan : Plan) → IsVariantPlan others v plan → IsVariantPlan line v plan
+  pub plan_back : (plan : Plan) → IsVariantPlan others v plan → IsVariantPlan line v plan
   plan_back plan is = record {
     has_keep_free = is.has_keep_free;
     has_strangers = is.has_strangers;
@@ -65,7 +65,7 @@ module _ (line : ProductLine) (nevers : Nevers) (v : List ℕ) where
     has_requests = is.has_requests;
   }
 
-  there_to : (there : WhatIsThere) → IsWhatIsThere line v there → IsWhatIsThere others v there
+  pub there_to : (there : WhatIsThere) → IsWhatIsThere line v there → IsWhatIsThere others v there
   there_to there is = record {
     has_units = is.has_units;
     has_groups = is.has_groups;
