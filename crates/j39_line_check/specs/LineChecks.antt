@@ -14,7 +14,7 @@ use Rattle.j39_line_findings.specs.declared.full.FullAlternatives.{FullAlternati
 use Rattle.j39_line_findings.specs.declared.line_finding.LineFinding.{LineFinding}
 use Rattle.j39_line_findings.specs.declared.line_finding.LineFinding.TheVariants.{OfPlan, OfLoad}
 use Rattle.j39_full_variants.specs.CountedFindings.{takes_full_for}
-use Rattle.j39_full_variants.specs.Looking.{IsLooking}
+use Rattle.j39_full_variants.specs.LookedVariants.{IsLooking}
 use Rattle.j39_full_variants.specs.declared.looking.FullVariants.{FullVariants}
 use Rattle.j39_full_variants.specs.declared.looking.Looking.TheVariants.{Few, Many}
 use Rattle.j39_line_check.specs.declared.answer.LineAnswer.{LineAnswer}
