@@ -20,8 +20,8 @@ use Rattle.j39_line_findings.specs.LineFindingLaws.{IsFound}
 use Rattle.j39_line_findings.specs.LineFound.{AreVariantFindings}
 use Rattle.j39_line_findings.specs.There.{IsWhatIsThere}
 use Rattle.j39_line_findings.specs.Told.{has_end_in_pool}
-use Rattle.j39_line_findings.specs.declared.full.Nevers.{Nevers}
-use Rattle.j39_line_findings.specs.declared.full.Nevers.TheVariants.{Kept, LeftOut}
+use Rattle.j39_line_findings.specs.declared.full.LineNevers.{LineNevers}
+use Rattle.j39_line_findings.specs.declared.full.LineNevers.TheVariants.{Kept, LeftOut}
 use Rattle.j39_line_findings.specs.declared.line_finding.LineFinding.{LineFinding}
 use Rattle.j39_line_findings.specs.declared.line_finding.LineFinding.TheVariants.{OfPlan, OfLoad}
 use Rattle.j39_line_findings.specs.declared.rank.Rank.{Rank}
@@ -33,7 +33,7 @@ use Rattle.j39_full_variant_laws.proofs.OldNeeds.{old_found}
 
 -- ---- nothing but what is possible goes by what isn't built
 
-module _ (line : ProductLine) (nevers : Nevers) (v : List ℕ) where
+module _ (line : ProductLine) (nevers : LineNevers) (v : List ℕ) where
   abbrev others : ProductLine
   others = line_with nevers line
 
@@ -103,7 +103,7 @@ module _ (line : ProductLine) (nevers : Nevers) (v : List ℕ) where
     are_all = are.are_all;
   }
 
-pub possible_to : (line : ProductLine) (nevers : Nevers) (v : List ℕ) → IsPossible line v → IsPossible (line_with nevers line) v
+pub possible_to : (line : ProductLine) (nevers : LineNevers) (v : List ℕ) → IsPossible line v → IsPossible (line_with nevers line) v
 possible_to line Kept v is = record { is_variant = is.is_variant; possible = is.possible }
 possible_to line LeftOut v is = record { is_variant = is.is_variant; possible = refl }
 
@@ -183,7 +183,7 @@ plan_present line (FlowContested f) counts = refl
 
 -- ---- the five
 
-module _ (line : ProductLine) (nevers : Nevers) (count : CountNothingWith line nevers) (v : List ℕ)
+module _ (line : ProductLine) (nevers : LineNevers) (count : CountNothingWith line nevers) (v : List ℕ)
     (possible : IsPossible line v) (here : List LineFinding) (of_here : AreVariantFindings line v here) where
   abbrev bare : ProductLine
   bare = line_with nevers line
@@ -226,5 +226,5 @@ module _ (line : ProductLine) (nevers : Nevers) (count : CountNothingWith line n
   goes (OfLoad (LateFlow f)) one = load_goes (LateFlow f) one refl
   goes (OfLoad (NeedTooOld d)) one = age_goes d one
 
-pub count_all : (line : ProductLine) (nevers : Nevers) → FullVariantsCountAll line nevers
+pub count_all : (line : ProductLine) (nevers : LineNevers) → FullVariantsCountAll line nevers
 count_all line nevers count v possible here of_here finding one = goes line nevers count v possible here of_here finding one

@@ -1,4 +1,5 @@
 pub mod CountedFindings
 pub mod FullSets
-pub mod Looking
+pub mod LookedVariants
+pub mod SetVariantLaws
 pub mod SetVariants

@@ -15,10 +15,9 @@ pub struct ToldFinding {
 /// At which variants is looked for what counts what is there.
 #[derive(Drop)]
 pub enum LookedAt {
-    /// At the full variants of the line, and at those that are full for a need.
+    /// At the full variants of the line, and at those that are full for a need; or at those of the line without what isn't
+    /// built, where the line has too many, and nothing is found of these.
     Full(Vec<Vec<usize>>),
-    /// The line has so many, but without what isn't built few, of which nothing is found.
-    WithoutNevers(u64),
     /// So many are too many: what counts what is there isn't told.
     TooMany(u64),
 }
@@ -30,7 +29,7 @@ impl LookedAt {
     {
         match self {
             LookedAt::TooMany(count) => Some(*count),
-            LookedAt::Full(_) | LookedAt::WithoutNevers(_) => None,
+            LookedAt::Full(_) => None,
         }
     }
 }

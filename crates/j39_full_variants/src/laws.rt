@@ -1,0 +1,15 @@
+//! Laws of full variants.
+ghost use Rattle.j39_variants.specs.declared.line.ProductLine.{ProductLine};
+ghost use Rattle.j39_line_findings.specs.declared.full.FullAlternatives.{FullAlternatives};
+ghost use Rattle.j39_full_variants.specs.SetVariantLaws.{HasOneNumber, VariantsAreOfSets};
+
+/// A variant takes alternatives of a set alone where each that it takes is in the set, or where it is in the box of the
+/// set, and this names some of each choice.
+pub fn variants_are_of_sets()
+    ensures { VariantsAreOfSets }
+{}
+
+/// A line has one number of full variants.
+pub fn number_of_variants_is_one()
+    ensures { (line : ProductLine) (full : FullAlternatives) → HasOneNumber line full }
+{}
