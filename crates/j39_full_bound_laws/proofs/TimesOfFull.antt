@@ -1,12 +1,9 @@
 -- What bounds full variants bounds all possible ones.
-use Rattle.std.proofs.Common.{◌≡◌, ℕ, ◌<◌, ◌≤◌, true, false, List, length, Some, refl, sym, ◌∙◌, ap, inl, inr, arith}
-use Rattle.std.specs.List.{slice_get}
+use Rattle.std.proofs.Common.{ℕ, List, ◌∙◌, ap, inl, inr, arith}
 use Rattle.std.proofs.lemmas.Bool.{cases_Bool}
 use Rattle.j39_variants.specs.declared.line.ProductLine.{ProductLine}
 use Rattle.j39_line_findings.specs.FullVariants.{line_with}
-use Rattle.j39_line_findings.specs.LineAnswers.{IsPossible}
 use Rattle.j39_line_findings.specs.MissedNeeds.{is_need_asked_for}
-use Rattle.j39_line_findings.specs.There.{IsWhatIsThere}
 use Rattle.j39_line_findings.specs.declared.full.LineNevers.{LineNevers}
 use Rattle.j39_part_laws.proofs.Places.{value_at}
 use Rattle.j39_line_bounds.specs.LineTimes.{AreVariantTimes, flow_badness, is_less_bad, need_badness, time_of_flow, time_of_need}

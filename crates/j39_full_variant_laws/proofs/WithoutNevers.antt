@@ -1,5 +1,5 @@
 -- The full variants of a line without its nevers suffice.
-use Rattle.std.proofs.Common.{◌≡◌, ◌⊎◌, ℕ, Bool, true, false, not, ◌&&◌, ◌||◌, ◌==◌, List, refl, sym, ◌∙◌, ap, inl, inr}
+use Rattle.std.proofs.Common.{◌≡◌, ℕ, Bool, true, false, not, ◌&&◌, ◌||◌, ◌==◌, List, refl, sym, ◌∙◌, ap, inl, inr}
 use Rattle.std.proofs.lemmas.Bool.{cases_Bool, true≢false}
 use Rattle.j39_findings.specs.declared.checking.finding.Finding.{Finding}
 use Rattle.j39_findings.specs.declared.checking.finding.Finding.TheVariants.{SameName, SameFixedAddress, TooFewAddresses, BadPgn, SamePgn, SignalWidth}
@@ -10,7 +10,6 @@ use Rattle.j39_findings.specs.declared.checking.finding.Finding.TheVariants.{Sil
 use Rattle.j39_load.specs.declared.findings.load_finding.LoadFinding.{LoadFinding}
 use Rattle.j39_load.specs.declared.findings.load_finding.LoadFinding.TheVariants.{NoPeriod, Overload, LateFlow, NeedTooOld}
 use Rattle.j39_network.specs.declared.plan.Plan.{Plan}
-use Rattle.j39_variants.specs.Variants.{is_possible}
 use Rattle.j39_variants.specs.VariantPlans.{IsVariantPlan}
 use Rattle.j39_variants.specs.declared.line.ProductLine.{ProductLine}
 use Rattle.j39_line_findings.specs.Conditions.{goes_by_conditions}
@@ -28,8 +27,7 @@ use Rattle.j39_line_findings.specs.declared.line_finding.LineFinding.TheVariants
 use Rattle.j39_line_findings.specs.declared.rank.Rank.{Rank}
 use Rattle.j39_line_findings.specs.declared.there.WhatIsThere.{WhatIsThere}
 use Rattle.j39_line_part_laws.specs.FoundOfCovering.{IsAbsentOrFound, is_by_absence}
-use Rattle.j39_full_variant_laws.specs.OldNeeds.{AsksForAge, HasNoBadNumber}
-use Rattle.j39_full_variant_laws.specs.WithoutNevers.{CountNothingWith, CountsNothing, FullVariantsCountAll, NeversChangeNothingBuilt}
+use Rattle.j39_full_variant_laws.specs.WithoutNevers.{CountNothingWith, FullVariantsCountAll, NeversChangeNothingBuilt}
 use Rattle.j39_full_variant_laws.proofs.FoundOfFull.{have_what_is_found}
 use Rattle.j39_full_variant_laws.proofs.OldNeeds.{old_found}
 

@@ -37,7 +37,7 @@ pub record CountsNothing (line : ProductLine) (variant : List ℕ) : Type 0 wher
   pub none : (finding : LineFinding) → IsFound findings finding → is_by_absence finding ≡ false → goes_by_conditions line finding ≡ true
 
 -- nor that the need is too old
-pub record IsYoung (line : ProductLine) (variant : List ℕ) (d : ℕ) : Type 0 where
+pub record IsYoungHere (line : ProductLine) (variant : List ℕ) (d : ℕ) : Type 0 where
   pub findings : List LineFinding
   pub are_findings : AreVariantFindings line variant findings
   pub good : HasNoBadNumber findings
@@ -47,7 +47,7 @@ pub record IsYoung (line : ProductLine) (variant : List ℕ) (d : ℕ) : Type 0 
 -- nothing is found of any possible variant that counts what is there
 pub record CountNothingWith (line : ProductLine) (nevers : LineNevers) : Type 0 where
   pub full : (w : List ℕ) → IsPossibleFull (line_with nevers line) w → CountsNothing line w
-  pub of_needs : (d : ℕ) → AsksForAge line d → (w : List ℕ) → IsPossibleFullFor (line_with nevers line) d w → IsYoung line w d
+  pub of_needs : (d : ℕ) → AsksForAge line d → (w : List ℕ) → IsPossibleFullFor (line_with nevers line) d w → IsYoungHere line w d
 
 abbrev pub FullVariantsCountAll : ProductLine → LineNevers → Type 0
 FullVariantsCountAll line nevers = CountNothingWith line nevers → (v : List ℕ) → IsPossible line v → (here : List LineFinding)
