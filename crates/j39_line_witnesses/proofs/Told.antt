@@ -45,7 +45,7 @@ sound_of line (f ∷ findings) told are one at = elim are [
         let finding : f ≡ one.finding = sym here.finding_is ∙ ap (λ (w : FoundByCondition). w.finding) same in (
           inl finding,
           subst (λ g. IsFirstMeeting line (conditions_of line g) one.witness.items) finding
-          (subst (λ (w : FoundByCondition). IsFirstMeeting line (conditions_of line f) w.witness.items) same here.witness_is),
+              (subst (λ (w : FoundByCondition). IsFirstMeeting line (conditions_of line f) w.witness.items) same here.witness_is),
         )
     | inr behind ↦ let more = sound_of line findings others rest one behind in (inr more.0, more.1)
   ]
