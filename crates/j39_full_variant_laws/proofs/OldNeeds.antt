@@ -117,7 +117,7 @@ module _ (line : ProductLine) (v : List ℕ) (here : List LineFinding) (of_here 
 
 -- ---- of a possible variant, and of the one that is full for the need
 
-source_too : (line : ProductLine) (v w : List ℕ) → IsCoveredBy line v w → (d : ℕ) → is_source_there line v d ≡ true → is_source_there line w d ≡ true
+pub source_too : (line : ProductLine) (v w : List ℕ) → IsCoveredBy line v w → (d : ℕ) → is_source_there line v d ≡ true → is_source_there line w d ≡ true
 source_too line v w covered d there = go (slice_get line.plan.needs.items d) there
   where
     sender : (o : Option ℕ) → is_sender_there line v o ≡ true → is_sender_there line w o ≡ true
@@ -151,16 +151,20 @@ module _ (line : ProductLine) (v : List ℕ) (possible : IsPossible line v) (her
       let w = full.variant in
       let by = covered_by line d v w full.covered in (
         (its.need, at_d, ap is_some (sym parts.within) ∙ ages),
-        (w, full.full, λ there of_there none.
-            let also = need_in_plan line w of_there.there of_there.is_there of_there.plan of_there.is_plan d its.need at_d full.full.asked
-            (source_too line v w by d source) in
-            let those = need_of its.need (place_at (unit_places line w) its.need.unit) (place_at (group_places line w) its.need.group)
-            (moved_from (unit_places line w) its.need.from) also.value also.made in
-            let old = old_there line v w possible.is_variant full.full.possible.is_variant d full.covered full.full.asked of_here.there of_there.there of_here.is_there
-            of_there.is_there of_here.plan of_there.plan of_here.is_plan of_there.is_plan its.need at_d e also.value its.made also.made
-            (good_numbers line w there of_there none) k also.k at_e also.at (those.within ∙ sym parts.within) of_here.others of_there.others among
-            of_here.are_others of_there.are_others in
-            told_at_place w there of_there also.k d also.place old),
+        (
+          w,
+          full.full,
+          λ there of_there none.
+              let also = need_in_plan line w of_there.there of_there.is_there of_there.plan of_there.is_plan d its.need at_d full.full.asked
+              (source_too line v w by d source) in
+              let those = need_of its.need (place_at (unit_places line w) its.need.unit) (place_at (group_places line w) its.need.group)
+              (moved_from (unit_places line w) its.need.from) also.value also.made in
+              let old = old_there line v w possible.is_variant full.full.possible.is_variant d full.covered full.full.asked of_here.there of_there.there of_here.is_there
+              of_there.is_there of_here.plan of_there.plan of_here.is_plan of_there.is_plan its.need at_d e also.value its.made also.made
+              (good_numbers line w there of_there none) k also.k at_e also.at (those.within ∙ sym parts.within) of_here.others of_there.others among
+              of_here.are_others of_there.are_others in
+              told_at_place w there of_there also.k d also.place old,
+        ),
       )
 
 pub old_found : (line : ProductLine) → OldNeedsAreFoundOfFull line

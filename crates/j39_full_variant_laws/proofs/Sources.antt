@@ -153,12 +153,12 @@ module _ (line : ProductLine) (v w : List ℕ) (is_v : IsVariant line.choices.it
   pub meets_back : (f : ℕ) → MeetsIn line w need f → MeetsIn line v need f
   meets_back f its = elim (cases_Bool its.flow.on_request) [
     | inr by_itself ↦ record {
-        flow = its.flow;
-        flow_is = its.flow_is;
-        brings = its.brings;
-        there = sent_here f its.flow its.flow_is its.brings its.there by_itself;
-        asked = λ only. absurd (false≢true (sym by_itself ∙ only));
-      }
+      flow = its.flow;
+      flow_is = its.flow_is;
+      brings = its.brings;
+      there = sent_here f its.flow its.flow_is its.brings its.there by_itself;
+      asked = λ only. absurd (false≢true (sym by_itself ∙ only));
+    }
     | inl only ↦
         let answer = its.asked only in
         record {

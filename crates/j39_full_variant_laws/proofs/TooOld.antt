@@ -129,7 +129,7 @@ old_need plan others are k found = go plan.timing are
 
 -- ---- in both variants
 
-some_of : {X : Type 0} (test : X → Bool) (xs : List X) → not (not (list_any test xs)) ≡ true → list_any test xs ≡ true
+pub some_of : {X : Type 0} (test : X → Bool) (xs : List X) → not (not (list_any test xs)) ≡ true → list_any test xs ≡ true
 some_of test xs some = go (list_any test xs) some
   where
     go : (b : Bool) → not (not b) ≡ true → b ≡ true

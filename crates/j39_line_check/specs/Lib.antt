@@ -1,1 +1,2 @@
 pub mod LineChecks
+pub mod inside

@@ -1,5 +1,5 @@
 -- What is told of a line of vehicles: what some possible variant has, each once, with the variant that is its witness.
-use Rattle.std.specs.Prelude.{◌≡◌, ◌⊎◌, ℕ, ◌≤◌, List, [], ◌∷◌, true, Contains, Option, Some, None}
+use Rattle.std.specs.Prelude.{◌≡◌, ◌⊎◌, ℕ, ◌≤◌, ◌||◌, Bool, List, [], ◌∷◌, true, Contains, Option, Some, None}
 use Rattle.j39_findings.specs.declared.checking.finding.Finding.TheVariants.{BadPgn}
 use Rattle.j39_load.specs.declared.findings.load_finding.LoadFinding.TheVariants.{NoPeriod}
 use Rattle.j39_variants.specs.Variants.{IsEarlier}
@@ -10,10 +10,13 @@ use Rattle.j39_line_findings.specs.InFile.{amount_of, is_below, rank_of}
 use Rattle.j39_line_findings.specs.LineAnswers.{IsPossible}
 use Rattle.j39_line_findings.specs.LineFindingLaws.{IsFound}
 use Rattle.j39_line_findings.specs.LineFound.{AreVariantFindings}
-use Rattle.j39_line_findings.specs.Told.{counts_as_witness}
 use Rattle.j39_line_findings.specs.declared.full.FullAlternatives.{FullAlternatives}
 use Rattle.j39_line_findings.specs.declared.line_finding.LineFinding.{LineFinding}
 use Rattle.j39_line_findings.specs.declared.line_finding.LineFinding.TheVariants.{OfPlan, OfLoad}
+use Rattle.j39_full_variants.specs.CountedFindings.{takes_full_for}
+use Rattle.j39_full_variants.specs.Looking.{IsLooking}
+use Rattle.j39_full_variants.specs.declared.looking.FullVariants.{FullVariants}
+use Rattle.j39_full_variants.specs.declared.looking.Looking.TheVariants.{Few, Many}
 use Rattle.j39_line_check.specs.declared.answer.LineAnswer.{LineAnswer}
 use Rattle.j39_line_check.specs.declared.answer.LineAnswer.TheVariants.{NoVariant, Found}
 use Rattle.j39_line_check.specs.declared.answer.LookedAt.{LookedAt}
@@ -22,12 +25,17 @@ use Rattle.j39_line_check.specs.declared.answer.ToldFinding.{ToldFinding}
 
 -- ---- what one variant has
 
--- a possible variant has the finding
+-- a possible variant has the finding: it is one of all its findings, which are these
 pub record HasIt (line : ProductLine) (variant : List ℕ) (finding : LineFinding) : Type 0 where
   pub possible : IsPossible line variant
   pub findings : List LineFinding
   pub are_findings : AreVariantFindings line variant findings
   pub one : IsFound findings finding
+
+-- or it is one of them, whatever these are
+pub record HasAtAnyRate (line : ProductLine) (variant : List ℕ) (finding : LineFinding) : Type 0 where
+  pub possible : IsPossible line variant
+  pub one : (findings : List LineFinding) → AreVariantFindings line variant findings → IsFound findings finding
 
 -- no possible variant has a bad number of a group
 abbrev pub AreNumbersGood : ProductLine → Type 0
@@ -41,12 +49,17 @@ IsSure line (OfLoad finding) = AreNumbersGood line
 
 -- ---- witnesses
 
+-- a variant counts as the witness of a finding that goes by conditions; of another one, where it takes full alternatives alone
+abbrev pub counts_for : ProductLine → FullAlternatives → List ℕ → LineFinding → Bool
+counts_for line full variant finding = goes_by_conditions line finding || takes_full_for line full variant finding
+
 -- the variant has the finding and counts as its witness, and no earlier one does; of those that are told alike none has a greater number of
 -- addresses or bits
-pub record IsWitnessOf (line : ProductLine) (full : FullAlternatives) (finding : LineFinding) (variant : List ℕ) : Type 0 where
-  pub has : HasIt line variant finding
-  pub counts : counts_as_witness line full variant finding ≡ true
-  pub first : (other : List ℕ) → HasIt line other finding → counts_as_witness line full other finding ≡ true → ¬ IsEarlier other variant
+pub record IsWitnessFor (line : ProductLine) (full : FullAlternatives) (finding : LineFinding) (variant : List ℕ) : Type 0 where
+  pub has : HasAtAnyRate line variant finding ⊎ HasIt line variant finding
+  pub counts : counts_for line full variant finding ≡ true
+  pub first : (other : List ℕ) → HasIt line other finding → HasAtAnyRate line other finding → counts_for line full other finding ≡ true
+      → ¬ IsEarlier other variant
   pub most : (other : List ℕ) (more : LineFinding) → HasIt line other more → IsSure line more → rank_of more ≡ rank_of finding
       → amount_of more ≤ amount_of finding
 
@@ -66,7 +79,7 @@ IsTold line (Some many) finding = goes_by_conditions line finding ≡ true
 pub record AreTold (line : ProductLine) (many : Option ℕ) (told : List ToldFinding) : Type 0 where
   pub full : FullAlternatives
   pub are_full : AreFullAlternatives line full
-  pub sound : (t : ToldFinding) → Contains told t → IsTold line many t.finding × IsWitnessOf line full t.finding t.variant.items
+  pub sound : (t : ToldFinding) → Contains told t → IsTold line many t.finding × IsWitnessFor line full t.finding t.variant.items
   pub complete : (variant : List ℕ) (finding : LineFinding) → HasIt line variant finding → IsSure line finding → IsTold line many finding
       → (t : ToldFinding) × Contains told t × (rank_of t.finding ≡ rank_of finding)
   pub in_order : AreToldInOrder told
@@ -76,6 +89,11 @@ abbrev pub many_of : LookedAt → Option ℕ
 many_of (Full variants) = None
 many_of (TooMany many) = Some many
 
+-- these are the variants at which is looked, or so many are too many
+abbrev pub AreLookedFor : ProductLine → LookedAt → Type 0
+AreLookedFor line (Full variants) = (x : FullVariants) × IsLooking line (Few x) × (x.variants ≡ variants)
+AreLookedFor line (TooMany many) = IsLooking line (Many many)
+
 -- some variant is possible
 abbrev pub SomePossible : ProductLine → Type 0
 SomePossible line = (variant : List ℕ) × IsPossible line variant
@@ -83,7 +101,7 @@ SomePossible line = (variant : List ℕ) × IsPossible line variant
 -- what is found of a line: that no variant is possible, or this
 abbrev pub IsCheckOf : ProductLine → LineAnswer → Type 0
 IsCheckOf line NoVariant = ¬ SomePossible line
-IsCheckOf line (Found told looked) = SomePossible line × AreTold line (many_of looked) told.items
+IsCheckOf line (Found told looked) = SomePossible line × AreLookedFor line looked × AreTold line (many_of looked) told.items
 
 -- ---- laws
 

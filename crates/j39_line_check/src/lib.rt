@@ -3,6 +3,7 @@
 
 mod answer;
 mod check;
+mod inserting;
 mod laws;
 
 pub use answer::{LineAnswer, LookedAt, ToldFinding};

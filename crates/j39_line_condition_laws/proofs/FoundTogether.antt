@@ -203,10 +203,12 @@ module _ (line : ProductLine) (v : List ℕ) (findings : List LineFinding) (has 
   request_here make r its = subst (λ a. Is (make a)) (request_is its.i its.value its.value_is ∙ its.place_is)
 
   -- what stands in the file at the places of the part
-  there_at : (make : ℕ → Finding) (place : ℕ → ℕ) {X : Type 0} (xs : List X) (k : ℕ) (its : HasPlace place xs k) → Holds line.plan (make k) → Holds line.plan (make (place its.i))
+  there_at : (make : ℕ → Finding) (place : ℕ → ℕ) {X : Type 0} (xs : List X) (k : ℕ) (its : HasPlace place xs k) → Holds line.plan (make k)
+      → Holds line.plan (make (place its.i))
   there_at make place xs k its = subst (λ a. Holds line.plan (make a)) (sym its.place_is)
 
-  unit_back_at : (make : ℕ → Finding) → ((i : ℕ) (x : UnitPlan) → slice_get plan.units.items i ≡ Some x → Holds line.plan (make (p.unit i)) → Is (make (place_in_file these.units.items i)))
+  unit_back_at : (make : ℕ → Finding) → ((i : ℕ) (x : UnitPlan) → slice_get plan.units.items i ≡ Some x → Holds line.plan (make (p.unit i))
+      → Is (make (place_in_file these.units.items i)))
       → (u : ℕ) → Holds line.plan (make u) → meets_any line v (where_together (AUnit u ∷ [])) ≡ true → Is (make u)
   unit_back_at make back u holds met =
       let its = unit_place line v plan has.is_plan u (met_one line v (AUnit u) met) in
@@ -224,13 +226,15 @@ module _ (line : ProductLine) (v : List ℕ) (findings : List LineFinding) (has 
       (back one.i other.i one.value other.value one.value_is other.value_is
       (there_at (make (p.unit one.i)) p.unit plan.units.items w other (there_at (λ a. make a w) p.unit plan.units.items u one holds))))
 
-  group_back_at : (make : ℕ → Finding) → ((i : ℕ) (x : GroupPlan) → slice_get plan.groups.items i ≡ Some x → Holds line.plan (make (p.group i)) → Is (make (place_in_file these.groups.items i)))
+  group_back_at : (make : ℕ → Finding) → ((i : ℕ) (x : GroupPlan) → slice_get plan.groups.items i ≡ Some x → Holds line.plan (make (p.group i))
+      → Is (make (place_in_file these.groups.items i)))
       → (g : ℕ) → Holds line.plan (make g) → meets_any line v (where_together (Group g ∷ [])) ≡ true → Is (make g)
   group_back_at make back g holds met =
       let its = group_place line v plan has.is_plan g (met_one line v (Group g) met) in
       group_here make g its (back its.i its.value its.value_is (there_at make p.group plan.groups.items g its holds))
 
-  flow_back_at : (make : ℕ → Finding) → ((i : ℕ) (x : FlowPlan) → slice_get plan.flows.items i ≡ Some x → Holds line.plan (make (p.flow i)) → Is (make (place_in_file these.flows.items i)))
+  flow_back_at : (make : ℕ → Finding) → ((i : ℕ) (x : FlowPlan) → slice_get plan.flows.items i ≡ Some x → Holds line.plan (make (p.flow i))
+      → Is (make (place_in_file these.flows.items i)))
       → (f : ℕ) → Holds line.plan (make f) → is_flow_there line v f ≡ true → Is (make f)
   flow_back_at make back f holds there =
       let its = flow_place line v plan has.is_plan f there in
@@ -282,7 +286,8 @@ module _ (line : ProductLine) (v : List ℕ) (findings : List LineFinding) (has 
   back (SameName i j) holds met present =
       units_back_at SameName (λ a b x y at_x at_y there. told_here (SameName a b) (units_back p plan line.plan is MayBeOne a b x y at_x at_y there)) i j holds met
   back (SameFixedAddress i j) holds met present =
-      units_back_at SameFixedAddress (λ a b x y at_x at_y there. told_here (SameFixedAddress a b) (units_back p plan line.plan is HaveSameFixedAddress a b x y at_x at_y there)) i j holds met
+      units_back_at SameFixedAddress (λ a b x y at_x at_y there. told_here (SameFixedAddress a b)
+      (units_back p plan line.plan is HaveSameFixedAddress a b x y at_x at_y there)) i j holds met
   back (TooFewAddresses n) holds met present = absurd (false≢true met)
   back (BadPgn g) holds met present =
       group_found BadPgn _ _ (λ x y same. bad_pgn y x same) (λ k there. there) (λ i here. told_here (BadPgn i) here) g holds met

@@ -177,7 +177,8 @@ module _ (at : Places) (part whole : Plan) (is : IsPartAt at part whole) where
         whole.flows.items (at.flow i) → AreSentTogether part.groups.items part.flows.items g h
     sent_found g h v w same also found = (
       i,
-      flow_back i f at_f (λ x. Sends part.groups.items g x × ((q : ℕ) × ValueAt (λ y. (y.sender ≡ x.sender) × Sends part.groups.items h y × DoReceiversMeet g h x y) part.flows.items q))
+      flow_back i f at_f (λ x. Sends part.groups.items g x
+          × ((q : ℕ) × ValueAt (λ y. (y.sender ≡ x.sender) × Sends part.groups.items h y × DoReceiversMeet g h x y) part.flows.items q))
           (λ x. Sends whole.groups.items v x × ValueAt (λ y. (y.sender ≡ x.sender) × Sends whole.groups.items w y × DoReceiversMeet v w x y) whole.flows.items (at.flow j))
           (λ x one (first, second). (
             sends_back i f at_f g v same x one first,

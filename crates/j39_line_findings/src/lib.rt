@@ -22,7 +22,7 @@ pub use laws::line_findings_are_exact;
 pub use line_finding::LineFinding;
 pub use missed_needs::{is_need_asked_for, is_unit_there};
 pub use part::{LinePart, lets_in, names, names_choice, part_lets_in};
-pub use rank::Rank;
+pub use rank::{Rank, is_below};
 pub use there::{WhatIsThere, place_in_file};
 pub use told::{Telling, has_end_in_pool, is_end};
 pub use witnessed::{Witnessed, add};

@@ -20,7 +20,7 @@ fn is_below_places(one: Rank, other: Rank) -> bool
 }
 
 /// Whether a finding of one rank is told before one of the other.
-pub(crate) fn is_below(one: Rank, other: Rank) -> bool
+pub fn is_below(one: Rank, other: Rank) -> bool
     ensures { result ≡ is_below one other }
 {
     one.number < other.number || one.number == other.number && is_below_places(one, other)
