@@ -54,7 +54,7 @@ pub record AreToldAt (line : ProductLine) (looked : LookedAt) (told : List ToldF
 
 -- ---- hidden
 
--- all that is found, and how many full variants there are, where they are too many
+-- all that is found, as check writes it, and how many full variants there are, where they are too many
 pub record IsHiddenLine (asked : Asked) (line : ProductLine) (text : List ℕ) : Type 0 where
   pub looked : LookedAt
   pub told : List ToldFinding
@@ -62,7 +62,7 @@ pub record IsHiddenLine (asked : Asked) (line : ProductLine) (text : List ℕ) :
   pub hidden : is_hidden asked (too_many looked) told ≡ true
   pub text_is : text ≡ findings_of_line_text line (alternatives_of line) (too_many looked) told
 
--- what check writes: that no variant is possible, or all that is found
+-- that no variant is possible, as check writes it, or this
 abbrev pub IsHiddenReport : Asked → ProductLine → List ℕ → Type 0
 IsHiddenReport asked line text = IsImpossibleLine line text ⊎ IsHiddenLine asked line text
 
