@@ -8,7 +8,8 @@ use Rattle.std.proofs.lemmas.Bool.{false≢true, eqb-true}
 use Rattle.std.proofs.lemmas.List.{length-append, length-map}
 use Rattle.j39_variants.specs.VariantPlans.{flag_at}
 use Rattle.j39_variants.specs.Variants.{IsEarlier}
-use Rattle.j39_variant_search.specs.inside.BoxParts.{StartsWith, HasNoneOutside, HasOutside, IsBoxPart, IsNextPlace, IsOutsideNear, NoneBegins, flags_at, hole_at, is_taken_at}
+use Rattle.j39_variant_search.specs.inside.BoxParts.{IsBoxPart, flags_at, hole_at, is_taken_at}
+use Rattle.j39_variant_search.specs.inside.NearHoles.{StartsWith, HasNoneOutside, HasOutside, IsNextPlace, IsOutsideNear, NoneBegins}
 use Rattle.j39_variant_search.specs.VariantSearch.{IsFirstOutside, IsOutsideBoxes, NoneOutside, box_flags, boxes_flags, is_in_box}
 use Rattle.j39_variant_search.proofs.InBoxes.{eqb_same, within_at, within_length}
 use Rattle.j39_variant_search.proofs.Leaving.{AreMet, part_back, to_met, to_near}

@@ -35,6 +35,15 @@ filter_any test kept (x ∷ xs) out = go (kept x) refl (filter_any test kept xs 
   go true is rest = rw is (ap (λ b. test x || b) rest)
   go false is rest = rw (is, out x is) rest
 
+pub filter_none : (test kept : ℕ → Bool) (xs : List ℕ) → list_any test xs ≡ false → list_any test (filter kept xs) ≡ false
+filter_none test kept [] none = none
+filter_none test kept (x ∷ xs) none =
+    let parts = or_parts (test x) (list_any test xs) none in
+    go (kept x) refl parts.0 (filter_none test kept xs parts.1) where
+      go : (b : Bool) → kept x ≡ b → test x ≡ false → list_any test (filter kept xs) ≡ false → list_any test (filter kept (x ∷ xs)) ≡ false
+      go true is here rest = rw (is, here) rest
+      go false is here rest = rw is rest
+
 pub filter_at : (kept : ℕ → Bool) (xs : List ℕ) (k : ℕ) → k < length (filter kept xs) → kept (slice_index (filter kept xs) k) ≡ true
 filter_at kept [] k below = absurd (omega arith)
 filter_at kept (x ∷ xs) k below = go (kept x) refl (λ j less. filter_at kept xs j less) k below where
@@ -111,7 +120,7 @@ within_from (f ∷ within) [] same has = absurd (omega arith)
 within_from (f ∷ within) (p ∷ v) same has =
     both_true (flag_at f p) (is_in_box within v) (has 0 (omega arith)) (within_from within v (omega arith) (λ k below. has (suc k) (omega arith)))
 
-no_flag : (flags : List Bool) (place : ℕ) → list_any (λ flag. flag) flags ≡ false → flag_at flags place ≡ true → ⊥
+pub no_flag : (flags : List Bool) (place : ℕ) → list_any (λ flag. flag) flags ≡ false → flag_at flags place ≡ true → ⊥
 no_flag [] place none here = false≢true here
 no_flag (a ∷ flags) zero none here = false≢true (sym (or_parts a (list_any (λ flag. flag) flags) none).0 ∙ here)
 no_flag (a ∷ flags) (suc place) none here = no_flag flags place (or_parts a (list_any (λ flag. flag) flags) none).1 here

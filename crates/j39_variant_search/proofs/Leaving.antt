@@ -8,11 +8,12 @@ use Rattle.std.proofs.lemmas.Bool.{false≢true, cases_order}
 use Rattle.std.proofs.lemmas.Bool.Decides.{nat_tests}
 use Rattle.std.proofs.lemmas.List.{length-map}
 use Rattle.j39_variants.specs.VariantPlans.{flag_at}
-use Rattle.j39_variant_search.specs.inside.BoxParts.{HasNoneOutside, HasOutside, IsBoxPart, IsOutsideNear, flags_at, has_alternative, hole_at, is_behind, is_empty_box, is_kept, is_left, is_met}
+use Rattle.j39_variant_search.specs.inside.BoxParts.{IsBoxPart, has_alternative, hole_at, is_behind, is_empty_box, is_kept, is_met}
+use Rattle.j39_variant_search.specs.inside.NearHoles.{HasOutside, IsOutsideNear}
 use Rattle.j39_variant_search.specs.VariantSearch.{box_flags, is_in_box}
 use Rattle.j39_variant_search.proofs.Counts.{box_count}
-use Rattle.j39_variant_search.proofs.InBoxes.{any_at, filter_any, filter_at, met_at, met_length, not_left, not_met, some_within, within_at, within_length}
-use Rattle.j39_variant_search.proofs.Pieces.{part_fewer, part_from, part_in}
+use Rattle.j39_variant_search.proofs.InBoxes.{filter_any, filter_at, met_at, not_met, some_within}
+use Rattle.j39_variant_search.proofs.Pieces.{part_fewer, part_in}
 
 -- it takes what the hole has of the choices before, and of this one what the hole hasn't
 pub record Leaves (hole : List (List Bool)) (first : ℕ) (v : List ℕ) : Type 0 where
@@ -27,7 +28,7 @@ leaves_later f hole p v here (first, below, is) = (suc first, omega arith, recor
   earlier (suc k) less = is.before k (omega arith)
 
 -- each variant that isn't in a hole leaves it
-leaves : (hole : List (List Bool)) (v : List ℕ) → length v ≡ length hole → is_in_box hole v ≡ false → (first : ℕ) × (first < length hole) × Leaves hole first v
+pub leaves : (hole : List (List Bool)) (v : List ℕ) → length v ≡ length hole → is_in_box hole v ≡ false → (first : ℕ) × (first < length hole) × Leaves hole first v
 leaves [] [] same out = absurd (false≢true (sym out))
 leaves [] (p ∷ v) same out = absurd (omega arith)
 leaves (f ∷ hole) [] same out = absurd (omega arith)
@@ -37,16 +38,16 @@ leaves (f ∷ hole) (p ∷ v) same out = go (flag_at f p) refl (λ rest. leaves 
   go false here rest = (0, omega arith, record { here = here; before = λ k below. absurd (omega arith) })
   go true here rest = leaves_later f hole p v here (rest (rw here at out))
 
-kept_before : (first k : ℕ) (b : Bool) → k < first → is_kept first k b ≡ b
+pub kept_before : (first k : ℕ) (b : Bool) → k < first → is_kept first k b ≡ b
 kept_before first k b less = grind (arith, nat_tests)
 
 kept_here : (first : ℕ) (b : Bool) → is_kept first first b ≡ not b
 kept_here first b = grind (arith, nat_tests)
 
-kept_behind : (first k : ℕ) (b : Bool) → first < k → is_kept first k b ≡ true
+pub kept_behind : (first k : ℕ) (b : Bool) → first < k → is_kept first k b ≡ true
 kept_behind first k b less = grind (arith, nat_tests)
 
-leaves_kept : (hole : List (List Bool)) (first : ℕ) (v : List ℕ) → Leaves hole first v → (k : ℕ) → is_behind hole first k (slice_index v k) ≡ true
+pub leaves_kept : (hole : List (List Bool)) (first : ℕ) (v : List ℕ) → Leaves hole first v → (k : ℕ) → is_behind hole first k (slice_index v k) ≡ true
 leaves_kept hole first v is k = elim (cases_order k first) [
   | inl same ↦
       let here : is_behind hole first first (slice_index v first) ≡ true = kept_here first (has_alternative hole first (slice_index v first)) ∙ ap not is.here in
@@ -90,7 +91,7 @@ module _ (within : List (Vec Bool Global)) (holes : List (Vec (Vec Bool Global) 
 
 -- ---- the parts of a box that leave a hole which it meets
 
-module _ (within hole : List (Vec Bool Global)) (holes : List (Vec (Vec Bool Global) Global)) (met : List ℕ) (meets : is_met within hole ≡ true) where
+module _ (within hole : List (Vec Bool Global)) (meets : is_met within hole ≡ true) where
   pub part_less : (first : ℕ) (part : List (Vec Bool Global)) → first < length within → IsBoxPart (is_behind (box_flags hole) first) (box_flags within) (box_flags part)
       → box_count (box_flags part) < box_count (box_flags within)
   part_less first part below is =
@@ -98,36 +99,6 @@ module _ (within hole : List (Vec Bool Global)) (holes : List (Vec (Vec Bool Glo
       let (place, here, there) = met_at within hole meets first below in
       part_fewer (is_behind (box_flags hole) first) (box_flags within) (box_flags part) is first place (omega (arith, n)) here
       (kept_here first (has_alternative (box_flags hole) first place) ∙ ap not there)
-
-  pub none_in_part : (first : ℕ) (part : List (Vec Bool Global)) → IsBoxPart (is_behind (box_flags hole) first) (box_flags within) (box_flags part)
-      → HasNoneOutside part holes met → (v : List ℕ) → IsOutsideNear within holes met v → Leaves (box_flags hole) first v → ⊥
-  none_in_part first part is none v out way =
-      none v
-      (record {
-        in_box = part_from (is_behind (box_flags hole) first) (box_flags within) (box_flags part) is v out.in_box (λ k below. leaves_kept (box_flags hole) first v way k);
-        in_none = out.in_none;
-      })
-
-  pub none_left : (first : ℕ) → first < length within → is_left (flags_at (box_flags within) first) (flags_at (box_flags hole) first) ≡ false → (v : List ℕ)
-      → IsOutsideNear within holes met v → Leaves (box_flags hole) first v → ⊥
-  none_left first below none v out way =
-      let n = length-map within (λ choice. choice.items) in
-      let here : has_alternative (box_flags within) first (slice_index v first) ≡ true = within_at (box_flags within) v out.in_box first (omega (arith, n)) in
-      false≢true (sym way.here ∙ not_left (flags_at (box_flags within) first) (flags_at (box_flags hole) first) (slice_index v first) none here)
-
-  -- a hole by none of whose choices one leaves it has the whole box
-  pub none_leaves : (k : ℕ) → k < length met → hole ≡ hole_at holes (slice_index met k)
-      → ((first : ℕ) → first < length within → (v : List ℕ) → IsOutsideNear within holes met v → Leaves (box_flags hole) first v → ⊥)
-      → HasNoneOutside within holes met
-  none_leaves k below is none v out =
-      let n = length-map within (λ choice. choice.items) in
-      let m = length-map hole (λ choice. choice.items) in
-      let same = met_length within hole meets in
-      let long = within_length (box_flags within) v out.in_box in
-      let not_in : is_in_box (box_flags hole) v ≡ false =
-      ap (λ h. is_in_box (box_flags h) v) is ∙ any_at (λ place. is_in_box (box_flags (hole_at holes place)) v) met k out.in_none below in
-      let (first, less, way) = leaves (box_flags hole) v (omega (arith, n, m, same, long)) not_in in
-      none first (omega (arith, m, same, less)) v out way
 
 -- a variant of a part is one of the box
 pub part_back : (test : ℕ → ℕ → Bool) (within part : List (Vec Bool Global)) (holes : List (Vec (Vec Bool Global) Global)) (near v : List ℕ)

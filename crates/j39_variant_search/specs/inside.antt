@@ -1,1 +1,2 @@
 pub mod BoxParts
+pub mod NearHoles

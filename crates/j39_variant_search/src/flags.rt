@@ -2,7 +2,7 @@
 ghost use Rattle.std.specs.Prelude.{◌≡◌, IfOk};
 ghost use Rattle.j39_variants.specs.VariantPlans.{flag_at};
 ghost use Rattle.j39_variant_search.specs.VariantSearch.{box_flags};
-ghost use Rattle.j39_variant_search.specs.inside.BoxParts.{are_common, flags_at, has_some, hole_at, is_empty_box, is_left, is_met, is_common};
+ghost use Rattle.j39_variant_search.specs.inside.BoxParts.{are_common, flags_at, has_some, hole_at, is_empty_box, is_left, is_left_at, is_met, is_common};
 
 pub(crate) fn flag_at(flags: &[bool], place: usize) -> bool
     ensures { result ≡ flag_at flags.now place }
@@ -39,8 +39,8 @@ fn is_common(one: &[bool], other: &[bool]) -> bool
     one.iter().zip(other).any(|(flag, same)| *flag && *same)
 }
 
-/// Whether the first of two boxes has an alternative of a choice that the second hasn't.
-pub(crate) fn is_left(one: &[bool], other: &[bool]) -> bool
+// Whether the first of two boxes has an alternative of a choice that the second hasn't.
+fn is_left(one: &[bool], other: &[bool]) -> bool
     ensures { result ≡ is_left one.now other.now }
 {
     one.iter()
@@ -48,7 +48,14 @@ pub(crate) fn is_left(one: &[bool], other: &[bool]) -> bool
         .any(|(place, flag)| *flag && !flag_at(other, place))
 }
 
-fn has_some(flags: &[bool]) -> bool
+/// Whether a box leaves a hole by a choice: it has an alternative of it that the hole hasn't.
+pub(crate) fn is_left_at(within: &[Vec<bool>], hole: &[Vec<bool>], choice: usize) -> bool
+    ensures { result ≡ is_left_at (box_flags within.now) (box_flags hole.now) choice }
+{
+    is_left(flags_at(within, choice), flags_at(hole, choice))
+}
+
+pub(crate) fn has_some(flags: &[bool]) -> bool
     ensures { result ≡ has_some flags.now }
 {
     flags.iter().any(|flag| *flag)

@@ -2,6 +2,7 @@
 #![tactic(auto)]
 
 mod flags;
+mod outside;
 mod parts;
 mod search;
 

@@ -1,10 +1,10 @@
 -- Parts of boxes.
 use Rattle.std.specs.declared.alloc.Global.{Global}
-use Rattle.std.specs.Prelude.{Vec, ◌≡◌, ℕ, ◌<◌, ◌==◌, nat_lt, List, [], ◌∷◌, ◌++◌, Bool, true, false, ◌&&◌, ◌||◌, not, length, map, option_map, unwrap_or, if◌then◌else◌}
+use Rattle.std.specs.Prelude.{Vec, ◌≡◌, ℕ, ◌<◌, ◌==◌, nat_lt, List, [], Bool, true, ◌&&◌, ◌||◌, not, length, map, option_map, unwrap_or, if◌then◌else◌}
 use Rattle.std.specs.List.{enumerate_from, list_all, list_any, range_with_len, slice_get, zip}
 use Rattle.std.specs.Option.{option_map_or}
 use Rattle.j39_variants.specs.VariantPlans.{flag_at}
-use Rattle.j39_variant_search.specs.VariantSearch.{box_flags, is_in_box}
+use Rattle.j39_variant_search.specs.VariantSearch.{box_flags}
 
 -- the flags of a choice; a box has no alternative of a choice behind its choices
 abbrev pub flags_at : List (List Bool) → ℕ → List Bool
@@ -24,6 +24,9 @@ is_common one other = list_any (λ both. both.0 && both.1) (zip one other)
 abbrev pub is_left : List Bool → List Bool → Bool
 is_left one other = list_any (λ at. at.1 && not (flag_at other at.0)) (enumerate_from 0 one)
 
+abbrev pub is_left_at : List (List Bool) → List (List Bool) → ℕ → Bool
+is_left_at within hole choice = is_left (flags_at within choice) (flags_at hole choice)
+
 abbrev pub has_some : List Bool → Bool
 has_some flags = list_any (λ flag. flag) flags
 
@@ -33,7 +36,8 @@ is_empty_box within = list_any (λ choice. not (has_some choice.items)) within
 
 -- they have one of each choice of the first in common
 abbrev pub are_common : List (Vec Bool Global) → List (Vec Bool Global) → Bool
-are_common within hole = list_all (λ choice. is_common (flags_at (box_flags within) choice) (flags_at (box_flags hole) choice)) (range_with_len 0 (length within))
+are_common within hole =
+    list_all (λ choice. is_common (flags_at (box_flags within) choice) (flags_at (box_flags hole) choice)) (range_with_len 0 (length within))
 
 -- some variant is in both, where none is empty
 abbrev pub is_met : List (Vec Bool Global) → List (Vec Bool Global) → Bool
@@ -46,41 +50,17 @@ flags_with test flags = map (λ at. at.1 && test at.0) (enumerate_from 0 flags)
 -- a part of a box: of each choice those alternatives that pass a test
 pub record IsBoxPart (test : ℕ → ℕ → Bool) (within part : List (List Bool)) : Type 0 where
   pub of_each : length part ≡ length within
-  pub has_these : (choice place : ℕ) → choice < length within → has_alternative part choice place ≡ (has_alternative within choice place && test choice place)
+  pub has_these : (choice place : ℕ) → choice < length within
+      → has_alternative part choice place ≡ (has_alternative within choice place && test choice place)
 
--- what is left of a choice by variants that are behind a hole first by a given choice, where an alternative is in the hole or not
+-- whether an alternative of a choice, which a hole has or not, is in the part whose variants leave the hole first by another one
 abbrev pub is_kept : ℕ → ℕ → Bool → Bool
 is_kept first choice in_hole = if nat_lt choice first then in_hole else (not (choice == first) || not in_hole)
 
--- the test of those that are behind a hole by a choice, and by none before it
+-- the test of those that leave a hole first by a choice
 abbrev pub is_behind : List (List Bool) → ℕ → ℕ → ℕ → Bool
 is_behind hole first choice place = is_kept first choice (has_alternative hole choice place)
 
 -- the test of those that begin with some places
 abbrev pub is_taken_at : List ℕ → ℕ → ℕ → Bool
 is_taken_at taken choice place = option_map_or (λ other. place == other) (slice_get taken choice) true
-
--- a variant is in the box, and in none of these holes
-pub record IsOutsideNear (within : List (Vec Bool Global)) (holes : List (Vec (Vec Bool Global) Global)) (near variant : List ℕ) : Type 0 where
-  pub in_box : is_in_box (box_flags within) variant ≡ true
-  pub in_none : list_any (λ place. is_in_box (box_flags (hole_at holes place)) variant) near ≡ false
-
-abbrev pub HasOutside : List (Vec Bool Global) → List (Vec (Vec Bool Global) Global) → List ℕ → Type 0
-HasOutside within holes near = (variant : List ℕ) × IsOutsideNear within holes near variant
-
-abbrev pub HasNoneOutside : List (Vec Bool Global) → List (Vec (Vec Bool Global) Global) → List ℕ → Type 0
-HasNoneOutside within holes near = (variant : List ℕ) → ¬ IsOutsideNear within holes near variant
-
--- it begins with these places
-abbrev pub StartsWith : List ℕ → List ℕ → Type 0
-StartsWith [] variant = Unit {0}
-StartsWith (p ∷ taken) [] = ⊥
-StartsWith (p ∷ taken) (q ∷ variant) = (p ≡ q) × StartsWith taken variant
-
-abbrev pub NoneBegins : List (Vec Bool Global) → List (Vec (Vec Bool Global) Global) → List ℕ → List ℕ → Type 0
-NoneBegins within holes near taken = (variant : List ℕ) → IsOutsideNear within holes near variant → ¬ StartsWith taken variant
-
--- the first place with which some go on that begin with some places
-pub record IsNextPlace (within : List (Vec Bool Global)) (holes : List (Vec (Vec Bool Global) Global)) (near taken : List ℕ) (place : ℕ) : Type 0 where
-  pub one : (variant : List ℕ) × IsOutsideNear within holes near variant × StartsWith (taken ++ place ∷ []) variant
-  pub none : (earlier : ℕ) → earlier < place → NoneBegins within holes near (taken ++ earlier ∷ [])

@@ -1,5 +1,5 @@
 use Rattle.std.proofs.Common.{◌≡◌, ◌≤◌, false, length, rules}
-use Rattle.j39_variant_search.specs.inside.BoxParts.{HasNoneOutside, HasOutside, IsNextPlace}
+use Rattle.j39_variant_search.specs.inside.NearHoles.{HasNoneOutside, HasOutside, IsNextPlace}
 use Rattle.j39_variant_search.proofs.Beginning.{first_more, first_none, first_outside_of, none_outside}
 use Rattle.j39_variant_search.proofs.search.first_outside.Goals as goal
 

@@ -1,6 +1,7 @@
 use Rattle.std.proofs.Common.{◌≡◌, ◌≤◌, ◌++◌, ◌∷◌, [], length, arith, ap, below_more}
 use Rattle.std.proofs.lemmas.List.{length-append}
-use Rattle.j39_variant_search.specs.inside.BoxParts.{HasNoneOutside, HasOutside, IsBoxPart, NoneBegins, is_taken_at}
+use Rattle.j39_variant_search.specs.inside.BoxParts.{IsBoxPart, is_taken_at}
+use Rattle.j39_variant_search.specs.inside.NearHoles.{HasNoneOutside, HasOutside, NoneBegins}
 use Rattle.j39_variant_search.specs.VariantSearch.{box_flags}
 use Rattle.j39_variant_search.proofs.Beginning.{none_next, none_taken, one_taken}
 use Rattle.j39_variant_search.proofs.search.next_place.Goals as goal

@@ -1,5 +1,5 @@
 use Rattle.std.proofs.Common.{ℕ, ◌<◌, ◌++◌, ◌∷◌, []}
-use Rattle.j39_variant_search.specs.inside.BoxParts.{NoneBegins}
+use Rattle.j39_variant_search.specs.inside.NearHoles.{NoneBegins}
 use Rattle.j39_variant_search.proofs.search.next_place.Given as goal
 
 abbrev pub invariant-loop-place : goal.invariant-loop-place
