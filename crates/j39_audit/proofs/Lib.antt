@@ -7,4 +7,5 @@ pub mod Hearing
 pub mod Knowing
 pub mod Noting
 pub mod Pausing
+pub mod Singling
 pub mod Writing

@@ -1,3 +1,4 @@
 -- What only private contracts and proofs need.
 pub mod Auditing
 pub mod Recalling
+pub mod Singling

@@ -17,6 +17,7 @@ mod mark;
 mod messages;
 mod moments;
 mod nearness;
+mod only_place;
 mod pauses;
 mod reading;
 mod senders;

@@ -9,10 +9,12 @@ ghost use Rattle.j39_audit.specs.SentMessages.{is_fit_group, is_group, is_near, 
 ghost use Rattle.j39_audit.specs.SentMessages.{flow_group, without_flow};
 ghost use Rattle.j39_audit.specs.declared.messages.Test.TheVariants.{Any, Fitting, Selected};
 ghost use Rattle.j39_audit.specs.inside.Recalling.{known_by, sent_as, settings_of};
+ghost use Rattle.j39_audit.specs.inside.Singling.{is_somewhere, without_priority};
 
 use crate::basis::Basis;
 use crate::known::Known;
 use crate::mark::{Mark, Word};
+use crate::only_place::Meant;
 use crate::senders::may_be;
 use j39_id::addresses::GLOBAL_ADDRESS;
 use j39_network::{FlowPlan, GroupPlan, RequestPlan, To};
@@ -252,18 +254,6 @@ fn first_fit(basis: &Basis<'_>, known: &Known, message: &UnitMessage<'_>) -> Opt
         .position(|flow| is_fit(basis, known, message, flow))
 }
 
-// Whether some flow may bring it with its priority.
-fn some_is_of(basis: &Basis<'_>, known: &Known, message: &UnitMessage<'_>) -> bool
-    ensures { result ≡ list_any (is_of (settings_of basis.now) (known_by known.now) (sent_as message.now)) basis.now.plan.now.flows.items }
-{
-    basis
-        .plan
-        .flows
-        .as_slice()
-        .iter()
-        .any(|flow| is_of(basis, known, message, flow))
-}
-
 // The group of the flow at a place.
 fn flow_group(basis: &Basis<'_>, place: usize) -> usize
     ensures { result ≡ flow_group (settings_of basis.now) place }
@@ -303,19 +293,33 @@ fn deviates(unit: usize, word: Word, group: usize) -> Mark
     }
 }
 
-/// How a message differs from all that the plan has of its sender.
-#[tactic(auto, unfolding(crate::specs::SentMessages::deviation))]
-pub(crate) fn deviation(basis: &Basis<'_>, known: &Known, message: &UnitMessage<'_>) -> Option<Mark>
+// How a message differs from a flow that may bring it, the first of these being at this place, or that no flow may bring.
+fn without_priority(
+    basis: &Basis<'_>,
+    message: &UnitMessage<'_>,
+    first: Option<usize>,
+) -> Option<Mark>
+    ensures { result ≡ without_priority (settings_of basis.now) (sent_as message.now) first }
+{
+    match first {
+        Some(flow) => Some(deviates(message.unit, Word::Priority, flow_group(basis, flow))),
+        None => without_flow(basis, message),
+    }
+}
+
+/// How a message differs from all that the plan has of its sender, where it may be meant for these flows.
+pub(crate) fn deviation(
+    basis: &Basis<'_>,
+    known: &Known,
+    message: &UnitMessage<'_>,
+    meant: Meant,
+) -> Option<Mark>
+    requires { list_any (is_of (settings_of basis.now) (known_by known.now) (sent_as message.now)) basis.now.plan.now.flows.items ≡ is_somewhere meant.all }
     ensures { result ≡ deviation (settings_of basis.now) (known_by known.now) (sent_as message.now) }
 {
-    match first_fit(basis, known, message) {
-        Some(flow) => {
-            if some_is_of(basis, known, message) {
-                None
-            } else {
-                Some(deviates(message.unit, Word::Priority, flow_group(basis, flow)))
-            }
-        }
-        None => without_flow(basis, message),
+    if meant.is_any() {
+        None
+    } else {
+        without_priority(basis, message, first_fit(basis, known, message))
     }
 }
