@@ -21,6 +21,7 @@ mod only_place;
 mod pauses;
 mod reading;
 mod senders;
+mod settings;
 mod silence;
 mod silences;
 mod streams;

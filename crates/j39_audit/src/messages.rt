@@ -4,7 +4,7 @@ ghost use Rattle.std.specs.List.{list_any, position, slice_get};
 ghost use Rattle.std.specs.Option.{option_copied, option_map_or, option_or};
 ghost use Rattle.j39_signal.specs.Selectors.{is_selected};
 ghost use Rattle.j39_network.specs.declared.plan.group_plan.GroupPlan.{GroupPlan as AGroup};
-ghost use Rattle.j39_audit.specs.SentMessages.{asks_by_plan, deviation, first_group, fits_group, goes, has_flow_of, has_priority, is_fit};
+ghost use Rattle.j39_audit.specs.SentMessages.{asks_by_plan, deviation, first_group, fits_group, goes, has_priority, is_fit};
 ghost use Rattle.j39_audit.specs.SentMessages.{is_fit_group, is_group, is_near, is_of, is_own, is_told_by, may_hear, passes};
 ghost use Rattle.j39_audit.specs.SentMessages.{flow_group, without_flow};
 ghost use Rattle.j39_audit.specs.declared.messages.Test.TheVariants.{Any, Fitting, Selected};
@@ -83,23 +83,11 @@ fn passes(message: &UnitMessage<'_>, test: Test, group: &GroupPlan) -> bool
     }
 }
 
-// Whether a flow of the group is the unit's.
-fn has_flow(basis: &Basis<'_>, unit: usize, group: usize) -> bool
-    ensures { result ≡ has_flow_of (settings_of basis.now) unit group }
-{
-    basis
-        .plan
-        .flows
-        .as_slice()
-        .iter()
-        .any(|flow| flow.group == group && flow.sender == unit)
-}
-
 // Whether a group is one of the sender's of the number.
 fn is_own(basis: &Basis<'_>, message: &UnitMessage<'_>, place: usize, group: &GroupPlan) -> bool
     ensures { result ≡ is_own (settings_of basis.now) (sent_as message.now) place group.now }
 {
-    group.pgn == message.number && (!group.private || has_flow(basis, message.unit, place))
+    group.pgn == message.number && (!group.private || basis.sends(message.unit, place))
 }
 
 // Whether the group at a place is one of the sender's of the number, and passes.
