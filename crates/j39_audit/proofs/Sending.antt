@@ -14,13 +14,13 @@ pub no_group : (plan : Plan) (u g : ℕ) → length plan.groups.items ≤ g → 
 no_group plan u g past =
     let flows : List FlowPlan = plan.flows.items in
     list_any_none (λ (f : FlowPlan). f.group == g && f.sender == u) flows (λ k d inside.
-      let less = plan.flow_groups k d inside in
-      ap (λ (is : Bool). is && ((get_or flows k d).sender == u)) (ne_eqb (get_or flows k d).group g (λ e. absurd (omega (arith, less, past, e)))))
+    let less = plan.flow_groups k d inside in
+    ap (λ (is : Bool). is && ((get_or flows k d).sender == u)) (ne_eqb (get_or flows k d).group g (λ e. absurd (omega (arith, less, past, e)))))
 
 pub no_unit : (plan : Plan) (u g : ℕ) → length plan.units.items ≤ u → is_sent plan u g ≡ false
 no_unit plan u g past =
     let flows : List FlowPlan = plan.flows.items in
     list_any_none (λ (f : FlowPlan). f.group == g && f.sender == u) flows (λ k d inside.
-      let less = plan.flow_senders k d inside in
-      ap (λ (is : Bool). ((get_or flows k d).group == g) && is) (ne_eqb (get_or flows k d).sender u (λ e. absurd (omega (arith, less, past, e))))
-      ∙ second_false ((get_or flows k d).group == g))
+    let less = plan.flow_senders k d inside in
+    ap (λ (is : Bool). ((get_or flows k d).group == g) && is) (ne_eqb (get_or flows k d).sender u (λ e. absurd (omega (arith, less, past, e))))
+    ∙ second_false ((get_or flows k d).group == g))
