@@ -13,9 +13,10 @@ ghost use Rattle.j39_audit.specs.inside.Auditing.{AccordsWith, AreAllNear, HasAu
 ghost use Rattle.j39_audit.specs.inside.Auditing.{tallied};
 ghost use Rattle.j39_audit.specs.inside.Recalling.{AreNear, KnowsClaims, Notes, RecallsBroadcasts, RecallsMoments, known_by, settings_of};
 
+use crate::announcements::{Announcement, announcement_in};
 use crate::asking::Asking;
 use crate::basis::Basis;
-use crate::broadcasts::{Announcement, BegunBroadcasts, announcement_in};
+use crate::broadcasts::BegunBroadcasts;
 use crate::frame_marks::{note_if, take_frame};
 use crate::known::Known;
 use crate::mark::{Mark, Word, make_mark};

@@ -2,6 +2,7 @@
 #![tactic(auto)]
 
 mod accusing;
+mod announcements;
 mod answer;
 mod asking;
 mod audit_log;
