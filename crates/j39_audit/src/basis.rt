@@ -1,5 +1,5 @@
 //! What an audit goes by.
-ghost use Rattle.std.specs.Prelude.{◌≡◌, ◌&&◌, ℕ, false, not, IfOk, slice_index_or};
+ghost use Rattle.std.specs.Prelude.{◌≡◌, ◌≢◌, ◌<◌, ◌&&◌, ℕ, true, false, not, IfOk, length, slice_index_or};
 ghost use Rattle.j39_findings.specs.Standing.{stays_of};
 ghost use Rattle.j39_id.specs.Name.{is_arbitrary};
 ghost use Rattle.j39_audit.specs.Settings.{AreMoving};
@@ -7,7 +7,7 @@ ghost use Rattle.j39_audit.specs.inside.Sending.{AreSent, is_sent};
 
 use crate::by_load::Bound;
 use j39_findings::Standing;
-use j39_network::{Plan, UnitPlan};
+use j39_network::{FlowPlan, Plan, UnitPlan};
 use std::alloc::{AllocError, Global};
 
 /// The plan, which of its units may move to other addresses, of which groups each has flows, whether frames of the bus may
@@ -44,23 +44,38 @@ pub(crate) fn moving_of(alloc: Global, plan: &Plan) -> Result<Vec<bool>, AllocEr
     Ok(moving)
 }
 
-// Whether a unit has a flow of a group.
-fn is_sent(plan: &Plan, unit: usize, group: usize) -> bool
-    ensures { result ≡ is_sent plan.now unit group }
+// A row that tells of none of so many groups.
+fn none_sent(alloc: Global, count: usize) -> Result<Vec<bool>, AllocError>
+    ensures size { IfOk result (λ row. length row.items ≡ count) }
+    ensures none { IfOk result (λ row. (g : ℕ) → slice_index_or row.items g false ≡ false) }
 {
-    plan.flows
-        .as_slice()
-        .iter()
-        .any(|flow| flow.group == group && flow.sender == unit)
+    let mut row = Vec::new(alloc);
+    for _group in 0..count {
+        row.push(false)?;
+    }
+    Ok(row)
+}
+
+// Notes the group of a flow, if it is the unit's.
+fn note_sent(row: &mut Vec<bool>, flow: &FlowPlan, unit: usize)
+    requires { flow.now.group < length row.old.items }
+    ensures size { length row.new.items ≡ length row.old.items }
+    ensures others { (g : ℕ) → g ≢ flow.now.group → slice_index_or row.new.items g false ≡ slice_index_or row.old.items g false }
+    ensures other { flow.now.sender ≢ unit → (g : ℕ) → slice_index_or row.new.items g false ≡ slice_index_or row.old.items g false }
+    ensures here { flow.now.sender ≡ unit → slice_index_or row.new.items flow.now.group false ≡ true }
+{
+    if flow.sender == unit {
+        row[flow.group] = true;
+    }
 }
 
 // Of which groups a unit has flows.
 fn sent_by(alloc: Global, plan: &Plan, unit: usize) -> Result<Vec<bool>, AllocError>
     ensures { IfOk result (λ row. (g : ℕ) → slice_index_or row.items g false ≡ is_sent plan.now unit g) }
 {
-    let mut row = Vec::new(alloc);
-    for group in 0..plan.groups.len() {
-        row.push(is_sent(plan, unit, group))?;
+    let mut row = none_sent(alloc, plan.groups.len())?;
+    for place in 0..plan.flows.len() {
+        note_sent(&mut row, &plan.flows[place], unit);
     }
     Ok(row)
 }
