@@ -5,13 +5,13 @@ use Rattle.std.proofs.lemmas.Bool.{cases_eq, ne_eqb}
 use Rattle.std.proofs.lemmas.List.Folds.{list_any_none}
 use Rattle.j39_network.specs.declared.plan.Plan.{Plan}
 use Rattle.j39_network.specs.declared.plan.flow_plan.FlowPlan.{FlowPlan}
-use Rattle.j39_audit.specs.inside.Sending.{is_sent}
+use Rattle.j39_audit.specs.inside.Sending.{is_sender_of}
 
 second_false : (a : Bool) → (a && false) ≡ false
 second_false true = refl
 second_false false = refl
 
-pub no_unit : (plan : Plan) (u g : ℕ) → length plan.units.items ≤ u → is_sent plan u g ≡ false
+pub no_unit : (plan : Plan) (u g : ℕ) → length plan.units.items ≤ u → is_sender_of plan u g ≡ false
 no_unit plan u g past =
     let flows : List FlowPlan = plan.flows.items in
     list_any_none (λ (f : FlowPlan). f.group == g && f.sender == u) flows (λ k d inside.

@@ -3,7 +3,7 @@ ghost use Rattle.std.specs.Prelude.{◌≡◌, ◌≢◌, ◌<◌, ◌&&◌, ℕ
 ghost use Rattle.j39_findings.specs.Standing.{stays_of};
 ghost use Rattle.j39_id.specs.Name.{is_arbitrary};
 ghost use Rattle.j39_audit.specs.Settings.{AreMoving};
-ghost use Rattle.j39_audit.specs.inside.Sending.{AreSent, is_sent};
+ghost use Rattle.j39_audit.specs.inside.Sending.{AreSent, is_sender_of};
 
 use crate::by_load::Bound;
 use j39_findings::Standing;
@@ -71,7 +71,7 @@ fn note_sent(row: &mut Vec<bool>, flow: &FlowPlan, unit: usize)
 
 // Of which groups a unit has flows.
 fn sent_by(alloc: Global, plan: &Plan, unit: usize) -> Result<Vec<bool>, AllocError>
-    ensures { IfOk result (λ row. (g : ℕ) → slice_index_or row.items g false ≡ is_sent plan.now unit g) }
+    ensures { IfOk result (λ row. (g : ℕ) → slice_index_or row.items g false ≡ is_sender_of plan.now unit g) }
 {
     let mut row = none_sent(alloc, plan.groups.len())?;
     for place in 0..plan.flows.len() {

@@ -1,12 +1,11 @@
 use Rattle.std.proofs.Common.{◌≡◌, ◌∷◌, [], ◌<◌, ◌++◌, ℕ, Bool, false, List, Option, Some, length, slice_index_or, sym, ap, ◌∙◌, arith, inl, inr}
 use Rattle.std.specs.Prelude.{Vec}
-use Rattle.std.specs.List.{slice_get}
 use Rattle.std.specs.Option.{option_map_or}
 use Rattle.std.specs.declared.alloc.Global.{Global}
 use Rattle.std.proofs.lemmas.Bool.{cases_lt}
 use Rattle.std.proofs.lemmas.List.{get_or_append_left, get_or_push, length_push}
 use Rattle.std.proofs.lemmas.Option.{slice_get-get_or, slice_get_past}
-use Rattle.j39_audit.specs.inside.Sending.{is_sent, sent_in}
+use Rattle.j39_audit.specs.inside.Sending.{is_sender_of, sent_in}
 use Rattle.j39_audit.proofs.Sending.{no_unit}
 use Rattle.j39_audit.proofs.basis.sent_of.Goals as goal
 
@@ -36,7 +35,7 @@ loop-unit-preserved c =
                 let same : u ≡ c.loop-unit.unit = omega (arith, less, above) in
                 let last : u ≡ length old = omega (arith, same, size) in
                 ap (told_at g) (slice_get-get_or (old ++ row ∷ []) u row (omega (arith, last, more)) ∙ ap Some (get_or_push old row row u (sym last)))
-                ∙ c.in_ok-row.ensures g ∙ ap (λ (v : ℕ). is_sent c.args.plan.now v g) (sym same)
+                ∙ c.in_ok-row.ensures g ∙ ap (λ (v : ℕ). is_sender_of c.args.plan.now v g) (sym same)
           ];
     }
 

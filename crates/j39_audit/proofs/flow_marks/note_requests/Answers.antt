@@ -1,4 +1,4 @@
-use Rattle.std.proofs.Common.{◌==◌, ◌∷◌, [], Bool, List, if◌then◌else◌, length, sym, ap, subst, ◌∙◌}
+use Rattle.std.proofs.Common.{◌∷◌, [], Bool, List, if◌then◌else◌, length, sym, ap, subst, ◌∙◌}
 use Rattle.std.specs.Prelude.{OnOk}
 use Rattle.j39_network.specs.declared.plan.request_plan.RequestPlan.{RequestPlan}
 use Rattle.j39_audit.specs.Counting.{Noted}

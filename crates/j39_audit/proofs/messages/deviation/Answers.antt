@@ -4,7 +4,6 @@ use Rattle.j39_network.specs.declared.plan.flow_plan.FlowPlan.{FlowPlan}
 use Rattle.j39_audit.specs.Claiming.{Knowledge}
 use Rattle.j39_audit.specs.SentMessages.{SentMessage, deviates, deviation, flow_group, has_priority, is_fit, is_of, with_fit_flow}
 use Rattle.j39_audit.specs.Settings.{Settings}
-use Rattle.j39_audit.specs.declared.mark.Mark.{Mark}
 use Rattle.j39_audit.specs.declared.mark.Word.TheVariants.{Priority}
 use Rattle.j39_audit.specs.inside.Recalling.{known_by, sent_as, settings_of}
 use Rattle.j39_audit.specs.inside.Singling.{without_priority}

@@ -1,6 +1,5 @@
-use Rattle.std.proofs.Common.{◌≡◌, Bool, Option, None, is_some, subst, sym, ap, ◌∙◌}
-use Rattle.j39_audit.specs.Moments.{Moments, ends_with, pause_ended}
-use Rattle.j39_audit.specs.declared.pauses.Newest.{Newest}
+use Rattle.std.proofs.Common.{subst, sym, ◌∙◌}
+use Rattle.j39_audit.specs.Moments.{ends_with, pause_ended}
 use Rattle.j39_audit.specs.inside.Recalling.{RecallsMoments, settings_of}
 use Rattle.j39_audit.proofs.Pausing.{either_same, is_nothing, none_open}
 use Rattle.j39_audit.proofs.moments.Moments.end_with.Goals as goal
