@@ -28,8 +28,11 @@ fn with_flow(
     ensures { result ≡ meant_more (is_of (settings_of basis.now) (known_by known.now) (sent_as message.now) flow.now)
         (is_of (settings_of basis.now) (known_by known.now) (sent_as message.now) flow.now && is_near (settings_of basis.now) (known_by known.now) (sent_as message.now) flow.now.to) place meant }
 {
-    let is = is_of(basis, known, message, flow);
-    meant.with(is, is && is_near(basis, known, message, flow.to), place)
+    if is_of(basis, known, message, flow) {
+        meant.with(true, is_near(basis, known, message, flow.to), place)
+    } else {
+        meant
+    }
 }
 
 /// For which flow a message may be meant.
@@ -130,8 +133,11 @@ fn with_request(
     ensures { result ≡ meant_more (asks_by_plan (settings_of basis.now) (known_by known.now) (sent_as message.now) request.now)
         (asks_by_plan (settings_of basis.now) (known_by known.now) (sent_as message.now) request.now && is_near (settings_of basis.now) (known_by known.now) (sent_as message.now) request.now.to) place meant }
 {
-    let is = asks(basis, known, message, request);
-    meant.with(is, is && is_near(basis, known, message, request.to), place)
+    if asks(basis, known, message, request) {
+        meant.with(true, is_near(basis, known, message, request.to), place)
+    } else {
+        meant
+    }
 }
 
 // Which request of the plan a request may be.
