@@ -1,6 +1,7 @@
 pub mod Answering
 pub mod AskingNotes
 pub mod ExactClocks
+pub mod FixedUnits
 pub mod Frames
 pub mod Hits
 pub mod Idle
@@ -18,6 +19,8 @@ pub mod ToldTimes
 pub mod OneAudit
 pub mod OneReading
 pub mod Own
+pub mod PauseFrames
+pub mod PauseSteps
 pub mod Planned
 pub mod RunAudits
 pub mod RunFrames
@@ -28,8 +31,12 @@ pub mod RunSound
 pub mod RunSteps
 pub mod Runs
 pub mod Silent
+pub mod SilentFound
 pub mod SilentNotes
+pub mod SilentTold
 pub mod Spread
 pub mod Steps
 pub mod Sure
 pub mod Told
+pub mod Walk
+pub mod Written

@@ -2,12 +2,15 @@ pub mod Answering
 pub mod AuditedRuns
 pub mod ByLoad
 pub mod ExactClocks
+pub mod FoundForSure
 pub mod FoundLines
 pub mod InTurn
 pub mod LogBounds
 pub mod MarkRecords
 pub mod OneAudit
 pub mod OwnPart
+pub mod PauseLines
 pub mod Pausing
+pub mod SilentFlows
 pub mod Stepping
 pub mod StreamRecords

@@ -14,6 +14,7 @@ ghost use Rattle.j39_audit_laws.specs.Answering.{is_told_deaf};
 ghost use Rattle.j39_audit_laws.specs.AuditedRuns.{ArePartsKept, IsNotWrittenOf};
 ghost use Rattle.j39_audit_laws.specs.ByLoad.{IsNoneNearByLoad};
 ghost use Rattle.j39_audit_laws.specs.ExactClocks.{ExactClocks};
+ghost use Rattle.j39_audit_laws.specs.FoundForSure.{FoundAreWritten, NoneIsUnsure};
 ghost use Rattle.j39_audit_laws.specs.FoundLines.{FoundAreListed, LinesAreOfLog};
 ghost use Rattle.j39_audit_laws.specs.InTurn.{IsInTurn, NotesTheLate};
 ghost use Rattle.j39_audit_laws.specs.LogBounds.{AreOfLoad, AreOfLog, IsEndBound, IsMarkedBound, IsTimedBound, Lines};
@@ -23,6 +24,7 @@ ghost use Rattle.j39_audit_laws.specs.OwnPart.{WaitsForPlanned};
 ghost use Rattle.j39_audit_laws.specs.MarkRecords.{AreFew, IsMarkOf, KeepsTime, ShowsIdle, longest_reach};
 ghost use Rattle.j39_audit_laws.specs.StreamRecords.{AreAllBefore, AreLines, AreMsApart, AreReleasedFirst, AreMessagesInTime, HaveJitter, IsOneAtATime, KeepsMs};
 ghost use Rattle.j39_audit_laws.specs.Pausing.{ComesInTime, IsBoundAt, NotesTheSilent, NotesTheSilentEnd};
+ghost use Rattle.j39_audit_laws.specs.SilentFlows.{SilentAreFound};
 ghost use Rattle.j39_audit_laws.specs.Stepping.{AreMomentsWithin, AreStepsApart, NotesTheNear};
 ghost use Rattle.j39_audit.specs.Responses.{us_at_logger};
 ghost use Rattle.j39_findings.specs.Findings.{Clean};
@@ -50,6 +52,19 @@ pub fn an_audit_has_one_text()
 pub fn lines_are_of_the_log()
     ensures exact { LinesAreOfLog }
     ensures listed { FoundAreListed }
+{}
+
+/// What is found at a line of a log is written: its line is in the text, with as many lines of the log as have it and the
+/// first of them, and the verdict is that there are findings.
+pub fn what_is_found_is_written()
+    ensures { FoundAreWritten }
+{}
+
+/// Where no unit may move, no two are planned at one address, no others come, and each claim is of its unit's own address,
+/// no frame is passed over as unsure: each from an address that isn't a claim counts for the unit that is planned there,
+/// or it is found to be nobody's.
+pub fn no_frame_is_unsure()
+    ensures { NoneIsUnsure }
 {}
 
 /// Whatever others do, and however the log was cut: a unit that never says that it can't claim an address gets no
@@ -159,6 +174,14 @@ pub fn who_keeps_a_pause_is_not_silent()
         → (j : ℕ) → ((i : ℕ) → i < j → from ≤ 1000 * (windows i).upper) → (lower : Option ℕ)
         → ((x : ℕ) → lower ≡ Some x → (1000 * x ≤ to) × IsBoundAt is_message frame moment windows j x)
         → is_silent pause windows j lower ≡ false }
+{}
+
+/// In a log of a bus each flow with a pause is told as silent, by the bus or by load alone, of which a message came, and
+/// while frames show that its ends are there, none in a time longer than its pause, the response time that is counted on
+/// and what clocks and times of lines may differ: where no end of its pause comes in that time, and no quiet second ends
+/// it later.
+pub fn who_is_long_silent_is_told()
+    ensures { SilentAreFound }
 {}
 
 /// Where two frames behind one another do not touch, what begins from the second one on was queued no earlier than its
