@@ -17,6 +17,7 @@ ghost use Rattle.j39_audit_laws.specs.ExactClocks.{ExactClocks};
 ghost use Rattle.j39_audit_laws.specs.FoundForSure.{FoundAreWritten, NoneIsUnsure};
 ghost use Rattle.j39_audit_laws.specs.FoundLines.{FoundAreListed, LinesAreOfLog};
 ghost use Rattle.j39_audit_laws.specs.InTurn.{IsInTurn, NotesTheLate};
+ghost use Rattle.j39_audit_laws.specs.KeptParts.{KeepersAreNotAccused};
 ghost use Rattle.j39_audit_laws.specs.LogBounds.{AreOfLoad, AreOfLog, IsEndBound, IsMarkedBound, IsTimedBound, Lines};
 ghost use Rattle.j39_audit_laws.specs.OneAudit.{AuditHasOneText};
 ghost use Rattle.j39_audit_laws.specs.OwnPart.{AlwaysCan, AreItsOwn, ClaimsItsOwn, IsNotNamed, LooksAsPlanned, SentBy};
@@ -88,6 +89,14 @@ pub fn who_sends_by_the_plan_is_not_accused()
         → AreItsOwn s log sent u → LooksAsPlanned s log sent u → IsNotNamed s log Priority u }
     ensures urgent { (s : Settings) (log : List ALine) (sent : SentBy) (u : ℕ) → AreMoving s.plan s.moving
         → AreItsOwn s log sent u → WaitsForPlanned s log sent u → IsNotNamed s log Urgent u }
+{}
+
+/// In the words of a bus: of a unit whose planned frames are those of the plan's flows and requests, and carry what these
+/// bring, whose claims are its own, and of which all else has `unplanned_priority` or a larger number and looks like no
+/// group of it, or like one of its flows, none of these six lines is written, whatever others do, and however the log of the
+/// bus was cut.
+pub fn who_keeps_its_part_is_not_accused()
+    ensures { KeepersAreNotAccused }
 {}
 
 /// Of the frames of any world of any run of a plan without findings, with all lawful choices, cut in front anywhere,
