@@ -12,7 +12,7 @@ ghost use Rattle.j39_audit.specs.declared.mark.Word.TheVariants.{Nobody, Short, 
 ghost use Rattle.j39_audit_laws.specs.Answering.{AnswersRequests, AreLinesOfUnit, IsDeafAt, KeepsRequests, NotesTheDeaf, UnitLines};
 ghost use Rattle.j39_audit_laws.specs.Answering.{is_told_deaf};
 ghost use Rattle.j39_audit_laws.specs.AuditedRuns.{ArePartsKept, IsNotWrittenOf};
-ghost use Rattle.j39_audit_laws.specs.ByLoad.{IsNoneNearByLoad};
+ghost use Rattle.j39_audit_laws.specs.ByLoad.{IsNoneNearByLoad, IsNoneSilentByLoad};
 ghost use Rattle.j39_audit_laws.specs.ExactClocks.{ExactClocks};
 ghost use Rattle.j39_audit_laws.specs.FoundForSure.{FoundAreWritten, NoneIsUnsure};
 ghost use Rattle.j39_audit_laws.specs.FoundLines.{FoundAreListed, LinesAreOfLog};
@@ -254,6 +254,12 @@ pub fn who_is_sent_in_time_is_not_told()
 pub fn kept_plans_are_not_near_by_load()
     ensures { (plan : Plans) (timing : Timings) (stays : PlannedUnits → Bool) (delays : List (Option Delays)) → Clean plan
         → AsksOfBus plan timing stays delays → timing.drift ≡ 0 → IsNoneNearByLoad plan timing delays }
+{}
+
+/// Nor is one told as silent by it, while it keeps its pause, where a log has all its messages up to a line.
+pub fn kept_pauses_are_not_silent_by_load()
+    ensures { (plan : Plans) (timing : Timings) (stays : PlannedUnits → Bool) (delays : List (Option Delays)) → Clean plan
+        → AsksOfBus plan timing stays delays → timing.drift ≡ 0 → IsNoneSilentByLoad plan timing delays }
 {}
 
 /// Of each unit the request for claims behind a frame that is kept is told by the one before it (`kept`), and where a frame
