@@ -12,6 +12,8 @@ pub mod Lines
 pub mod Listed
 pub mod Marking
 pub mod Near
+pub mod NearFrames
+pub mod NearLogs
 pub mod NearNotes
 pub mod OnBus
 pub mod OnLoad

@@ -29,7 +29,7 @@ use Rattle.j39_audit_laws.specs.PauseLines.{BeginsAnew, ClaimEndsPause, CountsFo
 use Rattle.j39_audit_laws.specs.SilentFlows.{AreFramesOnBus, IsEndOfFlow, IsLongSilent}
 use Rattle.j39_audit_laws.proofs.PauseFrames as frames
 use Rattle.j39_audit_laws.proofs.PauseSteps.{AreShown, IsLate, IsOpen, IsTold, Watched, all_keep, all_told, bound, told_on}
-use Rattle.j39_audit_laws.proofs.Walk.{IsFrameNext, IsNext, IsNoFrame, at_end, bad_no_frame, inside_log, one_frame_at}
+use Rattle.j39_audit_laws.proofs.Walk.{IsFrameNext, IsNext, IsNoFrame, at_end, bad_no_frame, inside_log, load_with, one_frame_at}
 
 cases_le : (m n : ℕ) → (m ≤ n) ⊎ (n < m)
 cases_le m n = grind arith
@@ -108,11 +108,6 @@ module _ (plain : Settings) (log : List Line) (t : Timing) (timed : plain.plan.t
       is.shown u end (omega (arith, by, after))
 
   -- ---- a frame
-
-  pub load_with : (past : AuditPast) (time : Option ℕ) (named : Option (List ℕ)) (f : Frame) (packet : Option Packet)
-      → (past_with_frame plain past time named f packet).by_load ≡ moments_with_frame s plain past time f packet past.by_load
-  unfolding past_with_frame
-  load_with past time named f packet = refl
 
   module _ (number : ℕ) (past : AuditPast) (claims : HeardClaims) (f : Frame) (packet : Option Packet) (at : IsFrameAt plain log number claims f packet)
       (past_is : at.past ≡ with_next_number past) (count : past.number + 1 ≡ number) where
@@ -338,7 +333,7 @@ module _ (plain : Settings) (log : List Line) (t : Timing) (timed : plain.plan.t
   pub load_next : (number : ℕ) (past next : AuditPast) (one : IsFrameNext plain log (number + 1) past next)
       → next.by_load ≡ moments_with_frame s plain one.at.past (line_time plain.plan one.at.time) one.f one.packet past.by_load
   load_next number past next one =
-      ap (λ (p : AuditPast). p.by_load) one.next_is ∙ load_with one.at.past (line_time plain.plan one.at.time) one.at.named one.f one.packet
+      ap (λ (p : AuditPast). p.by_load) one.next_is ∙ load_with plain one.at.past (line_time plain.plan one.at.time) one.at.named one.f one.packet
       ∙ ap (λ (p : AuditPast). moments_with_frame s plain one.at.past (line_time plain.plan one.at.time) one.f one.packet p.by_load) one.past_is
 
   -- told is told

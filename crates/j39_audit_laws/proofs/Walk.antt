@@ -10,17 +10,23 @@ use Rattle.j39_id.specs.declared.line_error.LineError.{LineError}
 use Rattle.j39_id.specs.declared.line_error.LineError.TheVariants.{Empty, NoHash, ShortIdent, BadIdent, TooLong, BadData}
 use Rattle.j39_follow.specs.LogLines.{IsElsewhere, IsReadPart, IsTimeText, NamesInterface}
 use Rattle.j39_tp.specs.declared.packet.Packet.{Packet}
-use Rattle.j39_audit.specs.AuditText.{AuditPast, AuditsLine, AuditsLines, bad_line, claims_before, nothing_read, passed_by, past_with_frame, with_next_number}
+use Rattle.j39_audit.specs.AuditText.{AuditPast, AuditsLine, AuditsLines, bad_line, claims_before, moments_with_frame, nothing_read, passed_by, past_with_frame, with_next_number}
 use Rattle.j39_audit.specs.Breaks.{line_time}
 use Rattle.j39_audit.specs.Claiming.{HeardClaims}
 use Rattle.j39_audit.specs.Looking.{IsPacketOf}
 use Rattle.j39_audit.specs.Moments.{behind_gap}
-use Rattle.j39_audit.specs.Settings.{Settings}
+use Rattle.j39_audit.specs.Settings.{Settings, by_load}
 use Rattle.j39_audit.proofs.Hearing.{as_many_lines, frame_number, line_more}
 use Rattle.j39_audit_laws.specs.FoundLines.{IsFrameAt, IsLineOf, IsReadHere}
 use Rattle.j39_audit_laws.specs.PauseLines.{IsBadAt}
 use Rattle.j39_audit_laws.proofs.Lines.{same_cut}
 use Rattle.j39_audit_laws.proofs.OneReading.{one_interface, one_log_read, one_packet_of, one_part, one_time}
+
+-- what the times tell by load behind a frame
+pub load_with : (s : Settings) (past : AuditPast) (time : Option ℕ) (named : Option (List ℕ)) (f : Frame) (packet : Option Packet)
+    → (past_with_frame s past time named f packet).by_load ≡ moments_with_frame (by_load s) s past time f packet past.by_load
+unfolding past_with_frame
+load_with s past time named f packet = refl
 
 module _ (s : Settings) (log : List Line) where
   -- ---- a line is read in one way

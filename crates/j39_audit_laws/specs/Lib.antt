@@ -5,6 +5,7 @@ pub mod ExactClocks
 pub mod FoundForSure
 pub mod FoundLines
 pub mod InTurn
+pub mod KeptLogs
 pub mod KeptParts
 pub mod LogBounds
 pub mod MarkRecords

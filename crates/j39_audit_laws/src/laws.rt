@@ -1,5 +1,5 @@
 //! Laws of the lines by which the audit command accuses.
-ghost use Rattle.std.specs.Prelude.{◌≡◌, ◌↔◌, ◌+◌, ◌-◌, ◌*◌, ◌<◌, ◌≤◌, ℕ, Bool, true, false, List, Option, Some, None};
+ghost use Rattle.std.specs.Prelude.{map, ◌≡◌, ◌↔◌, ◌+◌, ◌-◌, ◌*◌, ◌<◌, ◌≤◌, ℕ, Bool, true, false, List, Option, Some, None};
 ghost use Rattle.j39_audit.specs.Near.{IsTooNear, is_too_near};
 ghost use Rattle.j39_audit.specs.Silence.{IsTooFar, is_silent};
 ghost use Rattle.j39_audit.specs.Asking.{longest_answer_ms};
@@ -17,6 +17,7 @@ ghost use Rattle.j39_audit_laws.specs.ExactClocks.{ExactClocks};
 ghost use Rattle.j39_audit_laws.specs.FoundForSure.{FoundAreWritten, NoneIsUnsure};
 ghost use Rattle.j39_audit_laws.specs.FoundLines.{FoundAreListed, LinesAreOfLog};
 ghost use Rattle.j39_audit_laws.specs.InTurn.{IsInTurn, NotesTheLate};
+ghost use Rattle.j39_audit_laws.specs.KeptLogs.{AreLogsNotNear};
 ghost use Rattle.j39_audit_laws.specs.KeptParts.{KeepersAreNotAccused};
 ghost use Rattle.j39_audit_laws.specs.LogBounds.{AreOfLoad, AreOfLog, IsEndBound, IsMarkedBound, IsTimedBound, Lines};
 ghost use Rattle.j39_audit_laws.specs.OneAudit.{AuditHasOneText};
@@ -27,7 +28,7 @@ ghost use Rattle.j39_audit_laws.specs.StreamRecords.{AreAllBefore, AreLines, Are
 ghost use Rattle.j39_audit_laws.specs.Pausing.{ComesInTime, IsBoundAt, NotesTheSilent, NotesTheSilentEnd};
 ghost use Rattle.j39_audit_laws.specs.SilentFlows.{SilentAreFound};
 ghost use Rattle.j39_audit_laws.specs.Stepping.{AreMomentsWithin, AreStepsApart, NotesTheNear};
-ghost use Rattle.j39_audit.specs.Responses.{us_at_logger};
+ghost use Rattle.j39_audit.specs.Responses.{response, us_at_logger};
 ghost use Rattle.j39_findings.specs.Findings.{Clean};
 ghost use Rattle.j39_load.specs.LoadFindings.{AsksOfBus};
 ghost use Rattle.j39_load.specs.declared.waits.delay.Delay.{Delay as Delays};
@@ -254,6 +255,14 @@ pub fn who_is_sent_in_time_is_not_told()
 pub fn kept_plans_are_not_near_by_load()
     ensures { (plan : Plans) (timing : Timings) (stays : PlannedUnits → Bool) (delays : List (Option Delays)) → Clean plan
         → AsksOfBus plan timing stays delays → timing.drift ≡ 0 → IsNoneNearByLoad plan timing delays }
+{}
+
+/// So no log of such a bus, whatever frames of it are missing and however it was cut, is accused by `near_or_late` of such a
+/// flow: its audit as a whole tells nothing of it by load.
+pub fn logs_of_kept_plans_are_not_near_by_load()
+    ensures { (s : Settings) (timing : Timings) (stays : PlannedUnits → Bool) (delays : List (Option Delays)) → Clean s.plan
+        → AsksOfBus s.plan timing stays delays → s.plan.timing ≡ Some timing → timing.drift ≡ 0 → s.responses ≡ map (response timing) delays
+        → AreLogsNotNear s timing delays }
 {}
 
 /// Nor is one told as silent by it, while it keeps its pause, where a log has all its messages up to a line.
