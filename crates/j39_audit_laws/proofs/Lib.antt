@@ -15,6 +15,7 @@ pub mod Near
 pub mod NearFrames
 pub mod NearLogs
 pub mod NearNotes
+pub mod NearWalk
 pub mod OnBus
 pub mod OnLoad
 pub mod OnLogs
