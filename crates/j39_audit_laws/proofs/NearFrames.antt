@@ -43,15 +43,17 @@ module _ (b : Settings) (t : Timing) (timed : b.plan.timing ≡ Some t) (n : ℕ
     pub earliest : c.earliest key ≡ a.earliest key
     pub noted : hits mark c.untimely ≡ hits mark a.untimely
     pub since : c.since ≡ a.since
+    pub before : c.before ≡ a.before
 
   near_itself : (m : Moments) → IsAsNear m m
-  near_itself m = record { earliest = refl; noted = refl; since = refl }
+  near_itself m = record { earliest = refl; noted = refl; since = refl; before = refl }
 
   pub near_more : (a c d : Moments) → IsAsNear a c → IsAsNear c d → IsAsNear a d
   near_more a c d one other = record {
     earliest = other.earliest ∙ one.earliest;
     noted = other.noted ∙ one.noted;
     since = other.since ∙ one.since;
+    before = other.before ∙ one.before;
   }
 
   -- ---- notes of another word
@@ -77,6 +79,7 @@ module _ (b : Settings) (t : Timing) (timed : b.plan.timing ≡ Some t) (n : ℕ
     earliest = refl;
     noted = with_silence m.untimely k (m.newest k) (silence_behind b t k (m.newest k) m.last);
     since = refl;
+    before = refl;
   }
 
   pauses_near : (unit : Option ℕ) (c : ℕ) (m : Moments) → IsAsNear m (pauses_ended b t unit c m)
@@ -103,30 +106,30 @@ module _ (b : Settings) (t : Timing) (timed : b.plan.timing ≡ Some t) (n : ℕ
       let c : ℕ = length b.plan.flows.items in
       let ended = pauses_near None c m in
       subst (λ (o : Option Timing). IsAsNear m (option_map_or (λ (x : Timing). pauses_dropped (pauses_ended b x None c m)) o m)) (sym timed)
-      (record { earliest = ended.earliest; noted = ended.noted; since = ended.since })
+      (record { earliest = ended.earliest; noted = ended.noted; since = ended.since; before = ended.before })
 
   ending_near : (e : Ending) (m : Moments) → IsAsNear m (with_ending b t e m)
   ending_near Nothing m = near_itself m
   ending_near OfAll m = all_near m
   ending_near (OfUnit u) m =
       let ended = pauses_near (Some u) (length b.plan.flows.items) m in
-      record { earliest = ended.earliest; noted = ended.noted; since = ended.since }
+      record { earliest = ended.earliest; noted = ended.noted; since = ended.since; before = ended.before }
 
   counted_near : (unit : Option ℕ) (line : ℕ) (m : Moments) → IsAsNear m (with_counted b unit line m)
   counted_near None line m = near_itself m
   counted_near (Some u) line m = elim (nat_lt u (length b.plan.units.items)) as (λ c. IsAsNear m (cond c (with_frame_of u line m) m)) [
-    | true ↦ record { earliest = refl; noted = refl; since = refl }
+    | true ↦ record { earliest = refl; noted = refl; since = refl; before = refl }
     | false ↦ near_itself m
   ]
 
   pause_near : (o : Option ℕ) (k : ℕ) (window : Window) (line : ℕ) (m : Moments) → IsAsNear m (with_pause o k window line m)
   pause_near None k window line m = near_itself m
-  pause_near (Some pause) k window line m = record { earliest = refl; noted = with_silence m.untimely k (m.newest k) _; since = refl }
+  pause_near (Some pause) k window line m = record { earliest = refl; noted = with_silence m.untimely k (m.newest k) _; since = refl; before = refl }
 
   -- ---- messages
 
   -- of another stream
-  other_message : (x : MessageStream) (window : Window) (line : ℕ) (m : Moments) → x.mark ≢ mark → IsAsNear m (with_message x window line m)
+  pub other_message : (x : MessageStream) (window : Window) (line : ℕ) (m : Moments) → x.mark ≢ mark → IsAsNear m (with_message x window line m)
   other_message x window line m other =
       let by : Option ℕ = excess (candidate x.step (m.earliest (key_of x.mark)) window) window.upper in
       let apart : is_same_key (key_of x.mark) key ≡ false =
@@ -136,6 +139,7 @@ module _ (b : Settings) (t : Timing) (timed : b.plan.timing ≡ Some t) (n : ℕ
         noted = hits_both mark m.untimely (near_noted x line by)
             ∙ ap (λ (l : List Noted). hits mark m.untimely ++ l) (none_of x line by apart) ∙ append-nil (hits mark m.untimely);
         since = refl;
+        before = refl;
       }
     where
       none_of : (x : MessageStream) (line : ℕ) (by : Option ℕ) → is_same_key (key_of x.mark) key ≡ false → hits mark (near_noted x line by) ≡ []
@@ -169,6 +173,7 @@ module _ (b : Settings) (t : Timing) (timed : b.plan.timing ≡ Some t) (n : ℕ
     pub noted : excess (candidate stream.step (m.earliest key) (moment_window b stream.slack time m.since)) (moment_window b stream.slack time m.since).upper ≡ None
         → hits mark new.untimely ≡ hits mark m.untimely
     pub since : new.since ≡ m.since
+    pub before : new.before ≡ m.before
 
   its_message : (f : Frame) (time line : ℕ) (m : Moments) (x : MessageStream) → flow_stream b t f n ≡ Some x
       → IsMessageThere f time m (with_stream b time line (Some x) m)
@@ -189,6 +194,7 @@ module _ (b : Settings) (t : Timing) (timed : b.plan.timing ≡ Some t) (n : ℕ
             (ap (λ (k : Key). excess (candidate x.step (m.earliest k) window) window.upper) same ∙ fits)
             ∙ ap (hits mark) (append-nil m.untimely);
         since = paused.since;
+        before = paused.before;
       }
     where
       its_own : is_same_key key key ≡ true
@@ -264,7 +270,8 @@ module _ (b : Settings) (t : Timing) (timed : b.plan.timing ≡ Some t) (n : ℕ
     -- and since when it holds what comes
     abbrev pub HoldsSince : ℕ → Moments → Moments → Type 0
     HoldsSince time m new =
-        new.since ≡ since_behind b t broken (length f.payload.items) time (begun_anew b anew broken m).before (begun_anew b anew broken m).since
+        (new.since ≡ since_behind b t broken (length f.payload.items) time (begun_anew b anew broken m).before (begun_anew b anew broken m).since)
+        × (new.before ≡ Some time)
 
     pub timed_frame : (time : ℕ) (m : Moments) → HoldsSince time m (moments_behind b broken anew (Some time) f line notes ending m)
         × (IsOtherFrame m (moments_behind b broken anew (Some time) f line notes ending m)
@@ -285,7 +292,7 @@ module _ (b : Settings) (t : Timing) (timed : b.plan.timing ≡ Some t) (n : ℕ
         let goes : HoldsSince time m fifth × (IsOtherFrame m fifth ⊎ IsNearFrame time m fifth) =
         elim (streams f time line third sighting.flow sighting.request) [
           | inl same ↦ (
-            behind.since ∙ same.since ∙ before.since,
+            (behind.since ∙ same.since ∙ before.since, behind.before ∙ same.before ∙ before.before),
             inl (record {
               earliest = behind.earliest ∙ same.earliest ∙ from;
               noted = behind.noted ∙ same.noted ∙ kept;
@@ -295,7 +302,7 @@ module _ (b : Settings) (t : Timing) (timed : b.plan.timing ≡ Some t) (n : ℕ
               let since : third.since ≡ fifth.since = sym (behind.since ∙ is.since) in
               let slack : Option ℕ = is.stream.slack in
               let step : ℕ = is.stream.step in (
-                behind.since ∙ is.since ∙ before.since,
+                (behind.since ∙ is.since ∙ before.since, behind.before ∙ is.before ∙ before.before),
                 inr (record {
                   seen = seen;
                   stream = is.stream;
@@ -321,3 +328,41 @@ module _ (b : Settings) (t : Timing) (timed : b.plan.timing ≡ Some t) (n : ℕ
         let was = begins m in
         subst (λ (o : Option Timing). IsOtherFrame m (with_time b o broken None f line sighting unclear ending (begun_anew b anew broken m))) (sym timed)
         (record { earliest = was.0; noted = was.1 })
+
+    -- where times begin anew, nothing is known any more
+    pub timeless_marks : (m : Moments) → anew ≡ true → ((moments_behind b broken anew None f line notes ending m).before ≡ None)
+        × ((moments_behind b broken anew None f line notes ending m).since ≡ None)
+    unfolding moments_behind
+    timeless_marks m is =
+        let start : Moments = begun_anew b anew broken m in
+        let none : (start.before ≡ None) × (start.since ≡ None) =
+        elim anew as (λ a. a ≡ true → ((cond a (record (all_pauses_ended b m) { before = None; since = None; earliest = λ key. None })
+        (cond broken (pauses_dropped m) m)).before ≡ None) × ((cond a (record (all_pauses_ended b m) { before = None; since = None; earliest = λ key. None })
+        (cond broken (pauses_dropped m) m)).since ≡ None)) [
+          | true ↦ λ _. (refl, refl)
+          | false ↦ λ e. absurd (true≢false (sym e))
+        ] is in
+        subst (λ (o : Option Timing). ((with_time b o broken None f line sighting unclear ending start).before ≡ None)
+        × ((with_time b o broken None f line sighting unclear ending start).since ≡ None)) (sym timed) none
+
+    -- and else it is what it was
+    pub goes_on : (m : Moments) → anew ≡ false → ((begun_anew b anew broken m).before ≡ m.before) × ((begun_anew b anew broken m).since ≡ m.since)
+    goes_on m is =
+        elim anew as (λ a. a ≡ false → ((cond a (record (all_pauses_ended b m) { before = None; since = None; earliest = λ key. None })
+        (cond broken (pauses_dropped m) m)).before ≡ m.before) × ((cond a (record (all_pauses_ended b m) { before = None; since = None; earliest = λ key. None })
+        (cond broken (pauses_dropped m) m)).since ≡ m.since)) [
+          | true ↦ λ e. absurd (true≢false e)
+          | false ↦ λ _. elim broken as (λ c. ((cond c (pauses_dropped m) m).before ≡ m.before) × ((cond c (pauses_dropped m) m).since ≡ m.since)) [
+            | true ↦ (refl, refl)
+            | false ↦ (refl, refl)
+          ]
+        ] is
+
+    pub begun_marks : (m : Moments) → anew ≡ true → ((begun_anew b anew broken m).before ≡ None) × ((begun_anew b anew broken m).since ≡ None)
+    begun_marks m is =
+        elim anew as (λ a. a ≡ true → ((cond a (record (all_pauses_ended b m) { before = None; since = None; earliest = λ key. None })
+        (cond broken (pauses_dropped m) m)).before ≡ None) × ((cond a (record (all_pauses_ended b m) { before = None; since = None; earliest = λ key. None })
+        (cond broken (pauses_dropped m) m)).since ≡ None)) [
+          | true ↦ λ _. (refl, refl)
+          | false ↦ λ e. absurd (true≢false (sym e))
+        ] is

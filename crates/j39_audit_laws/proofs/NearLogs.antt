@@ -159,7 +159,7 @@ module _ (s : Settings) (log : List Line) (timing : Timing) (timed : s.plan.timi
           | inr near ↦
               let (step_is, slack_is) = its_stream one.f near.stream near.stream_is in
               let lower : (moment_window b near.stream.slack time new.since).lower ≡ Some (earliest_end b time - slack) =
-              ap (λ (o : Option ℕ). lower_bound o new.since) slack_is ∙ ap (lower_bound (Some slack)) since in
+              ap (λ (o : Option ℕ). lower_bound o new.since) slack_is ∙ ap (lower_bound (Some slack)) since.0 in
               by_message s log place is_message IsUpper IsLower b timing timed n step none_of_these number past.by_load so_far broken anew one.f
               one.at.past.number notes ending time new near step_is l (seen (number + 1) l near.seen) (time_shifted time at)
               (λ x is. end_shifted time at x (same_Some x (earliest_end b time - slack) (sym is ∙ lower)))
@@ -200,10 +200,10 @@ module _ (s : Settings) (log : List Line) (timing : Timing) (timed : s.plan.timi
 
   more : (number : ℕ) (past next : AuditPast) → Holds number past → IsNext s log (number + 1) past next → Holds (number + 1) next
   more number past next is (count, inl passed) =
-      subst (IsKept (number + 1)) (sym passed.load_is) (kept_on number past.by_load past.by_load (record { earliest = refl; noted = refl; since = refl }) is)
+      subst (IsKept (number + 1)) (sym passed.load_is) (kept_on number past.by_load past.by_load (record { earliest = refl; noted = refl; since = refl; before = refl }) is)
   more number past next is (count, inr (inl gap)) =
       subst (IsKept (number + 1)) (sym gap.load_is)
-      (with_gap (number + 1) past.by_load (kept_on number past.by_load past.by_load (record { earliest = refl; noted = refl; since = refl }) is))
+      (with_gap (number + 1) past.by_load (kept_on number past.by_load past.by_load (record { earliest = refl; noted = refl; since = refl; before = refl }) is))
   more number past next is (count, inr (inr (inl bad))) =
       let all : Moments = all_pauses_ended b past.by_load in
       subst (IsKept (number + 1)) (sym (ap (λ (p : AuditPast). p.by_load) bad.next_is))

@@ -18,7 +18,7 @@ use Rattle.j39_audit.specs.Moments.{behind_gap}
 use Rattle.j39_audit.specs.Settings.{Settings, by_load}
 use Rattle.j39_audit.proofs.Hearing.{as_many_lines, frame_number, line_more}
 use Rattle.j39_audit_laws.specs.FoundLines.{IsFrameAt, IsLineOf, IsReadHere}
-use Rattle.j39_audit_laws.specs.PauseLines.{IsBadAt}
+use Rattle.j39_audit_laws.specs.PauseLines.{IsBadAt, IsPassedOver}
 use Rattle.j39_audit_laws.proofs.Lines.{same_cut}
 use Rattle.j39_audit_laws.proofs.OneReading.{one_interface, one_log_read, one_packet_of, one_part, one_time}
 
@@ -141,12 +141,15 @@ module _ (s : Settings) (log : List Line) where
 
   -- it changes nothing, or it is skipped
   pub record IsPassed (number : ℕ) (past next : AuditPast) : Type 0 where
+    pub over : IsPassedOver s log number
+    pub moments_are : next.moments ≡ past.moments
     pub no_frame : IsNoFrame number
     pub not_bad : ¬ IsBadAt s log number
     pub claims_are : next.claims ≡ past.claims
     pub load_is : next.by_load ≡ past.by_load
 
   pub record IsGap (number : ℕ) (past next : AuditPast) : Type 0 where
+    pub moments_are : next.moments ≡ behind_gap past.moments
     pub no_frame : IsNoFrame number
     pub not_bad : ¬ IsBadAt s log number
     pub claims_are : next.claims ≡ past.claims
@@ -197,6 +200,8 @@ module _ (s : Settings) (log : List Line) where
         let there : IsPartAt counted begun l part named =
         record { line_is = short_line l same; part_is = reads.part_is; named_is = reads.named_is } in
         inl (record {
+          over = (begun, l, short_line l same, part, named, reads.part_is, reads.named_is, inr fault);
+          moments_are = ap (λ (p : AuditPast). p.moments) is;
           no_frame = faulty counted begun l part named Empty there fault;
           not_bad = not_bad counted begun l part named Empty there fault (inl refl);
           claims_are = ap (λ (p : AuditPast). p.claims) is;
@@ -206,6 +211,7 @@ module _ (s : Settings) (log : List Line) where
         let there : IsPartAt counted begun l part named =
         record { line_is = short_line l same; part_is = reads.part_is; named_is = reads.named_is } in
         inr (inl (record {
+          moments_are = ap (λ (p : AuditPast). p.moments) is;
           no_frame = faulty counted begun l part named ShortIdent there fault;
           not_bad = not_bad counted begun l part named ShortIdent there fault (inr refl);
           claims_are = ap (λ (p : AuditPast). p.claims) is;
@@ -225,6 +231,8 @@ module _ (s : Settings) (log : List Line) where
         let is : IsPartAt counted begun l part named = record { line_is = short_line l same; part_is = part_is; named_is = named_is } in (
           ap (λ (p : AuditPast). p.number) e,
           inl (record {
+            over = (begun, l, short_line l same, part, named, part_is, named_is, inl there);
+            moments_are = ap (λ (p : AuditPast). p.moments) e;
             no_frame = elsewhere_no_frame counted begun l part named is there;
             not_bad = elsewhere_not_bad counted begun l part named is there;
             claims_are = ap (λ (p : AuditPast). p.claims) e;

@@ -9,6 +9,7 @@ use Rattle.j39_id.specs.declared.line_error.LineError.{LineError}
 use Rattle.j39_id.specs.declared.line_error.LineError.TheVariants.{Empty, ShortIdent}
 use Rattle.j39_network.specs.declared.plan.flow_plan.FlowPlan.{FlowPlan}
 use Rattle.j39_network.specs.declared.plan.group_plan.GroupPlan.{GroupPlan}
+use Rattle.j39_follow.specs.LogLines.{IsElsewhere, IsReadPart, NamesInterface}
 use Rattle.j39_tp.specs.declared.packet.Packet.{Packet}
 use Rattle.j39_audit.specs.AuditText.{AuditPast, counted_for, noted_newly}
 use Rattle.j39_audit.specs.Breaks.{breaks, line_time}
@@ -29,6 +30,11 @@ IsBadAt s log number =
     ((past : AuditPast) × IsLineOf s log number past Long)
     ⊎ ((past : AuditPast) × (line : List ℕ) × IsLineOf s log number past (ShortLine line) × (part : List ℕ) × (named : Option (List ℕ))
     × (e : LineError) × IsReadHere past line part named × HasLineFault part e × (e ≢ Empty) × (e ≢ ShortIdent))
+
+-- it is passed over: it is from elsewhere, or has no word
+abbrev pub IsPassedOver : Settings → List Line → ℕ → Type 0
+IsPassedOver s log number = (past : AuditPast) × (line : List ℕ) × IsLineOf s log number past (ShortLine line) × (part : List ℕ) × (named : Option (List ℕ))
+    × IsReadPart line part × NamesInterface part named × (IsElsewhere past.interface part named ⊎ HasLineFault part Empty)
 
 -- a frame at the line of this number, and its time, if it has one
 pub record FrameLine (s : Settings) (log : List Line) (number : ℕ) : Type 0 where
