@@ -14,6 +14,7 @@ pub mod Marking
 pub mod Near
 pub mod NearFrames
 pub mod NearLogs
+pub mod NearMarks
 pub mod NearNotes
 pub mod NearWalk
 pub mod OnBus

@@ -39,7 +39,7 @@ whole_bits Kbit250 ms x y less = omega (arith, less)
 whole_bits Kbit500 ms x y less = omega (arith, less)
 whole_bits Mbit1 ms x y less = omega (arith, less)
 
-behind : (b : Bitrate) (drift ms x y : ℕ) → drift ≡ 0
+pub behind : (b : Bitrate) (drift ms x y : ℕ) → drift ≡ 0
     → x * bit_time b * (million + drift) + 1000 * ms * (million - drift) < (y + 1) * bit_time b * (million + drift)
     → x * bit_time b + 1000 * ms ≤ y * bit_time b
 behind b drift ms x y none less =

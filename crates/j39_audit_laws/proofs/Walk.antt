@@ -10,11 +10,12 @@ use Rattle.j39_id.specs.declared.line_error.LineError.{LineError}
 use Rattle.j39_id.specs.declared.line_error.LineError.TheVariants.{Empty, NoHash, ShortIdent, BadIdent, TooLong, BadData}
 use Rattle.j39_follow.specs.LogLines.{IsElsewhere, IsReadPart, IsTimeText, NamesInterface}
 use Rattle.j39_tp.specs.declared.packet.Packet.{Packet}
-use Rattle.j39_audit.specs.AuditText.{AuditPast, AuditsLine, AuditsLines, bad_line, claims_before, moments_with_frame, nothing_read, passed_by, past_with_frame, with_next_number}
+use Rattle.j39_audit.specs.AuditText.{AuditPast, AuditsLine, AuditsLines, bad_line, broadcasts_there, claims_before, counted_for, moments_with_frame, nothing_read, passed_by, past_with_frame, with_next_number}
+use Rattle.j39_audit.specs.BegunBroadcasts.{packet_with}
 use Rattle.j39_audit.specs.Breaks.{line_time}
 use Rattle.j39_audit.specs.Claiming.{HeardClaims}
 use Rattle.j39_audit.specs.Looking.{IsPacketOf}
-use Rattle.j39_audit.specs.Moments.{behind_gap}
+use Rattle.j39_audit.specs.Moments.{behind_gap, with_packet_stream}
 use Rattle.j39_audit.specs.Settings.{Settings, by_load}
 use Rattle.j39_audit.proofs.Hearing.{as_many_lines, frame_number, line_more}
 use Rattle.j39_audit_laws.specs.FoundLines.{IsFrameAt, IsLineOf, IsReadHere}
@@ -27,6 +28,14 @@ pub load_with : (s : Settings) (past : AuditPast) (time : Option ℕ) (named : O
     → (past_with_frame s past time named f packet).by_load ≡ moments_with_frame (by_load s) s past time f packet past.by_load
 unfolding past_with_frame
 load_with s past time named f packet = refl
+
+-- and by the bus
+pub moments_with : (s : Settings) (past : AuditPast) (time : Option ℕ) (named : Option (List ℕ)) (f : Frame) (packet : Option Packet)
+    → (past_with_frame s past time named f packet).moments
+    ≡ with_packet_stream s time past.number (packet_with s.plan.timing (counted_for s past time f packet) f (broadcasts_there s past time f))
+    (moments_with_frame s s past time f packet past.moments)
+unfolding past_with_frame
+moments_with s past time named f packet = refl
 
 module _ (s : Settings) (log : List Line) where
   -- ---- a line is read in one way

@@ -1,21 +1,25 @@
 -- What a whole log tells of a bus that keeps to its plan, by load.
-use Rattle.std.specs.Prelude.{◌≡◌, ℕ, ◌<◌, ◌≤◌, Bool, true, List, Option, Some}
+use Rattle.std.specs.Prelude.{◌≡◌, ◌≢◌, ◌⊎◌, ℕ, ◌+◌, ◌*◌, ◌<◌, ◌≤◌, Bool, true, List, length, Option, Some}
 use Rattle.j39_id.specs.Lines.{Line}
+use Rattle.j39_network.specs.declared.plan.Plan.{Plan}
 use Rattle.j39_network.specs.declared.plan.timing.Timing.{Timing}
 use Rattle.j39_timing.specs.AnyOrder.{Controllers, IsLegalInAnyOrder}
+use Rattle.j39_timing.specs.Errors.{Damaged, IsBusWithErrors}
 use Rattle.j39_timing.specs.Messages.{frame_end}
 use Rattle.j39_timing.specs.TimedFrames.{IsLegal, Schedule}
 use Rattle.j39_load.specs.Clocks.{bit_time}
-use Rattle.j39_load.specs.KeepsPlan.{KeepsAllOrder, KeepsQueues, KeepsToPlan}
+use Rattle.j39_load.specs.KeepsPlan.{IsSingleFlow, KeepsAllOrder, KeepsQueues, KeepsToPlan}
 use Rattle.j39_load.specs.KeptTimes.{IsTold}
-use Rattle.j39_load.specs.SentFrames.{FrameSources, HasPeriodMs, Held}
+use Rattle.j39_load.specs.SentFrames.{FrameSources, HasPeriodMs, Held, IsMsBehind, IsSingleFrame}
 use Rattle.j39_load.specs.declared.waits.delay.Delay.{Delay}
 use Rattle.j39_audit.specs.AuditText.{AuditPast, AuditsLines, log_ended, look_at, mark_at, nothing_read}
+use Rattle.j39_audit.specs.Moments.{damaged_at_once}
 use Rattle.j39_audit.specs.Settings.{Settings, logger_error}
-use Rattle.j39_audit.specs.declared.mark.Word.TheVariants.{NearOrLate}
+use Rattle.j39_audit.specs.declared.by_load.Bound.TheVariants.{Bus}
+use Rattle.j39_audit.specs.declared.mark.Word.TheVariants.{NearFlow, NearOrLate}
 use Rattle.j39_audit_laws.specs.ByLoad.{AreOfFlow}
-use Rattle.j39_audit_laws.specs.MarkRecords.{IsTimeOf, KeepsTime}
-use Rattle.j39_audit_laws.specs.PauseLines.{FrameLine, IsSeenOf, time_there}
+use Rattle.j39_audit_laws.specs.MarkRecords.{AreFew, IsNextTo, IsTimeOf, KeepsTime}
+use Rattle.j39_audit_laws.specs.PauseLines.{FrameLine, IsPassedOver, IsSeenOf, time_there}
 
 -- each frame that is read of a log is one that has ended on a bus, in the order of their ends, and its time is that of its end, within the logger's error;
 -- frames of the bus may be missing
@@ -44,3 +48,29 @@ pub record AreLogsNotNear (s : Settings) (timing : Timing) (delays : List (Optio
   pub in_any_order : (bus : Schedule) (controllers : Controllers) (planned : ℕ → Bool) (sent : FrameSources) (held : Held)
       → IsLegalInAnyOrder bus controllers → KeepsToPlan s.plan timing bus planned sent held → KeepsQueues s.plan timing bus controllers planned sent
       → IsNoneNearInLogs s timing delays bus planned sent
+
+-- ---- by the bus
+
+-- nothing that the bus carried is missing between two frames with nothing but lines between them that are passed over; and a frame has eight bytes at
+-- most, and takes as many bits as these may need
+pub record IsWholeLog (s : Settings) (log : List Line) (bus : Schedule) (place : ℕ → ℕ) : Type 0 where
+  pub next : (a c : ℕ) → FrameLine s log a → FrameLine s log c → a < c → ((k : ℕ) → a < k → k < c → IsPassedOver s log k) → IsNextTo bus (place a) (place c)
+  pub bytes : (number : ℕ) (l : FrameLine s log number) → length l.f.payload.items ≤ 8
+  pub bits : (number : ℕ) (l : FrameLine s log number) → bus.bits (place number) ≤ 80 + 10 * length l.f.payload.items
+
+-- these are the messages of a flow each of which goes in one frame, and their releases are a period apart; what else the bus carries isn't asked
+pub record KeepsItsPeriod (plan : Plan) (timing : Timing) (bus : Schedule) (held : Held) (n ms : ℕ) (release : ℕ → ℕ) (is_message : ℕ → Bool) : Type 0 where
+  pub single : IsSingleFlow plan n
+  pub period : HasPeriodMs plan n ms
+  pub frames : (p : ℕ) → p < bus.count → is_message p ≡ true → IsSingleFrame plan timing bus held n (release p) p
+  pub apart : (p q : ℕ) → p < bus.count → q < bus.count → p ≢ q → is_message p ≡ true → is_message q ≡ true
+      → IsMsBehind timing ms (release p) (release q) ⊎ IsMsBehind timing ms (release q) (release p)
+
+-- whatever others do, on a bus with no more damage than the plan tells, in a whole log no such flow is told as too near
+abbrev pub PeriodsAreNotNear : Type 0
+PeriodsAreNotNear = (s : Settings) (log : List Line) (timing : Timing) (bus : Schedule) (damaged : Damaged) (held : Held) (release clock place : ℕ → ℕ) (n ms : ℕ)
+    (is_message : ℕ → Bool) (end : AuditPast) → s.plan.timing ≡ Some timing → s.bound ≡ Bus → timing.drift ≡ 0
+    → KeepsTime (bit_time timing.bitrate) clock → IsBusWithErrors bus damaged → ((p : ℕ) → p < bus.count → bus.bits p ≤ 160)
+    → AreFew damaged (damaged_at_once timing) → KeepsItsPeriod s.plan timing bus held n ms release is_message
+    → IsLogOfBus s log bus clock place → IsWholeLog s log bus place → AreSeenAs s log place n is_message → AuditsLines s nothing_read log end
+    → (look_at (log_ended s end) (mark_at NearFlow n 0)).times ≡ 0

@@ -17,7 +17,7 @@ ghost use Rattle.j39_audit_laws.specs.ExactClocks.{ExactClocks};
 ghost use Rattle.j39_audit_laws.specs.FoundForSure.{FoundAreWritten, NoneIsUnsure};
 ghost use Rattle.j39_audit_laws.specs.FoundLines.{FoundAreListed, LinesAreOfLog};
 ghost use Rattle.j39_audit_laws.specs.InTurn.{IsInTurn, NotesTheLate};
-ghost use Rattle.j39_audit_laws.specs.KeptLogs.{AreLogsNotNear};
+ghost use Rattle.j39_audit_laws.specs.KeptLogs.{AreLogsNotNear, PeriodsAreNotNear};
 ghost use Rattle.j39_audit_laws.specs.KeptParts.{KeepersAreNotAccused};
 ghost use Rattle.j39_audit_laws.specs.LogBounds.{AreOfLoad, AreOfLog, IsEndBound, IsMarkedBound, IsTimedBound, Lines};
 ghost use Rattle.j39_audit_laws.specs.OneAudit.{AuditHasOneText};
@@ -229,6 +229,12 @@ pub fn no_stream_is_told_wrongly()
         → (j : ℕ) → j ≤ n → (lower : Option ℕ) → (of : ℕ) → AreAllBefore s is_message frame j of
         → ((x : ℕ) → lower ≡ Some x → IsMarkedBound s log jitter of x × (1000 * x ≤ log.clock to))
         → is_silent (1001 * pause) windows j lower ≡ false }
+{}
+
+/// So in a whole log of such a bus no flow is accused by `near`, in the plan's own words, each message of which goes in one
+/// frame, and keeps the period and the jitter of the flow, whatever all others do.
+pub fn whole_logs_of_kept_periods_are_not_near()
+    ensures { PeriodsAreNotNear }
 {}
 
 /// Nor is one told by load that keeps its period, and its pause, and each message of which has been sent within the

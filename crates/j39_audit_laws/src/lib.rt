@@ -12,4 +12,5 @@ pub use laws::{
     who_claims_by_the_plan_is_not_accused, who_is_long_silent_is_told,
     who_is_sent_in_time_is_not_told, who_keeps_a_pause_is_not_silent, who_keeps_a_step_is_not_near,
     who_sends_by_the_plan_is_not_accused, who_sends_in_turn_is_not_silent,
+    whole_logs_of_kept_periods_are_not_near,
 };
