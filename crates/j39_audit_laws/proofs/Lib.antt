@@ -44,4 +44,5 @@ pub mod Steps
 pub mod Sure
 pub mod Told
 pub mod Walk
+pub mod WholeLogs
 pub mod Written

@@ -16,3 +16,4 @@ pub mod Pausing
 pub mod SilentFlows
 pub mod Stepping
 pub mod StreamRecords
+pub mod WholeLogs

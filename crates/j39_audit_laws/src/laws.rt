@@ -28,6 +28,8 @@ ghost use Rattle.j39_audit_laws.specs.StreamRecords.{AreAllBefore, AreLines, Are
 ghost use Rattle.j39_audit_laws.specs.Pausing.{ComesInTime, IsBoundAt, NotesTheSilent, NotesTheSilentEnd};
 ghost use Rattle.j39_audit_laws.specs.SilentFlows.{SilentAreFound};
 ghost use Rattle.j39_audit_laws.specs.Stepping.{AreMomentsWithin, AreStepsApart, NotesTheNear};
+ghost use Rattle.j39_audit_laws.specs.WholeLogs.{AreWholeLogsNotNear};
+ghost use Rattle.j39_audit.specs.declared.by_load.Bound.TheVariants.{Bus};
 ghost use Rattle.j39_audit.specs.Responses.{response, us_at_logger};
 ghost use Rattle.j39_findings.specs.Findings.{Clean};
 ghost use Rattle.j39_load.specs.LoadFindings.{AsksOfBus};
@@ -271,7 +273,14 @@ pub fn logs_of_kept_plans_are_not_near_by_load()
         → AreLogsNotNear s timing delays }
 {}
 
-/// Nor is one told as silent by it, while it keeps its pause, where a log has all its messages up to a line.
+/// And in a whole log of such a bus, without damage, neither `near` nor `near_or_late` is written of it.
+pub fn whole_logs_of_kept_plans_are_not_near()
+    ensures { (s : Settings) (timing : Timings) (stays : PlannedUnits → Bool) (delays : List (Option Delays)) → Clean s.plan
+        → AsksOfBus s.plan timing stays delays → s.plan.timing ≡ Some timing → timing.drift ≡ 0 → s.responses ≡ map (response timing) delays
+        → s.bound ≡ Bus → AreWholeLogsNotNear s timing delays }
+{}
+
+/// Nor is one told as silent by load, while it keeps its pause, where a log has all its messages up to a line.
 pub fn kept_pauses_are_not_silent_by_load()
     ensures { (plan : Plans) (timing : Timings) (stays : PlannedUnits → Bool) (delays : List (Option Delays)) → Clean plan
         → AsksOfBus plan timing stays delays → timing.drift ≡ 0 → IsNoneSilentByLoad plan timing delays }
