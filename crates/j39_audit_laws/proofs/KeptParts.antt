@@ -32,7 +32,7 @@ use Rattle.j39_audit.specs.Looking.{IsPacketOf, announced_message, is_claim, is_
 use Rattle.j39_audit.specs.SentMessages.{SentMessage}
 use Rattle.j39_audit.specs.Settings.{Settings}
 use Rattle.j39_audit_laws.specs.FoundLines.{IsFrameAt}
-use Rattle.j39_audit_laws.specs.KeptParts.{CarriesPlanned, IsGroupAnnounced, IsGroupMessage, KeepersAreNotAccused, KeepsBesidePlan, KeepsOwnFrames, ShowsFrames, WireFrames, OfFlowsGroup}
+use Rattle.j39_audit_laws.specs.KeptParts.{CarriesPlanned, IsGroupAnnounced, IsGroupMessage, KeepersAreNotAccused, KeptPlansAreNotAccused, KeepsBesidePlan, KeepsOwnFrames, ShowsFrames, WireFrames, OfFlowsGroup}
 use Rattle.j39_audit_laws.specs.OwnPart.{ClaimsAddresses, GoesAsPlanned, IsByThePlan, IsItsAddress, IsItsNumber, IsOfFlowPlanned, LooksAsPlanned, SentBy}
 use Rattle.j39_audit_laws.proofs.Own.{can_claim, claim_number, claims_its_own, flows_are_planned, layouts_are_planned, priorities_are_planned, waits_for_planned}
 use Rattle.j39_audit_laws.proofs.RunMessages.{other_none, priority_as, sent_message}
@@ -349,8 +349,8 @@ module _ (s : Settings) (timing : Timing) (own : HaveOwnNumbers s.plan) (u : ℕ
   -- one that isn't planned
   pub besides_fine : (ident : ℕ) → bits f.ident ≡ ident → KeepsBesidePlan plan timing u ident f → IsFine
   besides_fine ident number is = record {
-    claims = is.claims;
-    looks = is.looks;
+    claims = is.looks.claims;
+    looks = is.looks.messages;
     waits = λ above. absurd (never above);
   }
     where
@@ -398,3 +398,20 @@ keepers s log timing bus wire place planned sent held u moving own timed shows i
           subst (λ (x : Timing). IsByThePlan s x u f) same
           ((fine number claims f packet at by).waits (subst (λ (x : Timing). f.ident.priority < x.unplanned_priority) (sym same) above))));
     }
+
+-- ---- a bus that keeps to its plan
+
+pub kept_plans : KeptPlansAreNotAccused
+kept_plans s log timing bus wire place planned sent held moving own timed first keeps carries shows u its =
+    keepers s log timing bus wire place planned sent held u moving own timed shows its (record {
+      ident = λ p inside unit. carries.ident p u inside unit;
+      queued_first = λ p inside _. first p inside;
+      held_own = carries.held_own;
+      messages = λ m inside. keeps.broadcasts.messages u m inside;
+      flows = λ p inside unit plans. record {
+        is = keeps.frames p inside plans;
+        its = carries.sender p u inside unit plans;
+        carries = carries.flows p inside plans;
+      };
+      besides = λ p inside unit other. record { looks = carries.besides p u inside unit other; priority = keeps.others_priority p inside other };
+    })

@@ -2,7 +2,7 @@
 use Rattle.std.proofs.Common.{◌≡◌, ◌⊎◌, ℕ, zero, suc, ◌==◌, ◌&&◌, ◌++◌, ◌∷◌, [], List, Bool, true, false, cond, length, nat_eq, ◌≢◌}
 use Rattle.std.proofs.Common.{inl, inr, refl, sym, ap, ◌∙◌, subst, arith, Option, Some, None}
 use Rattle.std.specs.Prelude.{nat_lt, slice_index_or}
-use Rattle.std.specs.Option.{option_and_then, option_map_or}
+use Rattle.std.specs.Option.{option_map_or}
 use Rattle.std.proofs.lemmas.Bool.{and_from, cases_Bool, cases_eq, cond-false, cond-true, eq-eqb, false_from_ne_true, true≢false}
 use Rattle.std.proofs.lemmas.List.{append-nil}
 use Rattle.std.proofs.lemmas.Option.{none-some, option_and_then_some, same_Some}
@@ -13,8 +13,8 @@ use Rattle.j39_network.specs.declared.plan.pace.Pace.{Pace}
 use Rattle.j39_network.specs.declared.plan.timing.Timing.{Timing}
 use Rattle.j39_audit.specs.Counting.{Key, Noted, is_same_key, key_of}
 use Rattle.j39_audit.specs.Looking.{is_single}
-use Rattle.j39_audit.specs.MessageStreams.{asked_stream, flow_pace, flow_stream, group_in_flow, is_in_stream, nothing_sighted, paced_request, paced_stream, request_period, request_priority, sighted_behind, sighted_stream, stream_mark, stream_pause}
-use Rattle.j39_audit.specs.Moments.{Moments, all_pauses_ended, begun_anew, ends_with, listed_pauses_ended, moment_window, moments_behind, near_noted, pause_ended, pauses_dropped, pauses_ended, silence_behind, silent_noted, since_behind, with_counted, with_earliest, with_ending, with_frame_of, with_message, with_moment, with_pause, with_stream, with_time}
+use Rattle.j39_audit.specs.MessageStreams.{asked_stream, flow_pace, flow_stream, group_in_flow, is_in_stream, nothing_sighted, paced_stream, request_period, request_priority, sighted_behind, sighted_stream, stream_mark, stream_pause}
+use Rattle.j39_audit.specs.Moments.{Moments, all_pauses_ended, begun_anew, ends_with, listed_pauses_ended, moment_window, moments_behind, near_noted, pause_ended, pauses_dropped, pauses_ended, silence_behind, silent_noted, since_behind, with_counted, with_ending, with_frame_of, with_message, with_moment, with_pause, with_stream, with_time}
 use Rattle.j39_audit.specs.Near.{candidate, earliest_next, excess}
 use Rattle.j39_audit.specs.Pauses.{unclear_behind}
 use Rattle.j39_audit.specs.Settings.{Settings}

@@ -1,11 +1,11 @@
 -- In a whole log of a bus no flow that keeps its period is told as too near by the bus, whatever others do.
-use Rattle.std.proofs.Common.{◌≡◌, ◌⊎◌, ℕ, zero, suc, ◌+◌, ◌-◌, ◌*◌, ◌^◌, ◌<◌, ◌≤◌, ◌==◌, List, [], Bool, true, false, cond, length, map, min, nat_lt}
+use Rattle.std.proofs.Common.{◌≡◌, ℕ, ◌+◌, ◌-◌, ◌*◌, ◌<◌, ◌≤◌, List, Bool, true, false, length}
 use Rattle.std.proofs.Common.{inl, inr, refl, sym, ap, ◌∙◌, subst, arith, Option, Some, None}
-use Rattle.std.specs.Prelude.{◌≢◌, ◌&&◌, not, slice_index_or}
+use Rattle.std.specs.Prelude.{◌≢◌, ◌&&◌, not}
 use Rattle.std.specs.List.{slice_get}
-use Rattle.std.specs.Option.{option_and_then, option_map}
-use Rattle.std.proofs.lemmas.Bool.{and_parts, ltb-true, cases_Bool, cases_eq, cases_lt, cond-false, cond-true, eq-eqb, ne_eqb, true≢false}
-use Rattle.std.proofs.lemmas.Option.{get_or_from_slice_get, none-some, option_and_then_some, same_Some, slice_get-map}
+use Rattle.std.specs.Option.{option_and_then}
+use Rattle.std.proofs.lemmas.Bool.{and_parts, ltb-true, cases_Bool, cases_eq, cond-false, cond-true, true≢false}
+use Rattle.std.proofs.lemmas.Option.{none-some, option_and_then_some, same_Some}
 use Rattle.j39_id.specs.Ident.{pgn_of}
 use Rattle.j39_id.specs.Lines.{Line}
 use Rattle.j39_id.specs.declared.frame.Frame.{Frame}
@@ -16,30 +16,25 @@ use Rattle.j39_network.specs.declared.plan.timing.Timing.{Timing}
 use Rattle.j39_timing.specs.Messages.{frame_end}
 use Rattle.j39_timing.specs.TimedFrames.{Schedule}
 use Rattle.j39_load.specs.Clocks.{bit_time}
-use Rattle.j39_load.specs.SentFrames.{FrameSources, HasPeriodMs}
 use Rattle.j39_audit.specs.AuditText.{AuditPast, AuditsLines, look_at, log_ended, mark_at, claims_before, broadcasts_there, counted_for, moments_with_frame, noted_newly, nothing_read}
-use Rattle.j39_audit.specs.Breaks.{breaks, line_time}
+use Rattle.j39_audit.specs.Breaks.{breaks}
 use Rattle.j39_audit.specs.Claiming.{knowledge}
 use Rattle.j39_audit.specs.Counting.{Noted, key_of, told_at, told_of}
 use Rattle.j39_audit.specs.Looking.{is_single}
 use Rattle.j39_audit.specs.MessageStreams.{flow_pace, flow_stream, group_in_flow, is_in_stream, paced_stream, shortest_us, stream_pause}
 use Rattle.j39_audit.specs.Moments.{Moments, all_pauses_ended, begins_anew, behind_gap, earliest_end, long_before, lower_bound, moment_window, moments_behind}
-use Rattle.j39_audit.specs.Near.{candidate, earliest, earliest_next, excess, is_later_than, is_too_near}
+use Rattle.j39_audit.specs.Near.{is_too_near}
 use Rattle.j39_audit.specs.Pauses.{ending_of}
-use Rattle.j39_audit.specs.Responses.{response, us_at_logger}
-use Rattle.j39_audit.specs.Settings.{Settings, by_load as judged_by_load, logger_error, response_of}
+use Rattle.j39_audit.specs.Settings.{Settings, logger_error, response_of}
 use Rattle.j39_audit.specs.declared.mark.Mark.{Mark}
 use Rattle.j39_audit.specs.declared.mark.Word.TheVariants.{NearFlow}
 use Rattle.j39_audit.specs.declared.pauses.Ending.{Ending}
 use Rattle.j39_audit.specs.declared.streams.MessageStream.{MessageStream}
 use Rattle.j39_audit.specs.declared.window.Window.{Window}
-use Rattle.j39_audit_laws.specs.ByLoad.{AreOfFlow, IsNoneNear}
-use Rattle.j39_audit_laws.specs.KeptLogs.{AreLogsNotNear, AreSeenAs, IsLogOfBus, IsNoneNearInLogs}
-use Rattle.j39_audit_laws.specs.LogBounds.{AreOfLoad, IsEndBound, IsTimedBound, Lines}
+use Rattle.j39_audit_laws.specs.KeptLogs.{AreSeenAs, IsLogOfBus}
+use Rattle.j39_audit_laws.specs.LogBounds.{IsTimedBound, Lines}
 use Rattle.j39_audit_laws.specs.MarkRecords.{KeepsTime}
-use Rattle.j39_audit_laws.specs.PauseLines.{FrameLine, IsSeenOf, time_there}
-use Rattle.j39_audit_laws.specs.StreamRecords.{AreLines}
-use Rattle.j39_audit_laws.proofs.Hits.{hits}
+use Rattle.j39_audit_laws.specs.PauseLines.{FrameLine, time_there}
 use Rattle.j39_audit_laws.proofs.NearFrames as frames
 use Rattle.j39_audit_laws.proofs.NearWalk.{AreItsMessages, IsSoFar, as_lines, by_message, by_other, first_so_far, same_so_far}
 use Rattle.j39_audit_laws.proofs.Walk.{IsFrameNext, IsNext, at_end, moments_with}

@@ -1,53 +1,22 @@
 -- A log's messages of a flow since times began anew, with their bounds, line by line: none is told as too near.
-use Rattle.std.proofs.Common.{◌≡◌, ◌⊎◌, ℕ, zero, suc, ◌+◌, ◌-◌, ◌*◌, ◌^◌, ◌<◌, ◌≤◌, ◌==◌, List, [], Bool, true, false, cond, length, map, min, nat_lt}
+use Rattle.std.proofs.Common.{◌≡◌, ◌⊎◌, ℕ, zero, suc, ◌+◌, ◌-◌, ◌<◌, ◌≤◌, ◌==◌, List, [], Bool, true, false, cond, nat_lt}
 use Rattle.std.proofs.Common.{inl, inr, refl, sym, ap, ◌∙◌, subst, arith, Option, Some, None}
-use Rattle.std.specs.Prelude.{slice_index_or}
-use Rattle.std.specs.List.{slice_get}
-use Rattle.std.specs.Option.{option_and_then, option_map}
-use Rattle.std.proofs.lemmas.Bool.{cases_Bool, cases_eq, cases_lt, cond-false, cond-true, eq-eqb, ne_eqb, true≢false}
-use Rattle.std.proofs.lemmas.Option.{get_or_from_slice_get, none-some, option_and_then_some, same_Some, slice_get-map}
-use Rattle.j39_id.specs.Ident.{pgn_of}
+use Rattle.std.proofs.lemmas.Bool.{cases_lt, cond-false, cond-true, eq-eqb, ne_eqb}
 use Rattle.j39_id.specs.Lines.{Line}
 use Rattle.j39_id.specs.declared.frame.Frame.{Frame}
-use Rattle.j39_findings.specs.Findings.{Clean}
-use Rattle.j39_network.specs.declared.plan.flow_plan.FlowPlan.{FlowPlan}
-use Rattle.j39_network.specs.declared.plan.group_plan.GroupPlan.{GroupPlan}
-use Rattle.j39_network.specs.declared.plan.pace.Pace.{Pace}
 use Rattle.j39_network.specs.declared.plan.timing.Timing.{Timing}
-use Rattle.j39_network.specs.declared.plan.unit_plan.UnitPlan.{UnitPlan}
-use Rattle.j39_timing.specs.Messages.{frame_end}
 use Rattle.j39_timing.specs.TimedFrames.{Schedule}
-use Rattle.j39_load.specs.Clocks.{bit_time}
-use Rattle.j39_load.specs.KeptTimes.{IsTold}
-use Rattle.j39_load.specs.LoadFindings.{AsksOfBus}
-use Rattle.j39_load.specs.Loads.{us_of_bits}
-use Rattle.j39_load.specs.SentFrames.{FrameSources, HasPeriodMs}
-use Rattle.j39_load.specs.declared.waits.delay.Delay.{Delay}
-use Rattle.j39_audit.specs.AuditText.{AuditPast, AuditsLines, look_at, log_ended, mark_at, claims_before, moments_with_frame, noted_newly, nothing_read}
-use Rattle.j39_audit.specs.Breaks.{breaks, line_time}
-use Rattle.j39_audit.specs.Claiming.{knowledge}
-use Rattle.j39_audit.specs.Counting.{Noted, told_at, told_of}
-use Rattle.j39_audit.specs.Looking.{is_single}
-use Rattle.j39_audit.specs.MessageStreams.{flow_pace, flow_stream, group_in_flow, is_in_stream, paced_stream, shortest_us, stream_pause}
-use Rattle.j39_audit.specs.Moments.{Moments, all_pauses_ended, begins_anew, earliest_end, long_before, lower_bound, moment_window, moments_behind}
+use Rattle.j39_audit.specs.Counting.{Noted}
+use Rattle.j39_audit.specs.Moments.{Moments, moment_window}
 use Rattle.j39_audit.specs.Near.{candidate, earliest, earliest_next, excess, is_later_than, is_too_near}
-use Rattle.j39_audit.specs.Pauses.{ending_of}
-use Rattle.j39_audit.specs.Responses.{response, us_at_logger}
-use Rattle.j39_audit.specs.Settings.{Settings, by_load as judged_by_load, logger_error, response_of}
-use Rattle.j39_audit.specs.declared.mark.Word.TheVariants.{NearOrLate}
+use Rattle.j39_audit.specs.Settings.{Settings}
 use Rattle.j39_audit.specs.declared.pauses.Ending.{Ending}
-use Rattle.j39_audit.specs.declared.streams.MessageStream.{MessageStream}
 use Rattle.j39_audit.specs.declared.window.Window.{Window}
-use Rattle.j39_audit_laws.specs.ByLoad.{AreOfFlow, IsNoneNear}
-use Rattle.j39_audit_laws.specs.KeptLogs.{AreLogsNotNear, AreSeenAs, IsLogOfBus, IsNoneNearInLogs}
-use Rattle.j39_audit_laws.specs.LogBounds.{AreOfLoad, IsEndBound, IsTimedBound, Lines}
-use Rattle.j39_audit_laws.specs.MarkRecords.{KeepsTime}
-use Rattle.j39_audit_laws.specs.PauseLines.{FrameLine, IsSeenOf, time_there}
+use Rattle.j39_audit_laws.specs.KeptLogs.{IsLogOfBus}
+use Rattle.j39_audit_laws.specs.PauseLines.{FrameLine}
 use Rattle.j39_audit_laws.specs.StreamRecords.{AreLines}
 use Rattle.j39_audit_laws.proofs.Hits.{hits}
 use Rattle.j39_audit_laws.proofs.NearFrames as frames
-use Rattle.j39_audit_laws.proofs.ToldTimes.{none_near_by_load}
-use Rattle.j39_audit_laws.proofs.Walk.{IsFrameNext, IsNext, at_end, load_with}
 
 -- ---- one message more
 

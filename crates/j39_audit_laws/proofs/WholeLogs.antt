@@ -1,8 +1,7 @@
 -- A whole log of a bus that keeps to its plan has no line of a flow that is too near.
-use Rattle.std.proofs.Common.{◌≡◌, ◌⊎◌, ℕ, zero, suc, ◌+◌, ◌*◌, ◌<◌, ◌≤◌, ◌==◌, ◌++◌, List, [], Bool, true, false, map}
-use Rattle.std.proofs.Common.{inl, inr, refl, sym, ap, ◌∙◌, subst, arith, Option, Some}
+use Rattle.std.proofs.Common.{◌≡◌, ℕ, ◌<◌, ◌≤◌, ◌==◌, List, [], Bool, false, map}
+use Rattle.std.proofs.Common.{inl, inr, sym, ap, ◌∙◌, subst, arith, Option, Some}
 use Rattle.std.proofs.lemmas.Bool.{cases_Bool, cond-true, eq-eqb}
-use Rattle.j39_id.specs.Lines.{Line}
 use Rattle.j39_findings.specs.Findings.{Clean}
 use Rattle.j39_network.specs.declared.plan.Plan.{Plan}
 use Rattle.j39_network.specs.declared.plan.timing.Timing.{Timing}
@@ -10,13 +9,11 @@ use Rattle.j39_network.specs.declared.plan.unit_plan.UnitPlan.{UnitPlan}
 use Rattle.j39_timing.specs.Errors.{Damaged, IsBusWithErrors}
 use Rattle.j39_timing.specs.Sums.{total}
 use Rattle.j39_timing.specs.TimedFrames.{IsOnBusAt, Schedule, Waits}
-use Rattle.j39_load.specs.Clocks.{bit_time}
 use Rattle.j39_load.specs.KeepsPlan.{IsSingleFlow, KeepsToPlan}
-use Rattle.j39_load.specs.KeptTimes.{IsTold}
 use Rattle.j39_load.specs.LoadFindings.{AsksOfBus}
-use Rattle.j39_load.specs.SentFrames.{Announcing, Asking, Broadcasts, Carrying, First, FrameSources, HasPeriodMs, Held, InSession, IsFrameOf, IsSentEvery, IsSingleFrame, Single, Source}
+use Rattle.j39_load.specs.SentFrames.{Announcing, Asking, Broadcasts, Carrying, First, FrameSources, HasPeriodMs, Held, InSession, IsFrameOf, IsSentEvery, Single, Source}
 use Rattle.j39_load.specs.declared.waits.delay.Delay.{Delay}
-use Rattle.j39_audit.specs.AuditText.{AuditPast, AuditsLines, Look, line_of_mark, line_told, log_ended, look_at, mark_at, nothing_read, subject_lines, told_mark}
+use Rattle.j39_audit.specs.AuditText.{Look, line_of_mark, line_told, log_ended, look_at, mark_at, subject_lines, told_mark}
 use Rattle.j39_audit.specs.Below.{each_below}
 use Rattle.j39_audit.specs.Moments.{damaged_at_once}
 use Rattle.j39_audit.specs.Responses.{response}
@@ -25,8 +22,8 @@ use Rattle.j39_audit.specs.declared.by_load.Bound.TheVariants.{Bus}
 use Rattle.j39_audit.specs.declared.mark.Mark.{Mark}
 use Rattle.j39_audit.specs.declared.mark.Word.TheVariants.{NearFlow, NearOrLate}
 use Rattle.j39_audit_laws.specs.ByLoad.{AreOfFlow}
-use Rattle.j39_audit_laws.specs.KeptLogs.{AreSeenAs, IsLogOfBus, IsNoneNearInLogs, IsWholeLog, KeepsItsPeriod}
-use Rattle.j39_audit_laws.specs.MarkRecords.{AreFew, KeepsTime, attempt_bits, attempts_in}
+use Rattle.j39_audit_laws.specs.KeptLogs.{IsNoneNearInLogs, KeepsItsPeriod}
+use Rattle.j39_audit_laws.specs.MarkRecords.{AreFew}
 use Rattle.j39_audit_laws.specs.WholeLogs.{AreWholeLogsNotNear, IsNearNowhere}
 use Rattle.j39_audit_laws.proofs.NearLogs.{logs_not_near}
 use Rattle.j39_audit_laws.proofs.NearMarks.{periods_not_near}

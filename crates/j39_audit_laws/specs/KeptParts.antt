@@ -15,6 +15,7 @@ use Rattle.j39_tp.specs.Packets.{bam_control, pgn_in, rts_control, size_in}
 use Rattle.j39_tp.specs.declared.packet.Packet.{Packet}
 use Rattle.j39_timing.specs.TimedFrames.{Schedule}
 use Rattle.j39_load.specs.KeepsBroadcasts.{IsMessageToAll}
+use Rattle.j39_load.specs.KeepsPlan.{KeepsToPlan}
 use Rattle.j39_load.specs.SentFrames.{Announcing, Asking, Broadcasts, Carrying, ClearToSend, EndAcknowledged, First, FrameSources, Held, InSession, IsFrameOf, IsSentByUnit, Packet as CarriedPacket, RequestToSend, Single, Source}
 use Rattle.j39_log_laws.specs.Telling.{HaveOwnNumbers}
 use Rattle.j39_audit.specs.Claiming.{HeardClaims, Knowledge}
@@ -74,13 +75,17 @@ CarriesPlanned plan b (Carrying u m k) bytes = Unit {0}
 
 -- ---- what a unit keeps
 
--- a frame of the unit that isn't planned: a claim is one of an address of the unit, and only where this claims; it has the priority of what isn't
--- planned or a larger number; and where it is a message with a number of one of the unit's groups, or announces one, this looks like one of its flows
-pub record KeepsBesidePlan (plan : Plan) (timing : Timing) (u ident : ℕ) (f : Frame) : Type 0 where
+-- a frame of the unit that isn't planned looks so: a claim is one of an address of the unit, and only where this claims; and where it is a message with a
+-- number of one of the unit's groups, or announces one, this looks like one of its flows
+pub record LooksBesidePlan (plan : Plan) (u : ℕ) (f : Frame) : Type 0 where
   pub claims : is_claim f ≡ true → (f.ident.sa ≢ null_address) × ClaimsAddresses plan u × IsItsAddress plan u f.ident.sa
-  pub priority : timing.unplanned_priority * 2 ^ 26 ≤ ident
-  pub looks : (packet : Option Packet) (m : SentMessage) → IsPacketOf f packet → message_sent u f packet ≡ Some m → IsItsNumber plan u m.number
+  pub messages : (packet : Option Packet) (m : SentMessage) → IsPacketOf f packet → message_sent u f packet ≡ Some m → IsItsNumber plan u m.number
       → (k : Knowledge) → IsOfFlowPlanned plan k m
+
+-- and has the priority of what isn't planned or a larger number
+pub record KeepsBesidePlan (plan : Plan) (timing : Timing) (u ident : ℕ) (f : Frame) : Type 0 where
+  pub looks : LooksBesidePlan plan u f
+  pub priority : timing.unplanned_priority * 2 ^ 26 ≤ ident
 
 -- a planned one is of a flow or a request of the unit, or of a long message that it receives
 pub record KeepsToFlows (plan : Plan) (timing : Timing) (bus : Schedule) (held : Held) (sent : FrameSources) (u p : ℕ) (f : Frame) : Type 0 where
@@ -116,3 +121,22 @@ KeepersAreNotAccused = (s : Settings) (log : List Line) (timing : Timing) (bus :
     (sent : FrameSources) (held : Held) (u : ℕ) → AreMoving s.plan s.moving → HaveOwnNumbers s.plan → s.plan.timing ≡ Some timing
     → ShowsFrames s log bus wire place → AreItsOwn s log (λ number. wire.unit (place number)) u
     → KeepsOwnFrames s.plan timing bus wire planned sent held u → IsNotAccused s log u
+
+-- ---- a bus that keeps to its plan
+
+-- what its schedule doesn't tell: each frame of a unit is on the wire as there, and where it is planned it is one that the unit sends; each that is
+-- planned carries what its flow brings; each unit holds one of its addresses; and what isn't planned looks so
+pub record CarriesPlan (plan : Plan) (bus : Schedule) (wire : WireFrames) (planned : ℕ → Bool) (sent : FrameSources) (held : Held) : Type 0 where
+  pub ident : (p u : ℕ) → p < bus.count → wire.unit p ≡ Some u → bits (wire.frame p).ident ≡ bus.ident p
+  pub sender : (p u : ℕ) → p < bus.count → wire.unit p ≡ Some u → planned p ≡ true → IsSentByUnit plan (sent.source p) u
+  pub flows : (p : ℕ) → p < bus.count → planned p ≡ true → CarriesPlanned plan sent.broadcasts (sent.source p) (wire.frame p).payload.items
+  pub held_own : (t v : ℕ) → v < length plan.units.items → IsItsAddress plan v (held.address t v)
+  pub besides : (p u : ℕ) → p < bus.count → wire.unit p ≡ Some u → planned p ≡ false → LooksBesidePlan plan u (wire.frame p)
+
+-- on such a bus no unit is accused
+abbrev pub KeptPlansAreNotAccused : Type 0
+KeptPlansAreNotAccused = (s : Settings) (log : List Line) (timing : Timing) (bus : Schedule) (wire : WireFrames) (place : ℕ → ℕ) (planned : ℕ → Bool)
+    (sent : FrameSources) (held : Held) → AreMoving s.plan s.moving → HaveOwnNumbers s.plan → s.plan.timing ≡ Some timing
+    → ((p : ℕ) → p < bus.count → bus.queued p ≤ bus.start p) → KeepsToPlan s.plan timing bus planned sent held
+    → CarriesPlan s.plan bus wire planned sent held → ShowsFrames s log bus wire place
+    → (u : ℕ) → AreItsOwn s log (λ number. wire.unit (place number)) u → IsNotAccused s log u

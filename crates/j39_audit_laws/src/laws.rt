@@ -18,7 +18,7 @@ ghost use Rattle.j39_audit_laws.specs.FoundForSure.{FoundAreWritten, NoneIsUnsur
 ghost use Rattle.j39_audit_laws.specs.FoundLines.{FoundAreListed, LinesAreOfLog};
 ghost use Rattle.j39_audit_laws.specs.InTurn.{IsInTurn, NotesTheLate};
 ghost use Rattle.j39_audit_laws.specs.KeptLogs.{AreLogsNotNear, PeriodsAreNotNear};
-ghost use Rattle.j39_audit_laws.specs.KeptParts.{KeepersAreNotAccused};
+ghost use Rattle.j39_audit_laws.specs.KeptParts.{KeepersAreNotAccused, KeptPlansAreNotAccused};
 ghost use Rattle.j39_audit_laws.specs.LogBounds.{AreOfLoad, AreOfLog, IsEndBound, IsMarkedBound, IsTimedBound, Lines};
 ghost use Rattle.j39_audit_laws.specs.OneAudit.{AuditHasOneText};
 ghost use Rattle.j39_audit_laws.specs.OwnPart.{AlwaysCan, AreItsOwn, ClaimsItsOwn, IsNotNamed, LooksAsPlanned, SentBy};
@@ -100,6 +100,12 @@ pub fn who_sends_by_the_plan_is_not_accused()
 /// bus was cut.
 pub fn who_keeps_its_part_is_not_accused()
     ensures { KeepersAreNotAccused }
+{}
+
+/// So none of these lines is written of any unit in a log of a bus that keeps to its plan, and the planned frames of which
+/// carry what flows bring.
+pub fn kept_plans_are_not_accused()
+    ensures { KeptPlansAreNotAccused }
 {}
 
 /// Of the frames of any world of any run of a plan without findings, with all lawful choices, cut in front anywhere,
