@@ -12,6 +12,7 @@ pub mod Lines
 pub mod Listed
 pub mod Marking
 pub mod Near
+pub mod NearClocks
 pub mod NearFrames
 pub mod NearLogs
 pub mod NearMarks

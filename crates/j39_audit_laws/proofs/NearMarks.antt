@@ -1,10 +1,10 @@
 -- In a whole log of a bus no flow that keeps its period is told as too near by the bus, whatever others do.
 use Rattle.std.proofs.Common.{◌≡◌, ℕ, ◌+◌, ◌-◌, ◌*◌, ◌<◌, ◌≤◌, List, Bool, true, false, length}
 use Rattle.std.proofs.Common.{inl, inr, refl, sym, ap, ◌∙◌, subst, arith, Option, Some, None}
-use Rattle.std.specs.Prelude.{◌≢◌, ◌&&◌, not}
+use Rattle.std.specs.Prelude.{nat_le, ◌≢◌, ◌&&◌, not}
 use Rattle.std.specs.List.{slice_get}
 use Rattle.std.specs.Option.{option_and_then}
-use Rattle.std.proofs.lemmas.Bool.{and_parts, ltb-true, cases_Bool, cases_eq, cond-false, cond-true, true≢false}
+use Rattle.std.proofs.lemmas.Bool.{le-leb, lt-leb, and_parts, ltb-true, cases_Bool, cases_eq, cond-false, cond-true, true≢false}
 use Rattle.std.proofs.lemmas.Option.{none-some, option_and_then_some, same_Some}
 use Rattle.j39_id.specs.Ident.{pgn_of}
 use Rattle.j39_id.specs.Lines.{Line}
@@ -38,15 +38,11 @@ use Rattle.j39_audit_laws.specs.PauseLines.{FrameLine, time_there}
 use Rattle.j39_audit_laws.proofs.NearFrames as frames
 use Rattle.j39_audit_laws.proofs.NearWalk.{AreItsMessages, IsSoFar, as_lines, by_message, by_other, first_so_far, same_so_far}
 use Rattle.j39_audit_laws.proofs.Walk.{IsFrameNext, IsNext, at_end, moments_with}
-use Rattle.j39_network.specs.declared.plan.timing.Bitrate.{Bitrate}
-use Rattle.j39_network.specs.declared.plan.timing.Bitrate.TheVariants.{Kbit125, Kbit250, Kbit500, Mbit1}
 use Rattle.j39_timing.specs.Errors.{Damaged, IsBusWithErrors}
-use Rattle.j39_load.specs.Clocks.{million}
 use Rattle.j39_load.specs.SentFrames.{Held}
-use Rattle.j39_audit.specs.BegunBroadcasts.{BegunBroadcasts, is_packet_to_all, packet_of, packet_with}
+use Rattle.j39_audit.specs.BegunBroadcasts.{packet_with}
 use Rattle.j39_audit.specs.MessageStreams.{latest_ms, longest_us, slack_by, stream_mark}
-use Rattle.j39_audit.specs.Moments.{begun_anew, bit_us, damaged_at_once, idle_behind, idle_mark, is_apart, leaves_idle, reach_back, shows_idle, since_behind, since_by, with_packet_stream}
-use Rattle.j39_audit.specs.declared.broadcasts.BegunBroadcast.{BegunBroadcast}
+use Rattle.j39_audit.specs.Moments.{begun_anew, damaged_at_once, idle_behind, idle_mark, is_apart, leaves_idle, reach_back, shows_idle, since_behind, since_by, with_packet_stream}
 use Rattle.j39_audit.specs.declared.by_load.Bound.{Bound}
 use Rattle.j39_audit.specs.declared.by_load.Bound.TheVariants.{Bus}
 use Rattle.j39_audit.specs.declared.mark.Word.TheVariants.{NearPackets}
@@ -57,47 +53,7 @@ use Rattle.j39_audit_laws.specs.MarkRecords.{AreFew, ShowsIdle, longest_reach}
 use Rattle.j39_audit_laws.proofs.ExactClocks.{exact_clocks}
 use Rattle.j39_audit_laws.proofs.OnLogs.{not_near}
 use Rattle.j39_audit_laws.proofs.ToldTimes.{behind}
-
--- ---- clocks
-
-fast : (b : Bitrate) → bit_time b ≤ 8
-fast Kbit125 = omega arith
-fast Kbit250 = omega arith
-fast Kbit500 = omega arith
-fast Mbit1 = omega arith
-
-same_bit : (b : Bitrate) → bit_us b ≡ bit_time b
-same_bit Kbit125 = refl
-same_bit Kbit250 = refl
-same_bit Kbit500 = refl
-same_bit Mbit1 = refl
-
--- a time that isn't longer by the clock of a unit isn't in whole bits
-no_longer : (b : Bitrate) (ms x y : ℕ) → y * bit_time b * million < (x + 1) * bit_time b * million + 1000 * ms * million
-    → y * bit_time b ≤ x * bit_time b + 1000 * ms
-no_longer Kbit125 ms x y less = omega (arith, less)
-no_longer Kbit250 ms x y less = omega (arith, less)
-no_longer Kbit500 ms x y less = omega (arith, less)
-no_longer Mbit1 ms x y less = omega (arith, less)
-
-within_ms : (b : Bitrate) (drift ms x y : ℕ) → drift ≡ 0
-    → y * bit_time b * (million - drift) < (x + 1) * bit_time b * (million - drift) + 1000 * ms * (million + drift)
-    → y * bit_time b ≤ x * bit_time b + 1000 * ms
-within_ms b drift ms x y none less =
-    no_longer b ms x y (subst (λ (d : ℕ). y * bit_time b * (million - d) < (x + 1) * bit_time b * (million - d) + 1000 * ms * (million + d)) none less)
-
-packet_mark : (t : Option Timing) (unit : Option ℕ) (f : Frame) (b : BegunBroadcasts) (x : MessageStream) → packet_with t unit f b ≡ Some x
-    → (u : ℕ) × (x.mark ≡ stream_mark NearPackets u)
-packet_mark None unit f b x e = absurd (none-some x e)
-packet_mark (Some t) None f b x e = absurd (none-some x e)
-packet_mark (Some t) (Some u) f b x e = of_one (b.begun u) e
-  where
-    of_one : (o : Option BegunBroadcast) → packet_of t u f o ≡ Some x → (v : ℕ) × (x.mark ≡ stream_mark NearPackets v)
-    of_one None is = absurd (none-some x is)
-    of_one (Some one) is = elim (cases_Bool (is_packet_to_all f)) [
-      | inl packet ↦ (u, sym (ap (λ (y : MessageStream). y.mark) (same_Some _ x (sym (cond-true (is_packet_to_all f) _ None packet) ∙ is))))
-      | inr other ↦ absurd (none-some x (sym (cond-false (is_packet_to_all f) _ None other) ∙ is))
-    ]
+use Rattle.j39_audit_laws.proofs.NearClocks.{fast, packet_mark, same_bit, within_ms}
 
 -- ---- a log
 
@@ -113,7 +69,7 @@ module _ (s : Settings) (log : List Line) (timing : Timing) (timed : s.plan.timi
   step = shortest_us timing ms
 
   abbrev jitter : ℕ
-  jitter = part.period.pace.jitter
+  jitter = latest_ms part.period.pace (nat_le part.group.most 8)
 
   -- the clock counts from a moment long before the zero of the log
   abbrev logs : Lines
@@ -124,15 +80,27 @@ module _ (s : Settings) (log : List Line) (timing : Timing) (timed : s.plan.timi
 
   -- ---- its part
 
-  its_frame : (p : ℕ) → p < bus.count → is_message p ≡ true → (release p ≤ bus.queued p) × (bus.queued p * us ≤ release p * us + 1000 * jitter)
-  its_frame p inside message =
-      let is = part.frames p inside message in
-      let flow : is.flow ≡ part.period.flow = same_Some is.flow part.period.flow (sym is.its ∙ part.period.its) in
-      let pace : is.pace ≡ part.period.pace = same_Some is.pace part.period.pace (sym is.paced ∙ ap (λ (x : FlowPlan). x.pace) flow ∙ part.period.paced) in (
-        is.release_first,
-        subst (λ (x : Pace). bus.queued p * us ≤ release p * us + 1000 * x.jitter) pace
-            (within_ms timing.bitrate timing.drift is.pace.jitter (release p) (bus.queued p) none is.jitter_at_most),
-      )
+  abbrev IsInTime : ℕ → ℕ → Type 0
+  IsInTime latest p = (release p ≤ bus.queued p) × (bus.queued p * us ≤ release p * us + 1000 * latest)
+
+  same_pace : (flow : FlowPlan) (pace : Pace) → slice_get s.plan.flows.items n ≡ Some flow → flow.pace ≡ Some pace → pace ≡ part.period.pace
+  same_pace flow pace at paced =
+      let same : flow ≡ part.period.flow = same_Some flow part.period.flow (sym at ∙ part.period.its) in
+      same_Some pace part.period.pace (sym paced ∙ ap (λ (x : FlowPlan). x.pace) same ∙ part.period.paced)
+
+  its_frame : (p : ℕ) → p < bus.count → is_message p ≡ true → IsInTime jitter p
+  its_frame p inside message = elim (part.frames p inside message) [
+    | inl (least, is) ↦
+        let sort : nat_le part.group.most 8 ≡ true = le-leb part.group.most 8 least in
+        subst (λ (b : Bool). IsInTime (latest_ms part.period.pace b) p) (sym sort)
+        (subst (λ (x : Pace). IsInTime x.jitter p) (same_pace is.flow is.pace is.its is.paced)
+        (is.release_first, within_ms timing.bitrate timing.drift is.pace.jitter (release p) (bus.queued p) none is.jitter_at_most))
+    | inr (more, is) ↦
+        let sort : nat_le part.group.most 8 ≡ false = lt-leb part.group.most 8 more in
+        subst (λ (b : Bool). IsInTime (latest_ms part.period.pace b) p) (sym sort)
+        (subst (λ (x : Pace). IsInTime (x.period + x.jitter) p) (same_pace is.flow is.pace is.its is.paced)
+        (is.release_first, within_ms timing.bitrate timing.drift (is.pace.period + is.pace.jitter) (release p) (bus.queued p) none is.jitter_at_most))
+  ]
 
   its_stream : (f : Frame) (x : MessageStream) → flow_stream s timing f n ≡ Some x → (x.step ≡ step) × (x.slack ≡ Some (1001 * jitter))
   unfolding flow_stream
@@ -140,28 +108,31 @@ module _ (s : Settings) (log : List Line) (timing : Timing) (timed : s.plan.timi
       option_and_then_some _ (flow_pace s n) x e (λ pace paced e1. option_and_then_some _ (group_in_flow s n) x e1 (λ group grouped e2.
       let of_pace : pace ≡ part.period.pace = same_Some pace part.period.pace
       (sym paced ∙ ap (λ (o : Option FlowPlan). option_and_then (λ (y : FlowPlan). y.pace) o) part.period.its ∙ part.period.paced) in
-      let of_group : group ≡ part.single.group = same_Some group part.single.group
-      (sym grouped ∙ ap (λ (o : Option FlowPlan). option_and_then (λ (y : FlowPlan). slice_get s.plan.groups.items y.group) o) part.single.its ∙ part.single.of) in
-      let least = part.single.short in
-      let same : group.most ≡ part.single.group.most = ap (λ (y : GroupPlan). y.most) of_group in
-      let is = of_stream group pace (omega (arith, least, same)) e2 in (
+      let of_group : group ≡ part.group = same_Some group part.group
+      (sym grouped ∙ ap (λ (o : Option FlowPlan). option_and_then (λ (y : FlowPlan). slice_get s.plan.groups.items y.group) o) part.period.its ∙ part.group_is) in
+      let is = of_stream group pace e2 in (
         is.0 ∙ ap (λ (p : Pace). shortest_us timing p.period) of_pace ∙ ap (shortest_us timing) part.period.is,
-        is.1 ∙ ap Some (ap (λ (p : Pace). longest_us timing p.jitter) of_pace ∙ (exact_clocks timing none).longest jitter),
+        is.1 ∙ ap Some (ap (λ (p : Pace). longest_us timing (latest_ms p (nat_le group.most 8))) of_pace
+            ∙ ap (λ (g : GroupPlan). longest_us timing (latest_ms part.period.pace (nat_le g.most 8))) of_group ∙ (exact_clocks timing none).longest jitter),
       )))
     where
-      of_single : (group : GroupPlan) (pace : Pace) (one : Bool) → group.most ≤ 8 → is_in_stream group one ≡ true
-          → slack_by s.bound (response_of s n) (longest_us timing (latest_ms pace one)) ≡ Some (longest_us timing pace.jitter)
-      of_single group pace true least inside = ap (λ (b : Bound). slack_by b (response_of s n) (longest_us timing pace.jitter)) by_bus
-      of_single group pace false least inside = (let more = ltb-true 8 group.most inside in absurd (omega (arith, least, more)))
+      -- the stream has single frames where these are all
+      of_sort : (group : GroupPlan) (one : Bool) → is_in_stream group one ≡ true → one ≡ nat_le group.most 8
+      of_sort group true inside = sym inside
+      of_sort group false inside = sym (lt-leb group.most 8 (ltb-true 8 group.most inside))
 
-      of_stream : (group : GroupPlan) (pace : Pace) → group.most ≤ 8 → paced_stream s timing f n group pace (stream_pause s timing n) ≡ Some x
-          → (x.step ≡ shortest_us timing pace.period) × (x.slack ≡ Some (longest_us timing pace.jitter))
-      of_stream group pace least is =
+      of_stream : (group : GroupPlan) (pace : Pace) → paced_stream s timing f n group pace (stream_pause s timing n) ≡ Some x
+          → (x.step ≡ shortest_us timing pace.period) × (x.slack ≡ Some (longest_us timing (latest_ms pace (nat_le group.most 8))))
+      of_stream group pace is =
           let one : Bool = is_single (pgn_of f.ident) in
           elim (cases_Bool (is_in_stream group one)) [
             | inl inside ↦
-                let same = same_Some _ x (sym (cond-true (is_in_stream group one) _ None inside) ∙ is) in
-                (sym (ap (λ (y : MessageStream). y.step) same), sym (ap (λ (y : MessageStream). y.slack) same) ∙ of_single group pace one least inside)
+                let same = same_Some _ x (sym (cond-true (is_in_stream group one) _ None inside) ∙ is) in (
+                  sym (ap (λ (y : MessageStream). y.step) same),
+                  sym (ap (λ (y : MessageStream). y.slack) same)
+                      ∙ ap (λ (b : Bound). slack_by b (response_of s n) (longest_us timing (latest_ms pace one))) by_bus
+                      ∙ ap (λ (b : Bool). Some (longest_us timing (latest_ms pace b))) (of_sort group one inside),
+                )
             | inr other ↦ absurd (none-some x (sym (cond-false (is_in_stream group one) _ None other) ∙ is))
           ]
 

@@ -1,9 +1,12 @@
 -- A whole log of a bus that keeps to its plan has no line of a flow that is too near.
 use Rattle.std.proofs.Common.{◌≡◌, ℕ, ◌<◌, ◌≤◌, ◌==◌, List, [], Bool, false, map}
 use Rattle.std.proofs.Common.{inl, inr, sym, ap, ◌∙◌, subst, arith, Option, Some}
+use Rattle.std.specs.List.{slice_get}
 use Rattle.std.proofs.lemmas.Bool.{cases_Bool, cond-true, eq-eqb}
+use Rattle.std.proofs.lemmas.Option.{same_Some}
 use Rattle.j39_findings.specs.Findings.{Clean}
 use Rattle.j39_network.specs.declared.plan.Plan.{Plan}
+use Rattle.j39_network.specs.declared.plan.flow_plan.FlowPlan.{FlowPlan}
 use Rattle.j39_network.specs.declared.plan.timing.Timing.{Timing}
 use Rattle.j39_network.specs.declared.plan.unit_plan.UnitPlan.{UnitPlan}
 use Rattle.j39_timing.specs.Errors.{Damaged, IsBusWithErrors}
@@ -91,11 +94,12 @@ module _ (s : Settings) (timing : Timing) (timed : s.plan.timing ≡ Some timing
   its_part : (n ms : ℕ) (is_message : ℕ → Bool) → IsSingleFlow s.plan n → HasPeriodMs s.plan n ms → AreOfFlow planned sent n is_message
       → KeepsItsPeriod s.plan timing bus held n ms sent.release is_message
   its_part n ms is_message single period of_flow = record {
-    single = single;
     period = period;
+    group = single.group;
+    group_is = ap (λ (x : FlowPlan). slice_get s.plan.groups.items x.group) (same_Some period.flow single.flow (sym period.its ∙ single.its)) ∙ single.of;
     frames = λ p inside message.
         let (plans, source) = of_flow p message in
-        subst (λ (o : Source). IsFrameOf s.plan timing bus held sent.broadcasts o (sent.release p) p) source (keeps.frames p inside plans);
+        inl (single.short, subst (λ (o : Source). IsFrameOf s.plan timing bus held sent.broadcasts o (sent.release p) p) source (keeps.frames p inside plans));
     apart = λ p q in_p in_q differ message other.
         let (plans, source) = of_flow p message in
         let (too, same) = of_flow q other in

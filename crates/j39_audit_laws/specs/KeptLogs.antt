@@ -1,16 +1,18 @@
 -- What a whole log tells of a bus that keeps to its plan, by load.
 use Rattle.std.specs.Prelude.{◌≡◌, ◌≢◌, ◌⊎◌, ℕ, ◌+◌, ◌*◌, ◌<◌, ◌≤◌, Bool, true, List, length, Option, Some}
+use Rattle.std.specs.List.{slice_get}
 use Rattle.j39_id.specs.Lines.{Line}
 use Rattle.j39_network.specs.declared.plan.Plan.{Plan}
+use Rattle.j39_network.specs.declared.plan.group_plan.GroupPlan.{GroupPlan}
 use Rattle.j39_network.specs.declared.plan.timing.Timing.{Timing}
 use Rattle.j39_timing.specs.AnyOrder.{Controllers, IsLegalInAnyOrder}
 use Rattle.j39_timing.specs.Errors.{Damaged, IsBusWithErrors}
 use Rattle.j39_timing.specs.Messages.{frame_end}
 use Rattle.j39_timing.specs.TimedFrames.{IsLegal, Schedule}
 use Rattle.j39_load.specs.Clocks.{bit_time}
-use Rattle.j39_load.specs.KeepsPlan.{IsSingleFlow, KeepsAllOrder, KeepsQueues, KeepsToPlan}
+use Rattle.j39_load.specs.KeepsPlan.{KeepsAllOrder, KeepsQueues, KeepsToPlan}
 use Rattle.j39_load.specs.KeptTimes.{IsTold}
-use Rattle.j39_load.specs.SentFrames.{FrameSources, HasPeriodMs, Held, IsMsBehind, IsSingleFrame}
+use Rattle.j39_load.specs.SentFrames.{FrameSources, HasPeriodMs, Held, IsMsBehind, IsSessionFrame, IsSingleFrame, RequestToSend}
 use Rattle.j39_load.specs.declared.waits.delay.Delay.{Delay}
 use Rattle.j39_audit.specs.AuditText.{AuditPast, AuditsLines, log_ended, look_at, mark_at, nothing_read}
 use Rattle.j39_audit.specs.Moments.{damaged_at_once}
@@ -58,11 +60,18 @@ pub record IsWholeLog (s : Settings) (log : List Line) (bus : Schedule) (place :
   pub bytes : (number : ℕ) (l : FrameLine s log number) → length l.f.payload.items ≤ 8
   pub bits : (number : ℕ) (l : FrameLine s log number) → bus.bits (place number) ≤ 80 + 10 * length l.f.payload.items
 
--- these are the messages of a flow each of which goes in one frame, and their releases are a period apart; what else the bus carries isn't asked
+-- the frame is a message of a flow of this group that has none but those of one frame, or the request to send of a long one to one unit, where it has
+-- none but long ones
+abbrev pub IsMessageFrame : Plan → Timing → Schedule → Held → ℕ → GroupPlan → ℕ → ℕ → Type 0
+IsMessageFrame plan timing bus held n group release p = ((group.most ≤ 8) × IsSingleFrame plan timing bus held n release p)
+    ⊎ ((8 < group.most) × IsSessionFrame plan timing bus held n RequestToSend release p)
+
+-- these are messages of a flow, by their first frames, and their releases are a period apart; what else the bus carries isn't asked
 pub record KeepsItsPeriod (plan : Plan) (timing : Timing) (bus : Schedule) (held : Held) (n ms : ℕ) (release : ℕ → ℕ) (is_message : ℕ → Bool) : Type 0 where
-  pub single : IsSingleFlow plan n
   pub period : HasPeriodMs plan n ms
-  pub frames : (p : ℕ) → p < bus.count → is_message p ≡ true → IsSingleFrame plan timing bus held n (release p) p
+  pub group : GroupPlan
+  pub group_is : slice_get plan.groups.items period.flow.group ≡ Some group
+  pub frames : (p : ℕ) → p < bus.count → is_message p ≡ true → IsMessageFrame plan timing bus held n group (release p) p
   pub apart : (p q : ℕ) → p < bus.count → q < bus.count → p ≢ q → is_message p ≡ true → is_message q ≡ true
       → IsMsBehind timing ms (release p) (release q) ⊎ IsMsBehind timing ms (release q) (release p)
 

@@ -239,8 +239,8 @@ pub fn no_stream_is_told_wrongly()
         → is_silent (1001 * pause) windows j lower ≡ false }
 {}
 
-/// So in a whole log of such a bus no flow is accused by `near`, in the plan's own words, each message of which goes in one
-/// frame, and keeps the period and the jitter of the flow, whatever all others do.
+/// So in a whole log of such a bus no flow is accused by `near`, in the plan's own words, the messages of which keep its
+/// period and its jitter, whatever all others do: one with messages of one frame, or with long ones to one unit.
 pub fn whole_logs_of_kept_periods_are_not_near()
     ensures { PeriodsAreNotNear }
 {}
