@@ -94,10 +94,10 @@ pub fn who_sends_by_the_plan_is_not_accused()
         → AreItsOwn s log sent u → WaitsForPlanned s log sent u → IsNotNamed s log Urgent u }
 {}
 
-/// In the words of a bus: of a unit whose planned frames are those of the plan's flows and requests, and carry what these
-/// bring, whose claims are its own, and of which all else has `unplanned_priority` or a larger number and looks like no
-/// group of it, or like one of its flows, none of these six lines is written, whatever others do, and however the log of the
-/// bus was cut.
+/// In the words of a bus: none of these six lines is written of a unit whose planned frames are those of the plan's flows and
+/// requests, and carry what these bring, whose claims are its own, and of which all else has `unplanned_priority` or a
+/// larger number and looks like no group of it, or like one of its flows. So it is whatever others do, and however the log of
+/// the bus was cut.
 pub fn who_keeps_its_part_is_not_accused()
     ensures { KeepersAreNotAccused }
 {}
@@ -194,10 +194,10 @@ pub fn who_keeps_a_pause_is_not_silent()
         → is_silent pause windows j lower ≡ false }
 {}
 
-/// In a log of a bus each flow with a pause is told as silent, by the bus or by load alone, of which a message came, and
-/// while frames show that its ends are there, none in a time longer than its pause, the response time that is counted on
-/// and what clocks and times of lines may differ: where no end of its pause comes in that time, and no quiet second ends
-/// it later.
+/// In a log of a bus a flow with a pause is told as silent, by the bus or by load alone, if behind a message of it none came
+/// for longer than its pause, the response time that is counted on and what clocks and times of lines may differ, and
+/// frames of its ends show that these were there. No end of its pause may come in that time, and no quiet second may end it
+/// later.
 pub fn who_is_long_silent_is_told()
     ensures { SilentAreFound }
 {}
@@ -271,8 +271,8 @@ pub fn kept_plans_are_not_near_by_load()
         → AsksOfBus plan timing stays delays → timing.drift ≡ 0 → IsNoneNearByLoad plan timing delays }
 {}
 
-/// So no log of such a bus, whatever frames of it are missing and however it was cut, is accused by `near_or_late` of such a
-/// flow: its audit as a whole tells nothing of it by load.
+/// So an audit of a log of such a bus tells nothing of such a flow by load: no line `near_or_late` is written of it, whatever
+/// frames are missing in the log, and however it was cut.
 pub fn logs_of_kept_plans_are_not_near_by_load()
     ensures { (s : Settings) (timing : Timings) (stays : PlannedUnits → Bool) (delays : List (Option Delays)) → Clean s.plan
         → AsksOfBus s.plan timing stays delays → s.plan.timing ≡ Some timing → timing.drift ≡ 0 → s.responses ≡ map (response timing) delays
