@@ -43,6 +43,7 @@ pub mod SilentTold
 pub mod Spread
 pub mod Steps
 pub mod Sure
+pub mod SureWords
 pub mod Told
 pub mod Walk
 pub mod WholeLogs

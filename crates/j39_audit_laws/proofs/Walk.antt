@@ -1,4 +1,5 @@
 -- One line of a log after another: it is passed over, skipped or bad, or a frame.
+use Rattle.std.specs.Prelude.{nat_lt}
 use Rattle.std.proofs.Common.{◌≡◌, ◌≢◌, ◌⊎◌, ℕ, ◌+◌, ◌≤◌, ◌++◌, ◌∷◌, [], List, length}
 use Rattle.std.proofs.Common.{inl, inr, refl, sym, ap, ◌∙◌, subst, append_assoc, arith, Option}
 use Rattle.std.proofs.lemmas.List.{append-nil, length-append}
@@ -14,9 +15,11 @@ use Rattle.j39_audit.specs.AuditText.{AuditPast, AuditsLine, AuditsLines, bad_li
 use Rattle.j39_audit.specs.BegunBroadcasts.{packet_with}
 use Rattle.j39_audit.specs.Breaks.{line_time}
 use Rattle.j39_audit.specs.Claiming.{HeardClaims}
-use Rattle.j39_audit.specs.Looking.{IsPacketOf}
+use Rattle.j39_audit.specs.Looking.{IsPacketOf, noted_if}
 use Rattle.j39_audit.specs.Moments.{behind_gap, with_packet_stream}
+use Rattle.j39_audit.specs.SentMessages.{noted_at}
 use Rattle.j39_audit.specs.Settings.{Settings, by_load}
+use Rattle.j39_audit.specs.declared.mark.Word.TheVariants.{Short as ShortWord}
 use Rattle.j39_audit.proofs.Hearing.{as_many_lines, frame_number, line_more}
 use Rattle.j39_audit_laws.specs.FoundLines.{IsFrameAt, IsLineOf, IsReadHere}
 use Rattle.j39_audit_laws.specs.PauseLines.{IsBadAt, IsPassedOver}
@@ -151,6 +154,7 @@ module _ (s : Settings) (log : List Line) where
   -- it changes nothing, or it is skipped
   pub record IsPassed (number : ℕ) (past next : AuditPast) : Type 0 where
     pub over : IsPassedOver s log number
+    pub noted_is : next.noted ≡ past.noted
     pub moments_are : next.moments ≡ past.moments
     pub no_frame : IsNoFrame number
     pub not_bad : ¬ IsBadAt s log number
@@ -158,6 +162,7 @@ module _ (s : Settings) (log : List Line) where
     pub load_is : next.by_load ≡ past.by_load
 
   pub record IsGap (number : ℕ) (past next : AuditPast) : Type 0 where
+    pub noted_is : next.noted ≡ past.noted ++ noted_if (nat_lt 0 past.frames) (noted_at (past.number + 1) ShortWord 0 0)
     pub moments_are : next.moments ≡ behind_gap past.moments
     pub no_frame : IsNoFrame number
     pub not_bad : ¬ IsBadAt s log number
@@ -210,6 +215,7 @@ module _ (s : Settings) (log : List Line) where
         record { line_is = short_line l same; part_is = reads.part_is; named_is = reads.named_is } in
         inl (record {
           over = (begun, l, short_line l same, part, named, reads.part_is, reads.named_is, inr fault);
+          noted_is = ap (λ (p : AuditPast). p.noted) is;
           moments_are = ap (λ (p : AuditPast). p.moments) is;
           no_frame = faulty counted begun l part named Empty there fault;
           not_bad = not_bad counted begun l part named Empty there fault (inl refl);
@@ -220,6 +226,7 @@ module _ (s : Settings) (log : List Line) where
         let there : IsPartAt counted begun l part named =
         record { line_is = short_line l same; part_is = reads.part_is; named_is = reads.named_is } in
         inr (inl (record {
+          noted_is = ap (λ (p : AuditPast). p.noted) is;
           moments_are = ap (λ (p : AuditPast). p.moments) is;
           no_frame = faulty counted begun l part named ShortIdent there fault;
           not_bad = not_bad counted begun l part named ShortIdent there fault (inr refl);
@@ -241,6 +248,7 @@ module _ (s : Settings) (log : List Line) where
           ap (λ (p : AuditPast). p.number) e,
           inl (record {
             over = (begun, l, short_line l same, part, named, part_is, named_is, inl there);
+            noted_is = ap (λ (p : AuditPast). p.noted) e;
             moments_are = ap (λ (p : AuditPast). p.moments) e;
             no_frame = elsewhere_no_frame counted begun l part named is there;
             not_bad = elsewhere_not_bad counted begun l part named is there;

@@ -14,12 +14,12 @@ use Rattle.j39_follow.specs.Who.{unit_of_name}
 use Rattle.j39_stream.specs.declared.verdict.Verdict.{Verdict}
 use Rattle.j39_stream.specs.declared.verdict.Verdict.TheVariants.{Findings}
 use Rattle.j39_tp.specs.declared.packet.Packet.{Packet}
-use Rattle.j39_audit.specs.AuditText.{IsAuditedLog, accusing_line, mark_at}
+use Rattle.j39_audit.specs.AuditText.{AuditPast, AuditsLines, IsAuditedLog, accusing_line, look_at, mark_at, nothing_read}
 use Rattle.j39_audit.specs.Claiming.{HeardClaims}
 use Rattle.j39_audit.specs.Looking.{is_claim}
 use Rattle.j39_audit.specs.Settings.{AreMoving, Settings}
 use Rattle.j39_audit.specs.declared.mark.Mark.{Mark}
-use Rattle.j39_audit.specs.declared.mark.Word.TheVariants.{Nobody as NobodyThere}
+use Rattle.j39_audit.specs.declared.mark.Word.TheVariants.{Nobody as NobodyThere, Unsure}
 use Rattle.j39_audit.specs.declared.senders.SureSender.TheVariants.{Unit as OfUnit}
 use Rattle.j39_audit.specs.declared.tally.Told.{Told}
 use Rattle.j39_audit_laws.specs.FoundLines.{IsAccusing, IsFoundAt, IsFrameAt, IsSentFrom, IsToldAt}
@@ -70,3 +70,8 @@ abbrev pub NoneIsUnsure : Type 0
 NoneIsUnsure = (s : Settings) (log : List Line) → AreMoving s.plan s.moving → HasFixedUnits s.plan → ClaimsArePlanned s log
     → (number : ℕ) (claims : HeardClaims) (f : Frame) (packet : Option Packet) → IsFrameAt s log number claims f packet
     → is_claim f ≡ false → is_address f.ident.sa ≡ true → IsCountedOrNobodys s log number claims f
+
+-- and so none is told as unsure
+abbrev pub UnsureIsNone : Type 0
+UnsureIsNone = (s : Settings) (log : List Line) (end : AuditPast) → AreMoving s.plan s.moving → HasFixedUnits s.plan → ClaimsArePlanned s log
+    → AuditsLines s nothing_read log end → (look_at end (mark_at Unsure 0 0)).times ≡ 0

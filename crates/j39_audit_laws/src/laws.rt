@@ -14,7 +14,7 @@ ghost use Rattle.j39_audit_laws.specs.Answering.{is_told_deaf};
 ghost use Rattle.j39_audit_laws.specs.AuditedRuns.{ArePartsKept, IsNotWrittenOf};
 ghost use Rattle.j39_audit_laws.specs.ByLoad.{IsNoneNearByLoad, IsNoneSilentByLoad};
 ghost use Rattle.j39_audit_laws.specs.ExactClocks.{ExactClocks};
-ghost use Rattle.j39_audit_laws.specs.FoundForSure.{FoundAreWritten, NoneIsUnsure};
+ghost use Rattle.j39_audit_laws.specs.FoundForSure.{FoundAreWritten, NoneIsUnsure, UnsureIsNone};
 ghost use Rattle.j39_audit_laws.specs.FoundLines.{FoundAreListed, LinesAreOfLog};
 ghost use Rattle.j39_audit_laws.specs.InTurn.{IsInTurn, NotesTheLate};
 ghost use Rattle.j39_audit_laws.specs.KeptLogs.{AreLogsNotNear, PeriodsAreNotNear};
@@ -66,9 +66,10 @@ pub fn what_is_found_is_written()
 
 /// Where no unit may move, no two are planned at one address, no others come, and each claim is of its unit's own address,
 /// no frame is passed over as unsure: each from an address that isn't a claim counts for the unit that is planned there,
-/// or it is found to be nobody's.
+/// or it is found to be nobody's (`each`). So none is counted as unsure (`none`).
 pub fn no_frame_is_unsure()
-    ensures { NoneIsUnsure }
+    ensures each { NoneIsUnsure }
+    ensures none { UnsureIsNone }
 {}
 
 /// Whatever others do, and however the log was cut: a unit that never says that it can't claim an address gets no
