@@ -1,11 +1,9 @@
--- Those that are made are all variants, and nothing else.
-use Rattle.std.proofs.Common.{◌≡◌, ℕ, zero, suc, ◌+◌, ◌<◌, ◌⊎◌, List, [], ◌∷◌, ◌++◌, Bool, true, false, inl, inr, get_or, length, map, refl, sym, ap, subst, take, ◌∙◌, arith, append_assoc, add-zero}
-use Rattle.std.specs.List.{list_any, range_with_len}
-use Rattle.std.proofs.lemmas.Bool.{cases_Bool, false≢true, true≢false}
-use Rattle.std.proofs.lemmas.List.{append-nil, map-append, take_more}
+-- Variants that go on as others begin, by their places.
+use Rattle.std.proofs.Common.{◌≡◌, ℕ, zero, suc, ◌+◌, ◌<◌, ◌⊎◌, List, [], ◌∷◌, ◌++◌, inl, inr, length, map, refl, sym, ap, subst, ◌∙◌, arith, add-zero}
+use Rattle.std.specs.List.{range_with_len}
 use Rattle.j39_variants.specs.declared.line.Choice.{Choice}
 use Rattle.j39_variants.specs.Variants.{FitChoices, IsVariant}
-use Rattle.j39_line_findings.specs.AllVariants.{AreAllVariants, IsOneOf, all_behind, all_variants, longer, with_each}
+use Rattle.j39_line_findings.specs.AllVariants.{IsOneOf, longer, with_each}
 
 -- ---- one of these
 
