@@ -1,25 +1,19 @@
 -- What is told of a need is no worse in a variant than in one that is full for it and covers it.
-use Rattle.std.proofs.Common.{◌≡◌, ℕ, ◌<◌, ◌≤◌, Bool, true, false, not, ◌&&◌, ◌==◌, if◌then◌else◌, List, length, Option, Some, None, refl, sym, ◌∙◌, ap, subst, inl, inr, arith}
+use Rattle.std.proofs.Common.{◌≡◌, ℕ, ◌<◌, ◌≤◌, Bool, true, false, not, ◌&&◌, ◌==◌, if◌then◌else◌, List, length, Option, Some, None, refl, sym, ◌∙◌, ap, inl, inr}
 use Rattle.std.specs.List.{slice_get}
 use Rattle.std.specs.Option.{option_and_then, option_map_or}
 use Rattle.std.proofs.lemmas.Bool.{and_from, and_parts, cases_Bool, eqb-true, false≢true, true≢false}
-use Rattle.std.proofs.lemmas.Option.{same_Some}
 use Rattle.j39_findings.specs.Found.{is_unmet}
-use Rattle.j39_network.specs.Serving.{is_from, is_reached, meets}
-use Rattle.j39_network.specs.declared.plan.Plan.{Plan}
+use Rattle.j39_network.specs.Serving.{is_from, meets}
 use Rattle.j39_network.specs.declared.plan.flow_plan.FlowPlan.{FlowPlan}
 use Rattle.j39_network.specs.declared.plan.need_plan.NeedPlan.{NeedPlan}
-use Rattle.j39_network.specs.declared.plan.timing.Timing.{Timing}
 use Rattle.j39_load.specs.Ages.{least_age}
 use Rattle.j39_load.specs.LiveClaims.{unplanned_of}
-use Rattle.j39_load.specs.declared.waits.delay.Delay.{Delay}
 use Rattle.j39_load.specs.inside.FewClaims.{few_unplanned}
 use Rattle.j39_variants.specs.Variants.{IsVariant}
 use Rattle.j39_variants.specs.declared.line.ProductLine.{ProductLine}
-use Rattle.j39_line_findings.specs.FullVariants.{does_bring}
 use Rattle.j39_line_findings.specs.MissedNeeds.{is_group_there, is_in_at, is_need_asked_for, is_sender_there, is_source_there, is_unit_there}
-use Rattle.j39_line_findings.specs.There.{is_flow_there, is_need_there, is_receiver_there, IsWhatIsThere}
-use Rattle.j39_line_findings.specs.declared.there.WhatIsThere.{WhatIsThere}
+use Rattle.j39_line_findings.specs.There.{is_need_there, is_receiver_there}
 use Rattle.j39_part_laws.specs.PartLoads.{HasGoodNumbers}
 use Rattle.j39_part_laws.proofs.LoadFindings.{unplanned_there}
 use Rattle.j39_line_part_laws.specs.Covering.{IsCoveredBy, IsCoveredFor}
@@ -34,7 +28,7 @@ use Rattle.j39_full_variant_laws.proofs.NeedsInPlan.{IsNeedInPlan, move_need, ne
 use Rattle.j39_full_variant_laws.proofs.OldNeeds.{source_too}
 use Rattle.j39_full_variant_laws.proofs.Sources.{meets_back, of_file}
 use Rattle.j39_full_variant_laws.proofs.TooOld.{come, covered_by, met_here, met_there, some_of}
-use Rattle.j39_full_bound_laws.proofs.Badness.{known_no_worse, not_less_bad, nothing_less}
+use Rattle.j39_full_bound_laws.proofs.Badness.{known_no_worse}
 use Rattle.j39_full_bound_laws.proofs.FilePlaces.{found_at, is_found_at, passes_test}
 use Rattle.j39_full_bound_laws.proofs.FlowTimes.{asks_here, asks_there, bus, is_part, p}
 

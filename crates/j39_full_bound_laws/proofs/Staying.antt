@@ -1,17 +1,14 @@
 -- A unit that stays in each full variant that has it stays in each possible one that does.
-use Rattle.std.proofs.Common.{◌≡◌, ℕ, ◌<◌, List, length, slice_index_or, Option, Some, None, refl, sym, ◌∙◌, ap, subst, arith}
+use Rattle.std.proofs.Common.{◌≡◌, ℕ, List, slice_index_or, Option, Some, None, refl, sym, ◌∙◌, arith}
 use Rattle.std.specs.List.{slice_get}
-use Rattle.std.proofs.lemmas.List.{length-map}
 use Rattle.std.proofs.lemmas.Option.{none-some, slice_get_within}
-use Rattle.j39_network.specs.PlannedUnits.{units_of}
-use Rattle.j39_network.specs.Staying.{StaysBeside}
 use Rattle.j39_network.specs.declared.plan.Plan.{Plan}
 use Rattle.j39_network.specs.declared.plan.unit_plan.UnitPlan.{UnitPlan}
 use Rattle.j39_variants.specs.VariantPlans.{IsVariantPlan, place_at, unit_places}
 use Rattle.j39_variants.specs.declared.line.ProductLine.{ProductLine}
 use Rattle.j39_line_findings.specs.FullVariants.{line_with}
-use Rattle.j39_line_findings.specs.declared.full.Nevers.{Nevers}
-use Rattle.j39_line_bounds.specs.LineStandings.{AreLineStandings, AreStandingsAmong, HasPlace, IsLineStanding, IsStandingAmong, LacksUnit, StaysIn}
+use Rattle.j39_line_findings.specs.declared.full.LineNevers.{LineNevers}
+use Rattle.j39_line_bounds.specs.LineStandings.{AreLineStandings, AreStandingsAmong, IsLineStanding, IsStandingAmong, LacksUnit, StaysIn}
 use Rattle.j39_line_bounds.specs.declared.standing.LineStanding.{LineStanding}
 use Rattle.j39_line_bounds.specs.declared.standing.LineStanding.TheVariants.{NoVariant, Stays, MayMove}
 use Rattle.j39_line_bounds.proofs.UnitPlaces.{same_unit}
@@ -68,13 +65,13 @@ tell_who_stays line plans standings are = standings_too line plans standings are
 
 -- ---- with or without what isn't built
 
-stay_to : (line : ProductLine) (nevers : Nevers) (v : List ℕ) (u : ℕ) → StaysIn line v u → StaysIn (line_with nevers line) v u
+stay_to : (line : ProductLine) (nevers : LineNevers) (v : List ℕ) (u : ℕ) → StaysIn line v u → StaysIn (line_with nevers line) v u
 stay_to line nevers v u stays plan place is = stays plan place (plan_back line nevers v plan is)
 
-stay_back : (line : ProductLine) (nevers : Nevers) (v : List ℕ) (u : ℕ) → StaysIn (line_with nevers line) v u → StaysIn line v u
+stay_back : (line : ProductLine) (nevers : LineNevers) (v : List ℕ) (u : ℕ) → StaysIn (line_with nevers line) v u → StaysIn line v u
 stay_back line nevers v u stays plan place is = stays plan place (plan_to line nevers v plan is)
 
-pub tell_of_units : (line : ProductLine) (nevers : Nevers) → FullVariantsTellOfUnits line nevers
+pub tell_of_units : (line : ProductLine) (nevers : LineNevers) → FullVariantsTellOfUnits line nevers
 tell_of_units line nevers u below =
     let bare = line_with nevers line in
     let (unit, at_u) = value_at line.plan.units.items u below in

@@ -1,13 +1,10 @@
 -- What bounds full variants bounds all possible ones.
-use Rattle.std.proofs.Common.{◌≡◌, ℕ, ◌<◌, ◌≤◌, true, false, List, length, Some, refl, sym, ◌∙◌, ap, inl, inr, arith}
-use Rattle.std.specs.List.{slice_get}
+use Rattle.std.proofs.Common.{ℕ, List, ◌∙◌, ap, inl, inr, arith}
 use Rattle.std.proofs.lemmas.Bool.{cases_Bool}
 use Rattle.j39_variants.specs.declared.line.ProductLine.{ProductLine}
 use Rattle.j39_line_findings.specs.FullVariants.{line_with}
-use Rattle.j39_line_findings.specs.LineAnswers.{IsPossible}
 use Rattle.j39_line_findings.specs.MissedNeeds.{is_need_asked_for}
-use Rattle.j39_line_findings.specs.There.{IsWhatIsThere}
-use Rattle.j39_line_findings.specs.declared.full.Nevers.{Nevers}
+use Rattle.j39_line_findings.specs.declared.full.LineNevers.{LineNevers}
 use Rattle.j39_part_laws.proofs.Places.{value_at}
 use Rattle.j39_line_bounds.specs.LineTimes.{AreVariantTimes, flow_badness, is_less_bad, need_badness, time_of_flow, time_of_need}
 use Rattle.j39_line_bounds.specs.declared.times.LineTimes.{LineTimes}
@@ -19,7 +16,7 @@ use Rattle.j39_full_bound_laws.proofs.Badness.{no_worse_through, nothing_less}
 use Rattle.j39_full_bound_laws.proofs.FlowTimes.{flow_as_bad, load_no_more}
 use Rattle.j39_full_bound_laws.proofs.NeedTimes.{need_as_bad, not_asked}
 
-times_to : (line : ProductLine) (nevers : Nevers) (v : List ℕ) (times : LineTimes) → AreVariantTimes line v times → AreVariantTimes (line_with nevers line) v times
+times_to : (line : ProductLine) (nevers : LineNevers) (v : List ℕ) (times : LineTimes) → AreVariantTimes line v times → AreVariantTimes (line_with nevers line) v times
 times_to line nevers v times are = record {
   there = are.there;
   is_there = there_to line nevers v are.there are.is_there;
@@ -37,7 +34,7 @@ times_to line nevers v times are = record {
   load = are.load;
 }
 
-pub flows_bound_all : (line : ProductLine) (nevers : Nevers) → FlowsOfFullBoundAll line nevers
+pub flows_bound_all : (line : ProductLine) (nevers : LineNevers) → FlowsOfFullBoundAll line nevers
 unfolding times_to
 flows_bound_all line nevers told each v possible times are =
     let bare = line_with nevers line in
@@ -56,7 +53,7 @@ flows_bound_all line nevers told each v possible times are =
       load = omega (arith, load, more);
     }
 
-pub needs_bound_all : (line : ProductLine) (nevers : Nevers) → NeedsOfFullBoundAll line nevers
+pub needs_bound_all : (line : ProductLine) (nevers : LineNevers) → NeedsOfFullBoundAll line nevers
 unfolding times_to
 needs_bound_all line nevers told d below each v possible times are = elim (cases_Bool (is_need_asked_for line v d)) [
   | inr none ↦

@@ -2,8 +2,8 @@
 use Rattle.std.specs.Prelude.{◌≡◌, ℕ, ◌<◌, ◌≤◌, List, false, length}
 use Rattle.j39_variants.specs.declared.line.ProductLine.{ProductLine}
 use Rattle.j39_line_findings.specs.FullVariants.{line_with}
-use Rattle.j39_line_findings.specs.LineAnswers.{IsPossible}
-use Rattle.j39_line_findings.specs.declared.full.Nevers.{Nevers}
+use Rattle.j39_line_findings.specs.PossibleVariants.{IsPossible}
+use Rattle.j39_line_findings.specs.declared.full.LineNevers.{LineNevers}
 use Rattle.j39_part_laws.specs.PartLoads.{HasGoodNumbers}
 use Rattle.j39_line_bounds.specs.LineTimes.{AreVariantTimes, flow_badness, is_less_bad, need_badness, time_of_flow, time_of_need}
 use Rattle.j39_line_bounds.specs.declared.times.LineTimes.{LineTimes}
@@ -39,12 +39,12 @@ pub record HasNeedNoWorse (line : ProductLine) (told : LineTimes) (d : ℕ) (var
 -- ---- in all possible ones
 
 -- what bounds the flows and the load of each full variant of a line, with or without its nevers, bounds those of each possible variant
-abbrev pub FlowsOfFullBoundAll : ProductLine → Nevers → Type 0
+abbrev pub FlowsOfFullBoundAll : ProductLine → LineNevers → Type 0
 FlowsOfFullBoundAll line nevers = (told : LineTimes) → ((w : List ℕ) → IsPossibleFull (line_with nevers line) w → HasFlowsNoWorse line told w)
     → (v : List ℕ) → IsPossible line v → (times : LineTimes) → AreVariantTimes line v times → AreFlowsNoWorse line times told
 
 -- and what bounds a need in each variant that is full for it bounds it in each possible one
-abbrev pub NeedsOfFullBoundAll : ProductLine → Nevers → Type 0
+abbrev pub NeedsOfFullBoundAll : ProductLine → LineNevers → Type 0
 NeedsOfFullBoundAll line nevers = (told : LineTimes) (d : ℕ) → d < length line.plan.needs.items
     → ((w : List ℕ) → IsPossibleFullFor (line_with nevers line) d w → HasNeedNoWorse line told d w)
     → (v : List ℕ) → IsPossible line v → (times : LineTimes) → AreVariantTimes line v times → IsNeedNoWorse times told d

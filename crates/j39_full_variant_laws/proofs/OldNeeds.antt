@@ -1,36 +1,30 @@
 -- What is too old in a possible variant is found of one that is full for the need.
-use Rattle.std.proofs.Common.{◌≡◌, ℕ, ◌≤◌, Bool, true, false, ◌&&◌, List, ◌++◌, map, Contains, Option, Some, None, is_some, refl, sym, ◌∙◌, ap, subst, inl, inr, arith}
+use Rattle.std.proofs.Common.{◌≡◌, ℕ, true, false, ◌&&◌, List, ◌++◌, map, Contains, Option, Some, None, is_some, refl, sym, ◌∙◌, ap, subst, inl, inr}
 use Rattle.std.specs.List.{slice_get}
 use Rattle.std.specs.Option.{option_map_or}
 use Rattle.std.proofs.lemmas.Bool.{and_from, and_parts}
-use Rattle.j39_findings.specs.Findings.{Holds}
 use Rattle.j39_findings.specs.Found.{found}
 use Rattle.j39_findings.proofs.FoundLaws.{are_findings}
 use Rattle.j39_findings.specs.declared.checking.finding.Finding.{Finding}
 use Rattle.j39_findings.specs.declared.checking.finding.Finding.TheVariants.{BadPgn, NeedUnmet}
 use Rattle.j39_load.specs.declared.findings.load_finding.LoadFinding.{LoadFinding}
 use Rattle.j39_load.specs.declared.findings.load_finding.LoadFinding.TheVariants.{NoPeriod, Overload, LateFlow, NeedTooOld}
-use Rattle.j39_network.specs.declared.plan.Plan.{Plan}
 use Rattle.j39_network.specs.declared.plan.need_plan.NeedPlan.{NeedPlan}
 use Rattle.j39_variants.specs.VariantPlans.{group_places, moved_from, place_at, unit_places}
 use Rattle.j39_variants.specs.declared.line.ProductLine.{ProductLine}
 use Rattle.j39_line_findings.specs.InFile.{finding_in_file, load_finding_in_file}
-use Rattle.j39_line_findings.specs.LineAnswers.{IsPossible}
-use Rattle.j39_line_findings.specs.LineFindingLaws.{IsFindingTold, IsFound}
-use Rattle.j39_line_findings.specs.LineFound.{AreVariantFindings}
+use Rattle.j39_line_findings.specs.PossibleVariants.{IsPossible}
+use Rattle.j39_line_findings.specs.LineFound.{AreVariantFindings, IsFound}
 use Rattle.j39_line_findings.specs.MissedNeeds.{is_group_there, is_need_asked_for, is_sender_there, is_source_there}
 use Rattle.j39_line_findings.specs.There.{missed_needs, place_in_file}
 use Rattle.j39_line_findings.specs.declared.line_finding.LineFinding.{LineFinding}
 use Rattle.j39_line_findings.specs.declared.line_finding.LineFinding.TheVariants.{OfPlan, OfLoad}
-use Rattle.j39_line_findings.specs.declared.there.WhatIsThere.{WhatIsThere}
-use Rattle.j39_line_findings.specs.declared.witnessed.Witnessed.{Witnessed}
 use Rattle.j39_part_laws.specs.PartLoads.{HasGoodNumbers}
 use Rattle.j39_line_part_laws.specs.Covering.{IsCoveredBy}
 use Rattle.j39_line_part_laws.proofs.FoundOfCovering.{either, left, made_of, of_made, right, same_load}
 use Rattle.j39_line_part_laws.proofs.FullCovers.{has_full_cover_for}
 use Rattle.j39_line_part_laws.proofs.Possible.{possible_too}
-use Rattle.j39_full_variant_laws.specs.FullForNeeds.{MeetsIn}
-use Rattle.j39_full_variant_laws.specs.OldNeeds.{AreSourcesAlike, AsksForAge, EachHasFullForNeed, HasFullForNeed, HasNoBadNumber, IsPossibleFullFor, IsToldOfFullForNeeds, OldNeedsAreFoundOfFull, OldNeedsToldOfFullAreToldOfAll}
+use Rattle.j39_full_variant_laws.specs.OldNeeds.{AsksForAge, EachHasFullForNeed, HasNoBadNumber, IsPossibleFullFor, OldNeedsAreFoundOfFull, OldNeedsToldOfFullAreToldOfAll}
 use Rattle.j39_full_variant_laws.proofs.InBoxes.{need_by, need_lets}
 use Rattle.j39_full_variant_laws.proofs.NeedsInPlan.{need_in_plan, need_of_file}
 use Rattle.j39_full_variant_laws.proofs.PlacedTests.{need_of}

@@ -1,5 +1,5 @@
 -- The full variants of a line without its nevers suffice.
-use Rattle.std.proofs.Common.{◌≡◌, ◌⊎◌, ℕ, Bool, true, false, not, ◌&&◌, ◌||◌, ◌==◌, List, refl, sym, ◌∙◌, ap, inl, inr}
+use Rattle.std.proofs.Common.{◌≡◌, ℕ, Bool, true, false, not, ◌&&◌, ◌||◌, ◌==◌, List, refl, sym, ◌∙◌, ap, inl, inr}
 use Rattle.std.proofs.lemmas.Bool.{cases_Bool, true≢false}
 use Rattle.j39_findings.specs.declared.checking.finding.Finding.{Finding}
 use Rattle.j39_findings.specs.declared.checking.finding.Finding.TheVariants.{SameName, SameFixedAddress, TooFewAddresses, BadPgn, SamePgn, SignalWidth}
@@ -10,32 +10,29 @@ use Rattle.j39_findings.specs.declared.checking.finding.Finding.TheVariants.{Sil
 use Rattle.j39_load.specs.declared.findings.load_finding.LoadFinding.{LoadFinding}
 use Rattle.j39_load.specs.declared.findings.load_finding.LoadFinding.TheVariants.{NoPeriod, Overload, LateFlow, NeedTooOld}
 use Rattle.j39_network.specs.declared.plan.Plan.{Plan}
-use Rattle.j39_variants.specs.Variants.{is_possible}
 use Rattle.j39_variants.specs.VariantPlans.{IsVariantPlan}
 use Rattle.j39_variants.specs.declared.line.ProductLine.{ProductLine}
 use Rattle.j39_line_findings.specs.Conditions.{goes_by_conditions}
 use Rattle.j39_line_findings.specs.FullVariants.{line_with}
 use Rattle.j39_line_findings.specs.InFile.{rank_of}
-use Rattle.j39_line_findings.specs.LineAnswers.{IsPossible}
-use Rattle.j39_line_findings.specs.LineFindingLaws.{IsFound}
-use Rattle.j39_line_findings.specs.LineFound.{AreVariantFindings}
+use Rattle.j39_line_findings.specs.PossibleVariants.{IsPossible}
+use Rattle.j39_line_findings.specs.LineFound.{AreVariantFindings, IsFound}
 use Rattle.j39_line_findings.specs.There.{IsWhatIsThere}
 use Rattle.j39_line_findings.specs.Told.{has_end_in_pool}
-use Rattle.j39_line_findings.specs.declared.full.Nevers.{Nevers}
-use Rattle.j39_line_findings.specs.declared.full.Nevers.TheVariants.{Kept, LeftOut}
+use Rattle.j39_line_findings.specs.declared.full.LineNevers.{LineNevers}
+use Rattle.j39_line_findings.specs.declared.full.LineNevers.TheVariants.{Kept, LeftOut}
 use Rattle.j39_line_findings.specs.declared.line_finding.LineFinding.{LineFinding}
 use Rattle.j39_line_findings.specs.declared.line_finding.LineFinding.TheVariants.{OfPlan, OfLoad}
 use Rattle.j39_line_findings.specs.declared.rank.Rank.{Rank}
 use Rattle.j39_line_findings.specs.declared.there.WhatIsThere.{WhatIsThere}
 use Rattle.j39_line_part_laws.specs.FoundOfCovering.{IsAbsentOrFound, is_by_absence}
-use Rattle.j39_full_variant_laws.specs.OldNeeds.{AsksForAge, HasNoBadNumber}
-use Rattle.j39_full_variant_laws.specs.WithoutNevers.{CountNothingWith, CountsNothing, FullVariantsCountAll, NeversChangeNothingBuilt}
+use Rattle.j39_full_variant_laws.specs.WithoutNevers.{CountNothingWith, FullVariantsCountAll, NeversChangeNothingBuilt}
 use Rattle.j39_full_variant_laws.proofs.FoundOfFull.{have_what_is_found}
 use Rattle.j39_full_variant_laws.proofs.OldNeeds.{old_found}
 
 -- ---- nothing but what is possible goes by what isn't built
 
-module _ (line : ProductLine) (nevers : Nevers) (v : List ℕ) where
+module _ (line : ProductLine) (nevers : LineNevers) (v : List ℕ) where
   abbrev others : ProductLine
   others = line_with nevers line
 
@@ -105,7 +102,7 @@ module _ (line : ProductLine) (nevers : Nevers) (v : List ℕ) where
     are_all = are.are_all;
   }
 
-pub possible_to : (line : ProductLine) (nevers : Nevers) (v : List ℕ) → IsPossible line v → IsPossible (line_with nevers line) v
+pub possible_to : (line : ProductLine) (nevers : LineNevers) (v : List ℕ) → IsPossible line v → IsPossible (line_with nevers line) v
 possible_to line Kept v is = record { is_variant = is.is_variant; possible = is.possible }
 possible_to line LeftOut v is = record { is_variant = is.is_variant; possible = refl }
 
@@ -185,7 +182,7 @@ plan_present line (FlowContested f) counts = refl
 
 -- ---- the five
 
-module _ (line : ProductLine) (nevers : Nevers) (count : CountNothingWith line nevers) (v : List ℕ)
+module _ (line : ProductLine) (nevers : LineNevers) (count : CountNothingWith line nevers) (v : List ℕ)
     (possible : IsPossible line v) (here : List LineFinding) (of_here : AreVariantFindings line v here) where
   abbrev bare : ProductLine
   bare = line_with nevers line
@@ -228,5 +225,5 @@ module _ (line : ProductLine) (nevers : Nevers) (count : CountNothingWith line n
   goes (OfLoad (LateFlow f)) one = load_goes (LateFlow f) one refl
   goes (OfLoad (NeedTooOld d)) one = age_goes d one
 
-pub count_all : (line : ProductLine) (nevers : Nevers) → FullVariantsCountAll line nevers
+pub count_all : (line : ProductLine) (nevers : LineNevers) → FullVariantsCountAll line nevers
 count_all line nevers count v possible here of_here finding one = goes line nevers count v possible here of_here finding one

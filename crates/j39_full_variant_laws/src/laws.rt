@@ -1,6 +1,6 @@
 //! What is told of the full variants of a line of vehicles is told of all possible ones.
 ghost use Rattle.j39_variants.specs.declared.line.ProductLine.{ProductLine};
-ghost use Rattle.j39_line_findings.specs.declared.full.Nevers.{Nevers};
+ghost use Rattle.j39_line_findings.specs.declared.full.LineNevers.{LineNevers};
 ghost use Rattle.j39_full_variant_laws.specs.FoundOfFull.{FullVariantsHaveWhatIsFound, ToldOfFullIsToldOfAll};
 ghost use Rattle.j39_full_variant_laws.specs.OldNeeds.{EachHasFullForNeed, OldNeedsAreFoundOfFull, OldNeedsToldOfFullAreToldOfAll};
 ghost use Rattle.j39_full_variant_laws.specs.WithoutNevers.{FullVariantsCountAll, NeversChangeNothingBuilt};
@@ -43,5 +43,5 @@ pub fn nevers_change_nothing_that_is_built()
 /// Where nothing is found of the full variants of a line, with or without its nevers, nor of those that are full for a need
 /// that asks for an age, that counts what is there, nothing that does is found of any possible variant of the line.
 pub fn full_variants_count_all_that_is_there()
-    ensures { (line : ProductLine) (nevers : Nevers) → FullVariantsCountAll line nevers }
+    ensures { (line : ProductLine) (nevers : LineNevers) → FullVariantsCountAll line nevers }
 {}

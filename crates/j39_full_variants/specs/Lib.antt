@@ -1,5 +1,6 @@
 pub mod CountedFindings
 pub mod FullSets
+pub mod LookedAtLaws
 pub mod LookedVariants
 pub mod SetVariantLaws
 pub mod SetVariants

@@ -11,7 +11,7 @@ use Rattle.j39_line_check.specs.inside.Adding.{AreAdded, Pair, pair_told}
 use Rattle.j39_line_check.specs.inside.Inserted.{IsToldWith}
 
 pub none_added : AreAdded [] []
-none_added = record { in_order = tt; sound = λ t at. absurd (none_in t at); complete = λ p at. absurd (none_in p at); }
+none_added = record { in_order = tt; sound = λ t at. absurd (none_in t at); complete = λ p at. absurd (none_in p at) }
 
 -- one more
 pub added_more : (all : List Pair) (old told : List ToldFinding) (new : ToldFinding) (p : Pair) → p ≡ pair_told new → AreAdded all old → IsToldWith old new told

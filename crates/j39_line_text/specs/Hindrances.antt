@@ -5,7 +5,7 @@ use Rattle.j39_variants.specs.declared.line.ProductLine.{ProductLine}
 use Rattle.j39_line_findings.specs.FullVariants.{alternatives_of}
 use Rattle.j39_line_findings.specs.InFile.{rank_of}
 use Rattle.j39_line_findings.specs.declared.line_finding.LineFinding.{LineFinding}
-use Rattle.j39_line_check.specs.LineChecks.{AreTold, HasIt, SomePossible, many_of}
+use Rattle.j39_line_check.specs.LineChecks.{AreLookedFor, AreTold, HasIt, SomePossible, many_of}
 use Rattle.j39_line_check.specs.declared.answer.LookedAt.{LookedAt}
 use Rattle.j39_line_check.specs.declared.answer.LookedAt.TheVariants.{Full, TooMany}
 use Rattle.j39_line_check.specs.declared.answer.ToldFinding.{ToldFinding}
@@ -43,11 +43,12 @@ is_hidden asked many told = is_some many || is_any_hiding asked told
 -- what check found of a line of which some variant is possible, and at which variants it looked
 pub record AreToldAt (line : ProductLine) (looked : LookedAt) (told : List ToldFinding) : Type 0 where
   pub some : SomePossible line
+  pub looked_at : AreLookedFor line looked
   pub are_told : AreTold line (many_of looked) told
 
 -- ---- hidden
 
--- all that is found, and how many full variants there are, where they are too many
+-- all that is found, as check writes it, and how many full variants there are, where they are too many
 pub record IsHiddenLine (asked : Asked) (line : ProductLine) (text : List ℕ) : Type 0 where
   pub looked : LookedAt
   pub told : List ToldFinding
@@ -55,7 +56,7 @@ pub record IsHiddenLine (asked : Asked) (line : ProductLine) (text : List ℕ) :
   pub hidden : is_hidden asked (many_of looked) told ≡ true
   pub text_is : text ≡ findings_of_line_text line (alternatives_of line) (many_of looked) told
 
--- what check writes: that no variant is possible, or all that is found
+-- that no variant is possible, as check writes it, or this
 abbrev pub IsHiddenReport : Asked → ProductLine → List ℕ → Type 0
 IsHiddenReport asked line text = IsImpossibleLine line text ⊎ IsHiddenLine asked line text
 

@@ -34,7 +34,8 @@ pub record IsTimesReport (line : ProductLine) (timing : Timing) (text : List ℕ
   pub text_is : text ≡ line_times_text line.plan timing times told ++ untold_of_line_text line (alternatives_of line) told
   pub verdict_is : verdict ≡ line_load_verdict told
 
--- what is written for a line of vehicles of whose bus this is known, with the verdict: as check does, where a finding hides the times
+-- what is written for a line of vehicles of whose bus this is known, with the verdict: as check does, where a finding hides the times, or the full
+-- variants are too many
 abbrev pub IsLineLoadReport : ProductLine → Timing → List ℕ → Verdict → Type 0
 IsLineLoadReport line timing text verdict =
     IsTimesReport line timing text verdict ⊎ (IsHiddenReport Times line text × (verdict ≡ Findings))

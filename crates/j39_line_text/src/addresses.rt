@@ -95,7 +95,8 @@ impl LineReport for AddressesReport {
 
 /// Writes which units of the plan that a file describes hold their planned addresses whatever happens, and which may
 /// move, of a line of vehicles in each of the variants at which `check` looks that has them; of one whose NAMEs or
-/// addresses have findings, or that has too many full variants, what `check` writes; or why the file describes no plan.
+/// addresses have findings, or of a line with too many full variants, what `check` writes, and how many these are; or why
+/// the file describes no plan.
 pub fn addresses_line_text<S: Source, W: Sink>(
     alloc: Global,
     source: &mut S,

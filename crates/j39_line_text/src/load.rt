@@ -131,7 +131,8 @@ impl LineReport for TimesReport {
 /// Writes of each flow of the plan that a file describes how long its frames wait at most, that they aren't shown to be
 /// in time, or that it has no period, how much of the bus all flows take, and the findings of which these lines say
 /// nothing, of a line of vehicles the worst of the variants at which `check` looks; where a finding hides the times, or a
-/// line has too many full variants, what `check` writes; that nothing is known of its bus; or why the file describes no plan.
+/// line has too many full variants, what `check` writes, and how many these are; that nothing is known of its bus; or why
+/// the file describes no plan.
 pub fn load_line_text<S: Source, W: Sink>(
     alloc: Global,
     source: &mut S,

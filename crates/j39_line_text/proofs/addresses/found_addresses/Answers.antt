@@ -1,7 +1,8 @@
 use Rattle.std.proofs.Common.{◌≡◌, false, sym, ap, ◌∙◌, subst}
 use Rattle.j39_line_bounds.specs.LineStandings.{AreStandingsAmong}
 use Rattle.j39_line_findings.specs.AllVariants.{IsOneOf}
-use Rattle.j39_line_text.specs.Hindrances.{is_hidden, many_of}
+use Rattle.j39_line_text.specs.Hindrances.{is_hidden}
+use Rattle.j39_line_check.specs.LineChecks.{many_of}
 use Rattle.j39_line_text.specs.declared.hindrances.Asked.TheVariants.{Addresses}
 use Rattle.j39_line_text.proofs.NothingHides.{is_shown}
 use Rattle.j39_line_text.proofs.addresses.found_addresses.Goals as goal

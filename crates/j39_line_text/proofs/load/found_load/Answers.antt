@@ -1,5 +1,6 @@
 use Rattle.std.proofs.Common.{◌≡◌, false, inl, sym, ap, ◌∙◌}
-use Rattle.j39_line_text.specs.Hindrances.{is_hidden, many_of}
+use Rattle.j39_line_text.specs.Hindrances.{is_hidden}
+use Rattle.j39_line_check.specs.LineChecks.{many_of}
 use Rattle.j39_line_text.specs.declared.hindrances.Asked.TheVariants.{Times}
 use Rattle.j39_line_text.proofs.NothingHides.{is_shown}
 use Rattle.j39_line_text.proofs.load.found_load.Goals as goal
