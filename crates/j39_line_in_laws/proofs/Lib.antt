@@ -1,0 +1,6 @@
+mod KeptFindings
+mod KeptLists
+mod KeptParts
+mod TakenTold
+mod ToldBoxes
+mod ToldLaws
