@@ -1,5 +1,5 @@
 -- What a need is for is no younger in a whole in which the same flows meet it and none is later.
-use Rattle.std.proofs.Common.{◌≡◌, ℕ, zero, suc, ◌+◌, ◌*◌, ◌<◌, ◌≤◌, min, Bool, true, false, not, ◌&&◌, if◌then◌else◌, List, [], ◌∷◌, length, slice_index_or, Contains, Option, Some, None, refl, sym, ◌∙◌, ap, subst, inl, inr, arith}
+use Rattle.std.proofs.Common.{◌≡◌, ℕ, zero, suc, ◌+◌, ◌*◌, ◌≤◌, min, Bool, true, false, not, if◌then◌else◌, List, [], ◌∷◌, slice_index_or, Contains, Option, Some, None, refl, sym, ◌∙◌, ap, subst, inl, inr, arith}
 use Rattle.std.specs.List.{slice_get}
 use Rattle.std.specs.Option.{option_map_or}
 use Rattle.std.proofs.lemmas.Bool.{and_from, and_parts, cases_Bool, cases_lt, false≢true, le-leb, leb-true}
@@ -11,7 +11,6 @@ use Rattle.j39_network.specs.Serving.{meets}
 use Rattle.j39_network.specs.declared.plan.Plan.{Plan}
 use Rattle.j39_network.specs.declared.plan.flow_plan.FlowPlan.{FlowPlan}
 use Rattle.j39_network.specs.declared.plan.need_plan.NeedPlan.{NeedPlan}
-use Rattle.j39_network.specs.declared.plan.request_plan.RequestPlan.{RequestPlan}
 use Rattle.j39_network.specs.declared.plan.timing.Timing.{Timing}
 use Rattle.j39_network.specs.declared.plan.unit_plan.UnitPlan.{UnitPlan}
 use Rattle.j39_load.specs.Ages.{ages_for, ages_of, is_in_limit, is_too_old, least, least_age, smaller_known}
@@ -24,7 +23,7 @@ use Rattle.j39_load.specs.declared.waits.delay.Delay.TheVariants.{Beyond, Late, 
 use Rattle.j39_part_laws.specs.PartDelays.{IsNoLater}
 use Rattle.j39_part_laws.specs.PartLoads.{counting, HasGoodNumbers}
 use Rattle.j39_part_laws.specs.PlanParts.{IsPartAt, Places}
-use Rattle.j39_part_laws.proofs.LoadFindings.{delay_there, itself, line_told, none_of, one_of, told_at}
+use Rattle.j39_part_laws.proofs.LoadFindings.{delay_there, line_told, none_of, one_of, told_at}
 use Rattle.j39_part_laws.proofs.Places.{value_at}
 use Rattle.j39_part_laws.proofs.Shares.{ceil-mono}
 

@@ -1,10 +1,9 @@
 -- What is found of a possible variant is found of the full one that covers it.
-use Rattle.std.proofs.Common.{◌≡◌, ◌⊎◌, ℕ, false, true, List, None, refl, sym, ◌∙◌, ap, inl, inr, arith}
+use Rattle.std.proofs.Common.{◌≡◌, ℕ, false, List, None, refl, sym, ◌∙◌, inl, inr, arith}
 use Rattle.std.proofs.lemmas.Bool.{true≢false}
 use Rattle.j39_variants.specs.declared.line.ProductLine.{ProductLine}
 use Rattle.j39_line_findings.specs.LineAnswers.{IsPossible}
 use Rattle.j39_line_findings.specs.LineFindingLaws.{IsFindingTold, IsFound}
-use Rattle.j39_line_findings.specs.LineFound.{AreVariantFindings}
 use Rattle.j39_line_findings.specs.declared.line_finding.LineFinding.{LineFinding}
 use Rattle.j39_line_findings.specs.declared.line_finding.LineFinding.TheVariants.{OfPlan, OfLoad}
 use Rattle.j39_line_findings.specs.declared.witnessed.Witnessed.{Witnessed}
@@ -13,7 +12,7 @@ use Rattle.j39_line_part_laws.specs.FoundOfCovering.{IsAbsentOrFound, is_by_abse
 use Rattle.j39_line_part_laws.proofs.FoundOfCovering.{are_found}
 use Rattle.j39_line_part_laws.proofs.FullCovers.{has_full_cover_for}
 use Rattle.j39_line_part_laws.proofs.Possible.{possible_too}
-use Rattle.j39_full_variant_laws.specs.FoundOfFull.{FullVariantsHaveWhatIsFound, HaveGoodNumbers, IsPossibleFull, IsToldOfAll, IsToldOfFull, ToldOfFullIsToldOfAll}
+use Rattle.j39_full_variant_laws.specs.FoundOfFull.{FullVariantsHaveWhatIsFound, IsPossibleFull, ToldOfFullIsToldOfAll}
 
 -- each possible variant is covered by a possible full one
 pub full_cover : (line : ProductLine) (v : List ℕ) → IsPossible line v → (w : List ℕ) × IsPossibleFull line w × IsCoveredBy line v w

@@ -6,5 +6,5 @@ pub mod OldNeeds
 pub mod Origins
 pub mod PlacedTests
 pub mod Sources
-pub mod Staying
 pub mod TooOld
+pub mod WithoutNevers

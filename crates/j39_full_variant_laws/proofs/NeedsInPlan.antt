@@ -1,5 +1,5 @@
 -- The needs of a variant's plan, and their places in the file.
-use Rattle.std.proofs.Common.{◌≡◌, ℕ, ◌+◌, ◌<◌, Bool, true, false, ◌&&◌, List, length, Option, Some, None, is_some, option_map, unwrap_or, refl, sym, ◌∙◌, ap, arith}
+use Rattle.std.proofs.Common.{◌≡◌, ℕ, ◌+◌, Bool, true, false, ◌&&◌, List, length, Option, Some, None, is_some, option_map, unwrap_or, refl, sym, ◌∙◌, ap, arith}
 use Rattle.std.specs.List.{range_with_len, slice_get}
 use Rattle.std.specs.Option.{option_map_or}
 use Rattle.std.proofs.lemmas.Bool.{and_from, and_parts}
@@ -16,7 +16,7 @@ use Rattle.j39_part_laws.proofs.Places.{value_at}
 use Rattle.j39_line_part_laws.proofs.Filtering.{kept_at, length-kept, some_place, test_in}
 use Rattle.j39_line_part_laws.proofs.Picking.{kept}
 use Rattle.j39_line_part_laws.proofs.PlacesInFile.{flagged}
-use Rattle.j39_full_variant_laws.proofs.Origins.{comes_from, stands_at}
+use Rattle.j39_full_variant_laws.proofs.Origins.{comes_from, one_place_each, stands_at}
 
 together : (a b c d : Bool) → ((a && b) && (c && d)) ≡ (a && (b && (c && d)))
 together false b c d = refl
@@ -66,6 +66,13 @@ module _ (line : ProductLine) (v : List ℕ) where
       (length-kept move_need (flags v line.lists.needs.items) line.plan.needs.items need_count)
       (λ k below. let (d, at_d) = value_at line.plan.needs.items k below in
       need_test k d at_d ∙ sym (kept_at move_need (flags v line.lists.needs.items) line.plan.needs.items k d need_count at_d))
+
+  -- no need stands twice
+  pub one_need_place : (there : WhatIsThere) → IsWhatIsThere line v there → (i j d : ℕ) → slice_get there.needs.items i ≡ Some d
+      → slice_get there.needs.items j ≡ Some d → i ≡ j
+  one_need_place there is_there i j d at_i at_j =
+      let same = is_there.has_needs ∙ needs_flagged in
+      one_place_each need_flags 0 (length line.plan.needs.items) i j d (ap (λ l. slice_get l i) (sym same) ∙ at_i) (ap (λ l. slice_get l j) (sym same) ∙ at_j)
 
   module _ (there : WhatIsThere) (is_there : IsWhatIsThere line v there) (plan : Plan) (is : IsVariantPlan line v plan) where
     file_place : (k d : ℕ) → slice_get (picked need_flags (range_with_len 0 (length line.plan.needs.items))) k ≡ Some (0 + d) → place_in_file there.needs.items k ≡ d

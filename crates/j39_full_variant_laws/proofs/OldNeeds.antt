@@ -1,36 +1,31 @@
 -- What is too old in a possible variant is found of one that is full for the need.
-use Rattle.std.proofs.Common.{◌≡◌, ℕ, ◌≤◌, Bool, true, false, ◌&&◌, List, ◌++◌, map, Contains, Option, Some, None, is_some, refl, sym, ◌∙◌, ap, subst, inl, inr, arith}
+use Rattle.std.proofs.Common.{◌≡◌, ℕ, true, false, ◌&&◌, List, ◌++◌, map, Contains, Option, Some, None, is_some, refl, sym, ◌∙◌, ap, subst, inl, inr}
 use Rattle.std.specs.List.{slice_get}
 use Rattle.std.specs.Option.{option_map_or}
 use Rattle.std.proofs.lemmas.Bool.{and_from, and_parts}
-use Rattle.j39_findings.specs.Findings.{Holds}
 use Rattle.j39_findings.specs.Found.{found}
 use Rattle.j39_findings.proofs.FoundLaws.{are_findings}
 use Rattle.j39_findings.specs.declared.checking.finding.Finding.{Finding}
 use Rattle.j39_findings.specs.declared.checking.finding.Finding.TheVariants.{BadPgn, NeedUnmet}
 use Rattle.j39_load.specs.declared.findings.load_finding.LoadFinding.{LoadFinding}
 use Rattle.j39_load.specs.declared.findings.load_finding.LoadFinding.TheVariants.{NoPeriod, Overload, LateFlow, NeedTooOld}
-use Rattle.j39_network.specs.declared.plan.Plan.{Plan}
 use Rattle.j39_network.specs.declared.plan.need_plan.NeedPlan.{NeedPlan}
 use Rattle.j39_variants.specs.VariantPlans.{group_places, moved_from, place_at, unit_places}
 use Rattle.j39_variants.specs.declared.line.ProductLine.{ProductLine}
 use Rattle.j39_line_findings.specs.InFile.{finding_in_file, load_finding_in_file}
 use Rattle.j39_line_findings.specs.LineAnswers.{IsPossible}
-use Rattle.j39_line_findings.specs.LineFindingLaws.{IsFindingTold, IsFound}
+use Rattle.j39_line_findings.specs.LineFindingLaws.{IsFound}
 use Rattle.j39_line_findings.specs.LineFound.{AreVariantFindings}
 use Rattle.j39_line_findings.specs.MissedNeeds.{is_group_there, is_need_asked_for, is_sender_there, is_source_there}
 use Rattle.j39_line_findings.specs.There.{missed_needs, place_in_file}
 use Rattle.j39_line_findings.specs.declared.line_finding.LineFinding.{LineFinding}
 use Rattle.j39_line_findings.specs.declared.line_finding.LineFinding.TheVariants.{OfPlan, OfLoad}
-use Rattle.j39_line_findings.specs.declared.there.WhatIsThere.{WhatIsThere}
-use Rattle.j39_line_findings.specs.declared.witnessed.Witnessed.{Witnessed}
 use Rattle.j39_part_laws.specs.PartLoads.{HasGoodNumbers}
 use Rattle.j39_line_part_laws.specs.Covering.{IsCoveredBy}
 use Rattle.j39_line_part_laws.proofs.FoundOfCovering.{either, left, made_of, of_made, right, same_load}
 use Rattle.j39_line_part_laws.proofs.FullCovers.{has_full_cover_for}
 use Rattle.j39_line_part_laws.proofs.Possible.{possible_too}
-use Rattle.j39_full_variant_laws.specs.FullForNeeds.{MeetsIn}
-use Rattle.j39_full_variant_laws.specs.OldNeeds.{AreSourcesAlike, AsksForAge, EachHasFullForNeed, HasFullForNeed, HasNoBadNumber, IsPossibleFullFor, IsToldOfFullForNeeds, OldNeedsAreFoundOfFull, OldNeedsToldOfFullAreToldOfAll}
+use Rattle.j39_full_variant_laws.specs.OldNeeds.{AsksForAge, EachHasFullForNeed, HasNoBadNumber, IsPossibleFullFor, OldNeedsAreFoundOfFull, OldNeedsToldOfFullAreToldOfAll}
 use Rattle.j39_full_variant_laws.proofs.InBoxes.{need_by, need_lets}
 use Rattle.j39_full_variant_laws.proofs.NeedsInPlan.{need_in_plan, need_of_file}
 use Rattle.j39_full_variant_laws.proofs.PlacedTests.{need_of}
@@ -117,7 +112,7 @@ module _ (line : ProductLine) (v : List ℕ) (here : List LineFinding) (of_here 
 
 -- ---- of a possible variant, and of the one that is full for the need
 
-source_too : (line : ProductLine) (v w : List ℕ) → IsCoveredBy line v w → (d : ℕ) → is_source_there line v d ≡ true → is_source_there line w d ≡ true
+pub source_too : (line : ProductLine) (v w : List ℕ) → IsCoveredBy line v w → (d : ℕ) → is_source_there line v d ≡ true → is_source_there line w d ≡ true
 source_too line v w covered d there = go (slice_get line.plan.needs.items d) there
   where
     sender : (o : Option ℕ) → is_sender_there line v o ≡ true → is_sender_there line w o ≡ true
@@ -151,16 +146,20 @@ module _ (line : ProductLine) (v : List ℕ) (possible : IsPossible line v) (her
       let w = full.variant in
       let by = covered_by line d v w full.covered in (
         (its.need, at_d, ap is_some (sym parts.within) ∙ ages),
-        (w, full.full, λ there of_there none.
-            let also = need_in_plan line w of_there.there of_there.is_there of_there.plan of_there.is_plan d its.need at_d full.full.asked
-            (source_too line v w by d source) in
-            let those = need_of its.need (place_at (unit_places line w) its.need.unit) (place_at (group_places line w) its.need.group)
-            (moved_from (unit_places line w) its.need.from) also.value also.made in
-            let old = old_there line v w possible.is_variant full.full.possible.is_variant d full.covered full.full.asked of_here.there of_there.there of_here.is_there
-            of_there.is_there of_here.plan of_there.plan of_here.is_plan of_there.is_plan its.need at_d e also.value its.made also.made
-            (good_numbers line w there of_there none) k also.k at_e also.at (those.within ∙ sym parts.within) of_here.others of_there.others among
-            of_here.are_others of_there.are_others in
-            told_at_place w there of_there also.k d also.place old),
+        (
+          w,
+          full.full,
+          λ there of_there none.
+              let also = need_in_plan line w of_there.there of_there.is_there of_there.plan of_there.is_plan d its.need at_d full.full.asked
+              (source_too line v w by d source) in
+              let those = need_of its.need (place_at (unit_places line w) its.need.unit) (place_at (group_places line w) its.need.group)
+              (moved_from (unit_places line w) its.need.from) also.value also.made in
+              let old = old_there line v w possible.is_variant full.full.possible.is_variant d full.covered full.full.asked of_here.there of_there.there of_here.is_there
+              of_there.is_there of_here.plan of_there.plan of_here.is_plan of_there.is_plan its.need at_d e also.value its.made also.made
+              (good_numbers line w there of_there none) k also.k at_e also.at (those.within ∙ sym parts.within) of_here.others of_there.others among
+              of_here.are_others of_there.are_others in
+              told_at_place w there of_there also.k d also.place old,
+        ),
       )
 
 pub old_found : (line : ProductLine) → OldNeedsAreFoundOfFull line

@@ -1,10 +1,10 @@
 -- The same flows of the file meet a need in a variant and in one that covers it for the need.
 use Rattle.std.specs.declared.alloc.Global.{Global}
-use Rattle.std.proofs.Common.{◌≡◌, ℕ, zero, suc, ◌+◌, ◌<◌, Bool, true, false, not, ◌&&◌, ◌||◌, List, [], ◌∷◌, length, Option, Some, None, is_some, Vec, refl, sym, ◌∙◌, ap, subst, inl, inr, arith}
-use Rattle.std.specs.List.{filter_map, list_any, range_with_len, slice_get}
+use Rattle.std.proofs.Common.{◌≡◌, ℕ, zero, suc, ◌+◌, ◌<◌, Bool, true, false, not, ◌&&◌, ◌||◌, List, [], ◌∷◌, length, Option, Some, None, is_some, Vec, refl, sym, ◌∙◌, ap, inl, inr, arith}
+use Rattle.std.specs.List.{range_with_len, slice_get}
 use Rattle.std.specs.Option.{option_map_or}
 use Rattle.std.proofs.lemmas.Bool.{and_from, and_parts, cases_Bool, false≢true, or_left, or_right}
-use Rattle.std.proofs.lemmas.Option.{same_Some, slice_get_within}
+use Rattle.std.proofs.lemmas.Option.{slice_get_within}
 use Rattle.j39_network.specs.Serving.{is_asked_for, meets, serves, serves_some}
 use Rattle.j39_network.specs.declared.plan.Plan.{Plan}
 use Rattle.j39_network.specs.declared.plan.flow_plan.FlowPlan.{FlowPlan}
@@ -16,7 +16,7 @@ use Rattle.j39_variants.specs.declared.line.Alternative.{Alternative}
 use Rattle.j39_variants.specs.declared.line.ProductLine.{ProductLine}
 use Rattle.j39_variants.specs.VariantPlans.{flag_at, flags, group_places, IsVariantPlan, moved_flow, moved_need, moved_receivers, moved_request, picked, place_at, unit_places}
 use Rattle.j39_variants.specs.Variants.{IsVariant}
-use Rattle.j39_line_findings.specs.Boxes.{do_meet, flow_lets_in, request_lets_in}
+use Rattle.j39_line_findings.specs.Boxes.{flow_lets_in, request_lets_in}
 use Rattle.j39_line_findings.specs.FullVariants.{agree_on_need, alternative_at, alternatives_of, does_bring, is_covered}
 use Rattle.j39_line_findings.specs.MissedNeeds.{is_group_there, is_in_at, is_need_asked_for, is_unit_there}
 use Rattle.j39_line_findings.specs.There.{is_flow_there, is_receiver_there, is_request_there}
@@ -153,12 +153,12 @@ module _ (line : ProductLine) (v w : List ℕ) (is_v : IsVariant line.choices.it
   pub meets_back : (f : ℕ) → MeetsIn line w need f → MeetsIn line v need f
   meets_back f its = elim (cases_Bool its.flow.on_request) [
     | inr by_itself ↦ record {
-        flow = its.flow;
-        flow_is = its.flow_is;
-        brings = its.brings;
-        there = sent_here f its.flow its.flow_is its.brings its.there by_itself;
-        asked = λ only. absurd (false≢true (sym by_itself ∙ only));
-      }
+      flow = its.flow;
+      flow_is = its.flow_is;
+      brings = its.brings;
+      there = sent_here f its.flow its.flow_is its.brings its.there by_itself;
+      asked = λ only. absurd (false≢true (sym by_itself ∙ only));
+    }
     | inl only ↦
         let answer = its.asked only in
         record {

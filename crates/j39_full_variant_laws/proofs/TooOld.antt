@@ -1,30 +1,27 @@
 -- What is too old in a variant is too old in one that covers it for the need.
-use Rattle.std.proofs.Common.{◌≡◌, ℕ, ◌+◌, ◌<◌, ◌≤◌, Bool, true, false, not, ◌&&◌, if◌then◌else◌, List, [], ◌∷◌, ◌++◌, length, Contains, Option, Some, None, is_some, option_map, refl, sym, ◌∙◌, ap, subst, inl, inr, arith}
+use Rattle.std.proofs.Common.{◌≡◌, ℕ, ◌+◌, Bool, true, false, not, if◌then◌else◌, List, [], ◌∷◌, ◌++◌, length, Contains, Option, Some, None, is_some, option_map, refl, sym, ◌∙◌, ap, subst, inl, inr, arith}
 use Rattle.std.specs.List.{list_any, range_with_len, slice_get}
 use Rattle.std.specs.Option.{option_map_or}
-use Rattle.std.proofs.lemmas.Bool.{and_from, and_parts, false≢true}
+use Rattle.std.proofs.lemmas.Bool.{false≢true}
 use Rattle.std.proofs.lemmas.List.Elements.{Contains-append_cases, Contains-append_right}
 use Rattle.std.proofs.lemmas.Option.{same_Some}
 use Rattle.j39_findings.specs.Found.{is_unmet}
 use Rattle.j39_network.specs.Serving.{meets}
 use Rattle.j39_network.specs.declared.plan.Plan.{Plan}
-use Rattle.j39_network.specs.declared.plan.flow_plan.FlowPlan.{FlowPlan}
 use Rattle.j39_network.specs.declared.plan.need_plan.NeedPlan.{NeedPlan}
-use Rattle.j39_network.specs.declared.plan.request_plan.RequestPlan.{RequestPlan}
 use Rattle.j39_network.specs.declared.plan.timing.Timing.{Timing}
-use Rattle.j39_network.specs.declared.plan.unit_plan.UnitPlan.{UnitPlan}
 use Rattle.j39_load.specs.Ages.{is_too_old, old_needs, oldness}
 use Rattle.j39_load.specs.Asked.{asked_of, total_load}
 use Rattle.j39_load.specs.BusTimes.{timing_of, with_claims}
 use Rattle.j39_load.specs.LineLists.{lines_of_each}
 use Rattle.j39_load.specs.LiveClaims.{unplanned_of}
-use Rattle.j39_load.specs.LoadFindings.{all_findings, AreLoadFindings, AsksOfBus, lateness, load_findings, overload, without_period}
+use Rattle.j39_load.specs.LoadFindings.{all_findings, AreLoadFindings, lateness, load_findings, overload, without_period}
 use Rattle.j39_load.specs.declared.findings.load_finding.LoadFinding.{LoadFinding}
 use Rattle.j39_load.specs.declared.findings.load_finding.LoadFinding.TheVariants.{NoPeriod, Overload, LateFlow, NeedTooOld}
 use Rattle.j39_load.specs.declared.waits.delay.Delay.{Delay}
 use Rattle.j39_load.specs.inside.FewClaims.{few_unplanned}
 use Rattle.j39_variants.specs.declared.line.ProductLine.{ProductLine}
-use Rattle.j39_variants.specs.VariantPlans.{flags, group_places, IsVariantPlan, moved_flow, picked, unit_places}
+use Rattle.j39_variants.specs.VariantPlans.{flags, group_places, IsVariantPlan, moved_flow, unit_places}
 use Rattle.j39_variants.specs.Variants.{IsVariant}
 use Rattle.j39_line_findings.specs.FullVariants.{alternative_at, alternatives_of}
 use Rattle.j39_line_findings.specs.MissedNeeds.{is_need_asked_for}
@@ -37,9 +34,8 @@ use Rattle.j39_line_part_laws.specs.Covering.{IsCoveredBy, IsCoveredFor}
 use Rattle.j39_line_part_laws.proofs.Boxes.{any_at, at_any}
 use Rattle.j39_line_part_laws.proofs.Full.{covered_of}
 use Rattle.j39_line_part_laws.proofs.Parts.{at, is_part_at}
-use Rattle.j39_line_part_laws.proofs.Picking.{kept, some_picked, thin}
+use Rattle.j39_line_part_laws.proofs.Picking.{kept, some_picked}
 use Rattle.j39_line_part_laws.proofs.PlacesInFile.{flow_flags_fewer}
-use Rattle.j39_full_variant_laws.specs.FullForNeeds.{MeetsIn}
 use Rattle.j39_full_variant_laws.proofs.Ages.{ComeFromPart, too_old_there}
 use Rattle.j39_full_variant_laws.proofs.NeedsInPlan.{move_need}
 use Rattle.j39_full_variant_laws.proofs.Origins.{one_place_each}
@@ -129,7 +125,7 @@ old_need plan others are k found = go plan.timing are
 
 -- ---- in both variants
 
-some_of : {X : Type 0} (test : X → Bool) (xs : List X) → not (not (list_any test xs)) ≡ true → list_any test xs ≡ true
+pub some_of : {X : Type 0} (test : X → Bool) (xs : List X) → not (not (list_any test xs)) ≡ true → list_any test xs ≡ true
 some_of test xs some = go (list_any test xs) some
   where
     go : (b : Bool) → not (not b) ≡ true → b ≡ true

@@ -1,4 +1,4 @@
 pub mod FoundOfFull
 pub mod FullForNeeds
 pub mod OldNeeds
-pub mod StayingOfFull
+pub mod WithoutNevers

@@ -1,8 +1,9 @@
 //! What is told of the full variants of a line of vehicles is told of all possible ones.
 ghost use Rattle.j39_variants.specs.declared.line.ProductLine.{ProductLine};
+ghost use Rattle.j39_line_findings.specs.declared.full.LineNevers.{LineNevers};
 ghost use Rattle.j39_full_variant_laws.specs.FoundOfFull.{FullVariantsHaveWhatIsFound, ToldOfFullIsToldOfAll};
 ghost use Rattle.j39_full_variant_laws.specs.OldNeeds.{EachHasFullForNeed, OldNeedsAreFoundOfFull, OldNeedsToldOfFullAreToldOfAll};
-ghost use Rattle.j39_full_variant_laws.specs.StayingOfFull.{FullVariantsTellWhoStays};
+ghost use Rattle.j39_full_variant_laws.specs.WithoutNevers.{FullVariantsCountAll, NeversChangeNothingBuilt};
 
 /// What is found of a possible variant comes by absence, or is found of a possible one that takes full alternatives
 /// alone, at the same places in the file, with at least its number of addresses or bits; on the load, where no bad number
@@ -14,12 +15,6 @@ pub fn full_variants_have_what_is_found()
 /// So what is told of each of these is told of each possible variant, with at least its number of addresses or bits.
 pub fn told_of_full_variants_is_told_of_all()
     ensures { (line : ProductLine) → ToldOfFullIsToldOfAll line }
-{}
-
-/// What is told of the units of these variants is told of those of all possible ones: a unit that stays in each of them
-/// that has it stays in each possible one that has it.
-pub fn full_variants_tell_who_stays()
-    ensures { (line : ProductLine) → FullVariantsTellWhoStays line }
 {}
 
 /// Each possible variant in which a need is asked for is covered by a possible one that takes alternatives alone that are
@@ -37,4 +32,16 @@ pub fn old_needs_are_found_of_full_variants()
 /// So where it is told of each variant that is full for the need, it is told of each possible one.
 pub fn old_needs_told_of_full_variants_are_told_of_all()
     ensures { (line : ProductLine) → OldNeedsToldOfFullAreToldOfAll line }
+{}
+
+/// A variant has the same plan and findings whatever isn't built, and is possible where all is: so what is told of the full
+/// variants of a line without its nevers is told of each of its possible variants.
+pub fn nevers_change_nothing_that_is_built()
+    ensures { NeversChangeNothingBuilt }
+{}
+
+/// Where nothing is found of the full variants of a line, with or without its nevers, nor of those that are full for a need
+/// that asks for an age, that counts what is there, nothing that does is found of any possible variant of the line.
+pub fn full_variants_count_all_that_is_there()
+    ensures { (line : ProductLine) (nevers : LineNevers) → FullVariantsCountAll line nevers }
 {}

@@ -4,7 +4,8 @@
 mod laws;
 
 pub use laws::{
-    each_variant_has_a_full_cover_for_a_need, full_variants_have_what_is_found,
-    full_variants_tell_who_stays, old_needs_are_found_of_full_variants,
-    old_needs_told_of_full_variants_are_told_of_all, told_of_full_variants_is_told_of_all,
+    each_variant_has_a_full_cover_for_a_need, full_variants_count_all_that_is_there,
+    full_variants_have_what_is_found, nevers_change_nothing_that_is_built,
+    old_needs_are_found_of_full_variants, old_needs_told_of_full_variants_are_told_of_all,
+    told_of_full_variants_is_told_of_all,
 };

@@ -1,5 +1,5 @@
 -- What is told of full variants is exactly what is looked for in them.
-use Rattle.std.proofs.Common.{◌≡◌, ℕ, zero, suc, ◌+◌, ◌<◌, ◌≤◌, ◌⊎◌, ◌==◌, List, [], ◌∷◌, ◌++◌, Bool, true, false, ◌||◌, ◌&&◌, filter, get_or, inl, inr, length, map, nat_lt, not, refl, sym, ap, subst, take, ◌∙◌, arith, append_assoc, Some}
+use Rattle.std.proofs.Common.{◌≡◌, ℕ, zero, suc, ◌+◌, ◌<◌, ◌≤◌, ◌⊎◌, List, [], ◌∷◌, ◌++◌, true, false, filter, get_or, inl, inr, length, map, nat_lt, refl, sym, ap, subst, take, ◌∙◌, arith, append_assoc, Some}
 use Rattle.std.specs.List.{AllZip, slice_get}
 use Rattle.std.proofs.lemmas.Bool.{cases_Bool, cases_lt, cases_order, eq-eqb, false≢true, le-ltb, lt-ltb, true≢false}
 use Rattle.std.proofs.lemmas.List.{append-nil, length-map, length-take-le, map-append, take_more}
@@ -7,15 +7,14 @@ use Rattle.std.proofs.lemmas.Option.{none-some, same_Some}
 use Rattle.j39_variants.specs.Variants.{IsEarlier}
 use Rattle.j39_variants.specs.declared.line.ProductLine.{ProductLine}
 use Rattle.j39_line_findings.specs.AllVariants.{IsOneOf}
-use Rattle.j39_line_findings.specs.Best.{AreBest, IsWitnessAmong, amount_in, is_better, rank_in}
-use Rattle.j39_line_findings.specs.InFile.{amount_of}
+use Rattle.j39_line_findings.specs.Best.{AreBest, IsWitnessAmong, amount_in, is_better}
 use Rattle.j39_line_findings.specs.LineFindingLaws.{IsFound}
 use Rattle.j39_line_findings.specs.LineFound.{AreVariantFindings}
 use Rattle.j39_line_findings.specs.declared.full.FullAlternatives.{FullAlternatives}
 use Rattle.j39_line_findings.specs.declared.line_finding.LineFinding.{LineFinding}
 use Rattle.j39_line_findings.specs.declared.witnessed.Witnessed.{Witnessed}
 use Rattle.j39_line_findings.proofs.Witnesses.{among_cases, among_left, among_right}
-use Rattle.j39_full_variants.specs.CountedFindings.{AreCountedFindings, AreCountedIn, IsToldOfNoLater, all_counted, counted_at, counted_of, is_looked_for}
+use Rattle.j39_full_variants.specs.CountedFindings.{AreCountedFindings, AreCountedIn, all_counted, counted_at, counted_of, is_looked_for}
 use Rattle.j39_full_variants.specs.SetVariants.{AreEarliestFirst}
 use Rattle.j39_full_variants.proofs.Filters.{last_kept, last_left, one_more}
 

@@ -1,5 +1,5 @@
 -- The variants that take alternatives of one of some sets alone are made choice by choice.
-use Rattle.std.proofs.Common.{◌≡◌, ℕ, zero, suc, ◌+◌, ◌<◌, ◌⊎◌, List, [], ◌∷◌, ◌++◌, Bool, true, false, filter, get_or, inl, inr, drop, length, map, refl, sym, ap, subst, ◌∙◌, arith, append_assoc}
+use Rattle.std.proofs.Common.{◌≡◌, ℕ, zero, suc, ◌+◌, ◌<◌, List, [], ◌∷◌, ◌++◌, Bool, true, filter, get_or, inl, inr, drop, length, map, refl, sym, ap, subst, ◌∙◌, arith, append_assoc}
 use Rattle.std.specs.List.{list_any, range_with_len}
 use Rattle.std.proofs.lemmas.Bool.{cases_Bool, false≢true}
 use Rattle.std.proofs.lemmas.List.{append-nil}
@@ -9,13 +9,13 @@ use Rattle.j39_variants.specs.declared.line.Alternative.{Alternative}
 use Rattle.j39_variants.specs.declared.line.Choice.{Choice}
 use Rattle.j39_line_findings.specs.AllVariants.{IsOneOf, longer, with_each}
 use Rattle.j39_line_findings.proofs.EveryVariant.{Fits, fits_from, fits_to, from_range, longer_from, longer_has, one_cases}
-use Rattle.j39_full_variants.specs.SetVariants.{AreEarliestFirst, AreVariantsOfSets, is_of_any, takes_alone}
+use Rattle.j39_full_variants.specs.SetVariants.{AreEarliestFirst, AreVariantsOfSets, is_of_some_set, takes_alone}
 use Rattle.j39_full_variants.proofs.Filters.{kept_values}
 use Rattle.j39_full_variants.proofs.Sets.{any_first, any_values}
 
 -- those that begin a variant of one of the sets
 abbrev pub keep : List (List Alternative) → List (List ℕ) → List (List ℕ)
-keep sets taken = filter (is_of_any sets) taken
+keep sets taken = filter (is_of_some_set sets) taken
 
 abbrev pub begun_behind : List (List Alternative) → List (List ℕ) → List Choice → List (List ℕ)
 begun_behind sets taken [] = taken
@@ -109,20 +109,20 @@ begun_in_order : (sets : List (List Alternative)) (vs : List (List ℕ)) (cs : L
 begun_in_order sets vs [] is = is
 begun_in_order sets vs (c ∷ cs) is =
     let n = length c.alternatives.items in
-    begun_in_order sets (keep sets (longer n vs)) cs (kept_in_order (is_of_any sets) (longer n vs) (longer_in_order n vs is))
+    begun_in_order sets (keep sets (longer n vs)) cs (kept_in_order (is_of_some_set sets) (longer n vs) (longer_in_order n vs is))
 
 -- ---- which they are
 
-reached : (sets : List (List Alternative)) (cs : List Choice) (vs : List (List ℕ)) (t v : List ℕ) → IsOneOf vs t → Fits cs v → is_of_any sets (t ++ v) ≡ true
+reached : (sets : List (List Alternative)) (cs : List Choice) (vs : List (List ℕ)) (t v : List ℕ) → IsOneOf vs t → Fits cs v → is_of_some_set sets (t ++ v) ≡ true
     → IsOneOf (begun_behind sets vs cs) (t ++ v)
 reached sets [] vs t [] at fits is = subst (IsOneOf vs) (sym (append-nil t)) at
 reached sets [] vs t (p ∷ v) at fits is = absurd fits
 reached sets (c ∷ cs) vs t [] at fits is = absurd fits
 reached sets (c ∷ cs) vs t (p ∷ v) at fits is =
     let n = length c.alternatives.items in
-    let whole : is_of_any sets ((t ++ p ∷ []) ++ v) ≡ true = ap (is_of_any sets) (append_assoc t (p ∷ []) v) ∙ is in
+    let whole : is_of_some_set sets ((t ++ p ∷ []) ++ v) ≡ true = ap (is_of_some_set sets) (append_assoc t (p ∷ []) v) ∙ is in
     let here : IsOneOf (keep sets (longer n vs)) (t ++ p ∷ []) =
-    kept_one (is_of_any sets) (longer n vs) (t ++ p ∷ []) (longer_has n vs t p at fits.0) (any_first sets (t ++ p ∷ []) v whole) in
+    kept_one (is_of_some_set sets) (longer n vs) (t ++ p ∷ []) (longer_has n vs t p at fits.0) (any_first sets (t ++ p ∷ []) v whole) in
     subst (IsOneOf (begun_behind sets (keep sets (longer n vs)) cs)) (append_assoc t (p ∷ []) v)
     (reached sets cs (keep sets (longer n vs)) (t ++ p ∷ []) v here fits.1 whole)
 
@@ -132,7 +132,7 @@ came sets [] vs w at = (w, [], at, tt, sym (append-nil w))
 came sets (c ∷ cs) vs w at =
     let n = length c.alternatives.items in
     let behind = came sets cs (keep sets (longer n vs)) w at in
-    let last = longer_from n vs behind.0 (one_kept (is_of_any sets) (longer n vs) behind.0 behind.2).0 in (
+    let last = longer_from n vs behind.0 (one_kept (is_of_some_set sets) (longer n vs) behind.0 behind.2).0 in (
       last.0,
       last.1 ∷ behind.1,
       last.2,
@@ -140,27 +140,27 @@ came sets (c ∷ cs) vs w at =
       behind.4 ∙ ap (λ x. x ++ behind.1) last.4 ∙ append_assoc last.0 (last.1 ∷ []) behind.1,
     )
 
-all_of_any : (sets : List (List Alternative)) (cs : List Choice) (vs : List (List ℕ)) → ((t : List ℕ) → IsOneOf vs t → is_of_any sets t ≡ true)
-    → (w : List ℕ) → IsOneOf (begun_behind sets vs cs) w → is_of_any sets w ≡ true
+all_of_any : (sets : List (List Alternative)) (cs : List Choice) (vs : List (List ℕ)) → ((t : List ℕ) → IsOneOf vs t → is_of_some_set sets t ≡ true)
+    → (w : List ℕ) → IsOneOf (begun_behind sets vs cs) w → is_of_some_set sets w ≡ true
 all_of_any sets [] vs all w at = all w at
 all_of_any sets (c ∷ cs) vs all w at =
     let n = length c.alternatives.items in
-    all_of_any sets cs (keep sets (longer n vs)) (λ t one. (one_kept (is_of_any sets) (longer n vs) t one).1) w at
+    all_of_any sets cs (keep sets (longer n vs)) (λ t one. (one_kept (is_of_some_set sets) (longer n vs) t one).1) w at
 
 pub are_begun : (sets : List (List Alternative)) (choices : List Choice) → AreVariantsOfSets choices sets (begun sets choices)
 are_begun sets choices = record {
   complete = λ v is any.
-      reached sets choices (keep sets ([] ∷ [])) [] v (kept_one (is_of_any sets) ([] ∷ []) [] (inl refl) (any_first sets [] v any)) (fits_from choices v is) any;
+      reached sets choices (keep sets ([] ∷ [])) [] v (kept_one (is_of_some_set sets) ([] ∷ []) [] (inl refl) (any_first sets [] v any)) (fits_from choices v is) any;
   are_variants = λ v at.
       let made = came sets choices (keep sets ([] ∷ [])) v at in
-      elim (one_kept (is_of_any sets) ([] ∷ []) made.0 made.2).0 [
+      elim (one_kept (is_of_some_set sets) ([] ∷ []) made.0 made.2).0 [
         | inl none ↦
             let same : v ≡ made.1 = made.4 ∙ ap (λ t. t ++ made.1) (sym none) in
             subst (IsVariant choices) (sym same) (fits_to choices made.1 made.3)
         | inr more ↦ absurd more
       ];
-  are_of_sets = all_of_any sets choices (keep sets ([] ∷ [])) (λ t one. (one_kept (is_of_any sets) ([] ∷ []) t one).1);
-  in_order = begun_in_order sets (keep sets ([] ∷ [])) choices (kept_in_order (is_of_any sets) ([] ∷ []) (λ w at. absurd at, tt));
+  are_of_sets = all_of_any sets choices (keep sets ([] ∷ [])) (λ t one. (one_kept (is_of_some_set sets) ([] ∷ []) t one).1);
+  in_order = begun_in_order sets (keep sets ([] ∷ [])) choices (kept_in_order (is_of_some_set sets) ([] ∷ []) (λ w at. absurd at, tt));
 }
 
 -- ---- in turn

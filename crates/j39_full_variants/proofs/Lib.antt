@@ -3,5 +3,8 @@ pub mod Counts
 pub mod Enumerated
 pub mod Filters
 pub mod LookedAt
+pub mod NeedLists
+pub mod OfSets
+pub mod OneNumber
 pub mod Sets
 pub mod Widest

@@ -1,5 +1,5 @@
 -- Sets of alternatives, one inside another, and the variants that take alternatives of them alone.
-use Rattle.std.proofs.Common.{◌≡◌, ℕ, suc, ◌+◌, ◌==◌, List, [], ◌∷◌, ◌++◌, Bool, true, false, ◌&&◌, ◌||◌, ◌<◌, inl, inr, drop, get_or, length, map, refl, sym, ap, subst, ◌∙◌, arith}
+use Rattle.std.proofs.Common.{◌≡◌, ℕ, suc, ◌+◌, ◌==◌, List, [], ◌∷◌, ◌++◌, Bool, true, false, ◌&&◌, ◌||◌, ◌<◌, inl, inr, drop, get_or, length, map, refl, ap, subst, ◌∙◌, arith}
 use Rattle.std.specs.List.{list_all, list_any, range_with_len}
 use Rattle.std.proofs.lemmas.Bool.{cases_Bool, eq-eqb, eqb-true, false≢true}
 use Rattle.std.proofs.Math.Seq.{drop-cons}
@@ -7,7 +7,7 @@ use Rattle.j39_variants.specs.declared.line.Alternative.{Alternative}
 use Rattle.j39_variants.specs.declared.line.Choice.{Choice}
 use Rattle.j39_line_findings.specs.Boxes.{is_one_alternative}
 use Rattle.j39_line_findings.specs.FullVariants.{alternative_at}
-use Rattle.j39_full_variants.specs.SetVariants.{IsSetAmong, has_alternative, has_choice, has_each_choice, is_inside, is_of_any}
+use Rattle.j39_full_variants.specs.SetVariants.{IsSetAmong, has_alternative, has_choice, has_each_choice, is_set_inside, is_of_some_set}
 use Rattle.j39_full_variants.specs.SetVariants.{takes_alone, takes_from}
 
 -- ---- tests
@@ -19,10 +19,10 @@ both false b is = absurd (false≢true is)
 pub and_so : (a b : Bool) → a ≡ true → b ≡ true → (a && b) ≡ true
 and_so a b one other = rw (one, other) refl
 
-one_itself : (a : Alternative) → is_one_alternative a a ≡ true
+pub one_itself : (a : Alternative) → is_one_alternative a a ≡ true
 one_itself a = and_so (a.choice == a.choice) (a.place == a.place) (eq-eqb a.choice a.choice refl) (eq-eqb a.place a.place refl)
 
-one_same : (a b : Alternative) → is_one_alternative a b ≡ true → a ≡ b
+pub one_same : (a b : Alternative) → is_one_alternative a b ≡ true → a ≡ b
 one_same a b is =
     let parts = both (a.choice == b.choice) (a.place == b.place) is in
     let choice = eqb-true a.choice b.choice parts.0 in
@@ -33,7 +33,7 @@ one_same a b is =
 -- ---- one inside another
 
 -- what the one has, the other has
-pub carried : (one other : List Alternative) (a : Alternative) → is_inside one other ≡ true → has_alternative one a ≡ true → has_alternative other a ≡ true
+pub carried : (one other : List Alternative) (a : Alternative) → is_set_inside one other ≡ true → has_alternative one a ≡ true → has_alternative other a ≡ true
 carried [] other a all any = absurd (false≢true any)
 carried (b ∷ one) other a all any =
     let parts = both (has_alternative other b) (list_all (has_alternative other) one) all in
@@ -52,21 +52,21 @@ has_behind b a one is = elim (cases_Bool (is_one_alternative b a)) [
 ]
 
 pub inside_of : (one other : List Alternative) → ((a : Alternative) → has_alternative one a ≡ true → has_alternative other a ≡ true)
-    → is_inside one other ≡ true
+    → is_set_inside one other ≡ true
 inside_of [] other has = refl
 inside_of (b ∷ one) other has =
     and_so (has_alternative other b) (list_all (has_alternative other) one) (has b (has_head b one))
     (inside_of one other (λ a at. has a (has_behind b a one at)))
 
-pub inside_itself : (set : List Alternative) → is_inside set set ≡ true
+pub inside_itself : (set : List Alternative) → is_set_inside set set ≡ true
 inside_itself set = inside_of set set (λ a at. at)
 
-pub inside_through : (s t u : List Alternative) → is_inside s t ≡ true → is_inside t u ≡ true → is_inside s u ≡ true
+pub inside_through : (s t u : List Alternative) → is_set_inside s t ≡ true → is_set_inside t u ≡ true → is_set_inside s u ≡ true
 inside_through s t u one other = inside_of s u (λ a at. carried t u a other (carried s t a one at))
 
 -- ---- variants
 
-pub takes_wider : (one other : List Alternative) (c : ℕ) (v : List ℕ) → is_inside one other ≡ true → takes_from one c v ≡ true → takes_from other c v ≡ true
+pub takes_wider : (one other : List Alternative) (c : ℕ) (v : List ℕ) → is_set_inside one other ≡ true → takes_from one c v ≡ true → takes_from other c v ≡ true
 takes_wider one other c [] inside is = refl
 takes_wider one other c (p ∷ v) inside is =
     let parts = both (has_alternative one (alternative_at c p)) (takes_from one (c + 1) v) is in
@@ -101,7 +101,7 @@ has_each choices set v same is = subst (λ n. list_all (has_choice set) (range_w
 
 -- ---- several sets
 
-pub one_taken : (sets : List (List Alternative)) (v : List ℕ) → is_of_any sets v ≡ true
+pub one_taken : (sets : List (List Alternative)) (v : List ℕ) → is_of_some_set sets v ≡ true
     → (s : List Alternative) × IsSetAmong sets s × (takes_alone s v ≡ true)
 one_taken [] v is = absurd (false≢true is)
 one_taken (s ∷ sets) v is = elim (cases_Bool (takes_alone s v)) [
@@ -109,7 +109,7 @@ one_taken (s ∷ sets) v is = elim (cases_Bool (takes_alone s v)) [
   | inr none ↦ let rest = one_taken sets v (rw none at is) in (rest.0, inr rest.1, rest.2)
 ]
 
-pub taken_one : (sets : List (List Alternative)) (s : List Alternative) (v : List ℕ) → IsSetAmong sets s → takes_alone s v ≡ true → is_of_any sets v ≡ true
+pub taken_one : (sets : List (List Alternative)) (s : List Alternative) (v : List ℕ) → IsSetAmong sets s → takes_alone s v ≡ true → is_of_some_set sets v ≡ true
 taken_one [] s v at is = absurd at
 taken_one (t ∷ sets) s v (inl same) is = let here : takes_alone t v ≡ true = ap (λ x. takes_alone x v) same ∙ is in rw here refl
 taken_one (t ∷ sets) s v (inr more) is = elim (cases_Bool (takes_alone t v)) [
@@ -117,7 +117,7 @@ taken_one (t ∷ sets) s v (inr more) is = elim (cases_Bool (takes_alone t v)) [
   | inr none ↦ rw none (taken_one sets s v more is)
 ]
 
-pub any_first : (sets : List (List Alternative)) (t r : List ℕ) → is_of_any sets (t ++ r) ≡ true → is_of_any sets t ≡ true
+pub any_first : (sets : List (List Alternative)) (t r : List ℕ) → is_of_some_set sets (t ++ r) ≡ true → is_of_some_set sets t ≡ true
 any_first sets t r is = let one = one_taken sets (t ++ r) is in taken_one sets one.0 t one.1 (takes_first one.0 0 t r one.2)
 
 -- ---- in turn

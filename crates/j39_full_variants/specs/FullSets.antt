@@ -1,11 +1,11 @@
 -- The sets of full alternatives of a line, and how many variants they have.
-use Rattle.std.specs.Prelude.{◌≡◌, ℕ, ◌<◌, ◌≤◌, List, [], ◌∷◌, Bool, true, is_some, if◌then◌else◌, map, sum}
+use Rattle.std.specs.Prelude.{◌≡◌, ℕ, List, [], ◌∷◌, true, is_some, if◌then◌else◌, map, sum}
 use Rattle.j39_variants.specs.Variants.{IsVariant, is_possible}
 use Rattle.j39_variants.specs.declared.line.Alternative.{Alternative}
 use Rattle.j39_variants.specs.declared.line.ProductLine.{ProductLine}
 use Rattle.j39_line_findings.specs.AllVariants.{IsOneOf}
 use Rattle.j39_line_findings.specs.declared.full.FullAlternatives.{FullAlternatives}
-use Rattle.j39_full_variants.specs.SetVariants.{AreEarliestFirst, AreWidest, is_of_any, variants_of_set, with_each_choice}
+use Rattle.j39_full_variants.specs.SetVariants.{AreEarliestFirst, AreWidest, is_of_some_set, variants_of_set, with_each_choice}
 
 -- those for each need; ages are told of where something is known of the bus
 abbrev pub need_sets : ProductLine → FullAlternatives → List (List Alternative)
@@ -24,7 +24,7 @@ pub record IsNumberOfVariants (line : ProductLine) (full : FullAlternatives) (n 
 pub record IsFullSomehow (line : ProductLine) (full : FullAlternatives) (variant : List ℕ) : Type 0 where
   pub is_variant : IsVariant line.choices.items variant
   pub possible : is_possible line.nevers.items variant ≡ true
-  pub is_full : is_of_any (full_sets line full) variant ≡ true
+  pub is_full : is_of_some_set (full_sets line full) variant ≡ true
 
 -- these are looked at, each once, in order
 pub record AreLookedAt (line : ProductLine) (full : FullAlternatives) (variants : List (List ℕ)) : Type 0 where

@@ -1,4 +1,6 @@
 pub mod CountedFindings
 pub mod FullSets
-pub mod Looking
+pub mod LookedAtLaws
+pub mod LookedVariants
+pub mod SetVariantLaws
 pub mod SetVariants

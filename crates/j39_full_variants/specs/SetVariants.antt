@@ -1,10 +1,10 @@
 -- Variants that take alternatives of a set alone.
 use Rattle.std.specs.Prelude.{◌≡◌, ◌⊎◌, ℕ, ◌+◌, ◌*◌, ◌==◌, List, [], ◌∷◌, Bool, true, false, ◌&&◌, count_by, filter, length, map}
 use Rattle.std.specs.List.{list_all, list_any, range_with_len}
-use Rattle.j39_variants.specs.Variants.{IsEarlier, IsVariant}
+use Rattle.j39_variants.specs.Variants.{IsEarlier, IsVariant, size_at}
 use Rattle.j39_variants.specs.declared.line.Alternative.{Alternative}
 use Rattle.j39_variants.specs.declared.line.Choice.{Choice}
-use Rattle.j39_line_findings.specs.AllVariants.{IsOneOf, longer}
+use Rattle.j39_line_findings.specs.AllVariants.{IsOneOf}
 use Rattle.j39_line_findings.specs.Boxes.{is_one_alternative}
 use Rattle.j39_line_findings.specs.FullVariants.{alternative_at}
 
@@ -28,8 +28,8 @@ takes_from set c (p ∷ places) = has_alternative set (alternative_at c p) && ta
 abbrev pub takes_alone : List Alternative → List ℕ → Bool
 takes_alone set v = takes_from set 0 v
 
-abbrev pub is_of_any : List (List Alternative) → List ℕ → Bool
-is_of_any sets v = list_any (λ set. takes_alone set v) sets
+abbrev pub is_of_some_set : List (List Alternative) → List ℕ → Bool
+is_of_some_set sets v = list_any (λ set. takes_alone set v) sets
 
 -- each comes before those behind it
 abbrev pub AreEarliestFirst : List (List ℕ) → Type 0
@@ -38,15 +38,16 @@ AreEarliestFirst (v ∷ variants) = ((w : List ℕ) → IsOneOf variants w → I
 
 -- the variants of these choices that take alternatives of one of these sets alone, each once, in order
 pub record AreVariantsOfSets (choices : List Choice) (sets : List (List Alternative)) (variants : List (List ℕ)) : Type 0 where
-  pub complete : (v : List ℕ) → IsVariant choices v → is_of_any sets v ≡ true → IsOneOf variants v
+  pub complete : (v : List ℕ) → IsVariant choices v → is_of_some_set sets v ≡ true → IsOneOf variants v
   pub are_variants : (v : List ℕ) → IsOneOf variants v → IsVariant choices v
-  pub are_of_sets : (v : List ℕ) → IsOneOf variants v → is_of_any sets v ≡ true
+  pub are_of_sets : (v : List ℕ) → IsOneOf variants v → is_of_some_set sets v ≡ true
   pub in_order : AreEarliestFirst variants
 
 -- ---- how many there are
 
-abbrev pub count_of_choice : List Alternative → ℕ → ℕ
-count_of_choice set c = count_by (λ a. a.choice == c) set
+-- alternatives of a choice that a set has
+abbrev pub count_of_choice : List Choice → List Alternative → ℕ → ℕ
+count_of_choice choices set c = count_by (λ p. has_alternative set (alternative_at c p)) (range_with_len 0 (size_at choices c))
 
 abbrev pub product_of : List ℕ → ℕ
 product_of [] = 1
@@ -54,28 +55,28 @@ product_of (x ∷ xs) = x * product_of xs
 
 -- over the choices, how many alternatives of the choice the set has
 abbrev pub variants_of_set : List Choice → List Alternative → ℕ
-variants_of_set choices set = product_of (map (count_of_choice set) (range_with_len 0 (length choices)))
+variants_of_set choices set = product_of (map (count_of_choice choices set) (range_with_len 0 (length choices)))
 
 -- ---- sets that count
 
 -- each alternative of the one is in the other
-abbrev pub is_inside : List Alternative → List Alternative → Bool
-is_inside one other = list_all (has_alternative other) one
+abbrev pub is_set_inside : List Alternative → List Alternative → Bool
+is_set_inside one other = list_all (has_alternative other) one
 
 abbrev pub IsSetAmong : List (List Alternative) → List Alternative → Type 0
 IsSetAmong [] set = ⊥
 IsSetAmong (s ∷ sets) set = (s ≡ set) ⊎ IsSetAmong sets set
 
 -- none of these is inside another
-abbrev pub AreApart : List (List Alternative) → Type 0
-AreApart [] = Unit {0}
-AreApart (s ∷ sets) = ((t : List Alternative) → IsSetAmong sets t → (is_inside s t ≡ false) × (is_inside t s ≡ false)) × AreApart sets
+abbrev pub AreNotNested : List (List Alternative) → Type 0
+AreNotNested [] = Unit {0}
+AreNotNested (s ∷ sets) = ((t : List Alternative) → IsSetAmong sets t → (is_set_inside s t ≡ false) × (is_set_inside t s ≡ false)) × AreNotNested sets
 
 -- of these sets those that count: equal ones once, and none that is inside another
 pub record AreWidest (sets kept : List (List Alternative)) : Type 0 where
   pub sound : (s : List Alternative) → IsSetAmong kept s → IsSetAmong sets s
-  pub wide : (s : List Alternative) → IsSetAmong sets s → (t : List Alternative) × IsSetAmong kept t × (is_inside s t ≡ true)
-  pub apart : AreApart kept
+  pub wide : (s : List Alternative) → IsSetAmong sets s → (t : List Alternative) × IsSetAmong kept t × (is_set_inside s t ≡ true)
+  pub apart : AreNotNested kept
 
 -- those that some variant takes alone: a set that lacks a choice has none
 abbrev pub with_each_choice : List Choice → List (List Alternative) → List (List Alternative)

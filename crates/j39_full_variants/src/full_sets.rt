@@ -6,23 +6,23 @@ ghost use Rattle.j39_variants.specs.declared.line.Alternative.{Alternative as Al
 ghost use Rattle.j39_line_findings.specs.FullVariants.{line_with};
 ghost use Rattle.j39_line_findings.specs.declared.full.FullAlternatives.{FullAlternatives as FullOnes};
 ghost use Rattle.j39_full_variants.specs.FullSets.{AreLookedAt, full_sets};
-ghost use Rattle.j39_full_variants.specs.SetVariants.{AreWidest, is_inside, variants_of_set, with_each_choice};
+ghost use Rattle.j39_full_variants.specs.SetVariants.{AreWidest, is_set_inside, variants_of_set, with_each_choice};
 
-use crate::set_variants::{has_each_choice, is_inside, variants_of_set, variants_of_sets};
-use j39_line_findings::{FullAlternatives, Nevers};
+use crate::set_variants::{has_each_choice, is_set_inside, variants_of_set, variants_of_sets};
+use j39_line_findings::{FullAlternatives, LineNevers};
 use j39_variants::{Alternative, Choice, ProductLine, is_possible};
 use std::alloc::{AllocError, Global};
 
 fn is_inside_any(set: &[Alternative], kept: &[Vec<Alternative>]) -> bool
-    ensures { result ≡ list_any (λ other. is_inside set.now other.items) kept.now }
+    ensures { result ≡ list_any (λ other. is_set_inside set.now other.items) kept.now }
 {
-    kept.iter().any(|other| is_inside(set, other))
+    kept.iter().any(|other| is_set_inside(set, other))
 }
 
 fn leave_out_inside(kept: &mut Vec<Vec<Alternative>>, set: &[Alternative])
-    ensures { kept.new.items ≡ filter (λ other. not (is_inside other.items set.now)) kept.old.items }
+    ensures { kept.new.items ≡ filter (λ other. not (is_set_inside other.items set.now)) kept.old.items }
 {
-    kept.retain(|other| !is_inside(other, set));
+    kept.retain(|other| !is_set_inside(other, set));
 }
 
 // Adds a set, where it counts beside those kept.
@@ -89,16 +89,16 @@ pub fn number_of_variants(line: &ProductLine, sets: &[Vec<Alternative>]) -> u64
     count
 }
 
-fn is_built(line: &ProductLine, nevers: Nevers, variant: &[usize]) -> bool
+fn is_built(line: &ProductLine, nevers: LineNevers, variant: &[usize]) -> bool
     ensures { result ≡ is_possible (line_with nevers line.now).nevers.items variant.now }
 {
     match nevers {
-        Nevers::Kept => is_possible(&line.nevers, variant),
-        Nevers::LeftOut => true,
+        LineNevers::Kept => is_possible(&line.nevers, variant),
+        LineNevers::LeftOut => true,
     }
 }
 
-fn keep_built(line: &ProductLine, nevers: Nevers, variants: &mut Vec<Vec<usize>>)
+fn keep_built(line: &ProductLine, nevers: LineNevers, variants: &mut Vec<Vec<usize>>)
     ensures { variants.new.items ≡ filter (λ v. is_possible (line_with nevers line.now).nevers.items v.items) variants.old.items }
 {
     variants.retain(|variant| is_built(line, nevers, variant));
@@ -108,7 +108,7 @@ fn keep_built(line: &ProductLine, nevers: Nevers, variants: &mut Vec<Vec<usize>>
 pub fn looked_at(
     alloc: Global,
     line: &ProductLine,
-    nevers: Nevers,
+    nevers: LineNevers,
     sets: &[Vec<Alternative>],
 ) -> Result<Vec<Vec<usize>>, AllocError>
     ensures { IfOk result (λ all. (full : FullOnes)

@@ -1,12 +1,14 @@
 //! At which full variants of a line is looked.
 ghost use Rattle.std.specs.Prelude.{◌≡◌, IfOk};
-ghost use Rattle.j39_line_findings.specs.declared.full.Nevers.TheVariants.{Kept};
-ghost use Rattle.j39_full_variants.specs.Looking.{IsLooking, IsLookingWith};
+ghost use Rattle.j39_line_findings.specs.declared.full.LineNevers.TheVariants.{Kept};
+ghost use Rattle.j39_full_variants.specs.LookedVariants.{IsLooking, IsLookingWith, has_bad_number, is_bad_number};
 ghost use Rattle.j39_full_variants.specs.declared.looking.Looking.TheVariants.{Many};
 
 use crate::counted::counted_findings;
 use crate::full_sets::{looked_at, number_of_variants, widest_sets};
-use j39_line_findings::{FullAlternatives, Nevers, Witnessed, alternatives_of};
+use j39_findings::{Finding, check};
+use j39_line_findings::{FullAlternatives, LineNevers, Witnessed, alternatives_of};
+use j39_network::Plan;
 use j39_variants::ProductLine;
 use std::alloc::{AllocError, Global};
 
@@ -34,7 +36,7 @@ pub enum Looking {
 }
 
 // The full variants of a line, with or without its nevers.
-fn look_with(alloc: Global, line: &ProductLine, nevers: Nevers) -> Result<Looking, AllocError>
+fn look_with(alloc: Global, line: &ProductLine, nevers: LineNevers) -> Result<Looking, AllocError>
     ensures { IfOk result (IsLookingWith line.now nevers) }
 {
     let alternatives = alternatives_of(alloc, line)?;
@@ -53,11 +55,29 @@ fn look_with(alloc: Global, line: &ProductLine, nevers: Nevers) -> Result<Lookin
     }))
 }
 
+fn is_bad_number(finding: &Finding) -> bool
+    ensures { result ≡ is_bad_number finding.now }
+{
+    matches!(finding, Finding::BadPgn(_))
+}
+
+// Whether a group of the file has a bad number.
+fn has_bad_number(alloc: Global, plan: &Plan) -> Result<bool, AllocError>
+    ensures { IfOk result (λ found. found ≡ has_bad_number plan.now) }
+{
+    let findings = check(alloc, plan)?;
+    Ok(findings.iter().any(is_bad_number))
+}
+
 // The same of a line that has too many full variants, where those of it without its nevers stand in for them.
 fn look_without_nevers(alloc: Global, line: &ProductLine, count: u64) -> Result<Looking, AllocError>
     ensures { IfOk result (λ looking. IsLookingWith line.now Kept (Many count) → IsLooking line.now looking) }
 {
-    match look_with(alloc, line, Nevers::LeftOut)? {
+    let bad = has_bad_number(alloc, &line.plan)?;
+    if bad {
+        return Ok(Looking::Many(count));
+    }
+    match look_with(alloc, line, LineNevers::LeftOut)? {
         Looking::Few(found) => {
             if found.told.is_empty() {
                 return Ok(Looking::Few(found));
@@ -69,11 +89,11 @@ fn look_without_nevers(alloc: Global, line: &ProductLine, count: u64) -> Result<
 }
 
 /// The full variants of a line, and what is found of them. Where they are too many, those of the line without its nevers,
-/// where these aren't, and nothing is found of them.
+/// where these aren't, nothing is found of them, and no group of the file has a bad number.
 pub fn look(alloc: Global, line: &ProductLine) -> Result<Looking, AllocError>
     ensures { IfOk result (IsLooking line.now) }
 {
-    match look_with(alloc, line, Nevers::Kept)? {
+    match look_with(alloc, line, LineNevers::Kept)? {
         Looking::Few(found) => Ok(Looking::Few(found)),
         Looking::Many(count) => look_without_nevers(alloc, line, count),
     }

@@ -1,7 +1,8 @@
 //! Variants that take alternatives of a set alone.
-ghost use Rattle.std.specs.Prelude.{◌≡◌, ◌==◌, ◌-◌, ◌^◌, IfOk, count_by, filter, map, min};
+ghost use Rattle.std.specs.Prelude.{◌≡◌, ◌-◌, ◌^◌, IfOk, filter, map, min};
 ghost use Rattle.std.specs.List.{list_any};
-ghost use Rattle.j39_full_variants.specs.SetVariants.{AreVariantsOfSets, has_alternative, has_each_choice, is_inside};
+ghost use Rattle.j39_variants.specs.Variants.{size_at};
+ghost use Rattle.j39_full_variants.specs.SetVariants.{AreVariantsOfSets, has_alternative, has_each_choice, is_set_inside};
 ghost use Rattle.j39_full_variants.specs.SetVariants.{count_of_choice, takes_alone, variants_of_set};
 
 use j39_line_findings::{longer, names, names_choice};
@@ -26,7 +27,7 @@ pub(crate) fn takes_alone(set: &[Alternative], variant: &[usize]) -> bool
 }
 
 /// Whether a variant takes alternatives of one of these sets alone.
-pub(crate) fn is_of_any(sets: &[Vec<Alternative>], variant: &[usize]) -> bool
+pub(crate) fn is_of_some_set(sets: &[Vec<Alternative>], variant: &[usize]) -> bool
     ensures { result ≡ list_any (λ set. takes_alone set.items variant.now) sets.now }
 {
     sets.iter().any(|set| takes_alone(set, variant))
@@ -40,8 +41,8 @@ pub(crate) fn has_each_choice(choices: &[Choice], set: &[Alternative]) -> bool
 }
 
 /// Whether each alternative of the one set is in the other.
-pub(crate) fn is_inside(one: &[Alternative], other: &[Alternative]) -> bool
-    ensures { result ≡ is_inside one.now other.now }
+pub(crate) fn is_set_inside(one: &[Alternative], other: &[Alternative]) -> bool
+    ensures { result ≡ is_set_inside one.now other.now }
 {
     one.iter().all(|alternative| names(other, alternative))
 }
@@ -49,7 +50,7 @@ pub(crate) fn is_inside(one: &[Alternative], other: &[Alternative]) -> bool
 fn keep_begun(sets: &[Vec<Alternative>], taken: &mut Vec<Vec<usize>>)
     ensures { taken.new.items ≡ filter (λ v. list_any (λ set. takes_alone set.items v.items) sets.now) taken.old.items }
 {
-    taken.retain(|places| is_of_any(sets, places));
+    taken.retain(|places| is_of_some_set(sets, places));
 }
 
 /// The variants of these choices that take alternatives of one of these sets alone, each once, in order: of each the
@@ -71,11 +72,29 @@ pub fn variants_of_sets(
     Ok(all)
 }
 
-fn count_of_choice(set: &[Alternative], choice: usize) -> usize
-    ensures { result ≡ count_of_choice set.now choice }
+fn size_at(choices: &[Choice], choice: usize) -> usize
+    ensures { result ≡ size_at choices.now choice }
 {
-    set.iter()
-        .filter(|alternative| alternative.choice == choice)
+    match choices.get(choice) {
+        Some(found) => found.alternatives.len(),
+        None => 0,
+    }
+}
+
+// How many alternatives of a choice a set has.
+fn count_of_choice(choices: &[Choice], set: &[Alternative], choice: usize) -> usize
+    ensures { result ≡ count_of_choice choices.now set.now choice }
+{
+    (0..size_at(choices, choice))
+        .filter(|place| {
+            names(
+                set,
+                &Alternative {
+                    choice,
+                    place: *place,
+                },
+            )
+        })
         .count()
 }
 
@@ -85,7 +104,7 @@ pub fn variants_of_set(choices: &[Choice], set: &[Alternative]) -> u64
 {
     let mut count: u64 = 1;
     for choice in 0..choices.len() {
-        count = count.saturating_mul(count_of_choice(set, choice) as u64);
+        count = count.saturating_mul(count_of_choice(choices, set, choice) as u64);
     }
     count
 }

@@ -1,15 +1,17 @@
 -- Findings are added one after the other.
-use Rattle.std.proofs.Common.{◌≡◌, ℕ, List, [], ◌∷◌, ◌++◌, inl, inr, refl, sym, ap, subst, ◌∙◌}
+use Rattle.std.proofs.Common.{◌≡◌, ℕ, suc, ◌+◌, ◌<◌, List, [], ◌∷◌, ◌++◌, append_assoc, get_or, inl, inr, length, map, take, refl, sym, ap, subst, ◌∙◌, arith}
 use Rattle.std.specs.List.{Contains}
+use Rattle.std.proofs.Math.Seq.{take-suc}
+use Rattle.std.proofs.lemmas.List.{map-append}
 use Rattle.std.proofs.lemmas.List.Elements.{Contains-append_cases, Contains-append_left, Contains-append_right}
 use Rattle.j39_line_findings.specs.InFile.{rank_of}
-use Rattle.j39_line_check.proofs.Inserting.{cases_in, first_in, none_in}
+use Rattle.j39_line_check.proofs.ToldInOrder.{cases_in, first_in, none_in}
 use Rattle.j39_line_check.specs.declared.answer.ToldFinding.{ToldFinding}
 use Rattle.j39_line_check.specs.inside.Adding.{AreAdded, Pair, pair_told}
 use Rattle.j39_line_check.specs.inside.Inserted.{IsToldWith}
 
 pub none_added : AreAdded [] []
-none_added = record { in_order = tt; sound = λ t at. absurd (none_in t at); complete = λ p at. absurd (none_in p at); }
+none_added = record { in_order = tt; sound = λ t at. absurd (none_in t at); complete = λ p at. absurd (none_in p at) }
 
 -- one more
 pub added_more : (all : List Pair) (old told : List ToldFinding) (new : ToldFinding) (p : Pair) → p ≡ pair_told new → AreAdded all old → IsToldWith old new told
@@ -32,3 +34,16 @@ added_more all old told new p is are with_it = record {
     ]
   ];
 }
+
+-- of a list, up to its next place
+pub added_at : {X : Type 0} (pair : X → Pair) (before : List Pair) (k : ℕ) (xs : List X) (x : X) (old told : List ToldFinding) (new : ToldFinding)
+    → k < length xs → x ≡ get_or xs k x → pair x ≡ pair_told new → AreAdded (before ++ map pair (take k xs)) old → IsToldWith old new told
+    → AreAdded (before ++ map pair (take (k + 1) xs)) told
+added_at {X} pair before k xs x old told new less is same are with_it =
+    let next : k + 1 ≡ suc k = omega arith in
+    let one : take (k + 1) xs ≡ take k xs ++ x ∷ [] =
+    ap (λ (n : ℕ). take n xs) next ∙ take-suc xs k x less ∙ ap (λ (y : X). take k xs ++ y ∷ []) (sym is) in
+    let all : before ++ map pair (take (k + 1) xs) ≡ (before ++ map pair (take k xs)) ++ pair x ∷ [] =
+    ap (λ (ys : List X). before ++ map pair ys) one ∙ ap (λ (ps : List Pair). before ++ ps) (map-append pair (take k xs) (x ∷ []))
+    ∙ sym (append_assoc before (map pair (take k xs)) (pair x ∷ [])) in
+    subst (λ ps. AreAdded ps told) (sym all) (added_more (before ++ map pair (take k xs)) old told new (pair x) same are with_it)

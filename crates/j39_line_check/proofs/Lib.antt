@@ -1,5 +1,12 @@
 pub mod Adding
+pub mod Assembled
+pub mod CountedTold
 pub mod CountingRanks
-pub mod Inserting
+pub mod FindingKinds
 pub mod NothingTold
 pub mod Pairs
+pub mod TakenFull
+pub mod Timed
+pub mod ToldInOrder
+pub mod ToldOfLine
+pub mod WithoutNevers

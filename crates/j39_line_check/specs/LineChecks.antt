@@ -14,7 +14,7 @@ use Rattle.j39_line_findings.specs.declared.full.FullAlternatives.{FullAlternati
 use Rattle.j39_line_findings.specs.declared.line_finding.LineFinding.{LineFinding}
 use Rattle.j39_line_findings.specs.declared.line_finding.LineFinding.TheVariants.{OfPlan, OfLoad}
 use Rattle.j39_full_variants.specs.CountedFindings.{takes_full_for}
-use Rattle.j39_full_variants.specs.Looking.{IsLooking}
+use Rattle.j39_full_variants.specs.LookedVariants.{IsLooking}
 use Rattle.j39_full_variants.specs.declared.looking.FullVariants.{FullVariants}
 use Rattle.j39_full_variants.specs.declared.looking.Looking.TheVariants.{Few, Many}
 use Rattle.j39_line_check.specs.declared.answer.LineAnswer.{LineAnswer}
@@ -58,7 +58,8 @@ counts_for line full variant finding = goes_by_conditions line finding || takes_
 pub record IsWitnessFor (line : ProductLine) (full : FullAlternatives) (finding : LineFinding) (variant : List ℕ) : Type 0 where
   pub has : HasAtAnyRate line variant finding ⊎ HasIt line variant finding
   pub counts : counts_for line full variant finding ≡ true
-  pub first : (other : List ℕ) → HasIt line other finding → IsSure line finding → counts_for line full other finding ≡ true → ¬ IsEarlier other variant
+  pub first : (other : List ℕ) → HasIt line other finding → HasAtAnyRate line other finding → counts_for line full other finding ≡ true
+      → ¬ IsEarlier other variant
   pub most : (other : List ℕ) (more : LineFinding) → HasIt line other more → IsSure line more → rank_of more ≡ rank_of finding
       → amount_of more ≤ amount_of finding
 

@@ -1,16 +1,28 @@
 //! What is found of a line.
 ghost use Rattle.std.specs.Prelude.{◌≡◌, ◌++◌, [], List, IfOk, OnOk, map, unwrap_or};
 ghost use Rattle.std.specs.List.{slice_get};
-ghost use Rattle.j39_line_check.specs.LineChecks.{IsCheckOf};
+ghost use Rattle.j39_line_check.specs.LineChecks.{IsCheckOf, SomePossible};
 ghost use Rattle.j39_line_check.specs.inside.Adding.{AreAdded, Pair, pair_counted, pair_of_condition};
 
 use crate::answer::{LineAnswer, LookedAt, ToldFinding};
 use crate::inserting::add;
+use j39_full_variant_laws::{
+    full_variants_have_what_is_found, nevers_change_nothing_that_is_built,
+    old_needs_are_found_of_full_variants,
+};
 use j39_full_variants::{FullVariants, Looking, look};
+use j39_line_condition_laws::what_is_there_is_found;
 use j39_line_findings::Witnessed;
+use j39_line_witness_laws::what_is_told_is_what_variants_have;
 use j39_line_witnesses::{FoundByCondition, found_by_conditions, is_any_variant_possible};
 use j39_variants::ProductLine;
 use std::alloc::{AllocError, Global};
+
+fn copied(alloc: Global, variant: &[usize]) -> Result<Vec<usize>, AllocError>
+    ensures { IfOk result (λ v. v.items ≡ variant.now) }
+{
+    variant.to_vec(alloc)
+}
 
 // Those that are found by conditions.
 fn told_by_conditions(
@@ -21,7 +33,7 @@ fn told_by_conditions(
 {
     let mut told = Vec::new(alloc);
     for one in found {
-        let variant = one.witness.to_vec(alloc)?;
+        let variant = copied(alloc, &one.witness)?;
         add(
             &mut told,
             ToldFinding {
@@ -34,7 +46,11 @@ fn told_by_conditions(
 }
 
 // The variant at a place.
-fn variant_at(alloc: Global, variants: &[Vec<usize>], place: usize) -> Result<Vec<usize>, AllocError>
+fn variant_at(
+    alloc: Global,
+    variants: &[Vec<usize>],
+    place: usize,
+) -> Result<Vec<usize>, AllocError>
     ensures { IfOk result (λ v. v.items ≡ unwrap_or (slice_get (map (λ v. v.items) variants.now) place) []) }
 {
     match variants.get(place) {
@@ -66,10 +82,50 @@ fn add_counted(
     Ok(())
 }
 
-/// What is found of a line of vehicles.
+// Both those that are found by conditions and those that are found of full variants.
+fn told_of_full(
+    alloc: Global,
+    found: &[FoundByCondition],
+    full: &FullVariants,
+) -> Result<Vec<ToldFinding>, AllocError>
+    ensures { IfOk result (λ told. AreAdded (map pair_of_condition found.now
+        ++ map (pair_counted (map (λ v. v.items) full.now.variants.items)) full.now.told.items) told.items) }
+{
+    let mut told = told_by_conditions(alloc, found)?;
+    add_counted(alloc, &mut told, &full.variants, &full.told)?;
+    Ok(told)
+}
+
+// What is found of a line of which some variant is possible.
+fn found_of(alloc: Global, line: &ProductLine) -> Result<LineAnswer, AllocError>
+    ensures { IfOk result (λ answer. SomePossible line.now → IsCheckOf line.now answer) }
+{
+    what_is_told_is_what_variants_have();
+    full_variants_have_what_is_found();
+    old_needs_are_found_of_full_variants();
+    nevers_change_nothing_that_is_built();
+    what_is_there_is_found();
+    let found = found_by_conditions(alloc, line)?;
+    match look(alloc, line)? {
+        Looking::Few(full) => {
+            let told = told_of_full(alloc, &found, &full)?;
+            Ok(LineAnswer::Found(told, LookedAt::Full(full.variants)))
+        }
+        Looking::Many(count) => {
+            let told = told_by_conditions(alloc, &found)?;
+            Ok(LineAnswer::Found(told, LookedAt::TooMany(count)))
+        }
+    }
+}
+
+/// What is found of a line of vehicles: what some possible variant has, each finding once, with a variant that has it.
 pub fn check_line(alloc: Global, line: &ProductLine) -> Result<LineAnswer, AllocError>
-    requires { ⊥ }
     ensures { IfOk result (IsCheckOf line.now) }
 {
+    let possible = is_any_variant_possible(alloc, line)?;
+    if possible {
+        let answer = found_of(alloc, line)?;
+        return Ok(answer);
+    }
     Ok(LineAnswer::NoVariant)
 }

@@ -13,16 +13,16 @@ use Rattle.j39_variants.specs.declared.line.Choice.{Choice}
 use Rattle.j39_variants.specs.declared.line.ProductLine.{ProductLine}
 use Rattle.j39_line_findings.specs.Boxes.{are_one_answer, do_meet, flow_lets_in, is_one_alternative, lets_in, need_lets_in, request_lets_in}
 use Rattle.j39_line_findings.specs.declared.full.FullAlternatives.{FullAlternatives}
-use Rattle.j39_line_findings.specs.declared.full.Nevers.{Nevers}
-use Rattle.j39_line_findings.specs.declared.full.Nevers.TheVariants.{Kept, LeftOut}
+use Rattle.j39_line_findings.specs.declared.full.LineNevers.{LineNevers}
+use Rattle.j39_line_findings.specs.declared.full.LineNevers.TheVariants.{Kept, LeftOut}
 use Rattle.j39_line_findings.specs.declared.part.LinePart.TheVariants.{Flow, Need, Request}
 
 -- a line, or the same without its nevers
-abbrev pub nevers_with : Nevers → Vec (Vec Alternative Global) Global → Vec (Vec Alternative Global) Global
+abbrev pub nevers_with : LineNevers → Vec (Vec Alternative Global) Global → Vec (Vec Alternative Global) Global
 nevers_with Kept nevers = nevers
 nevers_with LeftOut nevers = record nevers { len = 0; items = []; ok = (refl, zero-le) }
 
-abbrev pub line_with : Nevers → ProductLine → ProductLine
+abbrev pub line_with : LineNevers → ProductLine → ProductLine
 line_with nevers line = record line { nevers = nevers_with nevers line.nevers }
 
 -- the alternatives of a choice, and of all choices, in order

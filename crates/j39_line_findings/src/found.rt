@@ -11,7 +11,7 @@ ghost use Rattle.j39_line_findings.specs.declared.witnessed.Witnessed.{Witnessed
 ghost use Rattle.j39_findings.specs.declared.checking.finding.Finding.TheVariants.{NeedUnmet};
 
 use crate::enumeration::all_variants;
-use crate::full::{FullAlternatives, Nevers, alternatives_of};
+use crate::full::{FullAlternatives, LineNevers, alternatives_of};
 use crate::line_finding::{LineFinding, finding_in_file, load_finding_in_file};
 use crate::there::{WhatIsThere, missed_needs};
 use crate::told::counts_as_witness;
@@ -152,7 +152,7 @@ pub fn line_findings(alloc: Global, line: &ProductLine) -> Result<Vec<Witnessed>
     ensures { IfOk result (λ told. AreLineFindings line.now told.items) }
 {
     let alternatives = alternatives_of(alloc, line)?;
-    let full = FullAlternatives::new(alloc, line, Nevers::Kept, &alternatives)?;
+    let full = FullAlternatives::new(alloc, line, LineNevers::Kept, &alternatives)?;
     let variants = all_variants(alloc, &line.choices)?;
     let told = find_in_variants(alloc, line, &full, &variants)?;
     Ok(told)

@@ -58,7 +58,7 @@ fn do_keep(lists: &[Vec<Alternative>], one: &Alternative, other: &Alternative) -
 
 /// Whether the boxes of what isn't built count.
 #[derive(Clone, Copy, PartialEq, Eq)]
-pub enum Nevers {
+pub enum LineNevers {
     Kept,
     /// The line is taken for one that has none.
     LeftOut,
@@ -67,19 +67,24 @@ pub enum Nevers {
 // Whether nothing is left unbuilt with the other alternative that isn't with the first.
 fn do_nevers_keep(
     line: &ProductLine,
-    nevers: Nevers,
+    nevers: LineNevers,
     one: &Alternative,
     other: &Alternative,
 ) -> bool
     ensures { result ≡ do_keep (nevers_with nevers line.now.nevers).items other.now one.now }
 {
     match nevers {
-        Nevers::Kept => do_keep(&line.nevers, other, one),
-        Nevers::LeftOut => true,
+        LineNevers::Kept => do_keep(&line.nevers, other, one),
+        LineNevers::LeftOut => true,
     }
 }
 
-fn is_covered(line: &ProductLine, nevers: Nevers, one: &Alternative, other: &Alternative) -> bool
+fn is_covered(
+    line: &ProductLine,
+    nevers: LineNevers,
+    one: &Alternative,
+    other: &Alternative,
+) -> bool
     ensures { result ≡ is_covered (line_with nevers line.now) one.now other.now }
 {
     do_keep(&line.lists.units, one, other)
@@ -199,7 +204,7 @@ impl Comparing<'_> {
 #[tactic(auto, using(crate::proofs::LeftOutNevers::same_agreement))]
 fn is_covered_for(
     line: &ProductLine,
-    nevers: Nevers,
+    nevers: LineNevers,
     alternatives: &[Alternative],
     need: Option<usize>,
     one: &Alternative,
@@ -224,7 +229,7 @@ fn is_covered_for(
 
 fn does_leave(
     line: &ProductLine,
-    nevers: Nevers,
+    nevers: LineNevers,
     alternatives: &[Alternative],
     need: Option<usize>,
     one: &Alternative,
@@ -240,7 +245,7 @@ fn does_leave(
 
 fn is_full_among(
     line: &ProductLine,
-    nevers: Nevers,
+    nevers: LineNevers,
     alternatives: &[Alternative],
     need: Option<usize>,
     these: &[Alternative],
@@ -278,7 +283,7 @@ fn compared(
 fn full_among(
     alloc: Global,
     line: &ProductLine,
-    nevers: Nevers,
+    nevers: LineNevers,
     alternatives: &[Alternative],
     need: Option<usize>,
     these: &[Alternative],
@@ -295,7 +300,7 @@ fn full_among(
 fn full_alternatives(
     alloc: Global,
     line: &ProductLine,
-    nevers: Nevers,
+    nevers: LineNevers,
     alternatives: &[Alternative],
     need: Option<usize>,
 ) -> Result<Vec<Alternative>, AllocError>
@@ -308,7 +313,7 @@ fn full_alternatives(
 fn full_of_need(
     alloc: Global,
     line: &ProductLine,
-    nevers: Nevers,
+    nevers: LineNevers,
     alternatives: &[Alternative],
     place: usize,
     need: &NeedPlan,
@@ -325,7 +330,7 @@ fn full_of_need(
 fn full_of_needs(
     alloc: Global,
     line: &ProductLine,
-    nevers: Nevers,
+    nevers: LineNevers,
     alternatives: &[Alternative],
     needs: &[NeedPlan],
 ) -> Result<Vec<Vec<Alternative>>, AllocError>
@@ -351,7 +356,7 @@ impl FullAlternatives {
     pub fn new(
         alloc: Global,
         line: &ProductLine,
-        nevers: Nevers,
+        nevers: LineNevers,
         alternatives: &[Alternative],
     ) -> Result<Self, AllocError>
         requires { alternatives.now ≡ alternatives_of line.now }

@@ -17,7 +17,7 @@ mod witnessed;
 pub use checking::{LineAnswer, check_line, is_any_possible};
 pub use enumeration::{VARIANT_LIMIT, all_variants, combinations, longer};
 pub use found::{line_findings, variant_findings};
-pub use full::{FullAlternatives, Nevers, alternatives_of, does_bring};
+pub use full::{FullAlternatives, LineNevers, alternatives_of, does_bring};
 pub use laws::line_findings_are_exact;
 pub use line_finding::LineFinding;
 pub use missed_needs::{is_need_asked_for, is_unit_there};

@@ -1,3 +1,3 @@
 pub mod CertifiedVariants
-pub mod HiddenLines
 pub mod LineTimings
+pub mod NothingHides

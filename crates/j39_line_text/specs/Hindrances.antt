@@ -1,12 +1,16 @@
 -- What stands in the way of what is told of a line of vehicles: findings of possible variants, for which check's answer is written.
-use Rattle.std.specs.Prelude.{◌≡◌, ◌⊎◌, ◌==◌, ◌&&◌, ◌||◌, ℕ, List, Bool, true, false, is_some, nat_lt, Option}
+use Rattle.std.specs.Prelude.{◌≡◌, ◌⊎◌, ◌==◌, ◌&&◌, ◌||◌, ℕ, List, [], Bool, true, false, is_some, map, nat_lt, Option, Some, None}
 use Rattle.std.specs.List.{list_any}
 use Rattle.j39_variants.specs.declared.line.ProductLine.{ProductLine}
+use Rattle.j39_line_findings.specs.FullVariants.{alternatives_of}
 use Rattle.j39_line_findings.specs.InFile.{rank_of}
 use Rattle.j39_line_findings.specs.declared.line_finding.LineFinding.{LineFinding}
-use Rattle.j39_line_check.specs.LineChecks.{HasIt, SomePossible}
+use Rattle.j39_line_check.specs.LineChecks.{AreTold, HasIt, SomePossible, many_of}
+use Rattle.j39_line_check.specs.declared.answer.LookedAt.{LookedAt}
+use Rattle.j39_line_check.specs.declared.answer.LookedAt.TheVariants.{Full, WithoutNevers, TooMany}
 use Rattle.j39_line_check.specs.declared.answer.ToldFinding.{ToldFinding}
-use Rattle.j39_line_text.specs.LineCheckText.{IsFoundText, IsImpossibleLine}
+use Rattle.j39_line_text.specs.LineCheckText.{IsImpossibleLine}
+use Rattle.j39_line_text.specs.WitnessLines.{findings_of_line_text}
 use Rattle.j39_line_text.specs.declared.hindrances.Asked.{Asked}
 use Rattle.j39_line_text.specs.declared.hindrances.Asked.TheVariants.{Addresses, Times}
 use Rattle.j39_plan_text.specs.LoadText.{hides_times}
@@ -32,13 +36,46 @@ pub record AreAllShown (asked : Asked) (line : ProductLine) : Type 0 where
   pub some : SomePossible line
   pub each : (variant : List ℕ) (finding : LineFinding) → HasIt line variant finding → does_hide asked finding ≡ false
 
--- too many full variants would have to be looked at, or one that is told hides what is asked
+-- of how many variants what is asked would have to be told, where they are too many: it is told of at most 1024 full variants, also of a line
+-- in which nothing is found without looking at each
+abbrev pub too_many : LookedAt → Option ℕ
+too_many (Full variants) = None
+too_many (WithoutNevers many) = Some many
+too_many (TooMany many) = Some many
+
+-- too many variants, or one of the findings that are told hides what is asked
 abbrev pub is_hidden : Asked → Option ℕ → List ToldFinding → Bool
 is_hidden asked many told = is_some many || is_any_hiding asked told
 
-abbrev pub IsHiddenLine : Asked → ProductLine → List ℕ → Type 0
-IsHiddenLine asked line text = (many : Option ℕ) × (told : List ToldFinding) × IsFoundText line many told text × (is_hidden asked many told ≡ true)
+-- what check found of a line of which some variant is possible, and at which variants it looked
+pub record AreToldAt (line : ProductLine) (looked : LookedAt) (told : List ToldFinding) : Type 0 where
+  pub some : SomePossible line
+  pub are_told : AreTold line (many_of looked) told
 
--- what check writes: that no variant is possible, or all that is found
+-- ---- hidden
+
+-- all that is found, as check writes it, and how many full variants there are, where they are too many
+pub record IsHiddenLine (asked : Asked) (line : ProductLine) (text : List ℕ) : Type 0 where
+  pub looked : LookedAt
+  pub told : List ToldFinding
+  pub found : AreToldAt line looked told
+  pub hidden : is_hidden asked (too_many looked) told ≡ true
+  pub text_is : text ≡ findings_of_line_text line (alternatives_of line) (too_many looked) told
+
+-- that no variant is possible, as check writes it, or this
 abbrev pub IsHiddenReport : Asked → ProductLine → List ℕ → Type 0
 IsHiddenReport asked line text = IsImpossibleLine line text ⊎ IsHiddenLine asked line text
+
+-- ---- shown
+
+-- the variants at which check looked, where they aren't too many
+abbrev pub variants_at : LookedAt → List (List ℕ)
+variants_at (Full variants) = map (λ v. v.items) variants.items
+variants_at (WithoutNevers many) = []
+variants_at (TooMany many) = []
+
+-- nothing hides what is asked: it is told of the variants at which check looked
+pub record IsShownLine (asked : Asked) (line : ProductLine) (looked : LookedAt) (told : List ToldFinding) : Type 0 where
+  pub found : AreToldAt line looked told
+  pub few : too_many looked ≡ None
+  pub shown : AreAllShown asked line

@@ -1,5 +1,5 @@
 -- The text that the check command writes for a plan file, also of a line of vehicles.
-use Rattle.std.specs.Prelude.{◌≡◌, ◌≢◌, ◌⊎◌, ℕ, List, [], ◌++◌, ◌==◌, ◌&&◌, ◌||◌, Bool, true, false, not, codes, is_some, length, Option, Some, None}
+use Rattle.std.specs.Prelude.{◌≡◌, ◌≢◌, ◌⊎◌, ℕ, List, [], ◌++◌, ◌==◌, ◌||◌, Bool, true, false, not, codes, is_some, length, Option}
 use Rattle.j39_findings.specs.Findings.{Clean}
 use Rattle.j39_load.specs.BusTimes.{timing_of}
 use Rattle.j39_load.specs.LoadFindings.{AreLoadFindings}

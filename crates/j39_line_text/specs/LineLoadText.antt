@@ -3,14 +3,13 @@ use Rattle.std.specs.Prelude.{◌≡◌, ◌≢◌, ◌⊎◌, ℕ, ◌==◌, Li
 use Rattle.j39_load.specs.BusTimes.{timing_of}
 use Rattle.j39_network.specs.declared.plan.timing.Timing.{Timing}
 use Rattle.j39_variants.specs.declared.line.ProductLine.{ProductLine}
-use Rattle.j39_line_bounds.specs.LineTimes.{AreLineTimes, BoundEachVariant}
+use Rattle.j39_line_bounds.specs.LineTimes.{AreTimesAmong, BoundEachOf}
 use Rattle.j39_line_bounds.specs.declared.times.LineTimes.{LineTimes}
-use Rattle.j39_line_findings.specs.AllVariants.{all_variants}
+use Rattle.j39_line_check.specs.declared.answer.LookedAt.{LookedAt}
+use Rattle.j39_line_check.specs.declared.answer.ToldFinding.{ToldFinding}
+use Rattle.j39_line_findings.specs.AllVariants.{IsOneOf}
 use Rattle.j39_line_findings.specs.FullVariants.{alternatives_of}
-use Rattle.j39_line_findings.specs.LineFound.{AreLineFindings}
-use Rattle.j39_line_findings.specs.declared.witnessed.Witnessed.{Witnessed}
-use Rattle.j39_line_text.specs.Hindrances.{AreAllShown, hides}
-use Rattle.j39_line_text.specs.LineAddressesText.{IsHiddenReport}
+use Rattle.j39_line_text.specs.Hindrances.{IsHiddenReport, IsShownLine, variants_at}
 use Rattle.j39_line_text.specs.TimeLines.{line_times_text}
 use Rattle.j39_line_text.specs.WitnessLines.{untold_of_line_text}
 use Rattle.j39_line_text.specs.declared.hindrances.Asked.TheVariants.{Times}
@@ -20,25 +19,26 @@ use Rattle.j39_stream.specs.declared.verdict.Verdict.{Verdict}
 use Rattle.j39_stream.specs.declared.verdict.Verdict.TheVariants.{Done, Findings}
 
 -- whether anything is found
-abbrev pub line_load_verdict : List Witnessed → Verdict
+abbrev pub line_load_verdict : List ToldFinding → Verdict
 line_load_verdict told = if length told == 0 then Done else Findings
 
--- the times of a line in no possible variant of which a finding hides them, which bound those of each, and behind them the findings of which
--- they don't tell
+-- the times of the variants at which check looked, which bound those of each of them, of a line in no possible variant of which a finding hides
+-- them, and behind them the findings of which they don't tell
 pub record IsTimesReport (line : ProductLine) (timing : Timing) (text : List ℕ) (verdict : Verdict) : Type 0 where
-  pub shown : AreAllShown (hides Times) line
+  pub looked : LookedAt
+  pub told : List ToldFinding
+  pub shown : IsShownLine Times line looked told
   pub times : LineTimes
-  pub are_times : AreLineTimes line times
-  pub bounds : BoundEachVariant line times
-  pub told : List Witnessed
-  pub are_told : AreLineFindings line told
-  pub text_is : text ≡ line_times_text line.plan timing times ++ untold_of_line_text line (alternatives_of line) (all_variants line.choices.items) told
+  pub are_times : AreTimesAmong line (variants_at looked) times
+  pub bounds : BoundEachOf (IsOneOf (variants_at looked)) line times
+  pub text_is : text ≡ line_times_text line.plan timing times told ++ untold_of_line_text line (alternatives_of line) told
   pub verdict_is : verdict ≡ line_load_verdict told
 
--- what is written for a line of vehicles of whose bus this is known, with the verdict: as check does, where a finding hides the times
+-- what is written for a line of vehicles of whose bus this is known, with the verdict: as check does, where a finding hides the times, or the full
+-- variants are too many
 abbrev pub IsLineLoadReport : ProductLine → Timing → List ℕ → Verdict → Type 0
 IsLineLoadReport line timing text verdict =
-    IsTimesReport line timing text verdict ⊎ (IsHiddenReport (hides Times) line text × (verdict ≡ Findings))
+    IsTimesReport line timing text verdict ⊎ (IsHiddenReport Times line text × (verdict ≡ Findings))
 
 -- what is known of the bus of a line that has choices
 abbrev pub TellsLineTiming : ProductLine → Option Timing → Type 0

@@ -1,14 +1,20 @@
 //! What the addresses command writes.
-ghost use Rattle.std.specs.Prelude.{IfOk};
-ghost use Rattle.j39_line_text.specs.LineAddressesText.{IsLineAddressesReport, IsLineAddressesText, IsStandingText};
+ghost use Rattle.std.specs.Prelude.{◌≡◌, List, IfOk, map};
+ghost use Rattle.j39_line_bounds.specs.LineStandings.{AreStandingsAmong};
+ghost use Rattle.j39_line_bounds.specs.declared.standing.LineStanding.{LineStanding};
+ghost use Rattle.j39_line_findings.specs.AllVariants.{IsOneOf};
+ghost use Rattle.j39_line_text.specs.Hindrances.{AreToldAt};
+ghost use Rattle.j39_line_text.specs.LineAddressesText.{IsLineAddressesReport, IsLineAddressesText};
+ghost use Rattle.j39_line_text.specs.StandingLines.{standings_text};
 ghost use Rattle.j39_stream.specs.CommandEnds.{AnswersWhole, IsOfAny};
 ghost use Rattle.j39_stream.specs.Streams.{plan_limits};
 
-use crate::hindrances::{Asked, check_for};
-use crate::line_report::{faulty_text, many_variants, no_variant_text};
+use crate::hindrances::{Asked, is_hidden, too_many, variants_at};
+use crate::line_report::no_variant_text;
 use crate::standing_lines::standings_text;
+use crate::witness_lines::findings_text;
 use j39_line_bounds::line_standings;
-use j39_line_findings::LineAnswer;
+use j39_line_check::{LineAnswer, LookedAt, ToldFinding, check_line};
 use j39_plan_text::{LineReport, report_text, stays_report};
 use j39_run_laws::{who_stays, who_stays_with_strangers};
 use j39_stream::{Fault, Sink, Source, Verdict};
@@ -16,38 +22,53 @@ use j39_text::TextBuffer;
 use j39_variants::ProductLine;
 use std::alloc::{AllocError, Global};
 
-// What is told of the units of a line, where nothing stands in its way.
-fn stays_text(alloc: Global, line: &ProductLine) -> Result<TextBuffer, AllocError>
-    ensures { IfOk result (IsStandingText line.now) }
+// What is told of the units of a line in these variants.
+fn stays_text(
+    alloc: Global,
+    line: &ProductLine,
+    variants: &[Vec<usize>],
+) -> Result<TextBuffer, AllocError>
+    ensures { IfOk result (λ text. (standings : List LineStanding) × AreStandingsAmong (IsOneOf (map (λ v. v.items) variants.now)) line.now standings
+        × (text ≡ standings_text standings line.now.plan.units.items)) }
 {
-    let standings = line_standings(alloc, line)?;
+    let standings = line_standings(alloc, line, variants)?;
     let text = standings_text(alloc, &standings, &line.plan.units)?;
     Ok(text)
+}
+
+// What is written of the addresses of a line of which this is found.
+fn found_addresses(
+    alloc: Global,
+    line: &ProductLine,
+    told: &[ToldFinding],
+    looked: &LookedAt,
+) -> Result<(TextBuffer, Verdict), AllocError>
+    ensures { IfOk result (λ report. AreToldAt line.now looked.now told.now → IsLineAddressesReport line.now report.0 report.1) }
+{
+    who_stays();
+    who_stays_with_strangers();
+    let many = too_many(looked);
+    if is_hidden(Asked::Addresses, told, many) {
+        let text = findings_text(alloc, line, told, many)?;
+        return Ok((text, Verdict::Findings));
+    }
+    let text = stays_text(alloc, line, variants_at(looked))?;
+    Ok((text, Verdict::Done))
 }
 
 // What is written of the addresses of a line of vehicles, with the verdict.
 fn line_addresses(alloc: Global, line: &ProductLine) -> Result<(TextBuffer, Verdict), AllocError>
     ensures { IfOk result (λ report. IsLineAddressesReport line.now report.0 report.1) }
 {
-    who_stays();
-    who_stays_with_strangers();
-    let answer = check_for(alloc, Asked::Addresses, line)?;
+    let answer = check_line(alloc, line)?;
     match answer {
-        LineAnswer::ManyVariants(count) => {
-            let text = many_variants(alloc, count)?;
-            Ok((text, Verdict::Findings))
-        }
         LineAnswer::NoVariant => {
             let text = no_variant_text(alloc)?;
             Ok((text, Verdict::Findings))
         }
-        LineAnswer::Clean => {
-            let text = stays_text(alloc, line)?;
-            Ok((text, Verdict::Done))
-        }
-        LineAnswer::Faulty => {
-            let text = faulty_text(alloc, line)?;
-            Ok((text, Verdict::Findings))
+        LineAnswer::Found(told, looked) => {
+            let report = found_addresses(alloc, line, &told, &looked)?;
+            Ok(report)
         }
     }
 }
@@ -73,8 +94,9 @@ impl LineReport for AddressesReport {
 }
 
 /// Writes which units of the plan that a file describes hold their planned addresses whatever happens, and which may
-/// move, of a line of vehicles in each possible variant that has them; of one whose NAMEs or addresses have findings,
-/// what `check` writes; or why the file describes no plan.
+/// move, of a line of vehicles in each of the variants at which `check` looks that has them; of one whose NAMEs or
+/// addresses have findings, or of a line with too many full variants, what `check` writes, and how many these are; or why
+/// the file describes no plan.
 pub fn addresses_line_text<S: Source, W: Sink>(
     alloc: Global,
     source: &mut S,

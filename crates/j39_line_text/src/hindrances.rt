@@ -1,8 +1,8 @@
 //! Findings of possible variants for which check's answer is written.
-ghost use Rattle.std.specs.Prelude.{◌≡◌};
-ghost use Rattle.j39_line_text.specs.Hindrances.{does_hide, hides, hides_addresses, is_any_hiding, is_hidden};
+ghost use Rattle.std.specs.Prelude.{◌≡◌, map};
+ghost use Rattle.j39_line_text.specs.Hindrances.{does_hide, hides, hides_addresses, is_any_hiding, is_hidden, too_many, variants_at};
 
-use j39_line_check::ToldFinding;
+use j39_line_check::{LookedAt, ToldFinding};
 use j39_line_findings::LineFinding;
 use j39_plan_text::hides_times;
 
@@ -43,8 +43,29 @@ fn is_any_hiding(asked: Asked, told: &[ToldFinding]) -> bool
     told.iter().any(|one| does_hide(asked, one.finding))
 }
 
-/// Whether something stands in the way of what is told of a line: too many full variants to look at each, or a finding
-/// that hides what is asked.
+/// How many full variants a line has, where they are too many to tell of each what is asked: who stays, and times, are told
+/// of at most 1024, also of a line in which nothing is found without looking at each.
+pub(crate) fn too_many(looked: &LookedAt) -> Option<u64>
+    ensures { result ≡ too_many looked.now }
+{
+    match looked {
+        LookedAt::Full(_) => None,
+        LookedAt::WithoutNevers(count) | LookedAt::TooMany(count) => Some(*count),
+    }
+}
+
+/// The variants of which what is asked is told, where they aren't too many.
+pub(crate) fn variants_at(looked: &LookedAt) -> &[Vec<usize>]
+    ensures { map (λ v. v.items) result.now ≡ variants_at looked.now }
+{
+    match looked {
+        LookedAt::Full(variants) => variants.as_slice(),
+        LookedAt::WithoutNevers(_) | LookedAt::TooMany(_) => &[],
+    }
+}
+
+/// Whether something stands in the way of what is told of a line: too many full variants, or a finding that hides what is
+/// asked.
 pub(crate) fn is_hidden(asked: Asked, told: &[ToldFinding], many: Option<u64>) -> bool
     ensures { result ≡ is_hidden asked many told.now }
 {

@@ -1,18 +1,18 @@
 //! What the load command writes.
 ghost use Rattle.std.specs.Prelude.{◌≡◌, IfOk, Some};
 ghost use Rattle.j39_load.specs.BusTimes.{timing_of};
-ghost use Rattle.j39_line_text.specs.Hindrances.{AreAllShown, hides};
+ghost use Rattle.j39_line_text.specs.Hindrances.{AreToldAt, IsShownLine};
 ghost use Rattle.j39_line_text.specs.LineLoadText.{IsLineLoadReport, IsLineLoadText, IsTimesReport, TellsLineTiming, line_load_verdict};
 ghost use Rattle.j39_line_text.specs.declared.hindrances.Asked.TheVariants.{Times};
 ghost use Rattle.j39_stream.specs.CommandEnds.{AnswersWhole, IsOfAny};
 ghost use Rattle.j39_stream.specs.Streams.{plan_limits};
 
-use crate::hindrances::{Asked, check_for};
-use crate::line_report::{faulty_text, many_variants, no_variant_text};
+use crate::hindrances::{Asked, is_hidden, too_many, variants_at};
+use crate::line_report::no_variant_text;
 use crate::time_lines::write_times;
-use crate::witness_lines::write_untold;
-use j39_line_bounds::{line_times, times_bound_each_variant};
-use j39_line_findings::{LineAnswer, Witnessed, line_findings};
+use crate::witness_lines::{findings_text, write_untold};
+use j39_line_bounds::{line_times, times_bound_these};
+use j39_line_check::{LineAnswer, LookedAt, ToldFinding, check_line};
 use j39_load::timing_of;
 use j39_network::Timing;
 use j39_plan_text::{LineReport, load_report, report_text};
@@ -21,7 +21,7 @@ use j39_text::TextBuffer;
 use j39_variants::ProductLine;
 use std::alloc::{AllocError, Global};
 
-fn verdict_of(told: &[Witnessed]) -> Verdict
+fn verdict_of(told: &[ToldFinding]) -> Verdict
     ensures { result ≡ line_load_verdict told.now }
 {
     if told.is_empty() {
@@ -36,16 +36,38 @@ fn times_report(
     alloc: Global,
     line: &ProductLine,
     timing: Timing,
+    told: &[ToldFinding],
+    looked: &LookedAt,
 ) -> Result<(TextBuffer, Verdict), AllocError>
-    ensures { IfOk result (λ report. timing_of line.now.plan ≡ Some timing → AreAllShown (hides Times) line.now → IsTimesReport line.now timing report.0 report.1) }
+    ensures { IfOk result (λ report. timing_of line.now.plan ≡ Some timing → IsShownLine Times line.now looked.now told.now
+        → IsTimesReport line.now timing report.0 report.1) }
 {
-    times_bound_each_variant();
-    let times = line_times(alloc, line)?;
-    let told = line_findings(alloc, line)?;
+    times_bound_these();
+    let times = line_times(alloc, line, variants_at(looked))?;
     let mut text = TextBuffer::new(alloc);
-    write_times(&mut text, &line.plan, timing, &times)?;
-    write_untold(alloc, &mut text, line, &told)?;
-    Ok((text, verdict_of(&told)))
+    write_times(&mut text, &line.plan, timing, &times, told)?;
+    write_untold(alloc, &mut text, line, told)?;
+    Ok((text, verdict_of(told)))
+}
+
+// What is written of the load of a line of which this is found.
+fn found_load(
+    alloc: Global,
+    line: &ProductLine,
+    timing: Timing,
+    told: &[ToldFinding],
+    looked: &LookedAt,
+) -> Result<(TextBuffer, Verdict), AllocError>
+    ensures { IfOk result (λ report. timing_of line.now.plan ≡ Some timing → AreToldAt line.now looked.now told.now
+        → IsLineLoadReport line.now timing report.0 report.1) }
+{
+    let many = too_many(looked);
+    if is_hidden(Asked::Times, told, many) {
+        let text = findings_text(alloc, line, told, many)?;
+        return Ok((text, Verdict::Findings));
+    }
+    let report = times_report(alloc, line, timing, told, looked)?;
+    Ok(report)
 }
 
 // What is written of the load of a line of vehicles, with the verdict.
@@ -56,23 +78,15 @@ fn line_load(
 ) -> Result<(TextBuffer, Verdict), AllocError>
     ensures { IfOk result (λ report. timing_of line.now.plan ≡ Some timing → IsLineLoadReport line.now timing report.0 report.1) }
 {
-    let answer = check_for(alloc, Asked::Times, line)?;
+    let answer = check_line(alloc, line)?;
     match answer {
-        LineAnswer::ManyVariants(count) => {
-            let text = many_variants(alloc, count)?;
-            Ok((text, Verdict::Findings))
-        }
         LineAnswer::NoVariant => {
             let text = no_variant_text(alloc)?;
             Ok((text, Verdict::Findings))
         }
-        LineAnswer::Clean => {
-            let report = times_report(alloc, line, timing)?;
+        LineAnswer::Found(told, looked) => {
+            let report = found_load(alloc, line, timing, &told, &looked)?;
             Ok(report)
-        }
-        LineAnswer::Faulty => {
-            let text = faulty_text(alloc, line)?;
-            Ok((text, Verdict::Findings))
         }
     }
 }
@@ -116,8 +130,9 @@ impl LineReport for TimesReport {
 
 /// Writes of each flow of the plan that a file describes how long its frames wait at most, that they aren't shown to be
 /// in time, or that it has no period, how much of the bus all flows take, and the findings of which these lines say
-/// nothing, of a line of vehicles the worst of its possible variants; where a finding hides the times, what `check`
-/// writes; that nothing is known of its bus; or why the file describes no plan.
+/// nothing, of a line of vehicles the worst of the variants at which `check` looks; where a finding hides the times, or a
+/// line has too many full variants, what `check` writes, and how many these are; that nothing is known of its bus; or why
+/// the file describes no plan.
 pub fn load_line_text<S: Source, W: Sink>(
     alloc: Global,
     source: &mut S,

@@ -296,10 +296,7 @@ pub(crate) fn write_untold(
 ) -> Result<(), AllocError>
     ensures { OnOk result (text.new ≡ text.old ++ untold_of_line_text line.now (alternatives_of line.now) told.now) }
 {
-    let count = told
-        .iter()
-        .filter(|one| !is_of_times(one.finding))
-        .count();
+    let count = told.iter().filter(|one| !is_of_times(one.finding)).count();
     if count == 0 {
         return Ok(());
     }

@@ -18,6 +18,7 @@ use Rattle.j39_line_findings.specs.declared.part.LinePart.{LinePart}
 use Rattle.j39_line_witnesses.specs.FirstMeeting.{IsWitnessOf, NoneMeets}
 use Rattle.j39_line_witnesses.specs.PartBoxes.{are_parts_known, do_all_let_in, holes_of_parts, is_list_known, list_box, never_hole, never_holes, parts_box, parts_hole}
 use Rattle.j39_line_witnesses.specs.Presences.{condition_of, parts_in}
+use Rattle.j39_line_witnesses.specs.WitnessLaws.{BoxesAreExact}
 use Rattle.j39_line_witnesses.specs.declared.presence.Presence.{Presence}
 use Rattle.j39_line_witnesses.proofs.Shown.{list_shown, parts_shown}
 use Rattle.j39_line_witnesses.proofs.Tests.{one_answer}
@@ -113,6 +114,19 @@ module _ (line : ProductLine) (v : List ℕ) (is : IsVariant line.choices.items 
       ∙ ap (λ b. b || list_any inside rest) (in_never never.items)
       ∙ ap (λ b. is_in v never.items || b) (in_nevers (n + 1) nevers)
       ∙ sym (not_both (is_in v never.items) (is_possible nevers v))
+
+known_and : (known inside there : Bool) → (known ≡ true → inside ≡ there) → (there ≡ true → known ≡ true) → (known && inside) ≡ there
+known_and true inside there same known = same refl
+known_and false inside true same known = known refl
+known_and false inside false same known = refl
+
+pub exact_boxes : BoxesAreExact
+exact_boxes line v is = record {
+  parts_there = λ parts. known_and (are_parts_known line parts) (is_in_box (parts_box line parts) v) (are_there line v parts)
+      (parts_within line v is parts) (parts_shown line v is parts).known_so;
+  list_has = λ list. known_and (is_list_known line list) (is_in_box (list_box line list) v) (is_in v list)
+      (list_within line v is list) (list_shown line v is list).known_so;
+}
 
 -- ---- a condition
 

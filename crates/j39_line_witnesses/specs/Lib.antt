@@ -3,4 +3,5 @@ pub mod FirstMeeting
 pub mod FlowTests
 pub mod PartBoxes
 pub mod Presences
+pub mod WitnessLaws
 pub mod WitnessedFindings

@@ -10,7 +10,7 @@ use Rattle.std.proofs.lemmas.List.{length-map}
 use Rattle.j39_variants.specs.VariantPlans.{flag_at}
 use Rattle.j39_variant_search.specs.VariantSearch.{box_flags, is_in_box}
 use Rattle.j39_variant_search.specs.inside.BoxParts.{IsBoxPart, flags_at, has_alternative, has_some, hole_at, is_behind, is_empty_box, is_left_at, is_met}
-use Rattle.j39_variant_search.specs.inside.NearHoles.{HasNoneOutside, IsInBoxBy, IsNoneBy, IsOutsideNear, choices_inside, empty_choices, is_by_leaving, joined}
+use Rattle.j39_variant_search.specs.inside.NearHoles.{HasNoneOutside, IsInBoxBy, IsNoneBy, IsOutsideNear, choices_inside, empty_choices, is_by_leaving, in_either}
 use Rattle.j39_variant_search.proofs.InBoxes.{any_at, both_true, filter_none, met_length, no_flag, not_left, within_at, within_length}
 use Rattle.j39_variant_search.proofs.Leaving.{AreMet, Leaves, kept_before, kept_behind, leaves, leaves_kept}
 
@@ -107,19 +107,19 @@ module _ (whole within hole : List (Vec Bool Global)) (holes : List (Vec (Vec Bo
 
   -- by one of which it goes beyond the hole
   pub none_to_left : (by more : List Bool) (n : ℕ) (part : List (Vec Bool Global)) → IsBoxPart (is_behind (box_flags hole) n) (box_flags within) (box_flags part)
-      → IsNoneBy whole part holes met more → IsNoneTo whole within hole holes met by n → IsNoneTo whole within hole holes met (joined (length within) by more) (n + 1)
+      → IsNoneBy whole part holes met more → IsNoneTo whole within hole holes met by n → IsNoneTo whole within hole holes met (in_either (length within) by more) (n + 1)
   none_to_left by more n part is none before = record {
     inside = λ choice below kept left.
         flag_of (λ c. flag_at by c || flag_at more c) (length within) choice below ∙ or_left (flag_at by choice) (flag_at more choice) (before.inside choice below kept left);
     none =
         below_more
-        (λ first. (v : List ℕ) → IsOutsideNear whole holes met v → IsInBoxBy (joined (length within) by more) (box_flags within) v → Leaves (box_flags hole) first v → ⊥) n
+        (λ first. (v : List ℕ) → IsOutsideNear whole holes met v → IsInBoxBy (in_either (length within) by more) (box_flags within) v → Leaves (box_flags hole) first v → ⊥) n
         earlier here;
   } where
     m : length (box_flags within) ≡ length within
     m = length-map within (λ choice. choice.items)
 
-    earlier : (first : ℕ) → first < n → (v : List ℕ) → IsOutsideNear whole holes met v → IsInBoxBy (joined (length within) by more) (box_flags within) v
+    earlier : (first : ℕ) → first < n → (v : List ℕ) → IsOutsideNear whole holes met v → IsInBoxBy (in_either (length within) by more) (box_flags within) v
         → Leaves (box_flags hole) first v → ⊥
     earlier first less v out on way =
         before.none first less v out
@@ -128,12 +128,12 @@ module _ (whole within hole : List (Vec Bool Global)) (holes : List (Vec (Vec Bo
         (flag_of (λ c. flag_at by c || flag_at more c) (length within) choice (let e = length-map within (λ choice. choice.items) in omega (arith, e, below))
         ∙ or_left (flag_at by choice) (flag_at more choice) flag)) way
 
-    here : (v : List ℕ) → IsOutsideNear whole holes met v → IsInBoxBy (joined (length within) by more) (box_flags within) v → Leaves (box_flags hole) n v → ⊥
+    here : (v : List ℕ) → IsOutsideNear whole holes met v → IsInBoxBy (in_either (length within) by more) (box_flags within) v → Leaves (box_flags hole) n v → ⊥
     here v out on way =
         none v out
         (λ choice below flag.
         let less : choice < length (box_flags within) = let e = is.of_each in omega (arith, e, below) in
-        let joins : flag_at (joined (length within) by more) choice ≡ true =
+        let joins : flag_at (in_either (length within) by more) choice ≡ true =
         flag_of (λ c. flag_at by c || flag_at more c) (length within) choice (let e = length-map within (λ choice. choice.items) in omega (arith, e, less))
         ∙ or_right (flag_at by choice) (flag_at more choice) flag in
         is.has_these choice (slice_index v choice) less

@@ -1,8 +1,8 @@
-//! Whether a box has a variant that is in none of some holes.
+//! Whether a box has a variant that is in none of some others, its holes.
 ghost use Rattle.std.specs.Prelude.{◌≡◌, ◌<◌, ◌&&◌, ◌||◌, ℕ, IfOk, MatchBool, MatchOption, length, filter};
 ghost use Rattle.j39_variant_search.specs.VariantSearch.{box_flags};
 ghost use Rattle.j39_variant_search.specs.inside.BoxParts.{hole_at, is_met};
-ghost use Rattle.j39_variant_search.specs.inside.NearHoles.{HasNoneOutside, HasOutside, IsNoneBy, choices_inside, empty_choices, is_by_leaving, joined};
+ghost use Rattle.j39_variant_search.specs.inside.NearHoles.{HasNoneOutside, HasOutside, IsNoneBy, choices_inside, empty_choices, is_by_leaving, in_either};
 
 use crate::flags::{flag_at, has_some, hole_at, is_empty_box, is_left_at, is_met};
 use crate::parts::part_behind;
@@ -67,13 +67,13 @@ fn choices_inside(
         .collect(alloc)
 }
 
-fn joined(
+fn in_either(
     alloc: Global,
     count: usize,
     one: &[bool],
     other: &[bool],
 ) -> Result<Vec<bool>, AllocError>
-    ensures { IfOk result (λ v. v.items ≡ joined count one.now other.now) }
+    ensures { IfOk result (λ v. v.items ≡ in_either count one.now other.now) }
 {
     (0..count)
         .map(|choice| flag_at(one, choice) || flag_at(other, choice))
@@ -88,8 +88,11 @@ fn is_by_leaving(by: &[bool], within: &[Vec<bool>], hole: &[Vec<bool>], last: us
         && (flag_at(by, choice) && is_left_at(within, hole, choice)))
 }
 
-// By which choices a part of a box has no variant that is in none of some holes: what the whole box has of the other
-// choices makes no difference. Nothing where it has one.
+// By which choices a part of a box has no variant that is in none of some holes: there is none either in the larger part
+// that has of the other choices all that the whole box has. Nothing where there is one.
+//
+// Each variant outside leaves a hole that the part meets, first by one of the choices by which the part does, so these are
+// tried in turn. Where one has none by choices in which what was tried is the part itself, the others have none either.
 fn none_by(
     alloc: Global,
     whole: &[Vec<bool>],
@@ -98,7 +101,8 @@ fn none_by(
     near: &[usize],
 ) -> Result<Option<Vec<bool>>, AllocError>
     requires { length whole.now ≡ length within.now }
-    ensures { IfOk result (λ by. MatchOption by (HasOutside within.now holes.now near.now) (λ v. IsNoneBy whole.now within.now holes.now near.now v.items)) }
+    ensures { IfOk result (λ by. MatchOption by (HasOutside within.now holes.now near.now)
+        (λ v. IsNoneBy whole.now within.now holes.now near.now v.items)) }
 {
     if is_empty_box(within) {
         return Ok(Some(empty_choices(alloc, within)?));
@@ -118,7 +122,7 @@ fn none_by(
             if !is_by_leaving(&more, within, hole, choice) {
                 return Ok(Some(more));
             }
-            by = joined(alloc, within.len(), &by, &more)?;
+            by = in_either(alloc, within.len(), &by, &more)?;
         }
     }
     Ok(Some(by))

@@ -8,7 +8,7 @@ ghost use Rattle.j39_variant_search.specs.inside.BoxParts.{IsBoxPart, flags_with
 use crate::flags::{flag_at, flags_at};
 use std::alloc::{AllocError, Global};
 
-// Whether an alternative of a choice stays where a hole is left by the first of some choices.
+// Whether an alternative of a choice stays in the part that leaves a hole by the first one.
 fn is_kept(first: usize, choice: usize, in_hole: bool) -> bool
     ensures { result ≡ is_kept first choice in_hole }
 {
@@ -35,7 +35,7 @@ fn flags_behind(
         .collect(alloc)
 }
 
-/// The part of a box that isn't in a hole by a choice, and is in it by those before.
+/// The part of a box whose variants leave a hole first by a choice.
 pub(crate) fn part_behind(
     alloc: Global,
     within: &[Vec<bool>],

@@ -18,7 +18,7 @@ fn with_place(alloc: Global, taken: &[usize], place: usize) -> Result<Vec<usize>
     Ok(longer)
 }
 
-// The first place with which some go on that begin with some places.
+// The first alternative of the next choice with which a variant outside goes on that begins with some places.
 fn next_place(
     alloc: Global,
     within: &[Vec<bool>],
@@ -27,7 +27,8 @@ fn next_place(
     taken: &[usize],
 ) -> Result<Option<usize>, AllocError>
     requires { length taken.now < length within.now }
-    ensures { IfOk result (λ found. MatchOption found (NoneBegins within.now holes.now near.now taken.now) (IsNextPlace within.now holes.now near.now taken.now)) }
+    ensures { IfOk result (λ found. MatchOption found (NoneBegins within.now holes.now near.now taken.now)
+        (IsNextPlace within.now holes.now near.now taken.now)) }
 {
     for place in 0..flags_at(within, taken.len()).len() {
         let longer = with_place(alloc, taken, place)?;
@@ -53,7 +54,10 @@ fn all_met(
 }
 
 /// The first variant that is in a box and in none of the others, as the places of the alternatives that it takes, choice
-/// by choice. A box tells choice by choice which alternatives it has.
+/// by choice. A box tells choice by choice, and place by place, which alternatives it has; one of more or fewer choices
+/// has no variant in common with it.
+///
+/// The time is exponential in the choices at worst. Takes memory for the search.
 pub fn first_outside(
     alloc: Global,
     within: &[Vec<bool>],

@@ -36,7 +36,8 @@ is_empty_box within = list_any (λ choice. not (has_some choice.items)) within
 
 -- they have one of each choice of the first in common
 abbrev pub are_common : List (Vec Bool Global) → List (Vec Bool Global) → Bool
-are_common within hole = list_all (λ choice. is_common (flags_at (box_flags within) choice) (flags_at (box_flags hole) choice)) (range_with_len 0 (length within))
+are_common within hole =
+    list_all (λ choice. is_common (flags_at (box_flags within) choice) (flags_at (box_flags hole) choice)) (range_with_len 0 (length within))
 
 -- some variant is in both, where none is empty
 abbrev pub is_met : List (Vec Bool Global) → List (Vec Bool Global) → Bool
@@ -49,13 +50,14 @@ flags_with test flags = map (λ at. at.1 && test at.0) (enumerate_from 0 flags)
 -- a part of a box: of each choice those alternatives that pass a test
 pub record IsBoxPart (test : ℕ → ℕ → Bool) (within part : List (List Bool)) : Type 0 where
   pub of_each : length part ≡ length within
-  pub has_these : (choice place : ℕ) → choice < length within → has_alternative part choice place ≡ (has_alternative within choice place && test choice place)
+  pub has_these : (choice place : ℕ) → choice < length within
+      → has_alternative part choice place ≡ (has_alternative within choice place && test choice place)
 
--- what is left of a choice by variants that are behind a hole first by a given choice, where an alternative is in the hole or not
+-- whether an alternative of a choice, which a hole has or not, is in the part whose variants leave the hole first by another one
 abbrev pub is_kept : ℕ → ℕ → Bool → Bool
 is_kept first choice in_hole = if nat_lt choice first then in_hole else (not (choice == first) || not in_hole)
 
--- the test of those that are behind a hole by a choice, and by none before it
+-- the test of those that leave a hole first by a choice
 abbrev pub is_behind : List (List Bool) → ℕ → ℕ → ℕ → Bool
 is_behind hole first choice place = is_kept first choice (has_alternative hole choice place)
 

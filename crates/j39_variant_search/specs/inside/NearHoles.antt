@@ -27,7 +27,8 @@ abbrev pub NoneBegins : List (Vec Bool Global) → List (Vec (Vec Bool Global) G
 NoneBegins within holes near taken = (variant : List ℕ) → IsOutsideNear within holes near variant → ¬ StartsWith taken variant
 
 -- the first place with which some go on that begin with some places
-pub record IsNextPlace (within : List (Vec Bool Global)) (holes : List (Vec (Vec Bool Global) Global)) (near taken : List ℕ) (place : ℕ) : Type 0 where
+pub record IsNextPlace (within : List (Vec Bool Global)) (holes : List (Vec (Vec Bool Global) Global)) (near taken : List ℕ) (place : ℕ)
+    : Type 0 where
   pub one : (variant : List ℕ) × IsOutsideNear within holes near variant × StartsWith (taken ++ place ∷ []) variant
   pub none : (earlier : ℕ) → earlier < place → NoneBegins within holes near (taken ++ earlier ∷ [])
 
@@ -49,13 +50,15 @@ empty_choices within = map (λ choice. not (has_some choice.items)) within
 -- those by which a whole box leaves a hole, and a part of it doesn't
 abbrev pub choices_inside : List (Vec Bool Global) → List (Vec Bool Global) → List (Vec Bool Global) → List Bool
 choices_inside whole within hole =
-    map (λ choice. not (is_left_at (box_flags within) (box_flags hole) choice) && is_left_at (box_flags whole) (box_flags hole) choice) (range_with_len 0 (length within))
+    map (λ choice. not (is_left_at (box_flags within) (box_flags hole) choice) && is_left_at (box_flags whole) (box_flags hole) choice)
+    (range_with_len 0 (length within))
 
 -- the choices of either list
-abbrev pub joined : ℕ → List Bool → List Bool → List Bool
-joined count one other = map (λ choice. flag_at one choice || flag_at other choice) (range_with_len 0 count)
+abbrev pub in_either : ℕ → List Bool → List Bool → List Bool
+in_either count one other = map (λ choice. flag_at one choice || flag_at other choice) (range_with_len 0 count)
 
 -- one of the choices, up to the last one here, is one by which the box leaves the hole
 abbrev pub is_by_leaving : List Bool → List (Vec Bool Global) → List (Vec Bool Global) → ℕ → Bool
 is_by_leaving by within hole last =
-    list_any (λ choice. nat_le choice last && (flag_at by choice && is_left_at (box_flags within) (box_flags hole) choice)) (range_with_len 0 (length within))
+    list_any (λ choice. nat_le choice last && (flag_at by choice && is_left_at (box_flags within) (box_flags hole) choice))
+    (range_with_len 0 (length within))

@@ -1,4 +1,4 @@
-use Rattle.std.proofs.Common.{◌≡◌, ◌+◌, ◌++◌, List, false, get_or, take, true, sym, ap, subst, ◌∙◌}
+use Rattle.std.proofs.Common.{◌≡◌, ◌+◌, ◌++◌, List, false, get_or, take, true, sym, subst, ◌∙◌}
 use Rattle.std.proofs.lemmas.List.{append-nil, take_all}
 use Rattle.j39_findings.specs.declared.checking.finding.Finding.TheVariants.{SameName}
 use Rattle.j39_line_findings.specs.Best.{AreBest}

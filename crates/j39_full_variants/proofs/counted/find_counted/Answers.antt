@@ -1,4 +1,4 @@
-use Rattle.std.proofs.Common.{List, ℕ, [], map, sym, subst}
+use Rattle.std.proofs.Common.{[], map, sym, subst}
 use Rattle.std.proofs.lemmas.List.{take_all}
 use Rattle.j39_full_variants.specs.CountedFindings.{AreCountedIn}
 use Rattle.j39_full_variants.proofs.CountedTold.{next_counted, none_counted}

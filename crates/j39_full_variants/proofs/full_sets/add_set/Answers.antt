@@ -1,8 +1,6 @@
-use Rattle.std.proofs.Common.{◌≡◌, ◌∷◌, ◌++◌, [], List, false, filter, map, not, true, sym, ap, subst, ◌∙◌, rules}
-use Rattle.std.specs.List.{list_any}
+use Rattle.std.proofs.Common.{◌≡◌, ◌∷◌, ◌++◌, [], filter, map, not, sym, ap, subst, ◌∙◌, rules}
 use Rattle.std.proofs.lemmas.List.{map-append}
-use Rattle.j39_variants.specs.declared.line.Alternative.{Alternative}
-use Rattle.j39_full_variants.specs.SetVariants.{AreWidest, has_each_choice, is_inside, with_each_choice}
+use Rattle.j39_full_variants.specs.SetVariants.{AreWidest, is_set_inside, with_each_choice}
 use Rattle.j39_full_variants.proofs.Widest.{add_inside, add_lacking, add_outside}
 use Rattle.j39_full_variants.proofs.full_sets.add_set.Goals.{then-not-has_each_choice-via-then-not-has_each_choice, then-not-has_each_choice-via-else-not-has_each_choice+then-is_inside_any}
 use Rattle.j39_full_variants.proofs.full_sets.add_set.Goals as goal
@@ -22,7 +20,7 @@ pub returns : goal.returns
 returns c sets is =
     let copied : c.in_ok-to_vec.field-0.items ≡ c.args.set.now = search rules in
     let kept : map (λ s. s.items) c.push.new.self.items
-    ≡ map (λ s. s.items) (filter (λ s. not (is_inside s.items c.args.set.now)) c.args.kept.now.items) ++ c.args.set.now ∷ [] =
+    ≡ map (λ s. s.items) (filter (λ s. not (is_set_inside s.items c.args.set.now)) c.args.kept.now.items) ++ c.args.set.now ∷ [] =
     ap (map (λ s. s.items)) (c.in_ok-push.ensures.items)
     ∙ map-append (λ s. s.items) c.leave_out_inside.new.kept.items (c.in_ok-to_vec.field-0 ∷ [])
     ∙ (rw (c.leave_out_inside.ensures, copied) (search rules)) in

@@ -1,6 +1,5 @@
-use Rattle.std.proofs.Common.{◌++◌, List, map, take, sym, ap, subst}
+use Rattle.std.proofs.Common.{◌++◌, map, take, sym, subst}
 use Rattle.std.proofs.lemmas.List.{append-nil, take_all}
-use Rattle.j39_variants.specs.declared.line.Alternative.{Alternative}
 use Rattle.j39_full_variants.specs.SetVariants.{AreWidest, with_each_choice}
 use Rattle.j39_full_variants.proofs.Filters.{one_more_behind}
 use Rattle.j39_full_variants.proofs.full_sets.add_sets.Goals as goal

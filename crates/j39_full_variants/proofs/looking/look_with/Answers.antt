@@ -1,4 +1,4 @@
-use Rattle.std.proofs.Common.{◌≡◌, ◌-◌, ◌^◌, ℕ, List, map, min, sum, refl, sym, subst, arith}
+use Rattle.std.proofs.Common.{◌≡◌, ◌-◌, ◌^◌, List, map, min, sum, refl, sym, subst, arith}
 use Rattle.j39_variants.specs.declared.line.Alternative.{Alternative}
 use Rattle.j39_line_findings.specs.FullVariants.{line_with}
 use Rattle.j39_full_variants.specs.CountedFindings.{AreCountedFindings}

@@ -1,7 +1,7 @@
-use Rattle.std.proofs.Common.{◌≡◌, ℕ, List, [], ◌∷◌, false, inl, inr, length, true, refl, sym, ap, subst, ◌∙◌, arith}
+use Rattle.std.proofs.Common.{◌≡◌, List, [], ◌∷◌, false, inr, length, refl, sym, ap, subst, ◌∙◌, arith}
 use Rattle.std.proofs.lemmas.Bool.{eq-eqb, eqb-true, true≢false}
-use Rattle.j39_line_findings.specs.declared.full.Nevers.TheVariants.{LeftOut}
-use Rattle.j39_full_variants.specs.Looking.{AreFullVariants, IsLookingWith}
+use Rattle.j39_line_findings.specs.declared.full.LineNevers.TheVariants.{LeftOut}
+use Rattle.j39_full_variants.specs.LookedVariants.{AreFullVariants, IsLookingWith, has_bad_number}
 use Rattle.j39_full_variants.proofs.looking.look_without_nevers.Goals as goal
 
 none_left : {X : Type 0} (xs : List X) → length xs ≡ 0 → xs ≡ []
@@ -13,18 +13,19 @@ returns-then-is_empty c many =
     let found : AreFullVariants c.args.line.now LeftOut c.in-Few.found = subst (IsLookingWith c.args.line.now LeftOut) c.in-Few.is c.in_ok-found.ensures in
     let told = c.in-Few.found.told in
     let none = eqb-true told.len 0 (sym c.is_empty.ensures ∙ c.if-is_empty.true) in
-    inr ((many.0, many.1), found, none_left told.items (sym told.ok.0 ∙ none))
+    let good : has_bad_number c.args.line.now.plan ≡ false = sym c.in_ok-bad.ensures ∙ c.if-bad.false in
+    inr ((many.0, many.1), found, none_left told.items (sym told.ok.0 ∙ none), good)
 
 pub returns-else-is_empty : goal.returns-else-is_empty
 returns-else-is_empty c many =
     let found : AreFullVariants c.args.line.now LeftOut c.in-Few.found = subst (IsLookingWith c.args.line.now LeftOut) c.in-Few.is c.in_ok-found.ensures in
     let told = c.in-Few.found.told in (
       many,
-      inr (
+      inr (inr (
         c.in-Few.found,
         found,
         λ none.
             let empty : told.len ≡ 0 = told.ok.0 ∙ ap length none in
             absurd (true≢false (sym (eq-eqb told.len 0 empty) ∙ sym c.is_empty.ensures ∙ c.if-is_empty.false)),
-      ),
+      )),
     )

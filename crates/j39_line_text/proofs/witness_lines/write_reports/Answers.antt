@@ -1,4 +1,4 @@
-use Rattle.std.proofs.Common.{◌++◌, ℕ, List, append_assoc, sym, ap}
+use Rattle.std.proofs.Common.{◌++◌, ℕ, List, take, append_assoc, sym, ap, ◌∙◌}
 use Rattle.std.proofs.lemmas.List.{append-nil}
 use Rattle.j39_load.specs.LineLists.{lines_of_each}
 use Rattle.j39_load.proofs.Before.{more}
@@ -13,6 +13,13 @@ loop-one-init c = sym (append-nil c.args.text.now)
 pub loop-one-preserved : goal.loop-one-preserved
 loop-one-preserved c =
     let one : ℕ → ToldFinding → List ℕ = λ _ t. witness_report c.args.line.now c.args.alternatives.now t.variant.items t.finding in
-    let step = more one c.loop-one.one-index c.args.told.now c.one-item.result c.loop-one-test.true in
-    rw (c.in_ok-write_report.ensures, c.loop-one.invariant, append_assoc)
-    (ap (λ (t : List ℕ). c.args.text.now ++ t) (sym step))
+    let k = c.loop-one.one-index in
+    let told = c.one-item.result in
+    let step = more one k c.args.told.now told c.loop-one-test.true in
+    let before : List ℕ = lines_of_each one 0 (take k c.args.told.now) in
+    c.in_ok-write_report.ensures
+    ∙ ap (λ (t : List ℕ). t ++ witness_report c.args.line.now c.args.alternatives.now c.deref.result.now told.finding) c.loop-one.invariant
+    ∙ append_assoc c.args.text.now before (witness_report c.args.line.now c.args.alternatives.now c.deref.result.now told.finding)
+    ∙ ap (λ (v : List ℕ). c.args.text.now ++ (before ++ witness_report c.args.line.now c.args.alternatives.now v told.finding)) c.deref.ensures.value
+    ∙ ap (λ (t : ToldFinding). c.args.text.now ++ (before ++ one k t)) c.one-item.is
+    ∙ ap (λ (t : List ℕ). c.args.text.now ++ t) (sym step)

@@ -3,7 +3,7 @@ use Rattle.std.specs.Prelude.{slice_index}
 use Rattle.std.proofs.lemmas.List.{get_or_read, length-map}
 use Rattle.j39_variant_search.specs.VariantSearch.{box_flags}
 use Rattle.j39_variant_search.specs.inside.BoxParts.{hole_at, is_behind, is_met}
-use Rattle.j39_variant_search.specs.inside.NearHoles.{HasOutside, IsNoneBy, is_by_leaving, joined}
+use Rattle.j39_variant_search.specs.inside.NearHoles.{HasOutside, IsNoneBy, is_by_leaving, in_either}
 use Rattle.j39_variant_search.proofs.Counts.{box_count}
 use Rattle.j39_variant_search.proofs.Leaving.{none_met, one_met, part_back, part_less, to_near}
 use Rattle.j39_variant_search.proofs.NoneBy.{none_by_all, none_by_empty, none_by_part, none_to_kept, none_to_left, none_to_start}
@@ -69,7 +69,7 @@ loop-choice-preserved t c =
       | then-is_left_at+in_ok-part+in_ok-more+in-Some+else-not-is_by_leaving+in_ok-by-2 w ↦
           let none : IsNoneBy c.args.whole.now w.in_ok-part.part.items c.args.holes.now c.in_ok-met.met.items w.in-Some.more.items =
           rw (w.deref-then-is_left_at.ensures.value, w.deref-then-is_left_at-2.ensures.value, w.in-Some.is) at w.in_ok-more.ensures in
-          let both : c.if-is_left_at.by.items ≡ joined (length c.args.within.now) c.loop-choice.by.items w.in-Some.more.items =
+          let both : c.if-is_left_at.by.items ≡ in_either (length c.args.within.now) c.loop-choice.by.items w.in-Some.more.items =
           ap (λ v. v.items) w.by-is ∙ rw (w.deref-then-is_left_at-4.ensures.value, w.deref-then-is_left_at-5.ensures.value) at w.in_ok-by-2.ensures in
           rw both
           (none_to_left c.args.whole.now c.args.within.now c.hole_at-hole.result.now c.args.holes.now c.in_ok-met.met.items c.loop-choice.by.items w.in-Some.more.items

@@ -1,0 +1,6 @@
+mod Badness
+mod FilePlaces
+mod FlowTimes
+mod NeedTimes
+mod Staying
+mod TimesOfFull

@@ -1,0 +1,2 @@
+pub mod StayingOfFull
+pub mod TimesOfFull

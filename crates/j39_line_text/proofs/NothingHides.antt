@@ -1,0 +1,50 @@
+-- Where nothing that is told of a line hides what is asked, no finding of a possible variant does.
+use Rattle.std.proofs.Common.{◌≡◌, List, Bool, true, false, inl, inr, None, refl, sym, ap, ◌∙◌, subst}
+use Rattle.std.specs.List.{Contains, list_any}
+use Rattle.std.proofs.lemmas.Bool.{cases_Bool, false≢true, true≢false}
+use Rattle.std.proofs.lemmas.List.Folds.{list_any_at}
+use Rattle.j39_load.specs.declared.findings.load_finding.LoadFinding.TheVariants.{NoPeriod, Overload, LateFlow, NeedTooOld}
+use Rattle.j39_variants.specs.declared.line.ProductLine.{ProductLine}
+use Rattle.j39_line_findings.specs.declared.line_finding.LineFinding.{LineFinding}
+use Rattle.j39_line_findings.specs.declared.line_finding.LineFinding.TheVariants.{OfPlan, OfLoad}
+use Rattle.j39_line_check.specs.LineChecks.{AreTold, IsSure, SomePossible}
+use Rattle.j39_line_check.specs.declared.answer.LookedAt.{LookedAt}
+use Rattle.j39_line_check.specs.declared.answer.LookedAt.TheVariants.{Full, WithoutNevers, TooMany}
+use Rattle.j39_line_check.specs.declared.answer.ToldFinding.{ToldFinding}
+use Rattle.j39_line_text.specs.Hindrances.{AreAllShown, AreToldAt, IsShownLine, does_hide, hides, is_any_hiding, is_hidden, too_many}
+use Rattle.j39_line_text.specs.declared.hindrances.Asked.{Asked}
+use Rattle.j39_line_text.specs.declared.hindrances.Asked.TheVariants.{Addresses, Times}
+
+any_of : {X : Type 0} (p : X → Bool) (xs : List X) (x : X) → Contains xs x → p x ≡ true → list_any p xs ≡ true
+any_of p xs x at is = list_any_at p xs at.0 x at.1 (subst (λ y. p y ≡ true) (sym at.2) is)
+
+-- a finding that hides something is told whatever the numbers of groups are
+sure : (line : ProductLine) (asked : Asked) (finding : LineFinding) → does_hide asked finding ≡ true → IsSure line finding
+sure line asked (OfPlan finding) is = tt
+sure line asked (OfLoad (NoPeriod f)) is = tt
+sure line Addresses (OfLoad (Overload n)) is = absurd (false≢true is)
+sure line Addresses (OfLoad (LateFlow f)) is = absurd (false≢true is)
+sure line Addresses (OfLoad (NeedTooOld d)) is = absurd (false≢true is)
+sure line Times (OfLoad (Overload n)) is = absurd (false≢true is)
+sure line Times (OfLoad (LateFlow f)) is = absurd (false≢true is)
+sure line Times (OfLoad (NeedTooOld d)) is = absurd (false≢true is)
+
+all_shown : (asked : Asked) (line : ProductLine) (told : List ToldFinding) → SomePossible line → AreTold line None told → is_any_hiding asked told ≡ false
+    → AreAllShown asked line
+all_shown asked line told some are none = record {
+  some = some;
+  each = λ v finding has. elim (cases_Bool (does_hide asked finding)) [
+    | inl is ↦
+        let t = are.complete v finding has (sure line asked finding is) tt in
+        let hiding : does_hide asked t.0.finding ≡ true = ap (λ r. hides asked r.number) t.2 ∙ is in
+        absurd (true≢false (sym (any_of (λ one. does_hide asked one.finding) told t.0 t.1 hiding) ∙ none))
+    | inr is ↦ is
+  ];
+}
+
+pub is_shown : (asked : Asked) (line : ProductLine) (looked : LookedAt) (told : List ToldFinding) → is_hidden asked (too_many looked) told ≡ false
+    → AreToldAt line looked told → IsShownLine asked line looked told
+is_shown asked line (Full variants) told none found =
+    record { found = found; few = refl; shown = all_shown asked line told found.some found.are_told none }
+is_shown asked line (WithoutNevers many) told none found = absurd (true≢false none)
+is_shown asked line (TooMany many) told none found = absurd (true≢false none)

@@ -1,0 +1,25 @@
+use Rattle.std.proofs.Common.{◌≡◌, false, sym, ap, ◌∙◌, subst}
+use Rattle.j39_line_bounds.specs.LineStandings.{AreStandingsAmong}
+use Rattle.j39_line_findings.specs.AllVariants.{IsOneOf}
+use Rattle.j39_line_text.specs.Hindrances.{is_hidden, too_many}
+use Rattle.j39_line_text.specs.declared.hindrances.Asked.TheVariants.{Addresses}
+use Rattle.j39_line_text.proofs.NothingHides.{is_shown}
+use Rattle.j39_line_text.proofs.addresses.found_addresses.Goals as goal
+
+pub returns : goal.returns
+returns c found =
+    let none : is_hidden Addresses (too_many c.args.looked.now) c.args.told.now ≡ false =
+    ap (λ m. is_hidden Addresses m c.args.told.now) (sym c.too_many-many.ensures) ∙ sym c.is_hidden.ensures ∙ c.if-is_hidden.false in
+    let told = c.in_ok-text-2.ensures in
+    record {
+      looked = c.args.looked.now;
+      told = c.args.told.now;
+      shown = is_shown Addresses c.args.line.now c.args.looked.now c.args.told.now none found;
+      holds = λ v plan possible is. record {
+        planned = λ u stays steps w run. c.who_stays.ensures.held plan steps w run u stays.0;
+        with_strangers = λ u below stays. c.who_stays_with_strangers.ensures.held plan u below stays;
+      };
+      standings = told.0;
+      are_standings = subst (λ vs. AreStandingsAmong (IsOneOf vs) c.args.line.now told.0) c.variants_at.ensures told.1;
+      text_is = told.2;
+    }
