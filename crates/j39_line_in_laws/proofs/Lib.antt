@@ -4,3 +4,4 @@ mod KeptParts
 mod TakenTold
 mod ToldBoxes
 mod ToldLaws
+mod ToldOfLines

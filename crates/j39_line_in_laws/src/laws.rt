@@ -1,5 +1,6 @@
 //! What stands behind the line of a finding.
 ghost use Rattle.j39_line_in_laws.specs.ToldConditions.{ToldIsCondition, ToldIsHad, ToldLeads, ToldMayBeAll};
+ghost use Rattle.j39_line_in_laws.specs.ToldOfLines.{ToldOfLineIsHad};
 
 /// Of a finding that goes by conditions: a variant that takes those alternatives of its witness that are told with it
 /// meets one of its conditions, as the witness does.
@@ -20,4 +21,9 @@ pub fn findings_are_had_by_what_is_told()
 /// The witness is the first possible variant that takes the alternatives that are told with the finding.
 pub fn what_is_told_leads_to_witnesses()
     ensures { ToldLeads }
+{}
+
+/// Of all that is told of a line: each possible variant that takes the alternatives told with a finding has it.
+pub fn told_findings_are_had()
+    ensures { ToldOfLineIsHad }
 {}

@@ -4,6 +4,6 @@
 mod laws;
 
 pub use laws::{
-    findings_are_had_by_what_is_told, what_is_told_is_a_condition, what_is_told_leads_to_witnesses,
-    what_is_told_may_be_all,
+    findings_are_had_by_what_is_told, told_findings_are_had, what_is_told_is_a_condition,
+    what_is_told_leads_to_witnesses, what_is_told_may_be_all,
 };
