@@ -17,6 +17,7 @@ use Rattle.j39_run.specs.RunText.{IsRunText}
 use Rattle.j39_network.specs.declared.plan.Plan.{Plan}
 use Rattle.j39_stream.specs.declared.verdict.Verdict.{Verdict}
 use Rattle.j39_stream.specs.declared.verdict.Verdict.TheVariants.{Done, Unreadable}
+use Rattle.j39_command_line.specs.Orders.{are_all}
 use Rattle.j39_command_line.specs.declared.orders.Order.{Order}
 use Rattle.j39_command_line.specs.declared.orders.Order.TheVariants.{Input, Frame, Show, Variant, Check, Addresses, Load, Run, Read, Follow, Audit, Vehicle, Help}
 
@@ -71,8 +72,8 @@ IsAnswer files input (Run plan schedule) text verdict =
     IsAnswerOfTwo (IsForOnePlan IsRunOf) (files (string_bytes plan)) (files (string_bytes schedule)) text verdict
 IsAnswer files input (Read plan log) text verdict =
     IsAnswerOfTwo (IsForOnePlan IsReadOf) (files (string_bytes plan)) (files (string_bytes log)) text verdict
-IsAnswer files input (Follow plan log all_frames) text verdict =
-    IsAnswerOfTwo (IsForOnePlan (IsFollowOf all_frames)) (files (string_bytes plan)) (files (string_bytes log)) text verdict
+IsAnswer files input (Follow plan log frames) text verdict =
+    IsAnswerOfTwo (IsForOnePlan (IsFollowOf (are_all frames))) (files (string_bytes plan)) (files (string_bytes log)) text verdict
 IsAnswer files input (Audit plan log part stamps) text verdict =
     IsAnswerOfTwo (IsForOnePlan (IsAuditOf part stamps)) (files (string_bytes plan)) (files (string_bytes log)) text verdict
 IsAnswer files input (Vehicle vehicle) text verdict = IsAnswerOfVehicle files (string_bytes vehicle) text verdict
@@ -98,6 +99,6 @@ IsFrontAnswer files input (Run plan schedule) text verdict =
     IsAnswerOfTwo (IsForOnePlan IsRunFrontOf) (files (string_bytes plan)) (files (string_bytes schedule)) text verdict
 IsFrontAnswer files input (Read plan log) text verdict =
     IsAnswerOfTwo (IsForOnePlan IsReadFrontOf) (files (string_bytes plan)) (files (string_bytes log)) text verdict
-IsFrontAnswer files input (Follow plan log all_frames) text verdict =
-    IsAnswerOfTwo (IsForOnePlan (IsFollowFrontOf all_frames)) (files (string_bytes plan)) (files (string_bytes log)) text verdict
+IsFrontAnswer files input (Follow plan log frames) text verdict =
+    IsAnswerOfTwo (IsForOnePlan (IsFollowFrontOf (are_all frames))) (files (string_bytes plan)) (files (string_bytes log)) text verdict
 IsFrontAnswer files input order text verdict = IsAnswer files input order text verdict

@@ -41,7 +41,7 @@ IsOfRead OfInput IsOf files (Addresses plan) = IsOf plan_limits (string_bytes pl
 IsOfRead OfInput IsOf files (Load plan) = IsOf plan_limits (string_bytes plan)
 IsOfRead OfInput IsOf files (Run plan schedule) = IsOfTwo IsOf files plan_limits (string_bytes plan) (string_bytes schedule)
 IsOfRead OfInput IsOf files (Read plan log) = IsOfTwo IsOf files log_limits (string_bytes plan) (string_bytes log)
-IsOfRead OfInput IsOf files (Follow plan log all_frames) = IsOfTwo IsOf files log_limits (string_bytes plan) (string_bytes log)
+IsOfRead OfInput IsOf files (Follow plan log frames) = IsOfTwo IsOf files log_limits (string_bytes plan) (string_bytes log)
 IsOfRead OfInput IsOf files (Audit plan log part stamps) = IsOfTwo IsOf files log_limits (string_bytes plan) (string_bytes log)
 IsOfRead OfInput IsOf files (Vehicle vehicle) = IsOfVehicleFiles (IsOf plan_limits) files (string_bytes vehicle)
 IsOfRead OfInput IsOf files (Help shown) = ⊥
@@ -50,7 +50,7 @@ IsOfRead OfInput IsOf files (Help shown) = ⊥
 abbrev pub PutsAtOnce : Order → Type 0
 PutsAtOnce (Run plan schedule) = ⊥
 PutsAtOnce (Read plan log) = ⊥
-PutsAtOnce (Follow plan log all_frames) = ⊥
+PutsAtOnce (Follow plan log frames) = ⊥
 PutsAtOnce _ = Unit {0}
 
 -- memory is asked for on its behalf: not for a text that is there already

@@ -130,9 +130,9 @@ pub fn answer<F: Folder, S: Source, W: Sink>(
         Order::Load(plan) => load_file(alloc, files, plan, sink),
         Order::Run(plan, schedule) => by_two(alloc, files, &RunCommand, plan, schedule, sink),
         Order::Read(plan, log) => by_two(alloc, files, &ReadCommand, plan, log, sink),
-        Order::Follow(plan, log, all_frames) => {
+        Order::Follow(plan, log, frames) => {
             let following = FollowCommand {
-                all_frames: *all_frames,
+                all_frames: frames.are_all(),
             };
             by_two(alloc, files, &following, plan, log, sink)
         }

@@ -6,7 +6,7 @@ use Rattle.j39_network.specs.declared.plan.timing.Timing.{Timing}
 use Rattle.j39_audit.specs.BegunBroadcasts.{BegunBroadcasts, broadcasts_before, broadcasts_behind, with_begun, broadcasts_with_frame, with_one}
 use Rattle.j39_audit.specs.Claiming.{Knowledge}
 use Rattle.j39_audit.specs.Settings.{Settings}
-use Rattle.j39_audit.specs.declared.broadcasts.Announcement.{Announcement}
+use Rattle.j39_audit.specs.declared.announcements.Announcement.{Announcement}
 use Rattle.j39_audit.specs.declared.broadcasts.BegunBroadcast.{BegunBroadcast}
 use Rattle.j39_audit.specs.declared.broadcasts.BegunBroadcasts.{BegunBroadcasts as KeptBroadcasts}
 use Rattle.j39_audit.specs.declared.pauses.Ending.{Ending}

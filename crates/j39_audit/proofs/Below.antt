@@ -1,6 +1,9 @@
 -- What is so at the places below a number: at none, at one more, and at all where one is found.
-use Rattle.std.proofs.Common.{◌≡◌, ℕ, zero, suc, ◌+◌, ◌<◌, ◌||◌, ◌++◌, [], List, Bool, true, false, Some, None, refl, ap, ◌∙◌, subst, add-one, arith, inl, inr}
-use Rattle.std.proofs.lemmas.Bool.{cases_lt}
+use Rattle.std.proofs.Common.{◌≡◌, ◌==◌, ℕ, zero, suc, ◌+◌, ◌<◌, ◌&&◌, ◌||◌, ◌++◌, not, [], List, Bool, true, false, Option, Some, None, if◌then◌else◌, refl, sym, ap, ◌∙◌, subst, add-one, arith, inl, inr, eq-eqb}
+use Rattle.std.specs.Prelude.{is_some, unwrap_or}
+use Rattle.std.specs.Option.{option_or}
+use Rattle.std.proofs.Math.Bool.{and-false}
+use Rattle.std.proofs.lemmas.Bool.{cases_lt, true≢false}
 use Rattle.j39_audit.specs.Below.{any_below, each_below, first_below, sum_below}
 
 -- ---- lists
@@ -69,3 +72,36 @@ first_here test k (suc n) before here less = elim (cases_lt k n) [
       let passes : test n ≡ true = ap test same ∙ here in
       rw (none, passes) (ap Some same)
 ]
+
+none_some : (n : ℕ) → None ≡ Some n → ⊥
+none_some n is = true≢false (sym (ap is_some is))
+
+-- no place passes before the first one
+before_first : (test : ℕ → Bool) (k n : ℕ) (o : Option ℕ) (b : Bool) → (o ≡ Some k → first_below test k ≡ None) → first_below test n ≡ o
+    → option_or o (if b then Some n else None) ≡ Some k → first_below test k ≡ None
+before_first test k n (Some i) b rest here is = rest is
+before_first test k n None true rest here is = ap (first_below test) (sym (ap (λ (o : Option ℕ). unwrap_or o 0) is)) ∙ here
+before_first test k n None false rest here is = absurd (none_some k is)
+
+pub none_before : (test : ℕ → Bool) (k n : ℕ) → first_below test n ≡ Some k → first_below test k ≡ None
+unfolding first_below
+none_before test k zero is = absurd (none_some k is)
+none_before test k (suc n) is = before_first test k n (first_below test n) (test n) (none_before test k n) refl is
+
+-- so up to it no other one does
+none_of_both : (o : Option ℕ) (b : Bool) (n : ℕ) → option_or o (if b then Some n else None) ≡ None → (o ≡ None) × (b ≡ false)
+none_of_both None false n is = (refl, refl)
+none_of_both None true n is = absurd (none_some n (sym is))
+none_of_both (Some i) b n is = absurd (none_some i (sym is))
+
+none_else : (test : ℕ → Bool) (k n : ℕ) → first_below test n ≡ None → any_below (λ i. test i && not (i == k)) n ≡ false
+unfolding first_below any_below
+none_else test k zero none = refl
+none_else test k (suc n) none =
+    let parts = none_of_both (first_below test n) (test n) n none in
+    rw (none_else test k n parts.0, parts.1) refl
+
+pub no_other_yet : (test : ℕ → Bool) (k n : ℕ) → first_below test n ≡ Some k → any_below (λ i. test i && not (i == k)) (k + 1) ≡ false
+no_other_yet test k n is =
+    let itself : (test k && not (k == k)) ≡ false = ap (λ (b : Bool). test k && not b) (eq-eqb k k refl) ∙ and-false (test k) in
+    any_more (λ i. test i && not (i == k)) k (none_else test k k (none_before test k n is)) itself

@@ -7,4 +7,6 @@ pub mod Hearing
 pub mod Knowing
 pub mod Noting
 pub mod Pausing
+pub mod Sending
+pub mod Singling
 pub mod Writing

@@ -1,7 +1,7 @@
 -- What is kept of pauses, with one more, and where they end.
-use Rattle.std.proofs.Common.{◌≡◌, ◌≢◌, ℕ, zero, suc, ◌+◌, ◌<◌, ◌==◌, ◌++◌, List, Bool, true, false, cond, Option, None, length, refl, sym, ap, subst, ◌∙◌, add-one, arith, inl, inr, eq-eqb}
-use Rattle.std.specs.Prelude.{IfSome, slice_index_or}
-use Rattle.std.proofs.lemmas.Bool.{cases_eq, cases_lt, cases_Bool, ne_eqb}
+use Rattle.std.proofs.Common.{◌≡◌, ◌≢◌, ℕ, zero, suc, ◌+◌, ◌<◌, ◌==◌, ◌++◌, List, Bool, true, false, cond, Option, Some, None, length, refl, sym, ap, subst, ◌∙◌, add-one, arith, inl, inr, eq-eqb}
+use Rattle.std.specs.Prelude.{IfSome, is_some, slice_index_or}
+use Rattle.std.proofs.lemmas.Bool.{cases_eq, cases_lt, cases_Bool, ne_eqb, true≢false}
 use Rattle.std.proofs.lemmas.List.{append-nil, get_or_past}
 use Rattle.j39_network.specs.declared.plan.timing.Timing.{Timing}
 use Rattle.j39_audit.specs.Counting.{Key}
@@ -65,6 +65,27 @@ unfolding listed_pauses_ended
 listed_more s t ns k m = rw add-one refl
 
 -- ---- where no pause is open
+
+unset : (n : ℕ) (newest : ℕ → Option Newest) → newest n ≡ None → (k : ℕ) → cond (n == k) None (newest k) ≡ newest k
+unset n newest none k = elim (cases_eq n k) [
+  | inl same ↦ rw (eq-eqb n k same) (sym none ∙ ap newest same)
+  | inr other ↦ rw (ne_eqb n k other) refl
+]
+
+pub is_nothing : {X : Type 0} (x : Option X) → is_some x ≡ false → x ≡ None
+is_nothing None none = refl
+is_nothing (Some x) none = absurd (true≢false none)
+
+-- nothing is told of a flow of which no message is kept
+pub none_open : (s : Settings) (t : Timing) (n : ℕ) (m : Moments) → m.newest n ≡ None → pause_ended s t n m ≡ m
+none_open s t n m none =
+    let nothing : m.untimely ++ silent_noted n (m.newest n) (silence_behind s t n (m.newest n) m.last) ≡ m.untimely =
+    ap (λ (x : Option Newest). m.untimely ++ silent_noted n x (silence_behind s t n x m.last)) none ∙ append-nil m.untimely in
+    λ i. record m { newest = λ k. unset n m.newest none k i; untimely = nothing i }
+
+pub either_same : {X : Type 0} (test : Bool) (x y : X) → y ≡ x → x ≡ cond test y x
+either_same true x y same = sym same
+either_same false x y same = refl
 
 pub record IsAsBefore (m e : Moments) : Type 0 where
   pub before : e.before ≡ m.before

@@ -19,7 +19,7 @@ use Rattle.j39_audit.specs.Moments.{long_before}
 use Rattle.j39_audit.specs.Near.{excess}
 use Rattle.j39_audit.specs.SentMessages.{SentMessage, is_fit}
 use Rattle.j39_audit.specs.Settings.{Settings, logger_error, units_planned}
-use Rattle.j39_audit.specs.declared.broadcasts.Announcement.{Announcement}
+use Rattle.j39_audit.specs.declared.announcements.Announcement.{Announcement}
 use Rattle.j39_audit.specs.declared.broadcasts.BegunBroadcast.{BegunBroadcast}
 use Rattle.j39_audit.specs.declared.mark.Word.TheVariants.{NearPackets, SilentPackets}
 use Rattle.j39_audit.specs.declared.pauses.Ending.{Ending}

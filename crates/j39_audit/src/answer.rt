@@ -9,7 +9,7 @@ ghost use Rattle.j39_stream.specs.CommandEnds.{AnswersWhole, IsOfAny, PutsText};
 ghost use Rattle.j39_stream.specs.Streams.{log_limits};
 
 use crate::audit_log::AuditLog;
-use crate::basis::{Basis, moving_of};
+use crate::basis::{Basis, moving_of, sent_of};
 use crate::by_load::{Bound, responses_of};
 use crate::reading::read_log;
 use crate::summary::write_audit;
@@ -73,10 +73,12 @@ pub fn audit_text<S: Source, W: Sink>(
         (S.state source.old) (S.state source.new) W.state sink.old sink.new result }
 {
     let moving = moving_of(alloc, plan)?;
+    let sent = sent_of(alloc, plan)?;
     let responses = responses_of(alloc, plan)?;
     let basis = Basis {
         plan,
         moving: &moving,
+        sent: &sent,
         part,
         stamps,
         responses: &responses,

@@ -4,6 +4,7 @@ ghost use Rattle.std.specs.Option.{option_or};
 ghost use Rattle.j39_audit.specs.Asking.{Asking as AnAsking, all_forgotten, answered, answered_at, asked_at, asked_before, asked_behind, asked_with};
 ghost use Rattle.j39_audit.specs.Asking.{asks_for_claims as is_for_claims, holds_surely, is_asked_to_claim, is_for, is_overdue, is_sender, nobody_asked, with_deaf};
 ghost use Rattle.j39_audit.specs.Asking.{with_sign_of};
+ghost use Rattle.j39_audit.specs.Claiming.{sender_at};
 ghost use Rattle.j39_audit.specs.Looking.{is_claim};
 ghost use Rattle.j39_audit.specs.inside.Recalling.{RecallsAsking, request_in, known_by, settings_of};
 
@@ -95,25 +96,32 @@ fn is_sender(sender: SureSender, unit: usize) -> bool
     }
 }
 
-// Whether a request to an address is for a unit.
-fn is_for(basis: &Basis<'_>, known: &Known, unit: usize, address: u8) -> bool
+// Whether a request to an address, from which this one sends, is for a unit.
+fn is_for(basis: &Basis<'_>, known: &Known, sender: SureSender, unit: usize, address: u8) -> bool
+    requires { sender ≡ sender_at (settings_of basis.now) (known_by known.now) address }
     ensures { result ≡ is_for (settings_of basis.now) (known_by known.now) unit address }
 {
     address == GLOBAL_ADDRESS
-        || (is_sender(sender_at(basis, known, address), unit)
-            && holds_surely(basis, known, unit, address))
+        || (is_sender(sender, unit) && holds_surely(basis, known, unit, address))
 }
 
-// Whether a frame asks a unit for claims.
+// Whether a frame, at whose destination this one sends, asks a unit for claims.
 #[tactic(auto, unfolding(crate::specs::Asking::is_asked_to_claim))]
-fn is_asked(basis: &Basis<'_>, known: &Known, frame: &Frame, unit: usize) -> bool
+fn is_asked(
+    basis: &Basis<'_>,
+    known: &Known,
+    frame: &Frame,
+    sender: SureSender,
+    unit: usize,
+) -> bool
+    requires { sender ≡ sender_at (settings_of basis.now) (known_by known.now) frame.now.ident.ps }
     ensures { result ≡ is_asked_to_claim (settings_of basis.now) (known_by known.now) frame.now unit }
 {
     !basis.part
         && (asks_for_claims(frame)
             && (is_claiming(basis, unit)
                 && (!may_be(basis, known, unit, frame.ident.sa)
-                    && is_for(basis, known, unit, frame.ident.ps))))
+                    && is_for(basis, known, sender, unit, frame.ident.ps))))
 }
 
 // Whether the bus was idle when a claim had to be ready.
@@ -209,16 +217,18 @@ impl Asking {
         }
     }
 
-    // Asks a unit, where a frame does and it wasn't asked before.
+    // Asks a unit, where a frame, at whose destination this one sends, does and it wasn't asked before.
     fn ask_unit(
         &mut self,
         basis: &Basis<'_>,
         known: &Known,
         frame: &Frame,
+        sender: SureSender,
         request: ClaimRequest,
         unit: usize,
     )
-        requires { unit < length self.old.asked.items }
+        requires unit { unit < length self.old.asked.items }
+        requires sender { sender ≡ sender_at (settings_of basis.now) (known_by known.now) frame.now.ident.ps }
         ensures open { self.new.open ≡ self.old.open }
         ensures deaf { self.new.deaf ≡ self.old.deaf }
         ensures size { length self.new.asked.items ≡ length self.old.asked.items }
@@ -226,7 +236,7 @@ impl Asking {
         ensures here { request_in self.new unit ≡ option_or (request_in self.old unit)
             (if is_asked_to_claim (settings_of basis.now) (known_by known.now) frame.now unit then Some request else None) }
     {
-        if self.asked[unit].is_none() && is_asked(basis, known, frame, unit) {
+        if self.asked[unit].is_none() && is_asked(basis, known, frame, sender, unit) {
             self.asked[unit] = Some(request);
         }
     }
@@ -237,8 +247,9 @@ impl Asking {
             → RecallsAsking (settings_of basis.now) self.new (asked_with (settings_of basis.now) (known_by known.now) frame.now request a) }
     {
         self.open = true;
+        let sender = sender_at(basis, known, frame.ident.ps);
         for unit in 0..self.asked.len() {
-            self.ask_unit(basis, known, frame, request, unit);
+            self.ask_unit(basis, known, frame, sender, request, unit);
         }
     }
 

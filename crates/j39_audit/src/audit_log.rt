@@ -3,7 +3,7 @@ ghost use Rattle.std.specs.Prelude.{◌≡◌, ◌≤◌, ◌<◌, ◌^◌, ◌+
 ghost use Rattle.std.specs.Option.{option_copied};
 ghost use Rattle.j39_id.specs.Lines.{Line, tells};
 ghost use Rattle.j39_log.specs.LineCounting.{AreWithin, IsLineMore};
-ghost use Rattle.j39_audit.specs.AuditText.{AuditPast, bad_line, is_of_asking, is_of_broadcasts, is_of_load, is_of_moments, mark_by_bus, passed_by, skipped_line, word_by_bus};
+ghost use Rattle.j39_audit.specs.AuditText.{AuditPast, bad_line, is_of_asking, is_of_broadcasts, is_of_load, is_of_moments, mark_by_bus, passed_by, skipped_line};
 ghost use Rattle.j39_audit.specs.BegunBroadcasts.{BegunBroadcasts as SomeBroadcasts, broadcasts_behind, packet_with};
 ghost use Rattle.j39_audit.specs.Claiming.{HeardClaims, broken_off};
 ghost use Rattle.j39_audit.specs.Looking.{break_noted};
@@ -13,9 +13,10 @@ ghost use Rattle.j39_audit.specs.inside.Auditing.{AccordsWith, AreAllNear, HasAu
 ghost use Rattle.j39_audit.specs.inside.Auditing.{tallied};
 ghost use Rattle.j39_audit.specs.inside.Recalling.{AreNear, KnowsClaims, Notes, RecallsBroadcasts, RecallsMoments, known_by, settings_of};
 
+use crate::announcements::{Announcement, announcement_in};
 use crate::asking::Asking;
 use crate::basis::Basis;
-use crate::broadcasts::{Announcement, BegunBroadcasts, announcement_in};
+use crate::broadcasts::BegunBroadcasts;
 use crate::frame_marks::{note_if, take_frame};
 use crate::known::Known;
 use crate::mark::{Mark, Word, make_mark};

@@ -1,22 +1,18 @@
 //! Packets of broadcasts that the plan knows: which of them come too late behind the frame before.
-ghost use Rattle.std.specs.Prelude.{◌≡◌, ◌≢◌, ◌+◌, ◌<◌, ◌^◌, ◌&&◌, ℕ, true, IfOk, IfSome, OnOk, None, length, slice_index_or};
-ghost use Rattle.std.specs.List.{list_any};
-ghost use Rattle.std.specs.Option.{option_map};
-ghost use Rattle.j39_network.specs.declared.plan.flow_plan.FlowPlan.{FlowPlan as AFlow};
-ghost use Rattle.j39_audit.specs.BegunBroadcasts.{BegunBroadcasts as SomeBroadcasts, all_ended, announced_to_all, announcement_in, begun_by, broadcasts_before, broadcasts_behind};
-ghost use Rattle.j39_audit.specs.BegunBroadcasts.{ended_before, ended_with, is_packet_to_all, is_paced, is_unpaced, late_by, late_noted, no_broadcasts};
+ghost use Rattle.std.specs.Prelude.{◌≡◌, ◌≢◌, ◌+◌, ◌<◌, ◌^◌, ℕ, true, IfOk, IfSome, OnOk, None, length, slice_index_or};
+ghost use Rattle.j39_audit.specs.BegunBroadcasts.{BegunBroadcasts as SomeBroadcasts, all_ended, announced_to_all, begun_by, broadcasts_before, broadcasts_behind};
+ghost use Rattle.j39_audit.specs.BegunBroadcasts.{ended_before, ended_with, is_packet_to_all, late_by, late_noted, no_broadcasts};
 ghost use Rattle.j39_audit.specs.BegunBroadcasts.{packet_of, stream_of_packets, packet_with, with_one, with_packet, with_sent};
 ghost use Rattle.j39_audit.specs.Claiming.{Knowledge};
 ghost use Rattle.j39_audit.specs.Near.{excess};
-ghost use Rattle.j39_audit.specs.SentMessages.{is_fit};
 ghost use Rattle.j39_audit.specs.inside.Recalling.{Notes, RecallsBroadcasts, begun_in, known_by, sent_as, settings_of};
 
+use crate::announcements::{Announcement, announced_to_all, is_paced};
 use crate::basis::Basis;
-use crate::frame_marks::announced as message_announced;
 use crate::idle::LONG_BEFORE;
 use crate::known::Known;
 use crate::mark::{Word, make_mark};
-use crate::messages::{UnitMessage, is_fit};
+use crate::messages::UnitMessage;
 use crate::pauses::Ending;
 use crate::streams::{MessageStream, longest_us, shortest_us};
 use crate::tally::MarkTally;
@@ -24,8 +20,7 @@ use j39_id::Frame;
 use j39_id::addresses::GLOBAL_ADDRESS;
 use j39_id::limits::{FRAME_BYTES, PACKET_BYTES};
 use j39_id::services::DATA_TRANSFER;
-use j39_network::{FlowPlan, Timing};
-use j39_tp::Packet;
+use j39_network::Timing;
 use std::alloc::{AllocError, Global};
 
 /// A planned broadcast: how many of its packets are left, when the frame before these ended at the latest, and its line.
@@ -34,13 +29,6 @@ pub struct BegunBroadcast {
     pub left: usize,
     pub moment: u64,
     pub line: u64,
-}
-
-/// What a packet announces to all: how many bytes of this number.
-#[derive(Clone, Copy, PartialEq, Eq)]
-pub struct Announcement {
-    pub size: usize,
-    pub number: u32,
 }
 
 /// Of each unit its planned broadcast, and what was found.
@@ -71,82 +59,6 @@ fn forget_begun(begun: &mut Vec<Option<BegunBroadcast>>)
 {
     for unit in 0..begun.len() {
         begun[unit] = None;
-    }
-}
-
-// Whether a flow may bring a message, and has no period.
-fn is_unpaced(basis: &Basis<'_>, known: &Known, message: &UnitMessage<'_>, flow: &FlowPlan) -> bool
-    ensures { result ≡ is_unpaced (settings_of basis.now) (known_by known.now) (sent_as message.now) flow.now }
-{
-    is_fit(basis, known, message, flow) && flow.pace.is_none()
-}
-
-// Whether some flow may bring a message.
-fn has_flow(basis: &Basis<'_>, known: &Known, message: &UnitMessage<'_>) -> bool
-    ensures { result ≡ list_any (λ (f : AFlow). is_fit (settings_of basis.now) (known_by known.now) (sent_as message.now) f) basis.now.plan.now.flows.items }
-{
-    basis
-        .plan
-        .flows
-        .as_slice()
-        .iter()
-        .any(|flow| is_fit(basis, known, message, flow))
-}
-
-// Whether one without a period may.
-fn has_unpaced(basis: &Basis<'_>, known: &Known, message: &UnitMessage<'_>) -> bool
-    ensures { result ≡ list_any (λ (f : AFlow). is_unpaced (settings_of basis.now) (known_by known.now) (sent_as message.now) f) basis.now.plan.now.flows.items }
-{
-    basis
-        .plan
-        .flows
-        .as_slice()
-        .iter()
-        .any(|flow| is_unpaced(basis, known, message, flow))
-}
-
-// Whether a message is planned, and each flow that may bring it has a period.
-#[tactic(auto, unfolding(crate::specs::BegunBroadcasts::is_paced))]
-fn is_paced(basis: &Basis<'_>, known: &Known, message: &UnitMessage<'_>) -> bool
-    ensures { result ≡ is_paced (settings_of basis.now) (known_by known.now) (sent_as message.now) }
-{
-    has_flow(basis, known, message) && !has_unpaced(basis, known, message)
-}
-
-// What a packet announces to all.
-fn announcement_of(packet: &Packet) -> Option<Announcement>
-    ensures { result ≡ announcement_in (Some packet.now) }
-{
-    match packet {
-        Packet::Bam { size, pgn } => Some(Announcement {
-            size: usize::from(size.bytes()),
-            number: pgn.number(),
-        }),
-        _ => None,
-    }
-}
-
-/// What is announced to all, if a frame is a packet that does.
-pub(crate) fn announcement_in(packet: &Option<Packet>) -> Option<Announcement>
-    ensures { result ≡ announcement_in packet.now }
-{
-    match packet {
-        Some(packet) => announcement_of(packet),
-        None => None,
-    }
-}
-
-// The message of a unit that is announced.
-fn announced_to_all(
-    unit: usize,
-    frame: &Frame,
-    announced: Option<Announcement>,
-) -> Option<UnitMessage<'static>>
-    ensures { option_map sent_as result ≡ announced_to_all unit frame.now announced }
-{
-    match announced {
-        Some(told) => Some(message_announced(unit, frame, told.size, told.number)),
-        None => None,
     }
 }
 

@@ -13,7 +13,7 @@ ghost use Rattle.j39_audit.specs.Looking.{message_sent, noted_if, request_noted,
 ghost use Rattle.j39_audit.specs.inside.Recalling.{IsWithinUnits, KnowsClaims, Notes, known_by, sent_as, settings_of};
 
 use crate::basis::Basis;
-use crate::flow_marks::{note_flows, note_requests};
+use crate::flow_marks::{flows_meant, note_flows, note_requests};
 use crate::known::Known;
 use crate::mark::{Mark, Word, make_mark};
 use crate::messages::{Test, UnitMessage, deviation, first_group};
@@ -217,8 +217,9 @@ fn note_message(
 ) -> Result<(), AllocError>
     ensures { OnOk result (Notes tally.old tally.new (message_noted (settings_of basis.now) (known_by known.now) line (Some (sent_as message.now)))) }
 {
-    note_deviation(tally, deviation(basis, known, message), line)?;
-    note_flows(tally, basis, known, message, line)?;
+    let meant = flows_meant(basis, known, message);
+    note_deviation(tally, deviation(basis, known, message, meant), line)?;
+    note_flows(tally, basis, known, message, meant, line)?;
     Ok(())
 }
 

@@ -2,6 +2,7 @@
 #![tactic(auto)]
 
 mod accusing;
+mod announcements;
 mod answer;
 mod asking;
 mod audit_log;
@@ -17,9 +18,11 @@ mod mark;
 mod messages;
 mod moments;
 mod nearness;
+mod only_place;
 mod pauses;
 mod reading;
 mod senders;
+mod settings;
 mod silence;
 mod silences;
 mod streams;

@@ -4,15 +4,17 @@ ghost use Rattle.std.specs.List.{list_any, position, slice_get};
 ghost use Rattle.std.specs.Option.{option_copied, option_map_or, option_or};
 ghost use Rattle.j39_signal.specs.Selectors.{is_selected};
 ghost use Rattle.j39_network.specs.declared.plan.group_plan.GroupPlan.{GroupPlan as AGroup};
-ghost use Rattle.j39_audit.specs.SentMessages.{asks_by_plan, deviation, first_group, fits_group, goes, has_flow_of, has_priority, is_fit};
+ghost use Rattle.j39_audit.specs.SentMessages.{asks_by_plan, deviation, first_group, fits_group, goes, has_priority, is_fit};
 ghost use Rattle.j39_audit.specs.SentMessages.{is_fit_group, is_group, is_near, is_of, is_own, is_told_by, may_hear, passes};
 ghost use Rattle.j39_audit.specs.SentMessages.{flow_group, without_flow};
 ghost use Rattle.j39_audit.specs.declared.messages.Test.TheVariants.{Any, Fitting, Selected};
 ghost use Rattle.j39_audit.specs.inside.Recalling.{known_by, sent_as, settings_of};
+ghost use Rattle.j39_audit.specs.inside.Singling.{is_somewhere, without_priority};
 
 use crate::basis::Basis;
 use crate::known::Known;
 use crate::mark::{Mark, Word};
+use crate::only_place::Meant;
 use crate::senders::may_be;
 use j39_id::addresses::GLOBAL_ADDRESS;
 use j39_network::{FlowPlan, GroupPlan, RequestPlan, To};
@@ -81,23 +83,11 @@ fn passes(message: &UnitMessage<'_>, test: Test, group: &GroupPlan) -> bool
     }
 }
 
-// Whether a flow of the group is the unit's.
-fn has_flow(basis: &Basis<'_>, unit: usize, group: usize) -> bool
-    ensures { result ≡ has_flow_of (settings_of basis.now) unit group }
-{
-    basis
-        .plan
-        .flows
-        .as_slice()
-        .iter()
-        .any(|flow| flow.group == group && flow.sender == unit)
-}
-
 // Whether a group is one of the sender's of the number.
 fn is_own(basis: &Basis<'_>, message: &UnitMessage<'_>, place: usize, group: &GroupPlan) -> bool
     ensures { result ≡ is_own (settings_of basis.now) (sent_as message.now) place group.now }
 {
-    group.pgn == message.number && (!group.private || has_flow(basis, message.unit, place))
+    group.pgn == message.number && (!group.private || basis.sends(message.unit, place))
 }
 
 // Whether the group at a place is one of the sender's of the number, and passes.
@@ -252,18 +242,6 @@ fn first_fit(basis: &Basis<'_>, known: &Known, message: &UnitMessage<'_>) -> Opt
         .position(|flow| is_fit(basis, known, message, flow))
 }
 
-// Whether some flow may bring it with its priority.
-fn some_is_of(basis: &Basis<'_>, known: &Known, message: &UnitMessage<'_>) -> bool
-    ensures { result ≡ list_any (is_of (settings_of basis.now) (known_by known.now) (sent_as message.now)) basis.now.plan.now.flows.items }
-{
-    basis
-        .plan
-        .flows
-        .as_slice()
-        .iter()
-        .any(|flow| is_of(basis, known, message, flow))
-}
-
 // The group of the flow at a place.
 fn flow_group(basis: &Basis<'_>, place: usize) -> usize
     ensures { result ≡ flow_group (settings_of basis.now) place }
@@ -303,19 +281,33 @@ fn deviates(unit: usize, word: Word, group: usize) -> Mark
     }
 }
 
-/// How a message differs from all that the plan has of its sender.
-#[tactic(auto, unfolding(crate::specs::SentMessages::deviation))]
-pub(crate) fn deviation(basis: &Basis<'_>, known: &Known, message: &UnitMessage<'_>) -> Option<Mark>
+// How a message differs from a flow that may bring it, the first of these being at this place, or that no flow may bring.
+fn without_priority(
+    basis: &Basis<'_>,
+    message: &UnitMessage<'_>,
+    first: Option<usize>,
+) -> Option<Mark>
+    ensures { result ≡ without_priority (settings_of basis.now) (sent_as message.now) first }
+{
+    match first {
+        Some(flow) => Some(deviates(message.unit, Word::Priority, flow_group(basis, flow))),
+        None => without_flow(basis, message),
+    }
+}
+
+/// How a message differs from all that the plan has of its sender, where it may be meant for these flows.
+pub(crate) fn deviation(
+    basis: &Basis<'_>,
+    known: &Known,
+    message: &UnitMessage<'_>,
+    meant: Meant,
+) -> Option<Mark>
+    requires { list_any (is_of (settings_of basis.now) (known_by known.now) (sent_as message.now)) basis.now.plan.now.flows.items ≡ is_somewhere meant.all }
     ensures { result ≡ deviation (settings_of basis.now) (known_by known.now) (sent_as message.now) }
 {
-    match first_fit(basis, known, message) {
-        Some(flow) => {
-            if some_is_of(basis, known, message) {
-                None
-            } else {
-                Some(deviates(message.unit, Word::Priority, flow_group(basis, flow)))
-            }
-        }
-        None => without_flow(basis, message),
+    if meant.is_any() {
+        None
+    } else {
+        without_priority(basis, message, first_fit(basis, known, message))
     }
 }

@@ -1,5 +1,5 @@
 //! Who sends from an address.
-ghost use Rattle.std.specs.Prelude.{◌≡◌, ◌==◌, ◌&&◌, ◌<◌, not, IfSome, length};
+ghost use Rattle.std.specs.Prelude.{◌≡◌, ◌<◌, IfSome, Some, length};
 ghost use Rattle.j39_audit.specs.Claiming.{first_there, is_another_there, is_claimed_last, is_strange, may_be, sender_at};
 ghost use Rattle.j39_audit.specs.Claiming.{sure_sender};
 ghost use Rattle.j39_audit.specs.inside.Recalling.{IsWithinUnits, known_by, settings_of};
@@ -64,19 +64,14 @@ fn first_there(basis: &Basis<'_>, known: &Known, address: u8) -> Option<usize>
     None
 }
 
-// Whether one may be at an address that isn't this unit.
-fn is_other(basis: &Basis<'_>, known: &Known, address: u8, other: usize, unit: usize) -> bool
-    ensures { result ≡ (may_be (settings_of basis.now) (known_by known.now) other address && not (other == unit)) }
-{
-    may_be(basis, known, other, address) && other != unit
-}
-
-// Whether another unit may be there than this one.
+// Whether another unit may be there than this, the first one that may.
 fn is_another_there(basis: &Basis<'_>, known: &Known, address: u8, unit: usize) -> bool
+    requires first { first_there (settings_of basis.now) (known_by known.now) address ≡ Some unit }
+    requires inside { unit < length basis.now.plan.now.units.items }
     ensures { result ≡ is_another_there (settings_of basis.now) (known_by known.now) address unit }
 {
-    for other in 0..basis.plan.units.len() {
-        if is_other(basis, known, address, other, unit) {
+    for other in unit + 1..basis.plan.units.len() {
+        if may_be(basis, known, other, address) {
             return true;
         }
     }

@@ -170,6 +170,9 @@ impl Moments {
         ensures moments { OnOk result ((m : AMoments) → RecallsMoments self.old m → RecallsMoments self.new
             (if ends_with (settings_of basis.now) unit place then pause_ended (settings_of basis.now) timing place m else m)) }
     {
+        if self.pauses.newest(place).is_none() {
+            return Ok(());
+        }
         if ends_with(basis, unit, place) {
             self.end_pause(basis, timing, place)
         } else {

@@ -76,7 +76,7 @@ of_number SilentPackets = refl
 of_number NearOrLate = refl
 of_number SilentOrLate = refl
 
-same_mark : (a b : Mark) → key_of a ≡ key_of b → a ≡ b
+pub same_mark : (a b : Mark) → key_of a ≡ key_of b → a ≡ b
 same_mark a b e =
     let word : a.word ≡ b.word = sym (of_number a.word) ∙ ap (λ (k : Key). word_of k.0) e ∙ of_number b.word in
     let subject : a.subject ≡ b.subject = ap (λ (k : Key). k.1) e in

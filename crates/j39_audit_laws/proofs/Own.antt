@@ -53,7 +53,7 @@ none_below {X} list none zero = refl
 none_below {X} list none (suc n) = ap (λ (l : List X). l ++ list n) (none_below list none n) ∙ none n
 
 -- what accuses so is told itself
-told_itself : (look : Look) (w : Word) (u g : ℕ) → IsAccusing w → told_mark look w u g ≡ mark_at w u g
+pub told_itself : (look : Look) (w : Word) (u g : ℕ) → IsAccusing w → told_mark look w u g ≡ mark_at w u g
 told_itself look Short u g is = refl
 told_itself look Stranger u g is = refl
 told_itself look NobodyThere u g is = refl

@@ -65,7 +65,7 @@ position_passes {X} test (y ∷ xs) n e =
     let at = position-Some test (y ∷ xs) n y e in
     (get_or (y ∷ xs) n y, slice_get-get_or (y ∷ xs) n y at.0, at.1)
 
-first_passes : (test : ℕ → Bool) (n g : ℕ) → first_below test n ≡ Some g → test g ≡ true
+pub first_passes : (test : ℕ → Bool) (n g : ℕ) → first_below test n ≡ Some g → test g ≡ true
 unfolding first_below
 first_passes test zero g e = absurd (none-some g e)
 first_passes test (suc n) g e =

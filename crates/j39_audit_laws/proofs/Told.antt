@@ -187,7 +187,7 @@ by_frames SilentPackets is = absurd is
 by_frames NearOrLate is = absurd is
 by_frames SilentOrLate is = absurd is
 
-looked : (end : AuditPast) (m : Mark) → IsAccusing m.word → told_in end.noted m ≡ look_at end m
+pub looked : (end : AuditPast) (m : Mark) → IsAccusing m.word → told_in end.noted m ≡ look_at end m
 looked end m is =
     let by = by_frames m.word is in
     let late = told_in end.by_load.untimely (mark_by_bus m) in

@@ -1,5 +1,5 @@
 //! Laws of the lines by which the audit command accuses.
-ghost use Rattle.std.specs.Prelude.{◌≡◌, ◌↔◌, ◌+◌, ◌-◌, ◌*◌, ◌<◌, ◌≤◌, ℕ, Bool, true, false, List, Option, Some, None};
+ghost use Rattle.std.specs.Prelude.{map, ◌≡◌, ◌↔◌, ◌+◌, ◌-◌, ◌*◌, ◌<◌, ◌≤◌, ℕ, Bool, true, false, List, Option, Some, None};
 ghost use Rattle.j39_audit.specs.Near.{IsTooNear, is_too_near};
 ghost use Rattle.j39_audit.specs.Silence.{IsTooFar, is_silent};
 ghost use Rattle.j39_audit.specs.Asking.{longest_answer_ms};
@@ -12,10 +12,13 @@ ghost use Rattle.j39_audit.specs.declared.mark.Word.TheVariants.{Nobody, Short, 
 ghost use Rattle.j39_audit_laws.specs.Answering.{AnswersRequests, AreLinesOfUnit, IsDeafAt, KeepsRequests, NotesTheDeaf, UnitLines};
 ghost use Rattle.j39_audit_laws.specs.Answering.{is_told_deaf};
 ghost use Rattle.j39_audit_laws.specs.AuditedRuns.{ArePartsKept, IsNotWrittenOf};
-ghost use Rattle.j39_audit_laws.specs.ByLoad.{IsNoneNearByLoad};
+ghost use Rattle.j39_audit_laws.specs.ByLoad.{IsNoneNearByLoad, IsNoneSilentByLoad};
 ghost use Rattle.j39_audit_laws.specs.ExactClocks.{ExactClocks};
+ghost use Rattle.j39_audit_laws.specs.FoundForSure.{FoundAreWritten, NoneIsUnsure, UnsureIsNone};
 ghost use Rattle.j39_audit_laws.specs.FoundLines.{FoundAreListed, LinesAreOfLog};
 ghost use Rattle.j39_audit_laws.specs.InTurn.{IsInTurn, NotesTheLate};
+ghost use Rattle.j39_audit_laws.specs.KeptLogs.{AreLogsNotNear, PeriodsAreNotNear};
+ghost use Rattle.j39_audit_laws.specs.KeptParts.{KeepersAreNotAccused, KeptPlansAreNotAccused};
 ghost use Rattle.j39_audit_laws.specs.LogBounds.{AreOfLoad, AreOfLog, IsEndBound, IsMarkedBound, IsTimedBound, Lines};
 ghost use Rattle.j39_audit_laws.specs.OneAudit.{AuditHasOneText};
 ghost use Rattle.j39_audit_laws.specs.OwnPart.{AlwaysCan, AreItsOwn, ClaimsItsOwn, IsNotNamed, LooksAsPlanned, SentBy};
@@ -23,8 +26,11 @@ ghost use Rattle.j39_audit_laws.specs.OwnPart.{WaitsForPlanned};
 ghost use Rattle.j39_audit_laws.specs.MarkRecords.{AreFew, IsMarkOf, KeepsTime, ShowsIdle, longest_reach};
 ghost use Rattle.j39_audit_laws.specs.StreamRecords.{AreAllBefore, AreLines, AreMsApart, AreReleasedFirst, AreMessagesInTime, HaveJitter, IsOneAtATime, KeepsMs};
 ghost use Rattle.j39_audit_laws.specs.Pausing.{ComesInTime, IsBoundAt, NotesTheSilent, NotesTheSilentEnd};
+ghost use Rattle.j39_audit_laws.specs.SilentFlows.{SilentAreFound};
 ghost use Rattle.j39_audit_laws.specs.Stepping.{AreMomentsWithin, AreStepsApart, NotesTheNear};
-ghost use Rattle.j39_audit.specs.Responses.{us_at_logger};
+ghost use Rattle.j39_audit_laws.specs.WholeLogs.{AreWholeLogsNotNear};
+ghost use Rattle.j39_audit.specs.declared.by_load.Bound.TheVariants.{Bus};
+ghost use Rattle.j39_audit.specs.Responses.{response, us_at_logger};
 ghost use Rattle.j39_findings.specs.Findings.{Clean};
 ghost use Rattle.j39_load.specs.LoadFindings.{AsksOfBus};
 ghost use Rattle.j39_load.specs.declared.waits.delay.Delay.{Delay as Delays};
@@ -52,6 +58,20 @@ pub fn lines_are_of_the_log()
     ensures listed { FoundAreListed }
 {}
 
+/// What is found at a line of a log is written: its line is in the text, with as many lines of the log as have it and the
+/// first of them, and the verdict is that there are findings.
+pub fn what_is_found_is_written()
+    ensures { FoundAreWritten }
+{}
+
+/// Where no unit may move, no two are planned at one address, no others come, and each claim is of its unit's own address,
+/// no frame is passed over as unsure: each from an address that isn't a claim counts for the unit that is planned there,
+/// or it is found to be nobody's (`each`). So none is counted as unsure (`none`).
+pub fn no_frame_is_unsure()
+    ensures each { NoneIsUnsure }
+    ensures none { UnsureIsNone }
+{}
+
 /// Whatever others do, and however the log was cut: a unit that never says that it can't claim an address gets no
 /// line `cannot` (`cannot`), and none `address` where it claims by the plan, and only its own addresses (`address`).
 /// Frames from an address at which it alone may be have to be its own, and so have claims of its NAMEs.
@@ -73,6 +93,20 @@ pub fn who_sends_by_the_plan_is_not_accused()
         → AreItsOwn s log sent u → LooksAsPlanned s log sent u → IsNotNamed s log Priority u }
     ensures urgent { (s : Settings) (log : List ALine) (sent : SentBy) (u : ℕ) → AreMoving s.plan s.moving
         → AreItsOwn s log sent u → WaitsForPlanned s log sent u → IsNotNamed s log Urgent u }
+{}
+
+/// In the words of a bus: none of these six lines is written of a unit whose planned frames are those of the plan's flows and
+/// requests, and carry what these bring, whose claims are its own, and of which all else has `unplanned_priority` or a
+/// larger number and looks like no group of it, or like one of its flows. So it is whatever others do, and however the log of
+/// the bus was cut.
+pub fn who_keeps_its_part_is_not_accused()
+    ensures { KeepersAreNotAccused }
+{}
+
+/// So none of these lines is written of any unit in a log of a bus that keeps to its plan, and the planned frames of which
+/// carry what flows bring.
+pub fn kept_plans_are_not_accused()
+    ensures { KeptPlansAreNotAccused }
 {}
 
 /// Of the frames of any world of any run of a plan without findings, with all lawful choices, cut in front anywhere,
@@ -161,6 +195,14 @@ pub fn who_keeps_a_pause_is_not_silent()
         → is_silent pause windows j lower ≡ false }
 {}
 
+/// In a log of a bus a flow with a pause is told as silent, by the bus or by load alone, if behind a message of it none came
+/// for longer than its pause, the response time that is counted on and what clocks and times of lines may differ, and
+/// frames of its ends show that these were there. No end of its pause may come in that time, and no quiet second may end it
+/// later.
+pub fn who_is_long_silent_is_told()
+    ensures { SilentAreFound }
+{}
+
 /// Where two frames behind one another do not touch, what begins from the second one on was queued no earlier than its
 /// time, less its length, the bit before it, what damage may fill and what the line's time may differ: on each bus that
 /// is never idle while a frame waits, whoever goes first there, and on which no more than a few attempts are damaged in
@@ -198,6 +240,12 @@ pub fn no_stream_is_told_wrongly()
         → is_silent (1001 * pause) windows j lower ≡ false }
 {}
 
+/// So in a whole log of such a bus no flow is accused by `near`, in the plan's own words, the messages of which keep its
+/// period and its jitter, whatever all others do: one with messages of one frame, or with long ones to one unit.
+pub fn whole_logs_of_kept_periods_are_not_near()
+    ensures { PeriodsAreNotNear }
+{}
+
 /// Nor is one told by load that keeps its period, and its pause, and each message of which has been sent within the
 /// response time that is counted on, where units and the bus have exact clocks, and the logger's may differ by a
 /// thousandth: neither as too near nor as silent, whatever lines of it a log lacks before.
@@ -222,6 +270,27 @@ pub fn who_is_sent_in_time_is_not_told()
 pub fn kept_plans_are_not_near_by_load()
     ensures { (plan : Plans) (timing : Timings) (stays : PlannedUnits → Bool) (delays : List (Option Delays)) → Clean plan
         → AsksOfBus plan timing stays delays → timing.drift ≡ 0 → IsNoneNearByLoad plan timing delays }
+{}
+
+/// So an audit of a log of such a bus tells nothing of such a flow by load: no line `near_or_late` is written of it, whatever
+/// frames are missing in the log, and however it was cut.
+pub fn logs_of_kept_plans_are_not_near_by_load()
+    ensures { (s : Settings) (timing : Timings) (stays : PlannedUnits → Bool) (delays : List (Option Delays)) → Clean s.plan
+        → AsksOfBus s.plan timing stays delays → s.plan.timing ≡ Some timing → timing.drift ≡ 0 → s.responses ≡ map (response timing) delays
+        → AreLogsNotNear s timing delays }
+{}
+
+/// And in a whole log of such a bus, without damage, neither `near` nor `near_or_late` is written of it.
+pub fn whole_logs_of_kept_plans_are_not_near()
+    ensures { (s : Settings) (timing : Timings) (stays : PlannedUnits → Bool) (delays : List (Option Delays)) → Clean s.plan
+        → AsksOfBus s.plan timing stays delays → s.plan.timing ≡ Some timing → timing.drift ≡ 0 → s.responses ≡ map (response timing) delays
+        → s.bound ≡ Bus → AreWholeLogsNotNear s timing delays }
+{}
+
+/// Nor is one told as silent by load, while it keeps its pause, where a log has all its messages up to a line.
+pub fn kept_pauses_are_not_silent_by_load()
+    ensures { (plan : Plans) (timing : Timings) (stays : PlannedUnits → Bool) (delays : List (Option Delays)) → Clean plan
+        → AsksOfBus plan timing stays delays → timing.drift ≡ 0 → IsNoneSilentByLoad plan timing delays }
 {}
 
 /// Of each unit the request for claims behind a frame that is kept is told by the one before it (`kept`), and where a frame

@@ -7,6 +7,8 @@ use Rattle.clap.specs.Words.{IsAmong, Kinds, Row, Text, all_of, fault_of, first_
 use Rattle.j39_command_line.specs.Commands.{commands}
 use Rattle.clap.specs.declared.error.kind.ErrorKind.{ErrorKind}
 use Rattle.clap.specs.declared.error.kind.ErrorKind.TheVariants as kind
+use Rattle.j39_command_line.specs.declared.orders.Frames.{Frames}
+use Rattle.j39_command_line.specs.declared.orders.Frames.TheVariants.{All, Planned}
 use Rattle.j39_command_line.specs.declared.orders.Order.{Order}
 use Rattle.j39_command_line.specs.declared.orders.Order.TheVariants.{Input, Frame, Show, Variant, Check, Addresses, Load, Run, Read, Follow, Audit, Vehicle, Help}
 
@@ -27,6 +29,11 @@ HasFlag met name flag given =
 -- these are the digits of a number, which is at most a second in microseconds
 abbrev pub are_stamps : Text → Bool
 are_stamps text = nat_lt 0 (length text) && (list_all is_ascii_digit text && nat_le (digits_value 10 text) 1000000)
+
+-- all frames of a log are told, also those of groups that aren't planned
+abbrev pub are_all : Frames → Bool
+are_all All = true
+are_all Planned = false
 
 -- by how many microseconds times differ: 1000 unless a number is given
 abbrev pub stamps_in : Option Text → Option ℕ
@@ -50,9 +57,9 @@ Orders met (Run plan schedule) =
     HasValue met (codes "run") (codes "PLAN") (string_bytes plan) × HasValue met (codes "run") (codes "SCHEDULE") (string_bytes schedule)
 Orders met (Read plan log) =
     HasValue met (codes "read") (codes "PLAN") (string_bytes plan) × HasValue met (codes "read") (codes "LOG") (string_bytes log)
-Orders met (Follow plan log all_frames) =
+Orders met (Follow plan log frames) =
     HasValue met (codes "follow") (codes "PLAN") (string_bytes plan) × HasValue met (codes "follow") (codes "LOG") (string_bytes log)
-    × HasFlag met (codes "follow") (codes "all") all_frames
+    × HasFlag met (codes "follow") (codes "all") (are_all frames)
 Orders met (Audit plan log part stamps) =
     HasValue met (codes "audit") (codes "PLAN") (string_bytes plan) × HasValue met (codes "audit") (codes "LOG") (string_bytes log)
     × HasFlag met (codes "audit") (codes "part") part × HasStamps met (codes "audit") stamps
@@ -71,7 +78,7 @@ IsHelp (Addresses plan) = ⊥
 IsHelp (Load plan) = ⊥
 IsHelp (Run plan schedule) = ⊥
 IsHelp (Read plan log) = ⊥
-IsHelp (Follow plan log all_frames) = ⊥
+IsHelp (Follow plan log frames) = ⊥
 IsHelp (Audit plan log part stamps) = ⊥
 IsHelp (Vehicle vehicle) = ⊥
 

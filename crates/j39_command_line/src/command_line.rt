@@ -2,7 +2,7 @@
 ghost use Rattle.std.specs.Prelude.{ℕ, nat_le, ◌<◌, if◌then◌else◌, ◌≡◌, ◌≢◌, Err, None, true, false, [], IfOk, Some, codes, length, map, string_bytes, unwrap_or};
 ghost use Rattle.clap.specs.Words.{all_of, first_of, found_of, kind_of, one_of, rows_of, subcommand_of, subcommand_rows_of};
 ghost use Rattle.j39_command_line.specs.Commands.{commands};
-ghost use Rattle.j39_command_line.specs.Orders.{IsOrdered, AreRefused, AsksHelp, IsHelp, Orders, OrdersNothing, are_stamps, stamps_in};
+ghost use Rattle.j39_command_line.specs.Orders.{IsOrdered, AreRefused, AsksHelp, IsHelp, Orders, OrdersNothing, are_all, are_stamps, stamps_in};
 ghost use Rattle.j39_command_line.specs.Orders.{asks_for_text};
 ghost use Rattle.std.specs.Char.{is_ascii_digit};
 ghost use Rattle.std.specs.List.{list_all};
@@ -11,7 +11,7 @@ ghost use Rattle.j39_command_line.specs.declared.orders.WordsFault.TheVariants.{
 ghost use Rattle.clap.specs.declared.error.kind.ErrorKind.TheVariants.{OutOfMemory};
 
 use crate::commands::commands;
-use crate::orders::{Order, WordsFault};
+use crate::orders::{Frames, Order, WordsFault};
 use clap::error::ErrorKind;
 use clap::{ArgMatches, Error};
 use std::alloc::{AllocError, Global};
@@ -60,6 +60,19 @@ fn is_given(values: &ArgMatches, flag: &str) -> bool
     ensures unsaid { one_of flag.now (rows_of (found_of values.now)) ≡ None → result ≡ false }
 {
     values.get_flag(flag)
+}
+
+// Which frames are told: all, where it is asked for.
+fn frames(values: &ArgMatches) -> Frames
+    ensures given { one_of (codes "all") (rows_of (found_of values.now)) ≡ Some (codes "true") → are_all result ≡ true }
+    ensures not_given { one_of (codes "all") (rows_of (found_of values.now)) ≡ Some (codes "false") → are_all result ≡ false }
+    ensures unsaid { one_of (codes "all") (rows_of (found_of values.now)) ≡ None → are_all result ≡ false }
+{
+    if is_given(values, "all") {
+        Frames::All
+    } else {
+        Frames::Planned
+    }
 }
 
 fn is_digit(byte: u8) -> bool
@@ -143,7 +156,7 @@ fn of_plan(alloc: Global, name: &str, values: &ArgMatches) -> Result<Order, Word
         "run" => Ok(Order::Run(plan, value(alloc, values, "SCHEDULE")?)),
         "read" => Ok(Order::Read(plan, value(alloc, values, "LOG")?)),
         "audit" => audit(alloc, plan, values),
-        "follow" => Ok(Order::Follow(plan, value(alloc, values, "LOG")?, is_given(values, "all"))),
+        "follow" => Ok(Order::Follow(plan, value(alloc, values, "LOG")?, frames(values))),
         _ => Err(WordsFault::Bad),
     }
 }

@@ -6,4 +6,4 @@ mod commands;
 mod orders;
 
 pub use command_line::order;
-pub use orders::{Order, WordsFault};
+pub use orders::{Frames, Order, WordsFault};

@@ -1,9 +1,31 @@
 //! What a command line asks for.
 ghost use Rattle.std.specs.Prelude.{◌≡◌};
+ghost use Rattle.j39_command_line.specs.Orders.{are_all};
 ghost use Rattle.j39_command_line.specs.declared.orders.WordsFault.TheVariants.{Memory};
 
 use std::alloc::AllocError;
 use thiserror::Error;
+
+/// Which frames of a log are told.
+#[derive(Clone, Copy, PartialEq, Eq)]
+pub enum Frames {
+    /// Those of planned groups.
+    Planned,
+    /// All.
+    All,
+}
+
+impl Frames {
+    /// Whether all frames are told.
+    pub fn are_all(self) -> bool
+        ensures { result ≡ are_all self }
+    {
+        match self {
+            Frames::All => true,
+            Frames::Planned => false,
+        }
+    }
+}
 
 /// What a command line asks for.
 #[derive(Drop)]
@@ -27,9 +49,8 @@ pub enum Order {
     Run(String, String),
     /// `read PLAN LOG`: what the log says of the plan's groups, the files of these names.
     Read(String, String),
-    /// `follow PLAN LOG`: who sent what in the log, by its own claims, the files of these names; with `--all`, which is
-    /// true then, of all frames.
-    Follow(String, String, bool),
+    /// `follow PLAN LOG`: who sent what in the log, by its own claims, the files of these names; with `--all` of all frames.
+    Follow(String, String, Frames),
     /// `audit PLAN LOG`: which premises of the plan the log refutes, the files of these names; with `--part`, which is
     /// true then, of a log in which frames may be missing; and with `--stamps US` by a logger of this error in
     /// microseconds.

@@ -2,7 +2,7 @@
 use Rattle.std.specs.Prelude.{◌≡◌, ℕ, ◌<◌, ◌≤◌, List, false, length}
 use Rattle.j39_variants.specs.declared.line.ProductLine.{ProductLine}
 use Rattle.j39_line_findings.specs.FullVariants.{line_with}
-use Rattle.j39_line_findings.specs.LineAnswers.{IsPossible}
+use Rattle.j39_line_findings.specs.PossibleVariants.{IsPossible}
 use Rattle.j39_line_findings.specs.declared.full.LineNevers.{LineNevers}
 use Rattle.j39_part_laws.specs.PartLoads.{HasGoodNumbers}
 use Rattle.j39_line_bounds.specs.LineTimes.{AreVariantTimes, flow_badness, is_less_bad, need_badness, time_of_flow, time_of_need}

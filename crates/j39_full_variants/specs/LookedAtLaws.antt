@@ -7,7 +7,7 @@ use Rattle.j39_variants.specs.declared.line.Alternative.{Alternative}
 use Rattle.j39_variants.specs.declared.line.ProductLine.{ProductLine}
 use Rattle.j39_line_findings.specs.AllVariants.{IsOneOf}
 use Rattle.j39_line_findings.specs.FullVariants.{AreFullAlternatives, alternatives_of, full_of_need}
-use Rattle.j39_line_findings.specs.LineAnswers.{IsPossible}
+use Rattle.j39_line_findings.specs.PossibleVariants.{IsPossible}
 use Rattle.j39_line_findings.specs.declared.full.FullAlternatives.{FullAlternatives}
 use Rattle.j39_full_variants.specs.CountedFindings.{takes_full_of_need}
 use Rattle.j39_full_variants.specs.FullSets.{AreLookedAt}

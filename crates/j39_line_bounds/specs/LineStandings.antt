@@ -5,7 +5,7 @@ use Rattle.j39_network.specs.Staying.{StaysBeside}
 use Rattle.j39_network.specs.declared.plan.Plan.{Plan}
 use Rattle.j39_variants.specs.VariantPlans.{IsVariantPlan, place_at, unit_places}
 use Rattle.j39_variants.specs.declared.line.ProductLine.{ProductLine}
-use Rattle.j39_line_findings.specs.LineAnswers.{IsPossible}
+use Rattle.j39_line_findings.specs.PossibleVariants.{IsPossible}
 use Rattle.j39_line_bounds.specs.declared.standing.LineStanding.{LineStanding}
 use Rattle.j39_line_bounds.specs.declared.standing.LineStanding.TheVariants.{NoVariant, Stays, MayMove}
 

@@ -17,7 +17,7 @@ use Rattle.j39_network.specs.declared.plan.unit_plan.UnitPlan.{UnitPlan}
 use Rattle.j39_variants.specs.VariantPlans.{IsVariantPlan}
 use Rattle.j39_variants.specs.declared.line.ProductLine.{ProductLine}
 use Rattle.j39_line_findings.specs.AllVariants.{IsOneOf}
-use Rattle.j39_line_findings.specs.LineAnswers.{IsPossible}
+use Rattle.j39_line_findings.specs.PossibleVariants.{IsPossible}
 use Rattle.j39_line_findings.specs.MissedNeeds.{is_need_asked_for}
 use Rattle.j39_line_findings.specs.There.{IsWhatIsThere, place_in_file}
 use Rattle.j39_line_findings.specs.declared.there.WhatIsThere.{WhatIsThere}

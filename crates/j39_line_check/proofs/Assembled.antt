@@ -20,7 +20,7 @@ use Rattle.j39_full_variants.specs.CountedFindings.{takes_full_for}
 use Rattle.j39_line_check.proofs.CountingRanks.{same_way}
 use Rattle.j39_line_check.proofs.FindingKinds.{no_amount}
 use Rattle.j39_line_check.proofs.Pairs.{condition_of_pair, pair_of_found}
-use Rattle.j39_line_check.specs.LineChecks.{AreTold, HasIt, IsSure, IsTold, IsWitnessFor, counts_for}
+use Rattle.j39_line_check.specs.LineChecks.{AreTold, HasIt, IsSure, IsTellable, IsWitnessFor, counts_for}
 use Rattle.j39_line_check.specs.declared.answer.ToldFinding.{ToldFinding}
 use Rattle.j39_line_check.specs.inside.Adding.{AreAdded, Pair, pair_of_condition, pair_told}
 

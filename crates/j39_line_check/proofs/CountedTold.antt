@@ -10,9 +10,8 @@ use Rattle.j39_line_findings.specs.AllVariants.{IsOneOf}
 use Rattle.j39_line_findings.specs.Best.{IsWitnessAmong, amount_in, rank_in}
 use Rattle.j39_line_findings.specs.Conditions.{goes_by_conditions}
 use Rattle.j39_line_findings.specs.InFile.{amount_of, rank_of}
-use Rattle.j39_line_findings.specs.LineAnswers.{IsPossible}
-use Rattle.j39_line_findings.specs.LineFindingLaws.{IsFound}
-use Rattle.j39_line_findings.specs.LineFound.{AreVariantFindings}
+use Rattle.j39_line_findings.specs.PossibleVariants.{IsPossible}
+use Rattle.j39_line_findings.specs.LineFound.{AreVariantFindings, IsFound}
 use Rattle.j39_line_findings.specs.declared.full.LineNevers.TheVariants.{Kept}
 use Rattle.j39_line_findings.specs.declared.line_finding.LineFinding.{LineFinding}
 use Rattle.j39_line_findings.specs.declared.line_finding.LineFinding.TheVariants.{OfPlan, OfLoad}

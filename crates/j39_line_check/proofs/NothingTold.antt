@@ -6,9 +6,8 @@ use Rattle.j39_findings.specs.declared.checking.finding.Finding.TheVariants.{Bad
 use Rattle.j39_load.specs.declared.findings.load_finding.LoadFinding.{LoadFinding}
 use Rattle.j39_load.specs.declared.findings.load_finding.LoadFinding.TheVariants.{NoPeriod, Overload, LateFlow, NeedTooOld}
 use Rattle.j39_variants.specs.declared.line.ProductLine.{ProductLine}
-use Rattle.j39_line_findings.specs.LineAnswers.{IsPossible}
-use Rattle.j39_line_findings.specs.LineFindingLaws.{IsFound}
-use Rattle.j39_line_findings.specs.LineFound.{AreVariantFindings}
+use Rattle.j39_line_findings.specs.PossibleVariants.{IsPossible}
+use Rattle.j39_line_findings.specs.LineFound.{AreVariantFindings, IsFound}
 use Rattle.j39_line_findings.specs.declared.line_finding.LineFinding.{LineFinding}
 use Rattle.j39_line_findings.specs.declared.line_finding.LineFinding.TheVariants.{OfPlan, OfLoad}
 use Rattle.j39_line_check.specs.LineChecks.{AreNumbersGood, AreTold, HasIt, IsSure, NothingToldIsNothingFound}

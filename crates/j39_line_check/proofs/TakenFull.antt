@@ -12,7 +12,7 @@ use Rattle.j39_variants.specs.declared.line.Alternative.{Alternative}
 use Rattle.j39_variants.specs.declared.line.ProductLine.{ProductLine}
 use Rattle.j39_line_findings.specs.Boxes.{is_one_alternative}
 use Rattle.j39_line_findings.specs.FullVariants.{AreFullAlternatives, alternative_at, alternatives_of, full_alternatives, full_of_need}
-use Rattle.j39_line_findings.specs.LineAnswers.{IsPossible}
+use Rattle.j39_line_findings.specs.PossibleVariants.{IsPossible}
 use Rattle.j39_line_findings.specs.declared.full.FullAlternatives.{FullAlternatives}
 use Rattle.j39_line_part_laws.specs.Covering.{IsFullFor}
 use Rattle.j39_full_variant_laws.specs.FoundOfFull.{IsPossibleFull}

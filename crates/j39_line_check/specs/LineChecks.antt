@@ -7,9 +7,8 @@ use Rattle.j39_variants.specs.declared.line.ProductLine.{ProductLine}
 use Rattle.j39_line_findings.specs.Conditions.{goes_by_conditions}
 use Rattle.j39_line_findings.specs.FullVariants.{AreFullAlternatives}
 use Rattle.j39_line_findings.specs.InFile.{amount_of, is_below, rank_of}
-use Rattle.j39_line_findings.specs.LineAnswers.{IsPossible}
-use Rattle.j39_line_findings.specs.LineFindingLaws.{IsFound}
-use Rattle.j39_line_findings.specs.LineFound.{AreVariantFindings}
+use Rattle.j39_line_findings.specs.PossibleVariants.{IsPossible}
+use Rattle.j39_line_findings.specs.LineFound.{AreVariantFindings, IsFound}
 use Rattle.j39_line_findings.specs.declared.full.FullAlternatives.{FullAlternatives}
 use Rattle.j39_line_findings.specs.declared.line_finding.LineFinding.{LineFinding}
 use Rattle.j39_line_findings.specs.declared.line_finding.LineFinding.TheVariants.{OfPlan, OfLoad}
@@ -71,16 +70,16 @@ AreToldInOrder [] = Unit {0}
 AreToldInOrder (t ∷ told) = ((u : ToldFinding) → Contains told u → is_below (rank_of t.finding) (rank_of u.finding) ≡ true) × AreToldInOrder told
 
 -- where so many full variants are too many, only findings that go by conditions are told
-abbrev pub IsTold : ProductLine → Option ℕ → LineFinding → Type 0
-IsTold line None finding = Unit {0}
-IsTold line (Some many) finding = goes_by_conditions line finding ≡ true
+abbrev pub IsTellable : ProductLine → Option ℕ → LineFinding → Type 0
+IsTellable line None finding = Unit {0}
+IsTellable line (Some many) finding = goes_by_conditions line finding ≡ true
 
 -- what is told is had by the variant that is told with it, and all that some possible variant has is told
 pub record AreTold (line : ProductLine) (many : Option ℕ) (told : List ToldFinding) : Type 0 where
   pub full : FullAlternatives
   pub are_full : AreFullAlternatives line full
-  pub sound : (t : ToldFinding) → Contains told t → IsTold line many t.finding × IsWitnessFor line full t.finding t.variant.items
-  pub complete : (variant : List ℕ) (finding : LineFinding) → HasIt line variant finding → IsSure line finding → IsTold line many finding
+  pub sound : (t : ToldFinding) → Contains told t → IsTellable line many t.finding × IsWitnessFor line full t.finding t.variant.items
+  pub complete : (variant : List ℕ) (finding : LineFinding) → HasIt line variant finding → IsSure line finding → IsTellable line many finding
       → (t : ToldFinding) × Contains told t × (rank_of t.finding ≡ rank_of finding)
   pub in_order : AreToldInOrder told
 

@@ -22,8 +22,7 @@ use Rattle.j39_variants.specs.declared.line.ProductLine.{ProductLine}
 use Rattle.j39_variants.specs.VariantPlans.{group_places, moved_need, unit_places}
 use Rattle.j39_line_findings.specs.Conditions.{astray_conditions, Condition, conditions_of, meets_any, unmet_condition, unsent_condition, unserved_condition}
 use Rattle.j39_line_findings.specs.InFile.{finding_in_file, load_finding_in_file}
-use Rattle.j39_line_findings.specs.LineFindingLaws.{IsFound}
-use Rattle.j39_line_findings.specs.LineFound.{AreVariantFindings}
+use Rattle.j39_line_findings.specs.LineFound.{AreVariantFindings, IsFound}
 use Rattle.j39_line_findings.specs.MissedNeeds.{is_in_at, is_need_asked_for, is_need_missed, is_source_there, is_unit_there}
 use Rattle.j39_line_findings.specs.There.{is_need_there, missed_needs, place_in_file}
 use Rattle.j39_line_findings.specs.declared.line_finding.LineFinding.{LineFinding}

@@ -15,8 +15,7 @@ use Rattle.j39_variants.specs.declared.line.ProductLine.{ProductLine}
 use Rattle.j39_part_laws.specs.PlanParts.{IsPartAt, Places}
 use Rattle.j39_line_findings.specs.Conditions.{conditions_of_load, goes_by_conditions, meets_any, meets_condition, no_period_conditions, where_together}
 use Rattle.j39_line_findings.specs.InFile.{finding_in_file, load_finding_in_file}
-use Rattle.j39_line_findings.specs.LineFindingLaws.{IsFound}
-use Rattle.j39_line_findings.specs.LineFound.{AreVariantFindings}
+use Rattle.j39_line_findings.specs.LineFound.{AreVariantFindings, IsFound}
 use Rattle.j39_line_findings.specs.There.{missed_needs, place_in_file}
 use Rattle.j39_line_findings.specs.declared.line_finding.LineFinding.{LineFinding}
 use Rattle.j39_line_findings.specs.declared.line_finding.LineFinding.TheVariants.{OfPlan, OfLoad}

@@ -27,8 +27,7 @@ use Rattle.j39_part_laws.proofs.Groups.{bad_pgn, outside, overlap, records, sele
 use Rattle.j39_signal.specs.Places.{SharesBit, WidthFits}
 use Rattle.j39_line_findings.specs.Conditions.{conditions_of_groups, conditions_of_plan, goes_by_conditions, meets_any, where_together}
 use Rattle.j39_line_findings.specs.InFile.{finding_in_file, load_finding_in_file}
-use Rattle.j39_line_findings.specs.LineFindingLaws.{IsFound}
-use Rattle.j39_line_findings.specs.LineFound.{AreVariantFindings}
+use Rattle.j39_line_findings.specs.LineFound.{AreVariantFindings, IsFound}
 use Rattle.j39_line_findings.specs.There.{is_flow_there, missed_needs, place_in_file}
 use Rattle.j39_line_findings.specs.Told.{has_end_in_pool}
 use Rattle.j39_line_findings.specs.declared.line_finding.LineFinding.{LineFinding}

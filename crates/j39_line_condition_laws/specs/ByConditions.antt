@@ -1,8 +1,7 @@
 -- Each finding that goes by conditions: a variant has it exactly where it meets one of them, and, of what is there, the file has it.
 use Rattle.std.specs.Prelude.{◌≡◌, ◌⊎◌, ◌↔◌, ℕ, List, true}
 use Rattle.j39_line_findings.specs.Conditions.{conditions_of, goes_by_conditions, meets_any}
-use Rattle.j39_line_findings.specs.LineFindingLaws.{IsFound}
-use Rattle.j39_line_findings.specs.LineFound.{AreVariantFindings}
+use Rattle.j39_line_findings.specs.LineFound.{AreVariantFindings, IsFound}
 use Rattle.j39_line_findings.specs.declared.line_finding.LineFinding.{LineFinding}
 use Rattle.j39_line_part_laws.specs.FoundOfCovering.{is_by_absence}
 use Rattle.j39_variants.specs.declared.line.ProductLine.{ProductLine}

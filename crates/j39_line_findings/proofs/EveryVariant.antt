@@ -1,11 +1,9 @@
--- Those that are made are all variants, and nothing else.
-use Rattle.std.proofs.Common.{◌≡◌, ℕ, zero, suc, ◌+◌, ◌<◌, ◌⊎◌, List, [], ◌∷◌, ◌++◌, Bool, true, false, inl, inr, get_or, length, map, refl, sym, ap, subst, take, ◌∙◌, arith, append_assoc, add-zero}
-use Rattle.std.specs.List.{list_any, range_with_len}
-use Rattle.std.proofs.lemmas.Bool.{cases_Bool, false≢true, true≢false}
-use Rattle.std.proofs.lemmas.List.{append-nil, map-append, take_more}
+-- Variants that go on as others begin, by their places.
+use Rattle.std.proofs.Common.{◌≡◌, ℕ, zero, suc, ◌+◌, ◌<◌, ◌⊎◌, List, [], ◌∷◌, ◌++◌, inl, inr, length, map, refl, sym, ap, subst, ◌∙◌, arith, add-zero}
+use Rattle.std.specs.List.{range_with_len}
 use Rattle.j39_variants.specs.declared.line.Choice.{Choice}
 use Rattle.j39_variants.specs.Variants.{FitChoices, IsVariant}
-use Rattle.j39_line_findings.specs.AllVariants.{AreAllVariants, IsOneOf, all_behind, all_variants, longer, with_each}
+use Rattle.j39_line_findings.specs.AllVariants.{IsOneOf, longer, with_each}
 
 -- ---- one of these
 
@@ -97,81 +95,3 @@ longer_from count (w ∷ vs) v is = elim (one_cases (with_each count w) (longer 
       (w, found.0, inl refl, found.1, sym found.2 ∙ ap (λ q. w ++ q ∷ []) from)
   | inr more ↦ let found = longer_from count vs v more in (found.0, found.1, inr found.2, found.3, found.4)
 ]
-
--- ---- all of them
-
-reached : (cs : List Choice) (vs : List (List ℕ)) (t v : List ℕ) → IsOneOf vs t → Fits cs v → IsOneOf (all_behind vs cs) (t ++ v)
-reached [] vs t [] at fits = subst (IsOneOf vs) (sym (append-nil t)) at
-reached [] vs t (p ∷ v) at fits = absurd fits
-reached (c ∷ cs) vs t [] at fits = absurd fits
-reached (c ∷ cs) vs t (p ∷ v) at fits =
-    let n = length c.alternatives.items in
-    subst (IsOneOf (all_behind (longer (length c.alternatives.items) vs) cs)) (append_assoc t (p ∷ []) v)
-    (reached cs (longer n vs) (t ++ p ∷ []) v (longer_has n vs t p at fits.0) fits.1)
-
-came : (cs : List Choice) (vs : List (List ℕ)) (w : List ℕ) → IsOneOf (all_behind vs cs) w
-    → (t : List ℕ) × (r : List ℕ) × IsOneOf vs t × Fits cs r × (w ≡ t ++ r)
-came [] vs w at = (w, [], at, tt, sym (append-nil w))
-came (c ∷ cs) vs w at =
-    let n = length c.alternatives.items in
-    let behind = came cs (longer n vs) w at in
-    let last = longer_from n vs behind.0 behind.2 in (
-      last.0,
-      last.1 ∷ behind.1,
-      last.2,
-      (last.3, behind.3),
-      behind.4 ∙ ap (λ x. x ++ behind.1) last.4 ∙ append_assoc last.0 (last.1 ∷ []) behind.1,
-    )
-
-pub every_variant : (choices : List Choice) → AreAllVariants choices (all_variants choices)
-every_variant choices = record {
-  complete = λ v is. reached choices ([] ∷ []) [] v (inl refl) (fits_from choices v is);
-  sound = λ v at.
-      let made = came choices ([] ∷ []) v at in
-      elim made.2 [
-        | inl none ↦
-            let same : v ≡ made.1 = made.4 ∙ ap (λ t. t ++ made.1) (sym none) in
-            subst (IsVariant choices) (sym same) (fits_to choices made.1 made.3)
-        | inr more ↦ absurd more
-      ];
-}
-
--- ---- tests of each
-
-pub any_found : {V : Type 0} (p : List ℕ → Bool) (f : V → List ℕ) (vs : List V) → list_any (λ v. p (f v)) vs ≡ true
-    → (v : List ℕ) × IsOneOf (map f vs) v × (p v ≡ true)
-any_found p f [] is = absurd (false≢true is)
-any_found p f (v ∷ vs) is = elim (cases_Bool (p (f v))) [
-  | inl here ↦ (f v, inl refl, here)
-  | inr no_here ↦ let more = any_found p f vs (rw no_here at is) in (more.0, inr more.1, more.2)
-]
-
-pub none_found : {V : Type 0} (p : List ℕ → Bool) (f : V → List ℕ) (vs : List V) → list_any (λ v. p (f v)) vs ≡ false
-    → (v : List ℕ) → IsOneOf (map f vs) v → p v ≡ false
-none_found p f [] is v at = absurd at
-none_found p f (w ∷ vs) is v at = elim (cases_Bool (p (f w))) [
-  | inl here ↦ absurd (true≢false (rw here at is))
-  | inr no_here ↦ elim at [
-    | inl same ↦ subst (λ x. p x ≡ false) same no_here
-    | inr more ↦ none_found p f vs (rw no_here at is) v more
-  ]
-]
-
--- the one at a place
-pub found_at : {V : Type 0} (f : V → List ℕ) (vs : List V) (i : ℕ) (d : V) (w : List ℕ) → i < length vs → d ≡ get_or vs i d → w ≡ f d
-    → IsOneOf (map f vs) w
-found_at f [] i d w below is same = absurd (omega (arith, below))
-found_at f (x ∷ xs) zero d w below is same = inl (sym (same ∙ ap f is))
-found_at f (x ∷ xs) (suc i) d w below is same = inr (found_at f xs i d w (omega (arith, below)) is same)
-
--- one more
-pub one_further : {V : Type 0} (P : List ℕ → Type 0) (f : V → List ℕ) (vs : List V) (i : ℕ) (d : V) (w : List ℕ) → i < length vs → d ≡ get_or vs i d
-    → w ≡ f d → ((v : List ℕ) → IsOneOf (map f (take i vs)) v → P v) → P w → (v : List ℕ) → IsOneOf (map f (take (i + 1) vs)) v → P v
-one_further P f vs i d w below is same so_far here v at =
-    let longer : map f (take (i + 1) vs) ≡ map f (take i vs) ++ f (get_or vs i d) ∷ [] =
-    ap (map f) (take_more vs i d below) ∙ map-append f (take i vs) (get_or vs i d ∷ []) in
-    elim (one_cases (map f (take i vs)) (f (get_or vs i d) ∷ []) v (subst (λ xs. IsOneOf xs v) longer at)) [
-      | inl old ↦ so_far v old
-      | inr (inl last) ↦ subst P (same ∙ ap f is ∙ last) here
-      | inr (inr none) ↦ absurd none
-    ]

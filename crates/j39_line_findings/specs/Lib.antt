@@ -4,9 +4,8 @@ pub mod Boxes
 pub mod Conditions
 pub mod FullVariants
 pub mod InFile
-pub mod LineAnswers
-pub mod LineFindingLaws
 pub mod LineFound
 pub mod MissedNeeds
+pub mod PossibleVariants
 pub mod There
 pub mod Told

@@ -1,4 +1,4 @@
--- Which witness of a finding is told, and which of its alternatives.
+-- Which alternatives of the witness of a finding are told.
 use Rattle.std.specs.Prelude.{ℕ, ◌==◌, List, Bool, true, false, ◌&&◌, ◌||◌, not, length, if◌then◌else◌, Option, Some, None}
 use Rattle.std.specs.List.{list_any, range_with_len, slice_get}
 use Rattle.std.specs.Option.{option_map_or}
@@ -17,16 +17,14 @@ use Rattle.j39_network.specs.declared.plan.need_plan.NeedPlan.{NeedPlan}
 use Rattle.j39_network.specs.declared.plan.request_plan.RequestPlan.{RequestPlan}
 use Rattle.j39_variants.specs.declared.line.Alternative.{Alternative}
 use Rattle.j39_variants.specs.declared.line.ProductLine.{ProductLine}
-use Rattle.j39_variants.specs.Variants.{is_in}
 use Rattle.j39_line_findings.specs.Boxes.{do_meet, does_lack}
 use Rattle.j39_line_findings.specs.FullVariants.{does_bring}
-use Rattle.j39_line_findings.specs.declared.full.FullAlternatives.{FullAlternatives}
 use Rattle.j39_line_findings.specs.declared.line_finding.LineFinding.{LineFinding}
 use Rattle.j39_line_findings.specs.declared.line_finding.LineFinding.TheVariants.{OfPlan, OfLoad}
 use Rattle.j39_line_findings.specs.declared.part.LinePart.{LinePart}
 use Rattle.j39_line_findings.specs.declared.part.LinePart.TheVariants as part
 
--- ---- which witness
+-- ---- ends of flows at addresses to which others may move
 
 abbrev pub has_pool_address : ProductLine → ℕ → Bool
 has_pool_address line u = option_map_or (λ unit. in_pool unit.address) (slice_get line.plan.units.items u) false
@@ -43,19 +41,6 @@ are_ends_in_pool line flow = list_any (is_end_in_pool line flow) (range_with_len
 
 unfoldable pub has_end_in_pool : ProductLine → ℕ → Bool
 has_end_in_pool line f = option_map_or (are_ends_in_pool line) (slice_get line.plan.flows.items f) false
-
-abbrev pub is_full_for : FullAlternatives → List ℕ → ℕ → Bool
-is_full_for full variant d = option_map_or (λ list. is_in variant list.items) (slice_get full.of_needs.items d) true
-
--- a variant counts as the witness of a finding: of one that comes by what is there, where it is full; of an old need, where it is full for
--- it; each other finding is told of any variant
-abbrev pub counts_as_witness : ProductLine → FullAlternatives → List ℕ → LineFinding → Bool
-counts_as_witness line full variant (OfPlan (TooFewAddresses n)) = is_in variant full.all.items
-counts_as_witness line full variant (OfPlan (FlowContested f)) = not (has_end_in_pool line f) || is_in variant full.all.items
-counts_as_witness line full variant (OfLoad (Overload n)) = is_in variant full.all.items
-counts_as_witness line full variant (OfLoad (LateFlow f)) = is_in variant full.all.items
-counts_as_witness line full variant (OfLoad (NeedTooOld d)) = is_full_for full variant d
-counts_as_witness line full variant _ = true
 
 -- ---- which of its alternatives: those of each choice of which one of the finding's boxes lacks an alternative
 

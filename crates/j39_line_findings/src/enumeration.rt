@@ -1,23 +1,8 @@
-//! All variants of a line, in order.
+//! Variants that go on as others begin.
 ghost use Rattle.std.specs.Prelude.{◌≡◌, ◌∷◌, ◌++◌, [], IfOk, OnOk, map};
-ghost use Rattle.j39_line_findings.specs.AllVariants.{all_variants, combinations, longer, variant_limit, with_each};
+ghost use Rattle.j39_line_findings.specs.AllVariants.{longer, with_each};
 
-use j39_variants::Choice;
 use std::alloc::{AllocError, Global};
-
-/// So many combinations of alternatives are looked at.
-pub const VARIANT_LIMIT: u64 = 16_384;
-
-/// How many combinations of alternatives there are, at most so many as 64 bits tell.
-pub fn combinations(choices: &[Choice]) -> u64
-    ensures { result ≡ combinations 1 choices.now }
-{
-    let mut count: u64 = 1;
-    for choice in choices {
-        count = count.saturating_mul(choice.alternatives.len() as u64);
-    }
-    count
-}
 
 // Places, and one more behind them.
 fn with_place(alloc: Global, taken: &[usize], place: usize) -> Result<Vec<usize>, AllocError>
@@ -54,19 +39,6 @@ pub fn longer(
     let mut all = Vec::new(alloc);
     for places in taken {
         add_each(alloc, &mut all, places, count)?;
-    }
-    Ok(all)
-}
-
-/// All variants of a line with these choices, in order: of each the places of the alternatives that it takes, choice by
-/// choice.
-pub fn all_variants(alloc: Global, choices: &[Choice]) -> Result<Vec<Vec<usize>>, AllocError>
-    ensures { IfOk result (λ all. map (λ v. v.items) all.items ≡ all_variants choices.now) }
-{
-    let mut all = Vec::new(alloc);
-    all.push(Vec::new(alloc))?;
-    for choice in choices {
-        all = longer(alloc, &all, choice.alternatives.len())?;
     }
     Ok(all)
 }

@@ -1,11 +1,9 @@
 //! What is found of a line of vehicles: what some possible variant has, with the variant that is its witness.
 #![tactic(auto)]
 
-mod checking;
 mod enumeration;
 mod found;
 mod full;
-mod laws;
 mod line_finding;
 mod missed_needs;
 mod part;
@@ -14,11 +12,9 @@ mod there;
 mod told;
 mod witnessed;
 
-pub use checking::{LineAnswer, check_line, is_any_possible};
-pub use enumeration::{VARIANT_LIMIT, all_variants, combinations, longer};
-pub use found::{line_findings, variant_findings};
+pub use enumeration::longer;
+pub use found::variant_findings;
 pub use full::{FullAlternatives, LineNevers, alternatives_of, does_bring};
-pub use laws::line_findings_are_exact;
 pub use line_finding::LineFinding;
 pub use missed_needs::{is_need_asked_for, is_unit_there};
 pub use part::{LinePart, lets_in, names, names_choice, part_lets_in};

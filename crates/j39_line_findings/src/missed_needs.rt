@@ -1,7 +1,7 @@
 //! Which needs are asked for in a variant, and not in its plan.
 ghost use Rattle.std.specs.Prelude.{◌≡◌};
 ghost use Rattle.j39_line_findings.specs.MissedNeeds.{is_group_there, is_in_at, is_need_asked_for, is_need_missed};
-ghost use Rattle.j39_line_findings.specs.MissedNeeds.{is_sender_there, is_some_need_missed, is_source_there, is_unit_there};
+ghost use Rattle.j39_line_findings.specs.MissedNeeds.{is_sender_there, is_source_there, is_unit_there};
 
 use j39_variants::{Alternative, ProductLine, is_in};
 
@@ -64,11 +64,4 @@ pub(crate) fn is_need_missed(line: &ProductLine, variant: &[usize], place: usize
     ensures { result ≡ is_need_missed line.now variant.now place }
 {
     is_need_asked_for(line, variant, place) && !is_source_there(line, variant, place)
-}
-
-/// Whether some need is asked for in a variant, and isn't in its plan.
-pub(crate) fn is_some_need_missed(line: &ProductLine, variant: &[usize]) -> bool
-    ensures { result ≡ is_some_need_missed line.now variant.now }
-{
-    (0..line.plan.needs.len()).any(|place| is_need_missed(line, variant, place))
 }

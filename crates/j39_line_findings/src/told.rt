@@ -1,16 +1,16 @@
-//! Which witness of a finding is told, and which of its alternatives.
+//! Which alternatives of the witness of a finding are told.
 ghost use Rattle.std.specs.Prelude.{◌≡◌, ◌||◌, ◌&&◌};
-ghost use Rattle.j39_line_findings.specs.Told.{are_ends_in_pool, has_end_in_pool, has_pool_address, counts_as_witness, is_end, is_end_in_pool, is_full_for};
+ghost use Rattle.j39_line_findings.specs.Told.{are_ends_in_pool, has_end_in_pool, has_pool_address, is_end, is_end_in_pool};
 ghost use Rattle.j39_line_findings.specs.Told as told;
 
-use crate::full::{FullAlternatives, does_bring};
+use crate::full::does_bring;
 use crate::line_finding::LineFinding;
 use crate::part::{LinePart, do_meet, does_lack};
 use j39_findings::Finding;
 use j39_id::addresses::is_in_pool;
 use j39_load::LoadFinding;
 use j39_network::{FlowPlan, NeedPlan, RequestPlan, To, serves};
-use j39_variants::{Alternative, ProductLine, is_in};
+use j39_variants::{Alternative, ProductLine};
 
 fn has_pool_address(line: &ProductLine, unit: usize) -> bool
     ensures { result ≡ has_pool_address line.now unit }
@@ -49,37 +49,6 @@ pub fn has_end_in_pool(line: &ProductLine, place: usize) -> bool
     match line.plan.flows.get(place) {
         Some(flow) => are_ends_in_pool(line, flow),
         None => false,
-    }
-}
-
-fn is_full_for(full: &FullAlternatives, variant: &[usize], need: usize) -> bool
-    ensures { result ≡ is_full_for full.now variant.now need }
-{
-    match full.of_needs.get(need) {
-        Some(list) => is_in(variant, list),
-        None => true,
-    }
-}
-
-/// Whether a variant counts as the witness of a finding.
-pub(crate) fn counts_as_witness(
-    line: &ProductLine,
-    full: &FullAlternatives,
-    variant: &[usize],
-    finding: LineFinding,
-) -> bool
-    ensures { result ≡ counts_as_witness line.now full.now variant.now finding }
-{
-    match finding {
-        LineFinding::OfPlan(Finding::TooFewAddresses(_))
-        | LineFinding::OfLoad(LoadFinding::Overload(_) | LoadFinding::LateFlow(_)) => {
-            is_in(variant, &full.all)
-        }
-        LineFinding::OfPlan(Finding::FlowContested(flow)) => {
-            !has_end_in_pool(line, flow) || is_in(variant, &full.all)
-        }
-        LineFinding::OfLoad(LoadFinding::NeedTooOld(need)) => is_full_for(full, variant, need),
-        _ => true,
     }
 }
 

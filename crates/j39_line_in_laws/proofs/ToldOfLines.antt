@@ -1,7 +1,7 @@
 -- Each variant that takes what is told with a finding of a line has it.
 use Rattle.std.proofs.Common.{◌⊎◌, ℕ, List, inl, inr}
 use Rattle.j39_variants.specs.declared.line.ProductLine.{ProductLine}
-use Rattle.j39_line_findings.specs.LineAnswers.{IsPossible}
+use Rattle.j39_line_findings.specs.PossibleVariants.{IsPossible}
 use Rattle.j39_line_findings.specs.declared.line_finding.LineFinding.{LineFinding}
 use Rattle.j39_line_check.specs.LineChecks.{HasAtAnyRate, HasIt}
 use Rattle.j39_line_in_laws.proofs.ToldLaws.{told_is_had}

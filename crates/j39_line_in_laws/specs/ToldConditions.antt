@@ -6,9 +6,8 @@ use Rattle.j39_variants.specs.declared.line.ProductLine.{ProductLine}
 use Rattle.j39_variants.specs.Variants.{IsFirstTaking, IsVariant, takes_all}
 use Rattle.j39_line_findings.specs.Conditions.{conditions_of, goes_by_conditions, meets_any}
 use Rattle.j39_line_findings.specs.FullVariants.{alternative_at, alternatives_of}
-use Rattle.j39_line_findings.specs.LineAnswers.{IsPossible}
-use Rattle.j39_line_findings.specs.LineFindingLaws.{IsFound}
-use Rattle.j39_line_findings.specs.LineFound.{AreVariantFindings}
+use Rattle.j39_line_findings.specs.LineFound.{AreVariantFindings, IsFound}
+use Rattle.j39_line_findings.specs.PossibleVariants.{IsPossible}
 use Rattle.j39_line_findings.specs.Told.{is_told}
 use Rattle.j39_line_findings.specs.declared.line_finding.LineFinding.{LineFinding}
 use Rattle.j39_line_condition_laws.specs.BoxedParts.{ListsNameChoices}

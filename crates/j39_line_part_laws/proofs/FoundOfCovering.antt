@@ -25,8 +25,7 @@ use Rattle.j39_part_laws.proofs.Places.{value_at}
 use Rattle.j39_part_laws.proofs.Findings.{holds_there}
 use Rattle.j39_part_laws.proofs.LoadFindings.{are_found_there}
 use Rattle.j39_line_findings.specs.InFile.{amount_of, finding_in_file, load_finding_in_file, rank_by, rank_of}
-use Rattle.j39_line_findings.specs.LineFindingLaws.{IsFound}
-use Rattle.j39_line_findings.specs.LineFound.{AreVariantFindings}
+use Rattle.j39_line_findings.specs.LineFound.{AreVariantFindings, IsFound}
 use Rattle.j39_line_findings.specs.There.{missed_needs, place_in_file}
 use Rattle.j39_line_findings.specs.declared.line_finding.LineFinding.{LineFinding}
 use Rattle.j39_line_findings.specs.declared.line_finding.LineFinding.TheVariants.{OfPlan, OfLoad}

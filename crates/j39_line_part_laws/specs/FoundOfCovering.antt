@@ -6,9 +6,8 @@ use Rattle.j39_load.specs.declared.findings.load_finding.LoadFinding.{LoadFindin
 use Rattle.j39_part_laws.specs.ByAbsence.{comes_by_absence, load_comes_by_absence}
 use Rattle.j39_line_findings.specs.InFile.{amount_of, rank_of}
 use Rattle.j39_variants.specs.declared.line.ProductLine.{ProductLine}
-use Rattle.j39_line_findings.specs.LineAnswers.{IsPossible}
-use Rattle.j39_line_findings.specs.LineFindingLaws.{IsFound}
-use Rattle.j39_line_findings.specs.LineFound.{AreVariantFindings}
+use Rattle.j39_line_findings.specs.PossibleVariants.{IsPossible}
+use Rattle.j39_line_findings.specs.LineFound.{AreVariantFindings, IsFound}
 use Rattle.j39_line_part_laws.specs.Covering.{IsFullVariant}
 use Rattle.j39_line_findings.specs.declared.line_finding.LineFinding.{LineFinding}
 use Rattle.j39_line_findings.specs.declared.line_finding.LineFinding.TheVariants.{OfPlan, OfLoad}

@@ -7,11 +7,11 @@ use Rattle.j39_load.specs.declared.findings.load_finding.LoadFinding.TheVariants
 use Rattle.j39_variants.specs.declared.line.ProductLine.{ProductLine}
 use Rattle.j39_line_findings.specs.declared.line_finding.LineFinding.{LineFinding}
 use Rattle.j39_line_findings.specs.declared.line_finding.LineFinding.TheVariants.{OfPlan, OfLoad}
-use Rattle.j39_line_check.specs.LineChecks.{AreTold, IsSure, SomePossible}
+use Rattle.j39_line_check.specs.LineChecks.{AreTold, IsSure, SomePossible, many_of}
 use Rattle.j39_line_check.specs.declared.answer.LookedAt.{LookedAt}
-use Rattle.j39_line_check.specs.declared.answer.LookedAt.TheVariants.{Full, WithoutNevers, TooMany}
+use Rattle.j39_line_check.specs.declared.answer.LookedAt.TheVariants.{Full, TooMany}
 use Rattle.j39_line_check.specs.declared.answer.ToldFinding.{ToldFinding}
-use Rattle.j39_line_text.specs.Hindrances.{AreAllShown, AreToldAt, IsShownLine, does_hide, hides, is_any_hiding, is_hidden, too_many}
+use Rattle.j39_line_text.specs.Hindrances.{AreAllShown, AreToldAt, IsShownLine, does_hide, hides, is_any_hiding, is_hidden}
 use Rattle.j39_line_text.specs.declared.hindrances.Asked.{Asked}
 use Rattle.j39_line_text.specs.declared.hindrances.Asked.TheVariants.{Addresses, Times}
 
@@ -42,9 +42,8 @@ all_shown asked line told some are none = record {
   ];
 }
 
-pub is_shown : (asked : Asked) (line : ProductLine) (looked : LookedAt) (told : List ToldFinding) → is_hidden asked (too_many looked) told ≡ false
+pub is_shown : (asked : Asked) (line : ProductLine) (looked : LookedAt) (told : List ToldFinding) → is_hidden asked (many_of looked) told ≡ false
     → AreToldAt line looked told → IsShownLine asked line looked told
 is_shown asked line (Full variants) told none found =
     record { found = found; few = refl; shown = all_shown asked line told found.some found.are_told none }
-is_shown asked line (WithoutNevers many) told none found = absurd (true≢false none)
 is_shown asked line (TooMany many) told none found = absurd (true≢false none)

@@ -5,9 +5,9 @@ use Rattle.j39_variants.specs.declared.line.ProductLine.{ProductLine}
 use Rattle.j39_line_findings.specs.FullVariants.{alternatives_of}
 use Rattle.j39_line_findings.specs.InFile.{rank_of}
 use Rattle.j39_line_findings.specs.declared.line_finding.LineFinding.{LineFinding}
-use Rattle.j39_line_check.specs.LineChecks.{AreTold, HasIt, SomePossible, many_of}
+use Rattle.j39_line_check.specs.LineChecks.{AreLookedFor, AreTold, HasIt, SomePossible, many_of}
 use Rattle.j39_line_check.specs.declared.answer.LookedAt.{LookedAt}
-use Rattle.j39_line_check.specs.declared.answer.LookedAt.TheVariants.{Full, WithoutNevers, TooMany}
+use Rattle.j39_line_check.specs.declared.answer.LookedAt.TheVariants.{Full, TooMany}
 use Rattle.j39_line_check.specs.declared.answer.ToldFinding.{ToldFinding}
 use Rattle.j39_line_text.specs.LineCheckText.{IsImpossibleLine}
 use Rattle.j39_line_text.specs.WitnessLines.{findings_of_line_text}
@@ -36,13 +36,6 @@ pub record AreAllShown (asked : Asked) (line : ProductLine) : Type 0 where
   pub some : SomePossible line
   pub each : (variant : List ℕ) (finding : LineFinding) → HasIt line variant finding → does_hide asked finding ≡ false
 
--- of how many variants what is asked would have to be told, where they are too many: it is told of at most 1024 full variants, also of a line
--- in which nothing is found without looking at each
-abbrev pub too_many : LookedAt → Option ℕ
-too_many (Full variants) = None
-too_many (WithoutNevers many) = Some many
-too_many (TooMany many) = Some many
-
 -- too many variants, or one of the findings that are told hides what is asked
 abbrev pub is_hidden : Asked → Option ℕ → List ToldFinding → Bool
 is_hidden asked many told = is_some many || is_any_hiding asked told
@@ -50,6 +43,7 @@ is_hidden asked many told = is_some many || is_any_hiding asked told
 -- what check found of a line of which some variant is possible, and at which variants it looked
 pub record AreToldAt (line : ProductLine) (looked : LookedAt) (told : List ToldFinding) : Type 0 where
   pub some : SomePossible line
+  pub looked_at : AreLookedFor line looked
   pub are_told : AreTold line (many_of looked) told
 
 -- ---- hidden
@@ -59,8 +53,8 @@ pub record IsHiddenLine (asked : Asked) (line : ProductLine) (text : List ℕ) :
   pub looked : LookedAt
   pub told : List ToldFinding
   pub found : AreToldAt line looked told
-  pub hidden : is_hidden asked (too_many looked) told ≡ true
-  pub text_is : text ≡ findings_of_line_text line (alternatives_of line) (too_many looked) told
+  pub hidden : is_hidden asked (many_of looked) told ≡ true
+  pub text_is : text ≡ findings_of_line_text line (alternatives_of line) (many_of looked) told
 
 -- that no variant is possible, as check writes it, or this
 abbrev pub IsHiddenReport : Asked → ProductLine → List ℕ → Type 0
@@ -71,11 +65,10 @@ IsHiddenReport asked line text = IsImpossibleLine line text ⊎ IsHiddenLine ask
 -- the variants at which check looked, where they aren't too many
 abbrev pub variants_at : LookedAt → List (List ℕ)
 variants_at (Full variants) = map (λ v. v.items) variants.items
-variants_at (WithoutNevers many) = []
 variants_at (TooMany many) = []
 
 -- nothing hides what is asked: it is told of the variants at which check looked
 pub record IsShownLine (asked : Asked) (line : ProductLine) (looked : LookedAt) (told : List ToldFinding) : Type 0 where
   pub found : AreToldAt line looked told
-  pub few : too_many looked ≡ None
+  pub few : many_of looked ≡ None
   pub shown : AreAllShown asked line

@@ -8,7 +8,7 @@ use Rattle.j39_line_bounds.specs.declared.standing.LineStanding.{LineStanding}
 use Rattle.j39_line_check.specs.declared.answer.LookedAt.{LookedAt}
 use Rattle.j39_line_check.specs.declared.answer.ToldFinding.{ToldFinding}
 use Rattle.j39_line_findings.specs.AllVariants.{IsOneOf}
-use Rattle.j39_line_findings.specs.LineAnswers.{IsPossible}
+use Rattle.j39_line_findings.specs.PossibleVariants.{IsPossible}
 use Rattle.j39_line_text.specs.Hindrances.{IsHiddenReport, IsShownLine, variants_at}
 use Rattle.j39_line_text.specs.StandingLines.{standings_text}
 use Rattle.j39_line_text.specs.declared.hindrances.Asked.TheVariants.{Addresses}

@@ -8,7 +8,7 @@ use Rattle.j39_network.specs.declared.plan.Plan.{Plan}
 use Rattle.j39_variants.specs.declared.line.ProductLine.{ProductLine}
 use Rattle.j39_variants.specs.VariantPlans.{IsVariantPlan}
 use Rattle.j39_line_findings.specs.FullVariants.{alternatives_of}
-use Rattle.j39_line_findings.specs.LineAnswers.{IsPossible}
+use Rattle.j39_line_findings.specs.PossibleVariants.{IsPossible}
 use Rattle.j39_line_findings.specs.MissedNeeds.{is_some_need_missed}
 use Rattle.j39_line_findings.specs.There.{IsWhatIsThere}
 use Rattle.j39_line_findings.specs.declared.there.WhatIsThere.{WhatIsThere}

@@ -9,7 +9,7 @@ ghost use Rattle.j39_line_text.specs.StandingLines.{standings_text};
 ghost use Rattle.j39_stream.specs.CommandEnds.{AnswersWhole, IsOfAny};
 ghost use Rattle.j39_stream.specs.Streams.{plan_limits};
 
-use crate::hindrances::{Asked, is_hidden, too_many, variants_at};
+use crate::hindrances::{Asked, is_hidden, variants_at};
 use crate::line_report::no_variant_text;
 use crate::standing_lines::standings_text;
 use crate::witness_lines::findings_text;
@@ -47,7 +47,7 @@ fn found_addresses(
 {
     who_stays();
     who_stays_with_strangers();
-    let many = too_many(looked);
+    let many = looked.many();
     if is_hidden(Asked::Addresses, told, many) {
         let text = findings_text(alloc, line, told, many)?;
         return Ok((text, Verdict::Findings));

@@ -2,7 +2,7 @@
 ghost use Rattle.std.specs.Prelude.{List, ℕ, None, []};
 ghost use Rattle.j39_variants.specs.declared.line.ProductLine.{ProductLine};
 ghost use Rattle.j39_line_check.specs.LineChecks.{AreTold};
-ghost use Rattle.j39_line_findings.specs.LineAnswers.{IsPossible};
+ghost use Rattle.j39_line_findings.specs.PossibleVariants.{IsPossible};
 ghost use Rattle.j39_line_text.specs.LineCheckText.{IsCertifiedVariant};
 
 use j39_findings::clean_where_none;

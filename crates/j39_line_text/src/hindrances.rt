@@ -1,6 +1,6 @@
 //! Findings of possible variants for which check's answer is written.
 ghost use Rattle.std.specs.Prelude.{◌≡◌, map};
-ghost use Rattle.j39_line_text.specs.Hindrances.{does_hide, hides, hides_addresses, is_any_hiding, is_hidden, too_many, variants_at};
+ghost use Rattle.j39_line_text.specs.Hindrances.{does_hide, hides, hides_addresses, is_any_hiding, is_hidden, variants_at};
 
 use j39_line_check::{LookedAt, ToldFinding};
 use j39_line_findings::LineFinding;
@@ -43,24 +43,13 @@ fn is_any_hiding(asked: Asked, told: &[ToldFinding]) -> bool
     told.iter().any(|one| does_hide(asked, one.finding))
 }
 
-/// How many full variants a line has, where they are too many to tell of each what is asked: who stays, and times, are told
-/// of at most 1024, also of a line in which nothing is found without looking at each.
-pub(crate) fn too_many(looked: &LookedAt) -> Option<u64>
-    ensures { result ≡ too_many looked.now }
-{
-    match looked {
-        LookedAt::Full(_) => None,
-        LookedAt::WithoutNevers(count) | LookedAt::TooMany(count) => Some(*count),
-    }
-}
-
 /// The variants of which what is asked is told, where they aren't too many.
 pub(crate) fn variants_at(looked: &LookedAt) -> &[Vec<usize>]
     ensures { map (λ v. v.items) result.now ≡ variants_at looked.now }
 {
     match looked {
         LookedAt::Full(variants) => variants.as_slice(),
-        LookedAt::WithoutNevers(_) | LookedAt::TooMany(_) => &[],
+        LookedAt::TooMany(_) => &[],
     }
 }
 

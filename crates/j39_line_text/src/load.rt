@@ -7,7 +7,7 @@ ghost use Rattle.j39_line_text.specs.declared.hindrances.Asked.TheVariants.{Time
 ghost use Rattle.j39_stream.specs.CommandEnds.{AnswersWhole, IsOfAny};
 ghost use Rattle.j39_stream.specs.Streams.{plan_limits};
 
-use crate::hindrances::{Asked, is_hidden, too_many, variants_at};
+use crate::hindrances::{Asked, is_hidden, variants_at};
 use crate::line_report::no_variant_text;
 use crate::time_lines::write_times;
 use crate::witness_lines::{findings_text, write_untold};
@@ -61,7 +61,7 @@ fn found_load(
     ensures { IfOk result (λ report. timing_of line.now.plan ≡ Some timing → AreToldAt line.now looked.now told.now
         → IsLineLoadReport line.now timing report.0 report.1) }
 {
-    let many = too_many(looked);
+    let many = looked.many();
     if is_hidden(Asked::Times, told, many) {
         let text = findings_text(alloc, line, told, many)?;
         return Ok((text, Verdict::Findings));

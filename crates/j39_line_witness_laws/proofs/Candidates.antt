@@ -17,7 +17,7 @@ use Rattle.j39_network.specs.declared.plan.request_plan.RequestPlan.{RequestPlan
 use Rattle.j39_part_laws.specs.ByAbsence.{comes_by_absence}
 use Rattle.j39_line_findings.specs.Conditions.{astray_conditions, conditions_of, goes_by_conditions, meets_any, meets_condition, no_period_conditions}
 use Rattle.j39_line_findings.specs.Conditions.{unmet_condition, unsent_condition, unserved_condition}
-use Rattle.j39_line_findings.specs.LineFindingLaws.{IsFound}
+use Rattle.j39_line_findings.specs.LineFound.{IsFound}
 use Rattle.j39_line_findings.specs.declared.line_finding.LineFinding.{LineFinding}
 use Rattle.j39_line_findings.specs.declared.line_finding.LineFinding.TheVariants.{OfPlan, OfLoad}
 use Rattle.j39_line_part_laws.proofs.FoundOfCovering.{either, left, made_of, of_made, right}

@@ -1,9 +1,8 @@
 -- What is told by conditions is what possible variants have, of the findings that go by conditions.
 use Rattle.std.specs.Prelude.{◌≡◌, ◌⊎◌, ℕ, List, [], ◌∷◌, true}
 use Rattle.j39_line_findings.specs.Conditions.{goes_by_conditions}
-use Rattle.j39_line_findings.specs.LineAnswers.{IsPossible}
-use Rattle.j39_line_findings.specs.LineFindingLaws.{HasThese, IsFound}
-use Rattle.j39_line_findings.specs.LineFound.{AreVariantFindings}
+use Rattle.j39_line_findings.specs.PossibleVariants.{IsPossible}
+use Rattle.j39_line_findings.specs.LineFound.{AreVariantFindings, HasThese, IsFound}
 use Rattle.j39_line_findings.specs.declared.line_finding.LineFinding.{LineFinding}
 use Rattle.j39_line_witnesses.specs.Candidates.{candidates}
 use Rattle.j39_line_witnesses.specs.WitnessedFindings.{AreWitnessed}

@@ -13,7 +13,7 @@ use Rattle.j39_variants.specs.Variants.{IsVariant, is_in, is_possible}
 use Rattle.j39_variant_search.specs.VariantSearch.{IsFirstOutside, IsOutsideBoxes, NoneOutside, box_flags, boxes_flags, is_in_box}
 use Rattle.j39_line_findings.specs.Boxes.{lets_in}
 use Rattle.j39_line_findings.specs.Conditions.{are_there, meets_any, meets_condition}
-use Rattle.j39_line_findings.specs.LineAnswers.{IsPossible}
+use Rattle.j39_line_findings.specs.PossibleVariants.{IsPossible}
 use Rattle.j39_line_findings.specs.declared.part.LinePart.{LinePart}
 use Rattle.j39_line_witnesses.specs.FirstMeeting.{IsWitnessOf, NoneMeets}
 use Rattle.j39_line_witnesses.specs.PartBoxes.{are_parts_known, do_all_let_in, holes_of_parts, is_list_known, list_box, never_hole, never_holes, parts_box, parts_hole}

@@ -4,7 +4,7 @@ use Rattle.std.specs.Prelude.{◌≡◌, ℕ, List, true, false, MatchOption, Op
 use Rattle.j39_variants.specs.declared.line.ProductLine.{ProductLine}
 use Rattle.j39_variants.specs.Variants.{IsEarlier}
 use Rattle.j39_line_findings.specs.Conditions.{Condition, meets_any}
-use Rattle.j39_line_findings.specs.LineAnswers.{IsPossible}
+use Rattle.j39_line_findings.specs.PossibleVariants.{IsPossible}
 
 -- no possible variant meets one of these
 abbrev pub NoneMeets : ProductLine → List Condition → Type 0

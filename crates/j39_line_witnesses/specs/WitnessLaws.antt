@@ -5,8 +5,8 @@ use Rattle.j39_variants.specs.declared.line.ProductLine.{ProductLine}
 use Rattle.j39_variants.specs.Variants.{IsVariant, is_in}
 use Rattle.j39_variant_search.specs.VariantSearch.{is_in_box}
 use Rattle.j39_line_findings.specs.Conditions.{are_there, conditions_of, meets_any}
-use Rattle.j39_line_findings.specs.LineAnswers.{IsPossible}
-use Rattle.j39_line_findings.specs.LineFindingLaws.{IsFound}
+use Rattle.j39_line_findings.specs.PossibleVariants.{IsPossible}
+use Rattle.j39_line_findings.specs.LineFound.{IsFound}
 use Rattle.j39_line_findings.specs.declared.line_finding.LineFinding.{LineFinding}
 use Rattle.j39_line_findings.specs.declared.part.LinePart.{LinePart}
 use Rattle.j39_line_witnesses.specs.FirstMeeting.{IsFirstMeeting}

@@ -2,7 +2,7 @@
 ghost use Rattle.std.specs.Prelude.{◌≡◌, ◌∷◌, [], IfOk, MatchBool, OnOk, ℕ, List};
 ghost use Rattle.j39_variant_search.specs.VariantSearch.{boxes_flags};
 ghost use Rattle.j39_line_findings.specs.Conditions.{conditions_of};
-ghost use Rattle.j39_line_findings.specs.LineAnswers.{IsPossible};
+ghost use Rattle.j39_line_findings.specs.PossibleVariants.{IsPossible};
 ghost use Rattle.j39_line_witnesses.specs.FirstMeeting.{IsWitnessOf};
 ghost use Rattle.j39_line_witnesses.specs.PartBoxes.{never_holes};
 ghost use Rattle.j39_line_witnesses.specs.Presences.{condition_of, conditions_in};

@@ -2,6 +2,7 @@ use Rattle.std.proofs.Common.{◌≡◌, ◌&&◌, ◌||◌, not, ℕ, length, s
 use Rattle.j39_network.specs.declared.plan.flow_plan.FlowPlan.{FlowPlan}
 use Rattle.j39_audit.specs.Below.{each_below}
 use Rattle.j39_audit.specs.SentMessages.{all_marked, is_of, is_near, marked}
+use Rattle.j39_audit.specs.declared.mark.Word.TheVariants.{Unclear}
 use Rattle.j39_audit.specs.inside.Recalling.{Notes, known_by, sent_as, settings_of}
 use Rattle.j39_audit.proofs.Noting.{notes_more, notes_none_below}
 use Rattle.j39_audit.proofs.flow_marks.note_each_flow.Goals as goal
@@ -22,5 +23,5 @@ returns c =
     let count = c.len-place-end.ensures in
     let done = c.loop-place-test.false in
     let end : c.loop-place.place ≡ length all = omega (arith, count, done) in
-    subst (λ (n : ℕ). Notes c.args.tally.now c.loop-place.tally (each_below (marked c.args.line c.args.word (λ (x : FlowPlan). is_of s k m x && (is_near s k m x.to || not c.args.some_near)) all) n)) end
+    subst (λ (n : ℕ). Notes c.args.tally.now c.loop-place.tally (each_below (marked c.args.line Unclear (λ (x : FlowPlan). is_of s k m x && (is_near s k m x.to || not c.args.some_near)) all) n)) end
     c.loop-place.invariant

@@ -1,15 +1,16 @@
 use Rattle.std.proofs.Common.{◌≡◌, false, sym, ap, ◌∙◌, subst}
 use Rattle.j39_line_bounds.specs.LineStandings.{AreStandingsAmong}
 use Rattle.j39_line_findings.specs.AllVariants.{IsOneOf}
-use Rattle.j39_line_text.specs.Hindrances.{is_hidden, too_many}
+use Rattle.j39_line_text.specs.Hindrances.{is_hidden}
+use Rattle.j39_line_check.specs.LineChecks.{many_of}
 use Rattle.j39_line_text.specs.declared.hindrances.Asked.TheVariants.{Addresses}
 use Rattle.j39_line_text.proofs.NothingHides.{is_shown}
 use Rattle.j39_line_text.proofs.addresses.found_addresses.Goals as goal
 
 pub returns : goal.returns
 returns c found =
-    let none : is_hidden Addresses (too_many c.args.looked.now) c.args.told.now ≡ false =
-    ap (λ m. is_hidden Addresses m c.args.told.now) (sym c.too_many-many.ensures) ∙ sym c.is_hidden.ensures ∙ c.if-is_hidden.false in
+    let none : is_hidden Addresses (many_of c.args.looked.now) c.args.told.now ≡ false =
+    ap (λ m. is_hidden Addresses m c.args.told.now) (sym c.many-many.ensures) ∙ sym c.is_hidden.ensures ∙ c.if-is_hidden.false in
     let told = c.in_ok-text-2.ensures in
     record {
       looked = c.args.looked.now;

@@ -15,7 +15,7 @@ use Rattle.j39_audit.specs.Moments.{Moments, begins_anew, moments_behind, with_p
 use Rattle.j39_audit.specs.MessageStreams.{nothing_sighted, sighted_behind}
 use Rattle.j39_audit.specs.Pauses.{ending_of, unclear_behind}
 use Rattle.j39_audit.specs.Settings.{Settings, by_load}
-use Rattle.j39_audit.specs.declared.broadcasts.Announcement.{Announcement}
+use Rattle.j39_audit.specs.declared.announcements.Announcement.{Announcement}
 use Rattle.j39_audit.specs.declared.moments.Moments.{Moments as KeptMoments}
 use Rattle.j39_audit.specs.declared.pauses.Ending.{Ending}
 use Rattle.j39_audit.specs.declared.tally.Sighting.{Sighting}

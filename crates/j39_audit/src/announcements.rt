@@ -1,0 +1,99 @@
+//! What is announced to all, and whether the plan knows how often.
+ghost use Rattle.std.specs.Prelude.{◌≡◌, Some};
+ghost use Rattle.std.specs.List.{list_any};
+ghost use Rattle.std.specs.Option.{option_map};
+ghost use Rattle.j39_network.specs.declared.plan.flow_plan.FlowPlan.{FlowPlan as AFlow};
+ghost use Rattle.j39_audit.specs.BegunBroadcasts.{announced_to_all, announcement_in, is_paced, is_unpaced};
+ghost use Rattle.j39_audit.specs.SentMessages.{is_fit};
+ghost use Rattle.j39_audit.specs.inside.Recalling.{known_by, sent_as, settings_of};
+
+use crate::basis::Basis;
+use crate::frame_marks::announced as message_announced;
+use crate::known::Known;
+use crate::messages::{UnitMessage, is_fit};
+use j39_id::Frame;
+use j39_network::FlowPlan;
+use j39_tp::Packet;
+
+/// What a packet announces to all: how many bytes of this number.
+#[derive(Clone, Copy, PartialEq, Eq)]
+pub struct Announcement {
+    pub size: usize,
+    pub number: u32,
+}
+
+// Whether a flow may bring a message, and has no period.
+fn is_unpaced(basis: &Basis<'_>, known: &Known, message: &UnitMessage<'_>, flow: &FlowPlan) -> bool
+    ensures { result ≡ is_unpaced (settings_of basis.now) (known_by known.now) (sent_as message.now) flow.now }
+{
+    is_fit(basis, known, message, flow) && flow.pace.is_none()
+}
+
+// Whether some flow may bring a message.
+fn has_flow(basis: &Basis<'_>, known: &Known, message: &UnitMessage<'_>) -> bool
+    ensures { result ≡ list_any (λ (f : AFlow). is_fit (settings_of basis.now) (known_by known.now) (sent_as message.now) f) basis.now.plan.now.flows.items }
+{
+    basis
+        .plan
+        .flows
+        .as_slice()
+        .iter()
+        .any(|flow| is_fit(basis, known, message, flow))
+}
+
+// Whether one without a period may.
+fn has_unpaced(basis: &Basis<'_>, known: &Known, message: &UnitMessage<'_>) -> bool
+    ensures { result ≡ list_any (λ (f : AFlow). is_unpaced (settings_of basis.now) (known_by known.now) (sent_as message.now) f) basis.now.plan.now.flows.items }
+{
+    basis
+        .plan
+        .flows
+        .as_slice()
+        .iter()
+        .any(|flow| is_unpaced(basis, known, message, flow))
+}
+
+/// Whether a message is planned, and each flow that may bring it has a period.
+#[tactic(auto, unfolding(crate::specs::BegunBroadcasts::is_paced))]
+pub(crate) fn is_paced(basis: &Basis<'_>, known: &Known, message: &UnitMessage<'_>) -> bool
+    ensures { result ≡ is_paced (settings_of basis.now) (known_by known.now) (sent_as message.now) }
+{
+    has_flow(basis, known, message) && !has_unpaced(basis, known, message)
+}
+
+// What a packet announces to all.
+fn announcement_of(packet: &Packet) -> Option<Announcement>
+    ensures { result ≡ announcement_in (Some packet.now) }
+{
+    match packet {
+        Packet::Bam { size, pgn } => Some(Announcement {
+            size: usize::from(size.bytes()),
+            number: pgn.number(),
+        }),
+        _ => None,
+    }
+}
+
+/// What is announced to all, if a frame is a packet that does.
+pub(crate) fn announcement_in(packet: &Option<Packet>) -> Option<Announcement>
+    ensures { result ≡ announcement_in packet.now }
+{
+    match packet {
+        Some(packet) => announcement_of(packet),
+        None => None,
+    }
+}
+
+/// The message of a unit that is announced.
+pub(crate) fn announced_to_all(
+    unit: usize,
+    frame: &Frame,
+    announced: Option<Announcement>,
+) -> Option<UnitMessage<'static>>
+    ensures { option_map sent_as result ≡ announced_to_all unit frame.now announced }
+{
+    match announced {
+        Some(told) => Some(message_announced(unit, frame, told.size, told.number)),
+        None => None,
+    }
+}

@@ -1,0 +1,455 @@
+-- In a whole log of a bus no flow that keeps its period is told as too near by the bus, whatever others do.
+use Rattle.std.proofs.Common.{◌≡◌, ℕ, ◌+◌, ◌-◌, ◌*◌, ◌<◌, ◌≤◌, List, Bool, true, false, length}
+use Rattle.std.proofs.Common.{inl, inr, refl, sym, ap, ◌∙◌, subst, arith, Option, Some, None}
+use Rattle.std.specs.Prelude.{nat_le, ◌≢◌, ◌&&◌, not}
+use Rattle.std.specs.List.{slice_get}
+use Rattle.std.specs.Option.{option_and_then}
+use Rattle.std.proofs.lemmas.Bool.{le-leb, lt-leb, and_parts, ltb-true, cases_Bool, cases_eq, cond-false, cond-true, true≢false}
+use Rattle.std.proofs.lemmas.Option.{none-some, option_and_then_some, same_Some}
+use Rattle.j39_id.specs.Ident.{pgn_of}
+use Rattle.j39_id.specs.Lines.{Line}
+use Rattle.j39_id.specs.declared.frame.Frame.{Frame}
+use Rattle.j39_network.specs.declared.plan.flow_plan.FlowPlan.{FlowPlan}
+use Rattle.j39_network.specs.declared.plan.group_plan.GroupPlan.{GroupPlan}
+use Rattle.j39_network.specs.declared.plan.pace.Pace.{Pace}
+use Rattle.j39_network.specs.declared.plan.timing.Timing.{Timing}
+use Rattle.j39_timing.specs.Messages.{frame_end}
+use Rattle.j39_timing.specs.TimedFrames.{Schedule}
+use Rattle.j39_load.specs.Clocks.{bit_time}
+use Rattle.j39_audit.specs.AuditText.{AuditPast, AuditsLines, look_at, log_ended, mark_at, claims_before, broadcasts_there, counted_for, moments_with_frame, noted_newly, nothing_read}
+use Rattle.j39_audit.specs.Breaks.{breaks}
+use Rattle.j39_audit.specs.Claiming.{knowledge}
+use Rattle.j39_audit.specs.Counting.{Noted, key_of, told_at, told_of}
+use Rattle.j39_audit.specs.Looking.{is_single}
+use Rattle.j39_audit.specs.MessageStreams.{flow_pace, flow_stream, group_in_flow, is_in_stream, paced_stream, shortest_us, stream_pause}
+use Rattle.j39_audit.specs.Moments.{Moments, all_pauses_ended, begins_anew, behind_gap, earliest_end, long_before, lower_bound, moment_window, moments_behind}
+use Rattle.j39_audit.specs.Near.{is_too_near}
+use Rattle.j39_audit.specs.Pauses.{ending_of}
+use Rattle.j39_audit.specs.Settings.{Settings, logger_error, response_of}
+use Rattle.j39_audit.specs.declared.mark.Mark.{Mark}
+use Rattle.j39_audit.specs.declared.mark.Word.TheVariants.{NearFlow}
+use Rattle.j39_audit.specs.declared.pauses.Ending.{Ending}
+use Rattle.j39_audit.specs.declared.streams.MessageStream.{MessageStream}
+use Rattle.j39_audit.specs.declared.window.Window.{Window}
+use Rattle.j39_audit_laws.specs.KeptLogs.{AreSeenAs, IsLogOfBus}
+use Rattle.j39_audit_laws.specs.LogBounds.{IsTimedBound, Lines}
+use Rattle.j39_audit_laws.specs.MarkRecords.{KeepsTime}
+use Rattle.j39_audit_laws.specs.PauseLines.{FrameLine, time_there}
+use Rattle.j39_audit_laws.proofs.NearFrames as frames
+use Rattle.j39_audit_laws.proofs.NearWalk.{AreItsMessages, IsSoFar, as_lines, by_message, by_other, first_so_far, same_so_far}
+use Rattle.j39_audit_laws.proofs.Walk.{IsFrameNext, IsNext, at_end, moments_with}
+use Rattle.j39_timing.specs.Errors.{Damaged, IsBusWithErrors}
+use Rattle.j39_load.specs.SentFrames.{Held}
+use Rattle.j39_audit.specs.BegunBroadcasts.{packet_with}
+use Rattle.j39_audit.specs.MessageStreams.{latest_ms, longest_us, slack_by, stream_mark}
+use Rattle.j39_audit.specs.Moments.{begun_anew, damaged_at_once, idle_behind, idle_mark, is_apart, leaves_idle, reach_back, shows_idle, since_behind, since_by, with_packet_stream}
+use Rattle.j39_audit.specs.declared.by_load.Bound.{Bound}
+use Rattle.j39_audit.specs.declared.by_load.Bound.TheVariants.{Bus}
+use Rattle.j39_audit.specs.declared.mark.Word.TheVariants.{NearPackets}
+use Rattle.j39_audit_laws.specs.KeptLogs.{IsWholeLog, KeepsItsPeriod, PeriodsAreNotNear}
+use Rattle.j39_audit_laws.specs.LogBounds.{IsMarkedBound}
+use Rattle.j39_audit_laws.specs.PauseLines.{IsPassedOver}
+use Rattle.j39_audit_laws.specs.MarkRecords.{AreFew, ShowsIdle, longest_reach}
+use Rattle.j39_audit_laws.proofs.ExactClocks.{exact_clocks}
+use Rattle.j39_audit_laws.proofs.OnLogs.{not_near}
+use Rattle.j39_audit_laws.proofs.ToldTimes.{behind}
+use Rattle.j39_audit_laws.proofs.NearClocks.{fast, packet_mark, same_bit, within_ms}
+
+-- ---- a log
+
+module _ (s : Settings) (log : List Line) (timing : Timing) (timed : s.plan.timing ≡ Some timing) (by_bus : s.bound ≡ Bus) (none : timing.drift ≡ 0)
+    (bus : Schedule) (damaged : Damaged) (held : Held) (release clock place : ℕ → ℕ) (n ms : ℕ) (is_message : ℕ → Bool)
+    (keeps : KeepsTime (bit_time timing.bitrate) clock) (errors : IsBusWithErrors bus damaged) (short : (p : ℕ) → p < bus.count → bus.bits p ≤ 160)
+    (few : AreFew damaged (damaged_at_once timing)) (part : KeepsItsPeriod s.plan timing bus held n ms release is_message)
+    (is_log : IsLogOfBus s log bus clock place) (whole : IsWholeLog s log bus place) (seen : AreSeenAs s log place n is_message) where
+  abbrev us : ℕ
+  us = bit_time timing.bitrate
+
+  abbrev step : ℕ
+  step = shortest_us timing ms
+
+  abbrev jitter : ℕ
+  jitter = latest_ms part.period.pace (nat_le part.group.most 8)
+
+  -- the clock counts from a moment long before the zero of the log
+  abbrev logs : Lines
+  logs = record { us = us; few = damaged_at_once timing; within = logger_error s; clock = λ t. clock t + 1000 * long_before }
+
+  keeps_from : KeepsTime us logs.clock
+  keeps_from x y order = (let is = keeps x y order in let least = is.0 in let most = is.1 in (omega (arith, least), omega (arith, most)))
+
+  -- ---- its part
+
+  abbrev IsInTime : ℕ → ℕ → Type 0
+  IsInTime latest p = (release p ≤ bus.queued p) × (bus.queued p * us ≤ release p * us + 1000 * latest)
+
+  same_pace : (flow : FlowPlan) (pace : Pace) → slice_get s.plan.flows.items n ≡ Some flow → flow.pace ≡ Some pace → pace ≡ part.period.pace
+  same_pace flow pace at paced =
+      let same : flow ≡ part.period.flow = same_Some flow part.period.flow (sym at ∙ part.period.its) in
+      same_Some pace part.period.pace (sym paced ∙ ap (λ (x : FlowPlan). x.pace) same ∙ part.period.paced)
+
+  its_frame : (p : ℕ) → p < bus.count → is_message p ≡ true → IsInTime jitter p
+  its_frame p inside message = elim (part.frames p inside message) [
+    | inl (least, is) ↦
+        let sort : nat_le part.group.most 8 ≡ true = le-leb part.group.most 8 least in
+        subst (λ (b : Bool). IsInTime (latest_ms part.period.pace b) p) (sym sort)
+        (subst (λ (x : Pace). IsInTime x.jitter p) (same_pace is.flow is.pace is.its is.paced)
+        (is.release_first, within_ms timing.bitrate timing.drift is.pace.jitter (release p) (bus.queued p) none is.jitter_at_most))
+    | inr (more, is) ↦
+        let sort : nat_le part.group.most 8 ≡ false = lt-leb part.group.most 8 more in
+        subst (λ (b : Bool). IsInTime (latest_ms part.period.pace b) p) (sym sort)
+        (subst (λ (x : Pace). IsInTime (x.period + x.jitter) p) (same_pace is.flow is.pace is.its is.paced)
+        (is.release_first, within_ms timing.bitrate timing.drift (is.pace.period + is.pace.jitter) (release p) (bus.queued p) none is.jitter_at_most))
+  ]
+
+  its_stream : (f : Frame) (x : MessageStream) → flow_stream s timing f n ≡ Some x → (x.step ≡ step) × (x.slack ≡ Some (1001 * jitter))
+  unfolding flow_stream
+  its_stream f x e =
+      option_and_then_some _ (flow_pace s n) x e (λ pace paced e1. option_and_then_some _ (group_in_flow s n) x e1 (λ group grouped e2.
+      let of_pace : pace ≡ part.period.pace = same_Some pace part.period.pace
+      (sym paced ∙ ap (λ (o : Option FlowPlan). option_and_then (λ (y : FlowPlan). y.pace) o) part.period.its ∙ part.period.paced) in
+      let of_group : group ≡ part.group = same_Some group part.group
+      (sym grouped ∙ ap (λ (o : Option FlowPlan). option_and_then (λ (y : FlowPlan). slice_get s.plan.groups.items y.group) o) part.period.its ∙ part.group_is) in
+      let is = of_stream group pace e2 in (
+        is.0 ∙ ap (λ (p : Pace). shortest_us timing p.period) of_pace ∙ ap (shortest_us timing) part.period.is,
+        is.1 ∙ ap Some (ap (λ (p : Pace). longest_us timing (latest_ms p (nat_le group.most 8))) of_pace
+            ∙ ap (λ (g : GroupPlan). longest_us timing (latest_ms part.period.pace (nat_le g.most 8))) of_group ∙ (exact_clocks timing none).longest jitter),
+      )))
+    where
+      -- the stream has single frames where these are all
+      of_sort : (group : GroupPlan) (one : Bool) → is_in_stream group one ≡ true → one ≡ nat_le group.most 8
+      of_sort group true inside = sym inside
+      of_sort group false inside = sym (lt-leb group.most 8 (ltb-true 8 group.most inside))
+
+      of_stream : (group : GroupPlan) (pace : Pace) → paced_stream s timing f n group pace (stream_pause s timing n) ≡ Some x
+          → (x.step ≡ shortest_us timing pace.period) × (x.slack ≡ Some (longest_us timing (latest_ms pace (nat_le group.most 8))))
+      of_stream group pace is =
+          let one : Bool = is_single (pgn_of f.ident) in
+          elim (cases_Bool (is_in_stream group one)) [
+            | inl inside ↦
+                let same = same_Some _ x (sym (cond-true (is_in_stream group one) _ None inside) ∙ is) in (
+                  sym (ap (λ (y : MessageStream). y.step) same),
+                  sym (ap (λ (y : MessageStream). y.slack) same)
+                      ∙ ap (λ (b : Bound). slack_by b (response_of s n) (longest_us timing (latest_ms pace one))) by_bus
+                      ∙ ap (λ (b : Bool). Some (longest_us timing (latest_ms pace b))) (of_sort group one inside),
+                )
+            | inr other ↦ absurd (none-some x (sym (cond-false (is_in_stream group one) _ None other) ∙ is))
+          ]
+
+  abbrev IsUpper : ℕ → ℕ → Type 0
+  IsUpper p x = IsTimedBound bus logs p x
+
+  abbrev IsLower : ℕ → ℕ → Type 0
+  IsLower p x = IsMarkedBound bus logs jitter p x
+
+  none_of_these : (number count : ℕ) (line : ℕ → ℕ) (windows : ℕ → Window) → AreItsMessages s log place is_message IsUpper IsLower number count line windows
+      → (j : ℕ) → j < count → is_too_near step windows j ≡ false
+  none_of_these number count line windows are j inside =
+      subst (λ (k : ℕ). is_too_near k windows j ≡ false) (sym ((exact_clocks timing none).shortest ms))
+      (not_near bus damaged logs ms jitter count is_message release (λ k. place (line k)) windows (fast timing.bitrate) keeps_from errors short few
+      (λ p in_p message. (its_frame p in_p message).0) (λ p in_p message. (its_frame p in_p message).1)
+      (λ p q in_p in_q differ one other. elim (part.apart p q in_p in_q differ one other) [
+        | inl less ↦ inl (behind timing.bitrate timing.drift ms (release p) (release q) none less)
+        | inr less ↦ inr (behind timing.bitrate timing.drift ms (release q) (release p) none less)
+      ])
+      (as_lines s log place is_message IsUpper IsLower bus clock is_log number count line windows are) (record { upper = are.upper; lower = are.lower }) j inside)
+
+  -- ---- what holds behind each line
+
+  abbrev IsKept : ℕ → Moments → Type 0
+  IsKept number m = IsSoFar s log place is_message IsUpper IsLower s timing timed n step none_of_these number m
+
+  -- the last frame, with nothing behind it that counts, has this time
+  abbrev IsLastAt : ℕ → ℕ → Type 0
+  IsLastAt number τ = (a : ℕ) × (l : FrameLine s log a) × (time_there l ≡ Some τ) × (a ≤ number) × ((k : ℕ) → a < k → k ≤ number → IsPassedOver s log k)
+
+  -- an idle mark that a line up to this one shows
+  record IsShownMark (number q : ℕ) : Type 0 where
+    line : ℕ
+    there : FrameLine s log line
+    below : line ≤ number
+    bytes : ℕ
+    one : ℕ
+    before : ℕ
+    time : ℕ
+    shows : ShowsIdle bus us (damaged_at_once timing) (logger_error s) bytes logs.clock one (place line) before time
+    is : q ≡ time - (longest_reach us bytes (damaged_at_once timing) + logger_error s)
+
+  record IsHeld (number : ℕ) (m : Moments) : Type 0 where
+    kept : IsKept number m
+    last : (τ : ℕ) → m.before ≡ Some τ → IsLastAt number τ
+    mark : (q : ℕ) → m.since ≡ Some q → IsShownMark number q
+
+  later_mark : (number q : ℕ) → IsShownMark number q → IsShownMark (number + 1) q
+  later_mark number q is = record {
+    line = is.line;
+    there = is.there;
+    below = (let least = is.below in omega (arith, least));
+    bytes = is.bytes;
+    one = is.one;
+    before = is.before;
+    time = is.time;
+    shows = is.shows;
+    is = is.is;
+  }
+
+  kept_on : (number : ℕ) (m new : Moments) → frames.IsAsNear s timing timed n m new → IsKept number m → IsKept (number + 1) new
+  kept_on number m new same is = same_so_far s log place is_message IsUpper IsLower s timing timed n step none_of_these number m new same.earliest same.noted is
+
+  with_gap : (number : ℕ) (m : Moments) → IsKept number m → IsKept number (behind_gap m)
+  with_gap number m is =
+      record { none = is.none; count = is.count; line = is.line; windows = is.windows; is = is.is; messages = is.messages }
+
+  gap_held : (number : ℕ) (m : Moments) → IsKept number m → IsHeld number (behind_gap m)
+  gap_held number m is = record { kept = with_gap number m is; last = λ τ e. absurd (none-some τ e); mark = λ q e. absurd (none-some q e) }
+
+  -- ---- a frame
+
+  -- what an idle mark tells of the moments of messages
+  bound_by : (number x : ℕ) (since : Option ℕ) → FrameLine s log number → ((q : ℕ) → since ≡ Some q → IsShownMark number q)
+      → lower_bound (Some (1001 * jitter)) since ≡ Some x → IsMarkedBound bus logs jitter (place number) x
+  bound_by number x None l mark e = absurd (none-some x e)
+  bound_by number x (Some q) l mark e =
+      let is = mark q refl in
+      let at : q - 1001 * jitter ≡ x = same_Some (q - 1001 * jitter) x e in
+      let from = is.is in
+      record {
+        bytes = is.bytes;
+        one = is.one;
+        next = place is.line;
+        before = is.before;
+        time = is.time;
+        shows = is.shows;
+        by = elim (cases_eq is.line number) [
+          | inl here ↦ (let same : frame_end bus (place is.line) ≡ frame_end bus (place number) = ap (λ (k : ℕ). frame_end bus (place k)) here in omega (arith, same))
+          | inr apart ↦
+              let below = is.below in
+              let less = is_log.in_turn is.line number is.there l (omega (arith, below, apart)) in
+              omega (arith, less)
+        ];
+        is = sym at ∙ ap (λ (k : ℕ). k - 1001 * jitter) from;
+      }
+
+  module _ (number : ℕ) (past next : AuditPast) (one : IsFrameNext s log (number + 1) past next) (far : IsHeld number past.moments) where
+    abbrev l : FrameLine s log (number + 1)
+    l = record { claims = one.claims; f = one.f; packet = one.packet; at = one.at }
+
+    abbrev broken : Bool
+    broken = breaks s.stamps one.at.past.newest (time_there l)
+
+    abbrev anew : Bool
+    anew = begins_anew s.stamps one.at.past.newest (time_there l)
+
+    abbrev notes : List Noted
+    notes = noted_newly s one.at.past (time_there l) one.f one.packet
+
+    abbrev ending : Ending
+    ending = ending_of s (knowledge s (claims_before s one.at.past (time_there l))) one.f
+
+    abbrev m : Moments
+    m = past.moments
+
+    abbrev bytes : ℕ
+    bytes = length one.f.payload.items
+
+    abbrev with_frame : Option ℕ → Moments
+    with_frame time = moments_behind s broken anew time one.f one.at.past.number notes ending m
+
+    abbrev start : Moments
+    start = begun_anew s anew broken m
+
+    -- what was known before it was so before the frame, if times go on
+    start_last : (τ : ℕ) → start.before ≡ Some τ → IsLastAt number τ
+    start_last τ e = elim (cases_Bool anew) [
+      | inl begins ↦ absurd (none-some τ (sym (frames.begun_marks s timing timed n broken anew one.f one.at.past.number notes ending m begins).0 ∙ e))
+      | inr on ↦ far.last τ (sym (frames.goes_on s timing timed n broken anew one.f one.at.past.number notes ending m on).0 ∙ e)
+    ]
+
+    start_mark : (q : ℕ) → start.since ≡ Some q → IsShownMark number q
+    start_mark q e = elim (cases_Bool anew) [
+      | inl begins ↦ absurd (none-some q (sym (frames.begun_marks s timing timed n broken anew one.f one.at.past.number notes ending m begins).1 ∙ e))
+      | inr on ↦ far.mark q (sym (frames.goes_on s timing timed n broken anew one.f one.at.past.number notes ending m on).1 ∙ e)
+    ]
+
+    reach : reach_back timing bytes ≡ longest_reach us bytes (damaged_at_once timing)
+    reach = (exact_clocks timing none).reach bytes ∙ ap (λ (k : ℕ). longest_reach k bytes (damaged_at_once timing)) (same_bit timing.bitrate)
+
+    -- the frame and the one before it don't touch
+    shown : (time : ℕ) → time_there l ≡ Some time → is_apart (logger_error s) timing bytes time start.before ≡ true
+        → IsShownMark (number + 1) (idle_mark s timing bytes time)
+    shown time at is = by_last start.before refl is
+      where
+        by_last : (o : Option ℕ) → start.before ≡ o → is_apart (logger_error s) timing bytes time o ≡ true
+            → IsShownMark (number + 1) (idle_mark s timing bytes time)
+        by_last None e test = absurd (true≢false (sym test))
+        by_last (Some τ) e test =
+            let (a, k, timed_at, below, over) = start_last τ e in
+            let from = is_log.times a τ k timed_at in
+            let to = is_log.times (number + 1) time l at in
+            let from_low = from.0 in
+            let from_high = from.1 in
+            let to_low = to.0 in
+            let to_high = to.1 in
+            let same = reach in
+            let less = ltb-true (τ + (reach_back timing bytes + 2 * logger_error s)) time test in
+            record {
+              line = number + 1;
+              there = l;
+              below = omega arith;
+              bytes = bytes;
+              one = place a;
+              before = τ + long_before;
+              time = time + long_before;
+              shows = record {
+                next = whole.next a (number + 1) k l (omega (arith, below)) (λ i after until. over i after (omega (arith, until)));
+                short = whole.bytes (number + 1) l;
+                bits = whole.bits (number + 1) l;
+                time_before = (omega (arith, from_low), omega (arith, from_high));
+                time_of = (omega (arith, to_low), omega (arith, to_high));
+                apart = omega (arith, less, same);
+              };
+              is = omega (arith, same);
+            }
+
+    -- the idle mark behind the frame
+    mark_there : (time q : ℕ) → time_there l ≡ Some time → since_behind s timing broken bytes time start.before start.since ≡ Some q → IsShownMark (number + 1) q
+    mark_there time q at e =
+        let idle : idle_behind s timing broken bytes time start.before start.since ≡ Some q =
+        sym (ap (λ (x : Bound). since_by x (idle_behind s timing broken bytes time start.before start.since) (earliest_end s time)) by_bus) ∙ e in
+        let test : Bool = shows_idle s timing broken bytes time start.before in
+        elim (cases_Bool test) [
+          | inl shows ↦
+              let rest = (and_parts (not s.part) (not broken && (leaves_idle timing && is_apart (logger_error s) timing bytes time start.before)) shows).1 in
+              let more = (and_parts (not broken) (leaves_idle timing && is_apart (logger_error s) timing bytes time start.before) rest).1 in
+              let apart = (and_parts (leaves_idle timing) (is_apart (logger_error s) timing bytes time start.before) more).1 in
+              let same : idle_mark s timing bytes time ≡ q =
+              same_Some (idle_mark s timing bytes time) q (sym (cond-true test (Some (idle_mark s timing bytes time)) start.since shows) ∙ idle) in
+              subst (IsShownMark (number + 1)) same (shown time at apart)
+          | inr not ↦ later_mark number q (start_mark q (sym (cond-false test (Some (idle_mark s timing bytes time)) start.since not) ∙ idle))
+        ]
+
+    by_other_frame : (new : Moments) → frames.IsOtherFrame s timing timed n broken anew one.f one.at.past.number notes ending m new → IsKept (number + 1) new
+    by_other_frame new other =
+        by_other s log place is_message IsUpper IsLower s timing timed n step none_of_these number m far.kept broken anew one.f one.at.past.number notes ending
+        new other
+
+    by_time : (time : ℕ) → time_there l ≡ Some time → IsHeld (number + 1) (with_frame (Some time))
+    by_time time at =
+        let new : Moments = with_frame (Some time) in
+        let (marks, kind) = frames.timed_frame s timing timed n broken anew one.f one.at.past.number notes ending time m in
+        let mark : (q : ℕ) → new.since ≡ Some q → IsShownMark (number + 1) q = λ q e. mark_there time q at (sym marks.0 ∙ e) in
+        record {
+          kept = elim kind [
+            | inl other ↦ by_other_frame new other
+            | inr near ↦
+                let (step_is, slack_is) = its_stream one.f near.stream near.stream_is in
+                by_message s log place is_message IsUpper IsLower s timing timed n step none_of_these number m far.kept broken anew one.f
+                one.at.past.number notes ending time new near step_is l (seen (number + 1) l near.seen) (time_shifted time at)
+                (λ x is. bound_by (number + 1) x new.since l mark (sym (ap (λ (o : Option ℕ). lower_bound o new.since) slack_is) ∙ is))
+          ];
+          last = λ τ e.
+              let same : time ≡ τ = same_Some time τ (sym marks.1 ∙ e) in
+              (number + 1, l, at ∙ ap Some same, omega arith, λ k after until. absurd (omega (arith, after, until)));
+          mark = mark;
+        }
+      where
+        time_shifted : (time : ℕ) → time_there l ≡ Some time → IsTimedBound bus logs (place (number + 1)) (time + long_before + logger_error s)
+        time_shifted time at =
+            let timed_at = is_log.times (number + 1) time l at in
+            let from = timed_at.0 in
+            let to = timed_at.1 in
+            record { time = time + long_before; at = (omega (arith, from), omega (arith, to)); is = refl }
+
+    by_no_time : time_there l ≡ None → IsHeld (number + 1) (with_frame None)
+    by_no_time none_there =
+        let marks = frames.timeless_marks s timing timed n broken anew one.f one.at.past.number notes ending m
+        (ap (λ (o : Option ℕ). begins_anew s.stamps one.at.past.newest o) none_there) in
+        record {
+          kept = by_other_frame (with_frame None) (frames.timeless_frame s timing timed n broken anew one.f one.at.past.number notes ending m);
+          last = λ τ e. absurd (none-some τ (sym marks.0 ∙ e));
+          mark = λ q e. absurd (none-some q (sym marks.1 ∙ e));
+        }
+
+    -- and with a packet of a broadcast
+    with_stream_of : (time : Option ℕ) (line : ℕ) (o : Option MessageStream) (new : Moments) → ((x : MessageStream) → o ≡ Some x → x.mark ≢ frames.mark s timing timed n)
+        → IsHeld (number + 1) new → IsHeld (number + 1) (with_packet_stream s time line o new)
+    with_stream_of None line o new other is = is
+    with_stream_of (Some time) line None new other is = is
+    with_stream_of (Some time) line (Some x) new other is =
+        let same = frames.other_message s timing timed n x (moment_window s x.slack time new.since) line new (other x refl) in
+        record {
+          kept = record {
+            none = same.noted ∙ is.kept.none;
+            count = is.kept.count;
+            line = is.kept.line;
+            windows = is.kept.windows;
+            is = same.earliest ∙ is.kept.is;
+            messages = is.kept.messages;
+          };
+          last = is.last;
+          mark = is.mark;
+        }
+
+    packet_apart : (u : ℕ) → stream_mark NearPackets u ≢ frames.mark s timing timed n
+    packet_apart u e = (let never : 19 ≡ 15 = ap (λ (k : Mark). (key_of k).0) e in absurd (omega (arith, never)))
+
+    by_frame : IsHeld (number + 1) next.moments
+    by_frame =
+        let time : Option ℕ = time_there l in
+        let packet : Option MessageStream = packet_with s.plan.timing (counted_for s one.at.past time one.f one.packet) one.f (broadcasts_there s one.at.past time one.f) in
+        let held_there : IsHeld (number + 1) (with_frame time) = elim (time_there l) as (λ o. time_there l ≡ o → IsHeld (number + 1) (with_frame o)) [
+          | None ↦ λ at. by_no_time at
+          | Some τ ↦ λ at. by_time τ at
+        ] refl in
+        let load : next.moments ≡ with_packet_stream s time one.at.past.number packet (with_frame time) =
+        ap (λ (p : AuditPast). p.moments) one.next_is ∙ moments_with s one.at.past time one.at.named one.f one.packet
+        ∙ ap (λ (p : AuditPast). with_packet_stream s time one.at.past.number packet (moments_with_frame s s one.at.past time one.f one.packet p.moments)) one.past_is in
+        subst (IsHeld (number + 1)) (sym load)
+        (with_stream_of time one.at.past.number packet (with_frame time)
+        (λ x is same. (let (u, at) = packet_mark s.plan.timing (counted_for s one.at.past time one.f one.packet) one.f
+        (broadcasts_there s one.at.past time one.f) x is in packet_apart u (sym at ∙ same))) held_there)
+
+  abbrev Holds : ℕ → AuditPast → Type 0
+  Holds number past = IsHeld number past.moments
+
+  more : (number : ℕ) (past next : AuditPast) → Holds number past → IsNext s log (number + 1) past next → Holds (number + 1) next
+  more number past next is (count, inl passed) =
+      let same : frames.IsAsNear s timing timed n past.moments past.moments = record { earliest = refl; noted = refl; since = refl; before = refl } in
+      subst (IsHeld (number + 1)) (sym passed.moments_are) (record {
+        kept = kept_on number past.moments past.moments same is.kept;
+        last = λ τ e.
+            let (a, l, at, below, over) = is.last τ e in (
+              a,
+              l,
+              at,
+              omega (arith, below),
+              λ k after until. elim (cases_eq k (number + 1)) [
+                | inl here ↦ subst (IsPassedOver s log) (sym here) passed.over
+                | inr apart ↦ over k after (omega (arith, until, apart))
+              ],
+            );
+        mark = λ q e. later_mark number q (is.mark q e);
+      })
+  more number past next is (count, inr (inl gap)) =
+      let same : frames.IsAsNear s timing timed n past.moments past.moments = record { earliest = refl; noted = refl; since = refl; before = refl } in
+      subst (IsHeld (number + 1)) (sym gap.moments_are) (gap_held (number + 1) past.moments (kept_on number past.moments past.moments same is.kept))
+  more number past next is (count, inr (inr (inl bad))) =
+      let all : Moments = all_pauses_ended s past.moments in
+      subst (IsHeld (number + 1)) (sym (ap (λ (p : AuditPast). p.moments) bad.next_is))
+      (gap_held (number + 1) all (kept_on number past.moments all (frames.all_near s timing timed n past.moments) is.kept))
+  more number past next is (count, inr (inr (inr one))) = by_frame number past next one is
+
+  pub never_near : (end : AuditPast) → AuditsLines s nothing_read log end → (look_at (log_ended s end) (mark_at NearFlow n 0)).times ≡ 0
+  unfolding told_at
+  never_near end read =
+      let first : Holds 0 nothing_read = record {
+        kept = first_so_far s log place is_message IsUpper IsLower s timing timed n step none_of_these nothing_read.moments refl refl;
+        last = λ τ e. absurd (none-some τ e);
+        mark = λ q e. absurd (none-some q e);
+      } in
+      let is = at_end s log Holds more end first read in
+      ap (λ (l : List Noted). (told_of l).times) ((frames.all_near s timing timed n end.moments).noted ∙ is.kept.none)
+
+pub periods_not_near : PeriodsAreNotNear
+periods_not_near s log timing bus damaged held release clock place n ms is_message end timed by_bus none keeps errors short few part is_log whole seen read =
+    never_near s log timing timed by_bus none bus damaged held release clock place n ms is_message keeps errors short few part is_log whole seen end read

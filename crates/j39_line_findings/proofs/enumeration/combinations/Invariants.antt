@@ -1,6 +1,0 @@
-use Rattle.std.proofs.Common.{◌≡◌, drop}
-use Rattle.j39_line_findings.specs.AllVariants.{combinations}
-use Rattle.j39_line_findings.proofs.enumeration.combinations.Given as goal
-
-abbrev pub invariant-loop-choice : goal.invariant-loop-choice
-invariant-loop-choice l = combinations l.count (drop l.choice-index l.choices) ≡ combinations 1 l.choices
