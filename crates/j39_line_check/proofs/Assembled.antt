@@ -41,6 +41,7 @@ module _ (line : ProductLine) (conditioned : List FoundByCondition) (exact : Are
   by_condition full one among =
       let is = exact.sound one among in record {
         has = inl (record { possible = is.possible; one = is.has });
+        meets = λ goes. is.meets;
         counts = rw is.goes refl;
         first = λ other has whatever counts.
             is.first other has.findings (record { is_possible = has.possible; are_findings = has.are_findings }) has.one;
