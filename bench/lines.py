@@ -1,14 +1,15 @@
 #!/usr/bin/env python3
 """Compares what `check`, `addresses` and `load` write of lines of vehicles with what they write of each of their variants: lines.py [PLANS [SEED]]
 
-Each of so many random plans (200) has up to five choices. The plan of each possible variant is written as a file and asked about by itself; the findings
-are put at their places in the line's file, each once, with the witness and the alternatives that are to stand behind ` in`, by sets of alternatives and
-none of the program's definitions; so are who stays and the worst times. J39PLAN names the program, else ./j39plan is asked. The status is 1 where an
-answer differs, which is shown.
+Each of so many random plans (200) has up to five choices; each third one has further choices, until it has more than 16,384 variants: of groups that
+nobody sends, and of what isn't built together, so that variants differ of which the plans are alike but for such groups. Each plan of a possible variant is
+written as a file and asked about by itself, without these groups; the findings are put at their places in the line's file, each once, with the witness and
+the alternatives that are to stand behind ` in`, by sets of alternatives and none of the program's definitions; so are who stays and the worst times, and how
+many full variants there are. J39PLAN names the program, else ./j39plan is asked. The status is 1 where an answer differs, which is shown.
 """
 from __future__ import annotations
 
-import itertools
+import math
 import os
 import random
 import subprocess
@@ -20,8 +21,10 @@ TOP = Path(__file__).resolve().parent.parent
 PROGRAM = os.environ.get("J39PLAN", str(TOP / "j39plan"))
 KINDS = ("unit", "group", "flow", "need", "request")
 OF_TIMES = ("F3", "F17", "F18", "F20")
-HIDING = ("F1", "F2", "F3", "F4", "F5", "F9", "F10", "F11", "F12", "F26", "F27", "F28")
-OF_ADDRESSES = ("F1", "F2", "F3", "F12", "F26", "F27")
+HIDING = ("F1", "F2", "F3", "F4", "F5", "F9", "F10", "F11", "F12", "F26", "F27", "F28", "F30")
+OF_ADDRESSES = ("F1", "F2", "F3", "F12", "F26", "F27", "F30")
+# So many full variants are looked at, and so many variants have the lines with further choices at least; groups that nobody sends begin with IDLE.
+LOOKED, MANY, IDLE = 1024, 16_384, "IDLE"
 Table = dict[str, object]
 Found = tuple[list[str], list[tuple[str, int]], list[str]]
 
@@ -46,13 +49,21 @@ def value(it: object) -> str:
 
 
 class Line:
-    """A line of vehicles: its choices, the boxes that aren't built, and its tables by their kinds."""
+    """A line of vehicles: its choices, the boxes that aren't built, and its tables by their kinds. A variant, and a box, is a number with a bit for each
+    alternative."""
 
     def __init__(self, top: str, choices: list[list[str]], nevers: list[list[str]], tables: dict[str, list[Table]]) -> None:
         self.top, self.choices, self.nevers, self.tables = top, choices, nevers, tables
-        self.all = [label for choice in choices for label in choice]
+        self.bits = {label: 1 << number for number, label in enumerate(label for choice in choices for label in choice)}
+        self.sets = [sum(self.bits[label] for label in choice) for choice in choices]
+        self.never_boxes = [self.of_list(never) for never in nevers]
         self.boxes = {(kind, number): self.box(kind, number) for kind in KINDS for number in range(len(tables[kind]))}
-        self.known: dict[tuple[str, ...], list[Found]] = {}
+        used = {place for place in self.boxes if not str(self.tables[place[0]][place[1]].get("label", "")).startswith(IDLE)}
+        self.used = [place for place in self.boxes if place in used]
+        # the alternatives of the choices by which plans differ, such groups aside
+        self.telling = sum(choice for choice in self.sets if any(choice & ~self.boxes[place] for place in used))
+        self.known: dict[str, list[Found]] = {}
+        self.of_variant: dict[int, list[Found]] = {}
 
     def text(self, there: dict[str, list[int]] | None = None) -> str:
         """The text of its plan, or of the plan of those tables."""
@@ -65,17 +76,17 @@ class Line:
                 parts.append(f"[[{kind}]]\n" + "".join(f"{key} = {value(it)}\n" for key, it in table.items() if key != "with" or there is None and it))
         return "\n".join(parts)
 
-    def of_list(self, labels: object) -> frozenset[str]:
+    def of_list(self, labels: object) -> int:
         """The alternatives that the box of a list has."""
         assert isinstance(labels, list)
-        named = [choice for choice in self.choices if not set(choice).isdisjoint(labels)]
-        return frozenset(label for choice in self.choices for label in choice if choice not in named or label in labels)
+        named = sum(self.bits[label] for label in set(labels))
+        return sum(choice & named or choice for choice in self.sets)
 
     def place(self, kind: str, label: object) -> int:
         """The place of what has a label."""
         return next(number for number, table in enumerate(self.tables[kind]) if table["label"] == label)
 
-    def box(self, kind: str, number: int) -> frozenset[str]:
+    def box(self, kind: str, number: int) -> int:
         """The alternatives of the box in which a table is there, a need asked for."""
         table = self.tables[kind][number]
         found = self.of_list(table.get("with", []))
@@ -84,14 +95,27 @@ class Line:
                 found &= self.box(other, self.place(other, table[key]))
         return found
 
-    def meet(self, *boxes: frozenset[str]) -> bool:
+    def meet(self, *boxes: int) -> bool:
         """Whether some variant, possible or not, is in each of these boxes."""
-        both = frozenset.intersection(*boxes)
-        return all(not both.isdisjoint(choice) for choice in self.choices)
+        return all(self.in_all(boxes) & choice for choice in self.sets)
 
-    def possible(self) -> list[tuple[str, ...]]:
-        """Its possible variants, in order."""
-        return [taken for taken in itertools.product(*self.choices) if not any(set(taken) <= self.of_list(never) for never in self.nevers)]
+    def in_all(self, boxes: tuple[int, ...]) -> int:
+        """The alternatives that are in each of these boxes."""
+        both = -1
+        for box in boxes:
+            both &= box
+        return both
+
+    def variants(self, is_built: bool = True) -> list[int]:
+        """Its variants, in order; those that are built, or all."""
+        all_of_it = [0]
+        for choice in self.choices:
+            all_of_it = [taken | self.bits[label] for taken in all_of_it for label in choice]
+        return [taken for taken in all_of_it if all(taken & ~never for never in self.never_boxes)] if is_built else all_of_it
+
+    def labels(self, taken: int) -> list[str]:
+        """The alternatives that a variant takes."""
+        return [label for label, bit in self.bits.items() if taken & bit]
 
     # ---- full alternatives
 
@@ -105,7 +129,7 @@ class Line:
         return (flow["group"] == need["group"] and flow["from"] != need["unit"] and need.get("from", flow["from"]) == flow["from"]
                 and flow["to"] in ("all", need["unit"]))
 
-    def sources(self, number: int) -> list[frozenset[str]]:
+    def sources(self, number: int) -> list[int]:
         """The boxes of what brings what a need asks for."""
         found = []
         for place, flow in enumerate(self.tables["flow"]):
@@ -117,32 +141,55 @@ class Line:
                     found.append(self.boxes["flow", place])
         return found
 
-    def covers(self, more: str, less: str, need: int | None) -> bool:
+    def covers(self, more: int, less: int, need: int | None, is_built: bool) -> bool:
         """Whether an alternative covers another one, for a need where there is one."""
         lists = [self.of_list(table.get("with", [])) for kind in KINDS if kind != "need" for table in self.tables[kind]]
-        nevers = [self.of_list(never) for never in self.nevers]
+        nevers = self.never_boxes if is_built else []
         alike = [] if need is None else [box for box in self.sources(need) if self.meet(box, self.boxes["need", need])]
-        return (all(more in it for it in lists if less in it) and all(less in it for it in nevers if more in it)
-                and all((more in it) == (less in it) for it in alike))
+        return (all(more & it for it in lists if less & it) and all(less & it for it in nevers if more & it)
+                and all(bool(more & it) == bool(less & it) for it in alike))
 
-    def full(self, need: int | None = None) -> set[str]:
+    def full(self, need: int | None = None, is_built: bool = True) -> int:
         """The full alternatives, for a need where there is one."""
-        found = set()
+        found = 0
         for choice in self.choices:
-            these = [label for label in choice if need is None or label in self.boxes["need", need]]
-            found |= {label for label in these if all(self.covers(label, other, need) and these.index(other) > these.index(label)
-                                                      for other in these if other != label and self.covers(other, label, need))}
+            these = [self.bits[label] for label in choice if need is None or self.bits[label] & self.boxes["need", need]]
+            found |= sum(bit for bit in these if all(self.covers(bit, other, need, is_built) and other > bit
+                                                     for other in these if other != bit and self.covers(other, bit, need, is_built)))
         return found
+
+    def fulls(self, is_built: bool = True) -> dict[int | None, int]:
+        """The full alternatives of the line, and those for each need of which an age is asked."""
+        needs = [number for number, need in enumerate(self.tables["need"]) if "within" in need and "bitrate" in self.top]
+        return {need: self.full(need, is_built) for need in (None, *needs)}
+
+    def number(self, is_built: bool = True) -> int:
+        """How many full variants count."""
+        some = {one for one in self.fulls(is_built).values() if all(one & choice for choice in self.sets)}
+        return sum(math.prod((one & choice).bit_count() for choice in self.sets) for one in some if not any(one != other and one & ~other == 0 for other in some))
+
+    def many(self) -> int | None:
+        """How many full variants there are, where they are too many, and those of the line without its nevers don't do."""
+        count = self.number()
+        if count <= LOOKED:
+            return None
+        whole = {kind: list(range(len(self.tables[kind]))) for kind in KINDS}
+        if self.number(False) > LOOKED or any(line.startswith("F4 ") for line in ask("check", self.text(whole))):
+            return count
+        counted = {taken & self.telling: taken for taken in self.variants(False)}
+        return count if any(self.goes_by_full(words, places) for taken in counted.values() for words, places, _ in self.found(taken)) else None
 
     # ---- findings
 
-    def there(self, taken: tuple[str, ...]) -> dict[str, list[int]]:
-        """The tables of the plan of a variant."""
+    def there(self, taken: int) -> dict[str, list[int]]:
+        """The tables of the plan of a variant, groups that nobody sends aside."""
         found: dict[str, list[int]] = {kind: [] for kind in KINDS}
-        for (kind, number), box in self.boxes.items():
-            table = self.tables[kind][number]
-            if set(taken) <= box and (kind != "need" or set(taken) <= self.boxes["group", self.place("group", table["group"])]
-                                      & (self.boxes["unit", self.place("unit", table["from"])] if "from" in table else frozenset(self.all))):
+        for kind, number in self.used:
+            table, box = self.tables[kind][number], self.boxes[kind, number]
+            if kind == "need":
+                box &= self.boxes["group", self.place("group", table["group"])]
+                box &= self.boxes["unit", self.place("unit", table["from"])] if "from" in table else -1
+            if not taken & ~box:
                 found[kind].append(number)
         return found
 
@@ -156,15 +203,19 @@ class Line:
         count = {"1": 2, "2": 2, "5": 2, "26": 2}.get(words[0][1:], 1) if kind else 0
         return words, [(kind, self.place(kind, word)) for word in words[2:2 + count]]
 
-    def found(self, taken: tuple[str, ...]) -> list[Found]:
+    def found(self, taken: int) -> list[Found]:
         """The findings of a variant: their words, what stands at their places, and the lines below them."""
-        if taken not in self.known:
-            self.known[taken] = self.looked_for(taken)
-        return self.known[taken]
+        key = taken & self.telling
+        if key not in self.of_variant:
+            there = self.there(taken)
+            asked = [number for number in range(len(self.tables["need"])) if not taken & ~self.boxes["need", number]]
+            if str((there, asked)) not in self.known:
+                self.known[str((there, asked))] = self.looked_for(there, asked)
+            self.of_variant[key] = self.known[str((there, asked))]
+        return self.of_variant[key]
 
-    def looked_for(self, taken: tuple[str, ...]) -> list[Found]:
-        """The findings of a variant, by what `check` writes of its plan."""
-        there = self.there(taken)
+    def looked_for(self, there: dict[str, list[int]], asked: list[int]) -> list[Found]:
+        """The findings of a variant, by what `check` writes of its plan, and by the needs that are asked for in it."""
         answer: list[Found] = []
         for line in ask("check", self.text(there)):
             if line.startswith("F"):
@@ -173,8 +224,7 @@ class Line:
                 answer[-1][2].append(line)
             elif not line.startswith(("ok ", "findings ")):
                 raise ValueError(line)
-        missed = [number for number in range(len(self.tables["need"])) if set(taken) <= self.boxes["need", number] and number not in there["need"]]
-        return answer + [(["F19", "NeedUnmet", str(number + 1)], [("need", number)], []) for number in missed]
+        return answer + [(["F19", "NeedUnmet", str(number + 1)], [("need", number)], []) for number in asked if number not in there["need"]]
 
     def ends_in_pool(self, flow: Table) -> bool:
         """Whether an end of a flow is planned at an address of 128..247."""
@@ -184,7 +234,7 @@ class Line:
         """Whether the witness of a finding is a full variant."""
         return words[0] in OF_TIMES or words[0] == "F28" and self.ends_in_pool(self.tables["flow"][places[0][1]])
 
-    def further(self, number: str, places: list[tuple[str, int]]) -> list[frozenset[str]]:
+    def further(self, number: str, places: list[tuple[str, int]]) -> list[int]:
         """The boxes beside those of what stands at the places of a finding."""
         tables = [self.tables[kind][place] for kind, place in places]
         flows = list(enumerate(self.tables["flow"]))
@@ -199,52 +249,74 @@ class Line:
             return [self.boxes["unit", place] for place, unit in enumerate(self.tables["unit"]) if unit["address"] in ends]
         return []
 
-    def behind(self, words: list[str], places: list[tuple[str, int]], taken: tuple[str, ...]) -> list[str]:
+    def behind(self, words: list[str], places: list[tuple[str, int]], taken: int) -> list[str]:
         """What stands behind a finding of the line, by its witness."""
         if self.goes_by_full(words, places):
-            return ["in", *taken]
+            return ["in", *self.labels(taken)]
         boxes = [self.boxes[place] for place in places]
         boxes += [box for box in self.further(words[0], places) if self.meet(*boxes, box)]
-        told = [label for label, choice in zip(taken, self.choices) if any(not set(choice) <= box for box in boxes)]
+        told = [label for label, choice in zip(self.labels(taken), self.sets) if any(choice & ~box for box in boxes)]
         return ["in", *told] if told else []
 
-    def answer(self) -> list[str]:
-        """What `check` is to write of the line."""
-        variants = self.possible()
-        if not variants:
-            return ["F29 NoVariant", "findings 1"]
-        full, best = self.full(), {}
-        for order, taken in enumerate(variants):
+    def best(self) -> list[tuple[list[str], list[tuple[str, int]], list[str]]]:
+        """What is to be told of the line: each finding with its words, its places and the lines below it."""
+        fulls = self.fulls()
+        # the first variant of those whose plans are alike, of all and of the full ones
+        first: dict[int | None, dict[int, tuple[int, int]]] = {need: {} for need in (-1, *fulls)}
+        for order, taken in enumerate(self.variants()):
+            key = taken & self.telling
+            first[-1].setdefault(key, (order, taken))
+            for need, some in fulls.items():
+                if not taken & ~some:
+                    first[need].setdefault(key, (order, taken))
+        best: dict[str, tuple[tuple[int, list[int]], tuple[int, bool, int], Found]] = {}
+        for key, (order, taken) in first[-1].items():
             for words, places, below in self.found(taken):
                 amount = int(words[2]) if words[0] in ("F3", "F17") else 0
-                fulls = self.full(places[0][1]) if words[0] == "F20" else full
-                counts = not self.goes_by_full(words, places) or set(taken) <= fulls
-                key = (int(words[0][1:]), [place for _, place in places])
-                rank = (-amount, not counts, order)
-                if str(key) not in best or rank < best[str(key)][1]:
-                    best[str(key)] = (key, rank, [" ".join([*words, *self.behind(words, places, taken)]), *below])
-        if not best:
-            return ["ok " + " ".join(f"{len(self.tables[kind])} {kind}s" for kind in KINDS[:3]) + f" {len(self.choices)} choices"]
-        lines = [line for _, _, some in sorted(best.values(), key=lambda one: one[0]) for line in some]
-        return [*lines, f"findings {len(best)}"]
+                counted = self.goes_by_full(words, places)
+                full = first[places[0][1] if words[0] == "F20" else None].get(key) if counted else None
+                at, witness = full or (order, taken)
+                known = (int(words[0][1:]), [place for _, place in places])
+                rank = (-amount, counted and full is None, at)
+                if str(known) not in best or rank < best[str(known)][1]:
+                    best[str(known)] = (known, rank, ([*words, *self.behind(words, places, witness)], places, below))
+        return [one for _, _, one in sorted(best.values(), key=lambda one: one[0])]
 
-    def addresses(self) -> list[str]:
+    def told(self) -> list[Found]:
+        """What is to be told of the line, with how many variants there are where they are too many."""
+        if not self.variants():
+            return [(["F29", "NoVariant"], [], [])]
+        many = self.many()
+        if many is None:
+            return self.best()
+        return [*(one for one in self.best() if not self.goes_by_full(*one[:2])), (["F30", "ManyVariants", str(many)], [], [])]
+
+    def answer(self, told: list[Found]) -> list[str]:
+        """What `check` is to write of the line."""
+        if not told:
+            return ["ok " + " ".join(f"{len(self.tables[kind])} {kind}s" for kind in KINDS[:3]) + f" {len(self.choices)} choices"]
+        return [line for words, _, below in told for line in (" ".join(words), *below)] + [f"findings {len(told)}"]
+
+    def apart(self) -> list[int]:
+        """A variant of each plan at which is looked: where there are too many, of the line without its nevers."""
+        return list({taken & self.telling: taken for taken in self.variants(self.number() <= LOOKED)}.values())
+
+    def addresses(self, told: list[Found]) -> list[str]:
         """What `addresses` is to write of the line."""
-        variants = self.possible()
-        if not variants or any(words[0] in OF_ADDRESSES for taken in variants for words, _, _ in self.found(taken)):
-            return self.answer()
-        told = [line for taken in variants for line in ask("addresses", self.text(self.there(taken))) if line.startswith("unit ")]
+        if any(words[0] in (*OF_ADDRESSES, "F29") for words, _, _ in told):
+            return self.answer(told)
+        there = [line for taken in self.apart() for line in ask("addresses", self.text(self.there(taken))) if line.startswith("unit ")]
+        built = self.variants()
         lines = []
-        for unit in self.tables["unit"]:
-            these = [line for line in told if line.split()[1] == unit["label"]]
+        for number, unit in enumerate(self.tables["unit"]):
+            is_built = any(not taken & ~self.boxes["unit", number] for taken in built)
+            these = [line for line in there if is_built and line.split()[1] == unit["label"]]
             lines.append(min(these, key=lambda line: " stays " in line, default=f"unit {unit['label']} no variant"))
         return [*lines, f"stay {sum(' stays ' in line for line in lines)} of {len(lines)}"]
 
-    def times(self, taken: tuple[str, ...]) -> dict[tuple[str, int], str]:
+    def times(self, taken: int) -> dict[tuple[str, int], str]:
         """What `load` writes of the flows and needs of a variant's plan, by their places in the file, and its load."""
-        there = self.there(taken)
-        told = {("need", number): " unmet of {}000 us".format(need["within"]) for number, need in enumerate(self.tables["need"])
-                if "within" in need and set(taken) <= self.boxes["need", number]}
+        there, told = self.there(taken), {}
         for line in ask("load", self.text(there)):
             words = line.split()
             if words[0] in ("flow", "need"):
@@ -258,26 +330,28 @@ class Line:
                 told["load", 0] = line
         return told
 
-    def load(self) -> list[str]:
+    def load(self, found: list[Found]) -> list[str]:
         """What `load` is to write of the line."""
-        variants = self.possible()
         if "bitrate" not in self.top:
             return ["refused plan NoTiming"]
-        if not variants or any(words[0] in HIDING for taken in variants for words, _, _ in self.found(taken)):
-            return self.answer()
-        each = [self.times(taken) for taken in variants]
+        if any(words[0] in (*HIDING, "F29") for words, _, _ in found):
+            return self.answer(found)
+        each, built = [self.times(taken) for taken in self.apart()], self.variants()
+        unmet = [places[0][1] for words, places, _ in found if words[0] == "F19"]
 
         def worst(kind: str, place: int) -> str:
-            return max((told[kind, place] for told in each if (kind, place) in told), key=badness, default=" no variant")
+            if kind == "need" and place in unmet:
+                return f" unmet of {self.tables['need'][place]['within']}000 us"
+            if all(taken & ~self.boxes[kind, place] for taken in built):
+                return " no variant"
+            return max((told[kind, place] for told in each if (kind, place) in told and "unmet" not in told[kind, place]), key=badness, default=" no variant")
 
         lines = [f"flow {number + 1} {flow['group']} {flow['from']} {flow['to']}{worst('flow', number)}" for number, flow in enumerate(self.tables["flow"])]
         lines += [f"need {number + 1} {need['unit']} {need['group']}{worst('need', number)}" for number, need in enumerate(self.tables["need"])
                   if "within" in need]
         lines.append(max((told["load", 0] for told in each), key=lambda line: int(line.split()[1])))
-        answer = self.answer()
-        others = [line for line in answer if not line.startswith(("F17", "F18", "F20", "ok ", "findings "))]
-        count = sum(line.startswith("F") for line in others)
-        return [*lines, *others, *([f"findings {count}"] if count else [])]
+        others = [one for one in found if one[0][0] not in ("F17", "F18", "F20")]
+        return [*lines, *(self.answer(others) if others else [])]
 
 
 def badness(told: str) -> tuple[int, int]:
@@ -292,9 +366,9 @@ def badness(told: str) -> tuple[int, int]:
     return (2 if late else 1, number)
 
 
-def random_line(rng: random.Random) -> Line:
-    """A random line of vehicles."""
-    choices = [[f"{letter}{number}" for number in range(rng.choice((2, 2, 2, 3)))] for letter in "ABCDE"[:rng.randint(1, 5)]]
+def random_line(rng: random.Random, most: int = 5) -> Line:
+    """A random line of vehicles, of so many choices at most."""
+    choices = [[f"{letter}{number}" for number in range(rng.choice((2, 2, 2, 3)))] for letter in "ABCDE"[:rng.randint(1, most)]]
     if len(choices) == 5:
         choices = [choice[:2] for choice in choices]
 
@@ -357,9 +431,9 @@ def random_line(rng: random.Random) -> Line:
     return Line(top, choices, nevers, {"unit": units, "group": groups, "flow": flows, "need": needs, "request": requests})
 
 
-def timed_line(rng: random.Random) -> Line:
-    """A random line of vehicles nothing of which hides its times."""
-    line = random_line(rng)
+def timed_line(rng: random.Random, most: int = 5) -> Line:
+    """A random line of vehicles nothing of which hides its times, of so many choices at most."""
+    line = random_line(rng, most)
     for number, unit in enumerate(line.tables["unit"]):
         unit["address"], unit["name"] = (0, 3, 7, 11, 15, 23)[number], {"identity": number + 1}
     for number, group in enumerate(line.tables["group"]):
@@ -378,14 +452,45 @@ def timed_line(rng: random.Random) -> Line:
     return Line(top, line.choices, line.nevers, tables)
 
 
+def widened(rng: random.Random, line: Line) -> Line:
+    """The line with further choices, until it has many variants: options and alternatives of groups that nobody sends, some of which aren't built with
+    others, and choices that nothing names. A few tables go by these too."""
+    choices, nevers, tables = list(line.choices), list(line.nevers), {kind: [dict(table) for table in line.tables[kind]] for kind in KINDS}
+    kinds = rng.choice((("both",), ("never", "option"), ("option", "none"), ("both", "never", "option", "none"), ("never",)))
+    further: list[str] = []
+    while math.prod(map(len, choices)) <= MANY:
+        known, kind = [label for choice in choices for label in choice], rng.choice(kinds)
+        new = [f"{'VWXYZ'[len(choices) % 5]}{len(choices)}{letter}" for letter in "ABC"[:rng.choice((2, 2, 2, 3))]]
+        choices.insert(rng.randrange(len(choices) + 1), new)
+        for label in {"both": new, "never": new[1:], "option": new[-1:], "none": []}[kind]:
+            number = len(tables["group"])
+            tables["group"].append({"label": f"{IDLE}{number}", "pgn": 64600 + number, "priority": 6, "length": 8, "with": [label]})
+            if kind == "never":
+                nevers.append([label, *rng.sample(known, min(len(known), rng.choice((1, 1, 2))))])
+        further += new
+    for _ in range(rng.choice((0, 1, 1, 2))):
+        table = rng.choice(rng.choice([tables[kind] for kind in KINDS if tables[kind]]))
+        if not str(table.get("label", "")).startswith(IDLE):
+            some = table["with"]
+            assert isinstance(some, list)
+            table["with"] = [*some, rng.choice(further)]
+    return Line(line.top, choices, nevers, tables)
+
+
+def any_line(rng: random.Random, number: int) -> Line:
+    """A random line: each second one a timed one, each third one with many variants."""
+    make = timed_line if number % 2 else random_line
+    return widened(rng, make(rng, 3)) if number % 3 == 2 else make(rng)
+
+
 def main(words: list[str]) -> int:
-    """Compares random lines, every second one a timed one."""
+    """Compares random lines."""
     plans, seed = (int(word) for word in [*words, *("200", "1")[len(words):]])
     rng = random.Random(seed)
     counts: dict[str, int] = {}
     refused = differences = timed = 0
     for number in range(plans):
-        line = timed_line(rng) if number % 2 else random_line(rng)
+        line = any_line(rng, number)
         written = ask("check", line.text())
         if not written or written[0].startswith("refused"):
             refused += 1
@@ -393,7 +498,8 @@ def main(words: list[str]) -> int:
                 print(written)
             continue
         try:
-            wanted = {"check": line.answer(), "addresses": line.addresses(), "load": line.load()}
+            told = line.told()
+            wanted = {"check": line.answer(told), "addresses": line.addresses(told), "load": line.load(told)}
         except ValueError as error:
             print(f"plan {number}: a variant is refused: {error}")
             differences += 1
