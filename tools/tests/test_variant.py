@@ -1,6 +1,7 @@
 """The plan of one variant of a line of vehicles, as a file."""
 
 import json
+import math
 import os
 import unittest
 
@@ -8,6 +9,7 @@ import j39plan
 from j39plan import program
 from j39plan.plan.answer_objects import check_object
 from j39plan.plan.answer_places import placed
+from j39plan.plan.hints.full import several
 from j39plan.plan.hints.lint import Lint
 from j39plan.plan.hints.variants import nowhere
 from j39plan.plan.parts import Source
@@ -164,6 +166,25 @@ class Lines(InFolder):
 
 
 class Found(unittest.TestCase):
+    def test_choices_by_which_there_are_many_vehicles(self) -> None:
+        """Beside another finding, by units of both alternatives; by a need that depends on each of eleven options; and by what isn't built."""
+        for name, number, told in (
+            ("line_eleven_choices_and_two_at_one_address", 2048, "by A0 or B0, A1 or B1, A2 or B2, A3 or B3, A4 or B4 ..:"),
+            ("line_older_without_eleven_options", 2048, "by NO_R0 or R0, NO_R1 or R1, NO_R2 or R2, NO_R3 or R3, NO_R4 or R4 ..:"),
+            ("line_options_that_may_choose_without_a_gearbox", 1536, "by CUMMINS or DETROIT, ZF or ALLISON or EATON, NO_R0 or R0, NO_R1 or R1, NO_R2 or R2 ..:"),
+        ):
+            status, answer, _ = run("where.py", os.path.join(CHECKS, f"{name}.toml"))
+            self.assertEqual(status, 1)
+            many = next(line for line in answer.splitlines() if f": F30 ManyVariants {number}  (" in line)
+            self.assertIn(told, many)
+
+    def test_full_alternatives(self) -> None:
+        """Of the options of a line those count alone by whose absence something is there, or may be built that isn't with them."""
+        for name, labels in (("line_thirty_options", []), ("line_need_without_within", [])):
+            self.assertEqual(several(Source(text_of(os.path.join(CHECKS, f"{name}.toml")))), labels)
+        choices = several(Source(text_of(example("truck_line.toml"))))
+        self.assertEqual((len(choices), math.prod(map(len, choices))), (6, 96))
+
     def test_which_vehicles_have_a_finding(self) -> None:
         """In the program's own answers: behind the finding as text, for GitHub and as JSON, with the lists by which it goes, also those of flows that meet a need."""
         for name, labels, told in (

@@ -6,7 +6,7 @@ from typing import NamedTuple
 
 from j39plan.j1939 import FRAME_BYTES
 from j39plan.plan.answer_grammar import Line, line_of
-from j39plan.plan.hints import ends, groups, needs, requests, variants
+from j39plan.plan.hints import ends, full, groups, needs, requests, variants
 from j39plan.plan.hints.refusals import refusal
 from j39plan.plan.hints.text_faults import Told
 from j39plan.plan.parts import Source
@@ -165,7 +165,9 @@ def of_choices(plan: Source, line: Line) -> Told:
     """Line and hint of a finding about the choices of a line of vehicles."""
     if line.word("finding") == "F29":
         return plan.line(("never",)), "the nevers leave no vehicle"
-    return plan.line(("choice",)), "so many full vehicles differ in what delays, loads and addresses come from: fewer choices that units, groups or flows go with"
+    told = [" or ".join(labels) for labels in full.several(plan)]
+    named = f"{', '.join(told[:SHOWN])}{' ..' if len(told) > SHOWN else ''}"
+    return plan.line(("choice",)), f"so many vehicles may differ in delays, loads and addresses, by {named}: where few do, plan what they have for each vehicle"
 
 
 # What is to be said of a finding by its number.
