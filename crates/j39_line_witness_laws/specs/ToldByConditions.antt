@@ -24,10 +24,10 @@ pub record IsFirstWithIt (line : ProductLine) (one : FoundByCondition) : Type 0 
   pub has : (findings : List LineFinding) → AreVariantFindings line one.witness.items findings → IsFound findings one.finding
   pub first : (other : List ℕ) (findings : List LineFinding) → HasThese line other findings → IsFound findings one.finding → ¬ IsEarlier other one.witness.items
 
-pub record AreToldExactly (line : ProductLine) (told : List FoundByCondition) : Type 0 where
+pub record TellWhatVariantsHave (line : ProductLine) (told : List FoundByCondition) : Type 0 where
   pub sound : (one : FoundByCondition) → IsAmongTold told one → IsFirstWithIt line one
   pub complete : (variant : List ℕ) (findings : List LineFinding) → HasThese line variant findings → (finding : LineFinding) → goes_by_conditions line finding ≡ true
       → IsFound findings finding → (one : FoundByCondition) × IsAmongTold told one × (one.finding ≡ finding)
 
 abbrev pub TellExactly : Type 0
-TellExactly = (line : ProductLine) (told : List FoundByCondition) → AreWitnessed line (candidates line) told → AreToldExactly line told
+TellExactly = (line : ProductLine) (told : List FoundByCondition) → AreWitnessed line (candidates line) told → TellWhatVariantsHave line told
