@@ -9,7 +9,7 @@ use Rattle.j39_variants.specs.declared.line.Choice.{Choice}
 use Rattle.j39_line_findings.specs.Boxes.{is_one_alternative}
 use Rattle.j39_line_findings.specs.FullVariants.{alternative_at}
 use Rattle.j39_full_variants.specs.SetVariantLaws.{IsOfSet}
-use Rattle.j39_full_variants.specs.SetVariants.{has_alternative, has_choice, takes_from}
+use Rattle.j39_full_variants.specs.SetVariants.{set_has, has_choice, takes_from}
 use Rattle.j39_full_variants.proofs.Sets.{and_so, both, one_itself, one_same}
 
 -- ---- what a set contains
@@ -17,7 +17,7 @@ use Rattle.j39_full_variants.proofs.Sets.{and_so, both, one_itself, one_same}
 contains_behind : (b a : Alternative) (set : List Alternative) → Contains set a → Contains (b ∷ set) a
 contains_behind b a set (k, below, is) = (suc k, omega (arith, below), is)
 
-has_it : (set : List Alternative) (a : Alternative) → Contains set a → has_alternative set a ≡ true
+has_it : (set : List Alternative) (a : Alternative) → Contains set a → set_has set a ≡ true
 has_it [] a (k, below, is) = absurd (omega (arith, below))
 has_it (b ∷ set) a (zero, below, is) = let here : is_one_alternative b a ≡ true = subst (λ x. is_one_alternative b x ≡ true) is (one_itself b) in rw here refl
 has_it (b ∷ set) a (suc k, below, is) = elim (cases_Bool (is_one_alternative b a)) [
@@ -25,7 +25,7 @@ has_it (b ∷ set) a (suc k, below, is) = elim (cases_Bool (is_one_alternative b
   | inr none ↦ rw none (has_it set a (k, omega (arith, below), is))
 ]
 
-contains_it : (set : List Alternative) (a : Alternative) → has_alternative set a ≡ true → Contains set a
+contains_it : (set : List Alternative) (a : Alternative) → set_has set a ≡ true → Contains set a
 contains_it [] a is = absurd (false≢true is)
 contains_it (b ∷ set) a is = elim (cases_Bool (is_one_alternative b a)) [
   | inl here ↦ (zero, omega arith, one_same b a here)
@@ -35,22 +35,22 @@ contains_it (b ∷ set) a is = elim (cases_Bool (is_one_alternative b a)) [
 -- ---- what a variant takes
 
 takes_each : (set : List Alternative) (k : ℕ) (v : List ℕ) → takes_from set k v ≡ true → (c p n : ℕ) → slice_get v c ≡ Some p → n ≡ k + c
-    → has_alternative set (alternative_at n p) ≡ true
+    → set_has set (alternative_at n p) ≡ true
 takes_each set k [] is c p n at same = absurd (none-some p at)
 takes_each set k (q ∷ v) is zero p n at same =
-    let parts = both (has_alternative set (alternative_at k q)) (takes_from set (k + 1) v) is in
+    let parts = both (set_has set (alternative_at k q)) (takes_from set (k + 1) v) is in
     let here : k ≡ n = omega (arith, same) in
-    subst (λ m. has_alternative set (alternative_at m p) ≡ true) here
-    (subst (λ r. has_alternative set (alternative_at k r) ≡ true) (same_Some q p at) parts.0)
+    subst (λ m. set_has set (alternative_at m p) ≡ true) here
+    (subst (λ r. set_has set (alternative_at k r) ≡ true) (same_Some q p at) parts.0)
 takes_each set k (q ∷ v) is (suc c) p n at same =
-    let parts = both (has_alternative set (alternative_at k q)) (takes_from set (k + 1) v) is in
+    let parts = both (set_has set (alternative_at k q)) (takes_from set (k + 1) v) is in
     takes_each set (k + 1) v parts.1 c p n at (omega (arith, same))
 
-each_takes : (set : List Alternative) (k : ℕ) (v : List ℕ) → ((c p n : ℕ) → slice_get v c ≡ Some p → n ≡ k + c → has_alternative set (alternative_at n p) ≡ true)
+each_takes : (set : List Alternative) (k : ℕ) (v : List ℕ) → ((c p n : ℕ) → slice_get v c ≡ Some p → n ≡ k + c → set_has set (alternative_at n p) ≡ true)
     → takes_from set k v ≡ true
 each_takes set k [] each = refl
 each_takes set k (q ∷ v) each =
-    and_so (has_alternative set (alternative_at k q)) (takes_from set (k + 1) v) (each zero q k refl (omega arith))
+    and_so (set_has set (alternative_at k q)) (takes_from set (k + 1) v) (each zero q k refl (omega arith))
     (each_takes set (k + 1) v (λ c p n at same. each (suc c) p n at (omega (arith, same))))
 
 -- ---- boxes
@@ -62,7 +62,7 @@ taken (q ∷ v) zero below = (q, refl)
 taken (q ∷ v) (suc c) below = taken v c (omega (arith, below))
 
 -- one of the set that it takes, of this choice
-named : (set : List Alternative) (v : List ℕ) (c p : ℕ) → slice_get v c ≡ Some p → has_alternative set (alternative_at c p) ≡ true
+named : (set : List Alternative) (v : List ℕ) (c p : ℕ) → slice_get v c ≡ Some p → set_has set (alternative_at c p) ≡ true
     → list_any (λ b. (b.choice == c) && takes_alternative v b) set ≡ true
 named [] v c p at is = absurd (false≢true is)
 named (b ∷ set) v c p at is = elim (cases_Bool (is_one_alternative b (alternative_at c p))) [
@@ -89,7 +89,7 @@ in_all p (b ∷ set) all a (suc k, below, is) = in_all p set (both (p b) (list_a
 
 -- one that is taken of a choice
 one_named : (set : List Alternative) (v : List ℕ) (c p : ℕ) → slice_get v c ≡ Some p → list_any (λ b. (b.choice == c) && takes_alternative v b) set ≡ true
-    → has_alternative set (alternative_at c p) ≡ true
+    → set_has set (alternative_at c p) ≡ true
 one_named [] v c p at is = absurd (false≢true is)
 one_named (b ∷ set) v c p at is = elim (cases_Bool ((b.choice == c) && takes_alternative v b)) [
   | inl so ↦
@@ -130,7 +130,7 @@ of_set choices set v is = record {
   each = λ alone c p at. contains_it set (alternative_at c p) (takes_each set 0 v alone c p c at (omega arith));
   alone = λ each. each_takes set 0 v (λ c p n at same.
       let here : c ≡ n = omega (arith, same) in
-      subst (λ m. has_alternative set (alternative_at m p) ≡ true) here (has_it set (alternative_at c p) (each c p at)));
+      subst (λ m. set_has set (alternative_at m p) ≡ true) here (has_it set (alternative_at c p) (each c p at)));
   in_box = λ of alone. all_in (λ a. list_any (λ b. (b.choice == a.choice) && takes_alternative v b) set) set (λ a at.
       let below = of a at in
       let long = is.of_each in
@@ -144,5 +144,5 @@ of_set choices set v is = record {
       let taken_one : list_any (λ b. (b.choice == c) && takes_alternative v b) set ≡ true =
       subst (λ k. list_any (λ b. (b.choice == k) && takes_alternative v b) set ≡ true) some.2
       (in_all (λ a. list_any (λ b. (b.choice == a.choice) && takes_alternative v b) set) set inside some.0 some.1) in
-      subst (λ m. has_alternative set (alternative_at m p) ≡ true) here (one_named set v c p at taken_one));
+      subst (λ m. set_has set (alternative_at m p) ≡ true) here (one_named set v c p at taken_one));
 }

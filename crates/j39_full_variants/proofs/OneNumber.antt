@@ -11,7 +11,7 @@ use Rattle.j39_variants.specs.declared.line.ProductLine.{ProductLine}
 use Rattle.j39_line_findings.specs.FullVariants.{alternative_at}
 use Rattle.j39_line_findings.specs.declared.full.FullAlternatives.{FullAlternatives}
 use Rattle.j39_full_variants.specs.SetVariantLaws.{HasOneNumber}
-use Rattle.j39_full_variants.specs.SetVariants.{AreNotNested, AreWidest, IsSetAmong, has_alternative, is_set_inside, product_of, variants_of_set}
+use Rattle.j39_full_variants.specs.SetVariants.{AreNotNested, AreWidest, IsSetAmong, set_has, is_set_inside, product_of, variants_of_set}
 use Rattle.j39_full_variants.proofs.Sets.{carried, inside_through}
 use Rattle.j39_full_variants.proofs.Widest.{among_cases, among_left, among_right}
 
@@ -28,8 +28,8 @@ same_answer false false to back = refl
 -- such ones have as many variants
 as_many : (choices : List Choice) (s t : List Alternative) → AreSame s t → variants_of_set choices s ≡ variants_of_set choices t
 as_many choices s t same =
-    let alike : (c p : ℕ) → has_alternative s (alternative_at c p) ≡ has_alternative t (alternative_at c p) =
-    λ c p. same_answer (has_alternative s (alternative_at c p)) (has_alternative t (alternative_at c p))
+    let alike : (c p : ℕ) → set_has s (alternative_at c p) ≡ set_has t (alternative_at c p) =
+    λ c p. same_answer (set_has s (alternative_at c p)) (set_has t (alternative_at c p))
     (carried s t (alternative_at c p) same.to) (carried t s (alternative_at c p) same.back) in
     λ i. product_of (map (λ c. count_by (λ p. alike c p i) (range_with_len 0 (size_at choices c))) (range_with_len 0 (length choices)))
 

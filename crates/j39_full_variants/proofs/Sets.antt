@@ -7,7 +7,7 @@ use Rattle.j39_variants.specs.declared.line.Alternative.{Alternative}
 use Rattle.j39_variants.specs.declared.line.Choice.{Choice}
 use Rattle.j39_line_findings.specs.Boxes.{is_one_alternative}
 use Rattle.j39_line_findings.specs.FullVariants.{alternative_at}
-use Rattle.j39_full_variants.specs.SetVariants.{IsSetAmong, has_alternative, has_choice, has_each_choice, is_set_inside, is_of_some_set}
+use Rattle.j39_full_variants.specs.SetVariants.{IsSetAmong, set_has, has_choice, has_each_choice, is_set_inside, is_of_some_set}
 use Rattle.j39_full_variants.specs.SetVariants.{takes_alone, takes_from}
 
 -- ---- tests
@@ -33,29 +33,29 @@ one_same a b is =
 -- ---- one inside another
 
 -- what the one has, the other has
-pub carried : (one other : List Alternative) (a : Alternative) → is_set_inside one other ≡ true → has_alternative one a ≡ true → has_alternative other a ≡ true
+pub carried : (one other : List Alternative) (a : Alternative) → is_set_inside one other ≡ true → set_has one a ≡ true → set_has other a ≡ true
 carried [] other a all any = absurd (false≢true any)
 carried (b ∷ one) other a all any =
-    let parts = both (has_alternative other b) (list_all (has_alternative other) one) all in
+    let parts = both (set_has other b) (list_all (set_has other) one) all in
     elim (cases_Bool (is_one_alternative b a)) [
-      | inl here ↦ subst (λ x. has_alternative other x ≡ true) (one_same b a here) parts.0
+      | inl here ↦ subst (λ x. set_has other x ≡ true) (one_same b a here) parts.0
       | inr none ↦ carried one other a parts.1 (rw none at any)
     ]
 
-has_head : (b : Alternative) (one : List Alternative) → has_alternative (b ∷ one) b ≡ true
+has_head : (b : Alternative) (one : List Alternative) → set_has (b ∷ one) b ≡ true
 has_head b one = rw (one_itself b) refl
 
-has_behind : (b a : Alternative) (one : List Alternative) → has_alternative one a ≡ true → has_alternative (b ∷ one) a ≡ true
+has_behind : (b a : Alternative) (one : List Alternative) → set_has one a ≡ true → set_has (b ∷ one) a ≡ true
 has_behind b a one is = elim (cases_Bool (is_one_alternative b a)) [
   | inl here ↦ rw here refl
   | inr none ↦ rw none is
 ]
 
-pub inside_of : (one other : List Alternative) → ((a : Alternative) → has_alternative one a ≡ true → has_alternative other a ≡ true)
+pub inside_of : (one other : List Alternative) → ((a : Alternative) → set_has one a ≡ true → set_has other a ≡ true)
     → is_set_inside one other ≡ true
 inside_of [] other has = refl
 inside_of (b ∷ one) other has =
-    and_so (has_alternative other b) (list_all (has_alternative other) one) (has b (has_head b one))
+    and_so (set_has other b) (list_all (set_has other) one) (has b (has_head b one))
     (inside_of one other (λ a at. has a (has_behind b a one at)))
 
 pub inside_itself : (set : List Alternative) → is_set_inside set set ≡ true
@@ -69,18 +69,18 @@ inside_through s t u one other = inside_of s u (λ a at. carried t u a other (ca
 pub takes_wider : (one other : List Alternative) (c : ℕ) (v : List ℕ) → is_set_inside one other ≡ true → takes_from one c v ≡ true → takes_from other c v ≡ true
 takes_wider one other c [] inside is = refl
 takes_wider one other c (p ∷ v) inside is =
-    let parts = both (has_alternative one (alternative_at c p)) (takes_from one (c + 1) v) is in
-    and_so (has_alternative other (alternative_at c p)) (takes_from other (c + 1) v)
+    let parts = both (set_has one (alternative_at c p)) (takes_from one (c + 1) v) is in
+    and_so (set_has other (alternative_at c p)) (takes_from other (c + 1) v)
     (carried one other (alternative_at c p) inside parts.0) (takes_wider one other (c + 1) v inside parts.1)
 
 -- those of the first choices
 pub takes_first : (set : List Alternative) (c : ℕ) (t r : List ℕ) → takes_from set c (t ++ r) ≡ true → takes_from set c t ≡ true
 takes_first set c [] r is = refl
 takes_first set c (p ∷ t) r is =
-    let parts = both (has_alternative set (alternative_at c p)) (takes_from set (c + 1) (t ++ r)) is in
-    and_so (has_alternative set (alternative_at c p)) (takes_from set (c + 1) t) parts.0 (takes_first set (c + 1) t r parts.1)
+    let parts = both (set_has set (alternative_at c p)) (takes_from set (c + 1) (t ++ r)) is in
+    and_so (set_has set (alternative_at c p)) (takes_from set (c + 1) t) parts.0 (takes_first set (c + 1) t r parts.1)
 
-has_its_choice : (set : List Alternative) (c p : ℕ) → has_alternative set (alternative_at c p) ≡ true → has_choice set c ≡ true
+has_its_choice : (set : List Alternative) (c p : ℕ) → set_has set (alternative_at c p) ≡ true → has_choice set c ≡ true
 has_its_choice [] c p is = absurd (false≢true is)
 has_its_choice (b ∷ set) c p is = elim (cases_Bool (b.choice == c)) [
   | inl here ↦ rw here refl
@@ -90,7 +90,7 @@ has_its_choice (b ∷ set) c p is = elim (cases_Bool (b.choice == c)) [
 has_choices : (set : List Alternative) (c : ℕ) (v : List ℕ) → takes_from set c v ≡ true → list_all (has_choice set) (range_with_len c (length v)) ≡ true
 has_choices set c [] is = refl
 has_choices set c (p ∷ v) is =
-    let parts = both (has_alternative set (alternative_at c p)) (takes_from set (c + 1) v) is in
+    let parts = both (set_has set (alternative_at c p)) (takes_from set (c + 1) v) is in
     and_so (has_choice set c) (list_all (has_choice set) (range_with_len (c + 1) (length v))) (has_its_choice set c p parts.0)
     (has_choices set (c + 1) v parts.1)
 
@@ -129,8 +129,8 @@ any_values f p (x ∷ xs) = ap (λ b. p (f x) || b) (any_values f p xs)
 
 -- the next alternative that is taken
 pub takes_next : (set : List Alternative) (v : List ℕ) (i d : ℕ) → i < length v
-    → takes_from set i (drop i v) ≡ (has_alternative set (alternative_at i (get_or v i d)) && takes_from set (i + 1) (drop (i + 1) v))
+    → takes_from set i (drop i v) ≡ (set_has set (alternative_at i (get_or v i d)) && takes_from set (i + 1) (drop (i + 1) v))
 takes_next set v i d below =
     let one : suc i ≡ i + 1 = omega arith in
     ap (takes_from set i) (drop-cons v i d below)
-    ∙ ap (λ (k : ℕ). has_alternative set (alternative_at i (get_or v i d)) && takes_from set (i + 1) (drop k v)) one
+    ∙ ap (λ (k : ℕ). set_has set (alternative_at i (get_or v i d)) && takes_from set (i + 1) (drop k v)) one

@@ -9,8 +9,8 @@ use Rattle.j39_line_findings.specs.Boxes.{is_one_alternative}
 use Rattle.j39_line_findings.specs.FullVariants.{alternative_at}
 
 -- a set names an alternative, or one of a choice
-abbrev pub has_alternative : List Alternative → Alternative → Bool
-has_alternative set a = list_any (λ b. is_one_alternative b a) set
+abbrev pub set_has : List Alternative → Alternative → Bool
+set_has set a = list_any (λ b. is_one_alternative b a) set
 
 abbrev pub has_choice : List Alternative → ℕ → Bool
 has_choice set c = list_any (λ b. b.choice == c) set
@@ -22,7 +22,7 @@ has_each_choice choices set = list_all (has_choice set) (range_with_len 0 (lengt
 -- each of these alternatives, of choices from this one on, is in the set
 abbrev pub takes_from : List Alternative → ℕ → List ℕ → Bool
 takes_from set c [] = true
-takes_from set c (p ∷ places) = has_alternative set (alternative_at c p) && takes_from set (c + 1) places
+takes_from set c (p ∷ places) = set_has set (alternative_at c p) && takes_from set (c + 1) places
 
 -- a variant takes alternatives of the set alone; or of one of these sets
 abbrev pub takes_alone : List Alternative → List ℕ → Bool
@@ -47,7 +47,7 @@ pub record AreVariantsOfSets (choices : List Choice) (sets : List (List Alternat
 
 -- alternatives of a choice that a set has
 abbrev pub count_of_choice : List Choice → List Alternative → ℕ → ℕ
-count_of_choice choices set c = count_by (λ p. has_alternative set (alternative_at c p)) (range_with_len 0 (size_at choices c))
+count_of_choice choices set c = count_by (λ p. set_has set (alternative_at c p)) (range_with_len 0 (size_at choices c))
 
 abbrev pub product_of : List ℕ → ℕ
 product_of [] = 1
@@ -61,7 +61,7 @@ variants_of_set choices set = product_of (map (count_of_choice choices set) (ran
 
 -- each alternative of the one is in the other
 abbrev pub is_set_inside : List Alternative → List Alternative → Bool
-is_set_inside one other = list_all (has_alternative other) one
+is_set_inside one other = list_all (set_has other) one
 
 abbrev pub IsSetAmong : List (List Alternative) → List Alternative → Type 0
 IsSetAmong [] set = ⊥

@@ -2,7 +2,7 @@
 ghost use Rattle.std.specs.Prelude.{◌≡◌, ◌-◌, ◌^◌, IfOk, filter, map, min};
 ghost use Rattle.std.specs.List.{list_any};
 ghost use Rattle.j39_variants.specs.Variants.{size_at};
-ghost use Rattle.j39_full_variants.specs.SetVariants.{AreVariantsOfSets, has_alternative, has_each_choice, is_set_inside};
+ghost use Rattle.j39_full_variants.specs.SetVariants.{AreVariantsOfSets, set_has, has_each_choice, is_set_inside};
 ghost use Rattle.j39_full_variants.specs.SetVariants.{count_of_choice, takes_alone, variants_of_set};
 
 use j39_line_findings::{longer, names, names_choice};

@@ -15,7 +15,7 @@ use Rattle.j39_line_findings.specs.declared.line_finding.LineFinding.{LineFindin
 use Rattle.j39_line_findings.specs.declared.witnessed.Witnessed.{Witnessed}
 use Rattle.j39_line_findings.proofs.Ranking.{none_below_itself}
 use Rattle.j39_line_witnesses.specs.declared.found.FoundByCondition.{FoundByCondition}
-use Rattle.j39_line_witness_laws.specs.ToldByConditions.{AreToldExactly, IsAmongTold}
+use Rattle.j39_line_witness_laws.specs.ToldByConditions.{TellWhatVariantsHave, IsAmongTold}
 use Rattle.j39_full_variants.specs.CountedFindings.{takes_full_for}
 use Rattle.j39_line_check.proofs.CountingRanks.{same_way}
 use Rattle.j39_line_check.proofs.FindingKinds.{no_amount}
@@ -34,13 +34,14 @@ only_one (y ∷ told) w x ordered (inr later) (inl first) same =
     absurd (none_below_itself (rank_in w) (subst (λ r. is_below r (rank_in w) ≡ true) (ap rank_in first ∙ sym same) (ordered.0 w later)))
 only_one (y ∷ told) w x ordered (inr one) (inr other) same = only_one told w x ordered.1 one other same
 
-module _ (line : ProductLine) (conditioned : List FoundByCondition) (exact : AreToldExactly line conditioned) where
+module _ (line : ProductLine) (conditioned : List FoundByCondition) (exact : TellWhatVariantsHave line conditioned) where
   -- ---- by conditions
 
   pub by_condition : (full : FullAlternatives) (one : FoundByCondition) → IsAmongTold conditioned one → IsWitnessFor line full one.finding one.witness.items
   by_condition full one among =
       let is = exact.sound one among in record {
         has = inl (record { possible = is.possible; one = is.has });
+        meets = λ goes. is.meets;
         counts = rw is.goes refl;
         first = λ other has whatever counts.
             is.first other has.findings (record { is_possible = has.possible; are_findings = has.are_findings }) has.one;

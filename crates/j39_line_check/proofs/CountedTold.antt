@@ -1,7 +1,7 @@
 -- What is told of full variants is told of all possible ones.
 use Rattle.std.proofs.Common.{◌≡◌, ℕ, zero, suc, ◌<◌, ◌≤◌, List, [], ◌∷◌, true, false, not, Option, Some, inl, inr, map, unwrap_or, refl, sym, ap, subst, ◌∙◌, arith}
 use Rattle.std.specs.List.{slice_get}
-use Rattle.std.proofs.lemmas.Bool.{and_parts, false≢true, not-true}
+use Rattle.std.proofs.lemmas.Bool.{and_parts, false≢true, not-true, true≢false}
 use Rattle.std.proofs.lemmas.Option.{same_Some}
 use Rattle.j39_load.specs.declared.findings.load_finding.LoadFinding.TheVariants.{NoPeriod, Overload, LateFlow, NeedTooOld}
 use Rattle.j39_variants.specs.Variants.{IsEarlier}
@@ -139,6 +139,7 @@ module _ (line : ProductLine) (covers : FullVariantsHaveWhatIsFound line) (ages 
           are_findings = is.are_findings;
           one = is.one;
         });
+        meets = λ goes. absurd (true≢false (sym goes ∙ counts));
         counts = rw (counts, parts.1) refl;
         first = λ other has whatever counted.
             let takes : takes_full_for line x.full other w.finding ≡ true = rw counts at counted in

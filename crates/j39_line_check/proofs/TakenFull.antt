@@ -19,11 +19,11 @@ use Rattle.j39_full_variant_laws.specs.FoundOfFull.{IsPossibleFull}
 use Rattle.j39_full_variant_laws.specs.OldNeeds.{AsksForAge, IsPossibleFullFor}
 use Rattle.j39_full_variants.specs.CountedFindings.{takes_full_of_need}
 use Rattle.j39_full_variants.specs.FullSets.{IsFullSomehow, full_sets, need_sets}
-use Rattle.j39_full_variants.specs.SetVariants.{IsSetAmong, has_alternative, takes_alone, takes_from}
+use Rattle.j39_full_variants.specs.SetVariants.{IsSetAmong, set_has, takes_alone, takes_from}
 use Rattle.j39_full_variants.proofs.Sets.{taken_one}
 use Rattle.j39_line_check.proofs.ToldInOrder.{cases_in, none_in}
 
-has_it : (set : List Alternative) (a : Alternative) → Contains set a → has_alternative set a ≡ true
+has_it : (set : List Alternative) (a : Alternative) → Contains set a → set_has set a ≡ true
 has_it [] a at = absurd (none_in a at)
 has_it (b ∷ set) a at = elim (cases_in b a set at) [
   | inl here ↦
@@ -40,7 +40,7 @@ takes_each : (set : List Alternative) (c : ℕ) (v : List ℕ) → ((i p : ℕ) 
     → takes_from set c v ≡ true
 takes_each set c [] each = refl
 takes_each set c (p ∷ v) each =
-    let here : has_alternative set (alternative_at c p) ≡ true =
+    let here : set_has set (alternative_at c p) ≡ true =
     has_it set (alternative_at c p) (subst (λ n. Contains set (alternative_at n p)) (omega arith) (each 0 p refl)) in
     let rest : takes_from set (c + 1) v ≡ true =
     takes_each set (c + 1) v (λ i q at. subst (λ n. Contains set (alternative_at n q)) (omega arith) (each (suc i) q at)) in

@@ -12,7 +12,7 @@ use Rattle.j39_line_findings.specs.declared.full.FullAlternatives.{FullAlternati
 use Rattle.j39_line_findings.specs.declared.full.LineNevers.TheVariants.{Kept, LeftOut}
 use Rattle.j39_line_findings.specs.declared.line_finding.LineFinding.{LineFinding}
 use Rattle.j39_line_witnesses.specs.declared.found.FoundByCondition.{FoundByCondition}
-use Rattle.j39_line_witness_laws.specs.ToldByConditions.{AreToldExactly}
+use Rattle.j39_line_witness_laws.specs.ToldByConditions.{TellWhatVariantsHave}
 use Rattle.j39_line_condition_laws.specs.ByPresence.{FoundByPresence}
 use Rattle.j39_full_variant_laws.specs.FoundOfFull.{FullVariantsHaveWhatIsFound}
 use Rattle.j39_full_variant_laws.specs.OldNeeds.{OldNeedsAreFoundOfFull}
@@ -28,7 +28,7 @@ use Rattle.j39_line_check.specs.LineChecks.{AreTold, HasIt, IsWitnessFor}
 use Rattle.j39_line_check.specs.declared.answer.ToldFinding.{ToldFinding}
 use Rattle.j39_line_check.specs.inside.Adding.{AreAdded, Pair, pair_counted, pair_of_condition, pair_told}
 
-module _ (line : ProductLine) (conditioned : List FoundByCondition) (exact : AreToldExactly line conditioned) (told : List ToldFinding) where
+module _ (line : ProductLine) (conditioned : List FoundByCondition) (exact : TellWhatVariantsHave line conditioned) (told : List ToldFinding) where
   -- by its finding and its variant
   witness_by : (full : FullAlternatives) (t : ToldFinding) (p : Pair) → pair_told t ≡ p → IsWitnessFor line full p.0 p.1 → IsWitnessFor line full t.finding t.variant.items
   witness_by full t p is witness = subst (λ (q : Pair). IsWitnessFor line full q.0 q.1) (sym is) witness

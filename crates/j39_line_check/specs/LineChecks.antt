@@ -4,7 +4,7 @@ use Rattle.j39_findings.specs.declared.checking.finding.Finding.TheVariants.{Bad
 use Rattle.j39_load.specs.declared.findings.load_finding.LoadFinding.TheVariants.{NoPeriod}
 use Rattle.j39_variants.specs.Variants.{IsEarlier}
 use Rattle.j39_variants.specs.declared.line.ProductLine.{ProductLine}
-use Rattle.j39_line_findings.specs.Conditions.{goes_by_conditions}
+use Rattle.j39_line_findings.specs.Conditions.{conditions_of, goes_by_conditions, meets_any}
 use Rattle.j39_line_findings.specs.FullVariants.{AreFullAlternatives}
 use Rattle.j39_line_findings.specs.InFile.{amount_of, is_below, rank_of}
 use Rattle.j39_line_findings.specs.PossibleVariants.{IsPossible}
@@ -12,6 +12,7 @@ use Rattle.j39_line_findings.specs.LineFound.{AreVariantFindings, IsFound}
 use Rattle.j39_line_findings.specs.declared.full.FullAlternatives.{FullAlternatives}
 use Rattle.j39_line_findings.specs.declared.line_finding.LineFinding.{LineFinding}
 use Rattle.j39_line_findings.specs.declared.line_finding.LineFinding.TheVariants.{OfPlan, OfLoad}
+use Rattle.j39_line_condition_laws.specs.ByConditions.{MayBeFound}
 use Rattle.j39_full_variants.specs.CountedFindings.{takes_full_for}
 use Rattle.j39_full_variants.specs.LookedVariants.{IsLooking}
 use Rattle.j39_full_variants.specs.declared.looking.FullVariants.{FullVariants}
@@ -52,10 +53,11 @@ IsSure line (OfLoad finding) = AreNumbersGood line
 abbrev pub counts_for : ProductLine → FullAlternatives → List ℕ → LineFinding → Bool
 counts_for line full variant finding = goes_by_conditions line finding || takes_full_for line full variant finding
 
--- the variant has the finding and counts as its witness, and no earlier one does; of those that are told alike none has a greater number of
+-- the variant has the finding, by one of its conditions where it goes by these, and counts as its witness, and no earlier one does; of those that are told alike none has a greater number of
 -- addresses or bits
 pub record IsWitnessFor (line : ProductLine) (full : FullAlternatives) (finding : LineFinding) (variant : List ℕ) : Type 0 where
   pub has : HasAtAnyRate line variant finding ⊎ HasIt line variant finding
+  pub meets : goes_by_conditions line finding ≡ true → MayBeFound line finding × (meets_any line variant (conditions_of line finding) ≡ true)
   pub counts : counts_for line full variant finding ≡ true
   pub first : (other : List ℕ) → HasIt line other finding → HasAtAnyRate line other finding → counts_for line full other finding ≡ true
       → ¬ IsEarlier other variant

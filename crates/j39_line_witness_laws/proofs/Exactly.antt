@@ -58,6 +58,7 @@ tell_exactly line told are = record { sound = sound; complete = complete }
         record {
           goes = goes;
           possible = its.first.possible;
+          meets = (may, its.first.meets);
           has = λ findings has. (found_by_conditions line one.witness.items findings has one.finding goes).1 (may, its.first.meets);
           first = λ other findings has found.
               its.first.first other has.is_possible ((found_by_conditions line other findings has.are_findings one.finding goes).0 found).1;

@@ -1,14 +1,14 @@
 use Rattle.std.proofs.Common.{◌≡◌, ◌++◌, List, None, Some, map, refl, sym, subst}
 use Rattle.j39_full_variants.specs.LookedVariants.{IsLooking}
 use Rattle.j39_full_variants.specs.declared.looking.Looking.TheVariants.{Few, Many}
-use Rattle.j39_line_witness_laws.specs.ToldByConditions.{AreToldExactly}
+use Rattle.j39_line_witness_laws.specs.ToldByConditions.{TellWhatVariantsHave}
 use Rattle.j39_line_check.proofs.ToldOfLine.{told_of_few, told_of_many}
 use Rattle.j39_line_check.specs.inside.Adding.{AreAdded, Pair, pair_counted, pair_of_condition}
 use Rattle.j39_line_check.proofs.check.found_of.Goals as goal
 
 pub returns-in-Few : goal.returns-in-Few
 returns-in-Few c some =
-    let exact : AreToldExactly c.args.line.now c.in_ok-found.found.items =
+    let exact : TellWhatVariantsHave c.args.line.now c.in_ok-found.found.items =
     c.what_is_told_is_what_variants_have.ensures c.args.line.now c.in_ok-found.found.items c.in_ok-found.ensures in
     let looking : IsLooking c.args.line.now (Few c.in-Few.full) = subst (IsLooking c.args.line.now) c.in-Few.is c.in_ok-full.ensures in
     let added : AreAdded (map pair_of_condition c.in_ok-found.found.items
@@ -22,7 +22,7 @@ returns-in-Few c some =
 
 pub returns : goal.returns
 returns c some =
-    let exact : AreToldExactly c.args.line.now c.in_ok-found.found.items =
+    let exact : TellWhatVariantsHave c.args.line.now c.in_ok-found.found.items =
     c.what_is_told_is_what_variants_have.ensures c.args.line.now c.in_ok-found.found.items c.in_ok-found.ensures in
     let looking : IsLooking c.args.line.now (Many c.in-Many.count) = subst (IsLooking c.args.line.now) c.in-Many.is c.in_ok-full.ensures in
     let added : AreAdded (map pair_of_condition c.in_ok-found.found.items) c.in_ok-told-in-Many.told.items =

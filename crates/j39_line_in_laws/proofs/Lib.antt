@@ -1,0 +1,7 @@
+mod KeptFindings
+mod KeptLists
+mod KeptParts
+mod TakenTold
+mod ToldBoxes
+mod ToldLaws
+mod ToldOfLines

@@ -1,0 +1,2 @@
+pub mod ToldConditions
+pub mod ToldOfLines
