@@ -462,7 +462,7 @@ def widened(rng: random.Random, line: Line) -> Line:
         known, kind = [label for choice in choices for label in choice], rng.choice(kinds)
         new = [f"{'VWXYZ'[len(choices) % 5]}{len(choices)}{letter}" for letter in "ABC"[:rng.choice((2, 2, 2, 3))]]
         choices.insert(rng.randrange(len(choices) + 1), new)
-        for label in {"both": new, "never": new[1:], "option": new[-1:], "none": []}[kind]:
+        for label in {"both": new, "never": new[1:], "option": new[-1:], "none": new[:0]}[kind]:
             number = len(tables["group"])
             tables["group"].append({"label": f"{IDLE}{number}", "pgn": 64600 + number, "priority": 6, "length": 8, "with": [label]})
             if kind == "never":
