@@ -7,7 +7,7 @@ use Rattle.std.proofs.lemmas.List.Elements.{Contains-append_cases, Contains-appe
 use Rattle.j39_line_findings.specs.InFile.{rank_of}
 use Rattle.j39_line_check.proofs.ToldInOrder.{cases_in, first_in, none_in}
 use Rattle.j39_line_check.specs.declared.answer.ToldFinding.{ToldFinding}
-use Rattle.j39_line_check.specs.inside.Adding.{AreAdded, Pair, pair_told}
+use Rattle.j39_line_check.specs.inside.AddedFindings.{AreAdded, Pair, pair_told}
 use Rattle.j39_line_check.specs.inside.Inserted.{IsToldWith}
 
 pub none_added : AreAdded [] []

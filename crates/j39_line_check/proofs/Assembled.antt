@@ -22,7 +22,7 @@ use Rattle.j39_line_check.proofs.FindingKinds.{no_amount}
 use Rattle.j39_line_check.proofs.Pairs.{condition_of_pair, pair_of_found}
 use Rattle.j39_line_check.specs.LineChecks.{AreTold, HasIt, IsSure, IsTellable, IsWitnessFor, counts_for}
 use Rattle.j39_line_check.specs.declared.answer.ToldFinding.{ToldFinding}
-use Rattle.j39_line_check.specs.inside.Adding.{AreAdded, Pair, pair_of_condition, pair_told}
+use Rattle.j39_line_check.specs.inside.AddedFindings.{AreAdded, Pair, pair_of_condition, pair_told}
 
 -- of one rank there is one
 pub only_one : (told : List Witnessed) (w x : Witnessed) → AreInOrder told → IsWitnessAmong told w → IsWitnessAmong told x → rank_in w ≡ rank_in x → w ≡ x

@@ -6,7 +6,7 @@ use Rattle.j39_line_findings.specs.declared.witnessed.Witnessed.{Witnessed}
 use Rattle.j39_line_witnesses.specs.declared.found.FoundByCondition.{FoundByCondition}
 use Rattle.j39_line_witness_laws.specs.ToldByConditions.{IsAmongTold}
 use Rattle.j39_line_check.proofs.ToldInOrder.{cases_in, first_in, later_in, none_in}
-use Rattle.j39_line_check.specs.inside.Adding.{Pair, pair_counted, pair_of_condition}
+use Rattle.j39_line_check.specs.inside.AddedFindings.{Pair, pair_counted, pair_of_condition}
 
 pub condition_of_pair : (found : List FoundByCondition) (p : Pair) → Contains (map pair_of_condition found) p
     → (one : FoundByCondition) × IsAmongTold found one × (p ≡ pair_of_condition one)

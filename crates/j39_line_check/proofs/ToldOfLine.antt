@@ -26,7 +26,7 @@ use Rattle.j39_line_check.proofs.Pairs.{condition_of_pair, pair_of_found, pair_o
 use Rattle.j39_line_check.proofs.WithoutNevers.{nothing_counted}
 use Rattle.j39_line_check.specs.LineChecks.{AreTold, HasIt, IsWitnessFor}
 use Rattle.j39_line_check.specs.declared.answer.ToldFinding.{ToldFinding}
-use Rattle.j39_line_check.specs.inside.Adding.{AreAdded, Pair, pair_counted, pair_of_condition, pair_told}
+use Rattle.j39_line_check.specs.inside.AddedFindings.{AreAdded, Pair, pair_counted, pair_of_condition, pair_told}
 
 module _ (line : ProductLine) (conditioned : List FoundByCondition) (exact : TellWhatVariantsHave line conditioned) (told : List ToldFinding) where
   -- by its finding and its variant

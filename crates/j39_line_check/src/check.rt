@@ -2,7 +2,7 @@
 ghost use Rattle.std.specs.Prelude.{◌≡◌, ◌++◌, [], List, IfOk, OnOk, map, unwrap_or};
 ghost use Rattle.std.specs.List.{slice_get};
 ghost use Rattle.j39_line_check.specs.LineChecks.{IsCheckOf, SomePossible};
-ghost use Rattle.j39_line_check.specs.inside.Adding.{AreAdded, Pair, pair_counted, pair_of_condition};
+ghost use Rattle.j39_line_check.specs.inside.AddedFindings.{AreAdded, Pair, pair_counted, pair_of_condition};
 
 use crate::answer::{LineAnswer, LookedAt, ToldFinding};
 use crate::inserting::add;

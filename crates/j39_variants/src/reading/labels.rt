@@ -61,7 +61,7 @@ fn choice_of(choices: &[Choice], text: &str) -> Option<usize>
         .position(|choice| is_among(&choice.alternatives, text))
 }
 
-fn set_has(choices: &[Choice], text: &str) -> bool
+fn has_alternative(choices: &[Choice], text: &str) -> bool
     ensures { result ≡ list_any (λ c. is_label_among (choice_labels c) text.now) choices.now }
 {
     choices
@@ -73,7 +73,7 @@ fn set_has(choices: &[Choice], text: &str) -> bool
 pub fn is_in_choices(choices: &[Choice], text: &str) -> bool
     ensures { result ≡ list_any (λ labels. is_label_among labels text.now) (map choice_labels choices.now) }
 {
-    set_has(choices, text)
+    has_alternative(choices, text)
 }
 
 fn place_in(choices: &[Choice], choice: usize, text: &str) -> Option<usize>

@@ -3,7 +3,7 @@ use Rattle.std.proofs.lemmas.List.{get_or_default, take_all}
 use Rattle.j39_findings.specs.declared.checking.finding.Finding.TheVariants.{SameName}
 use Rattle.j39_line_findings.specs.declared.line_finding.LineFinding.TheVariants.{OfPlan}
 use Rattle.j39_line_findings.specs.declared.witnessed.Witnessed.{Witnessed}
-use Rattle.j39_line_check.specs.inside.Adding.{Pair, pair_counted, pair_told}
+use Rattle.j39_line_check.specs.inside.AddedFindings.{Pair, pair_counted, pair_told}
 use Rattle.j39_line_check.specs.inside.Inserted.{IsToldWith}
 use Rattle.j39_line_check.proofs.Adding.{added_at}
 use Rattle.j39_line_check.proofs.check.add_counted.Goals as goal

@@ -1,5 +1,5 @@
 use Rattle.std.proofs.Common.{◌++◌, List, map, take}
-use Rattle.j39_line_check.specs.inside.Adding.{AreAdded, Pair, pair_counted, pair_of_condition}
+use Rattle.j39_line_check.specs.inside.AddedFindings.{AreAdded, Pair, pair_counted, pair_of_condition}
 use Rattle.j39_line_check.proofs.check.add_counted.Given as goal
 
 abbrev pub invariant-loop-witnessed : goal.invariant-loop-witnessed

@@ -3,7 +3,7 @@ use Rattle.j39_full_variants.specs.LookedVariants.{IsLooking}
 use Rattle.j39_full_variants.specs.declared.looking.Looking.TheVariants.{Few, Many}
 use Rattle.j39_line_witness_laws.specs.ToldByConditions.{TellWhatVariantsHave}
 use Rattle.j39_line_check.proofs.ToldOfLine.{told_of_few, told_of_many}
-use Rattle.j39_line_check.specs.inside.Adding.{AreAdded, Pair, pair_counted, pair_of_condition}
+use Rattle.j39_line_check.specs.inside.AddedFindings.{AreAdded, Pair, pair_counted, pair_of_condition}
 use Rattle.j39_line_check.proofs.check.found_of.Goals as goal
 
 pub returns-in-Few : goal.returns-in-Few

@@ -1,5 +1,5 @@
 use Rattle.std.proofs.Common.{◌≡◌, List, [], sym, ap}
-use Rattle.j39_line_check.specs.inside.Adding.{Pair, pair_of_condition, pair_told}
+use Rattle.j39_line_check.specs.inside.AddedFindings.{Pair, pair_of_condition, pair_told}
 use Rattle.j39_line_check.proofs.Adding.{added_at}
 use Rattle.j39_line_check.proofs.check.told_by_conditions.Goals as goal
 
