@@ -180,8 +180,8 @@ class Found(unittest.TestCase):
 
     def test_full_alternatives(self) -> None:
         """Of the options of a line those count alone by whose absence something is there, or may be built that isn't with them."""
-        for name, labels in (("line_thirty_options", []), ("line_need_without_within", [])):
-            self.assertEqual(several(Source(text_of(os.path.join(CHECKS, f"{name}.toml")))), labels)
+        for name in ("line_thirty_options", "line_need_without_within"):
+            self.assertEqual(several(Source(text_of(os.path.join(CHECKS, f"{name}.toml")))), [])
         choices = several(Source(text_of(example("truck_line.toml"))))
         self.assertEqual((len(choices), math.prod(map(len, choices))), (6, 96))
 
