@@ -2,6 +2,8 @@ pub mod Hindrances
 pub mod LineAddressesText
 pub mod LineCheckText
 pub mod LineLoadText
+pub mod PossiblePlaces
+pub mod ShownTimes
 pub mod StandingLines
 pub mod TimeLines
 pub mod WitnessLines

@@ -1,5 +1,5 @@
 -- The text that the addresses command writes for a plan file, also of a line of vehicles.
-use Rattle.std.specs.Prelude.{◌≡◌, ◌≢◌, ◌⊎◌, ℕ, List, []}
+use Rattle.std.specs.Prelude.{◌≡◌, ◌≢◌, ◌⊎◌, ℕ, List, [], Bool}
 use Rattle.j39_network.specs.declared.plan.Plan.{Plan}
 use Rattle.j39_variants.specs.declared.line.ProductLine.{ProductLine}
 use Rattle.j39_variants.specs.VariantPlans.{IsVariantPlan}
@@ -9,8 +9,10 @@ use Rattle.j39_line_check.specs.declared.answer.LookedAt.{LookedAt}
 use Rattle.j39_line_check.specs.declared.answer.ToldFinding.{ToldFinding}
 use Rattle.j39_line_findings.specs.AllVariants.{IsOneOf}
 use Rattle.j39_line_findings.specs.PossibleVariants.{IsPossible}
+use Rattle.j39_line_witnesses.specs.PossibleParts.{ArePartsPossible}
 use Rattle.j39_line_text.specs.Hindrances.{IsHiddenReport, IsShownLine, variants_at}
-use Rattle.j39_line_text.specs.StandingLines.{standings_text}
+use Rattle.j39_line_text.specs.PossiblePlaces.{units_of_line}
+use Rattle.j39_line_text.specs.StandingLines.{shown_standings, standings_text}
 use Rattle.j39_line_text.specs.declared.hindrances.Asked.TheVariants.{Addresses}
 use Rattle.j39_plan_text.specs.AddressesText.{IsAddressesReport, StayingHolds}
 use Rattle.j39_plan_text.specs.PlanText.{IsReportedText}
@@ -29,7 +31,9 @@ pub record IsStandingReport (line : ProductLine) (text : List ℕ) : Type 0 wher
   pub holds : StayingHoldsInEach line
   pub standings : List LineStanding
   pub are_standings : AreStandingsAmong (IsOneOf (variants_at looked)) line standings
-  pub text_is : text ≡ standings_text standings line.plan.units.items
+  pub possible : List Bool
+  pub are_possible : ArePartsPossible line (units_of_line line) possible
+  pub text_is : text ≡ standings_text (shown_standings possible standings) line.plan.units.items
 
 -- what is written for a line of vehicles, with the verdict
 abbrev pub IsLineAddressesReport : ProductLine → List ℕ → Verdict → Type 0

@@ -10,6 +10,7 @@ use Rattle.j39_line_check.specs.declared.answer.ToldFinding.{ToldFinding}
 use Rattle.j39_line_findings.specs.AllVariants.{IsOneOf}
 use Rattle.j39_line_findings.specs.FullVariants.{alternatives_of}
 use Rattle.j39_line_text.specs.Hindrances.{IsHiddenReport, IsShownLine, variants_at}
+use Rattle.j39_line_text.specs.ShownTimes.{AreShownTimes}
 use Rattle.j39_line_text.specs.TimeLines.{line_times_text}
 use Rattle.j39_line_text.specs.WitnessLines.{untold_of_line_text}
 use Rattle.j39_line_text.specs.declared.hindrances.Asked.TheVariants.{Times}
@@ -22,8 +23,8 @@ use Rattle.j39_stream.specs.declared.verdict.Verdict.TheVariants.{Done, Findings
 abbrev pub line_load_verdict : List ToldFinding → Verdict
 line_load_verdict told = if length told == 0 then Done else Findings
 
--- the times of the variants at which check looked, which bound those of each of them, of a line in no possible variant of which a finding hides
--- them, and behind them the findings of which they don't tell
+-- the times of the variants at which check looked, which bound those of each of them, of what some possible variant has, of a line in no possible
+-- variant of which a finding hides them, and behind them the findings of which they don't tell
 pub record IsTimesReport (line : ProductLine) (timing : Timing) (text : List ℕ) (verdict : Verdict) : Type 0 where
   pub looked : LookedAt
   pub told : List ToldFinding
@@ -31,7 +32,9 @@ pub record IsTimesReport (line : ProductLine) (timing : Timing) (text : List ℕ
   pub times : LineTimes
   pub are_times : AreTimesAmong line (variants_at looked) times
   pub bounds : BoundEachOf (IsOneOf (variants_at looked)) line times
-  pub text_is : text ≡ line_times_text line.plan timing times told ++ untold_of_line_text line (alternatives_of line) told
+  pub shown_times : LineTimes
+  pub are_shown : AreShownTimes line times told shown_times
+  pub text_is : text ≡ line_times_text line.plan timing shown_times ++ untold_of_line_text line (alternatives_of line) told
   pub verdict_is : verdict ≡ line_load_verdict told
 
 -- what is written for a line of vehicles of whose bus this is known, with the verdict: as check does, where a finding hides the times, or the full

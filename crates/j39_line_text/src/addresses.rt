@@ -1,17 +1,20 @@
 //! What the addresses command writes.
-ghost use Rattle.std.specs.Prelude.{◌≡◌, List, IfOk, map};
+ghost use Rattle.std.specs.Prelude.{◌≡◌, Bool, List, IfOk, map};
 ghost use Rattle.j39_line_bounds.specs.LineStandings.{AreStandingsAmong};
 ghost use Rattle.j39_line_bounds.specs.declared.standing.LineStanding.{LineStanding};
 ghost use Rattle.j39_line_findings.specs.AllVariants.{IsOneOf};
 ghost use Rattle.j39_line_text.specs.Hindrances.{AreToldAt};
 ghost use Rattle.j39_line_text.specs.LineAddressesText.{IsLineAddressesReport, IsLineAddressesText};
-ghost use Rattle.j39_line_text.specs.StandingLines.{standings_text};
+ghost use Rattle.j39_line_text.specs.PossiblePlaces.{units_of_line};
+ghost use Rattle.j39_line_text.specs.StandingLines.{shown_standings, standings_text};
+ghost use Rattle.j39_line_witnesses.specs.PossibleParts.{ArePartsPossible};
 ghost use Rattle.j39_stream.specs.CommandEnds.{AnswersWhole, IsOfAny};
 ghost use Rattle.j39_stream.specs.Streams.{plan_limits};
 
 use crate::hindrances::{Asked, is_hidden, variants_at};
 use crate::line_report::no_variant_text;
-use crate::standing_lines::standings_text;
+use crate::possible_places::possible_units;
+use crate::standing_lines::{shown_standings, standings_text};
 use crate::witness_lines::findings_text;
 use j39_line_bounds::line_standings;
 use j39_line_check::{LineAnswer, LookedAt, ToldFinding, check_line};
@@ -29,10 +32,13 @@ fn stays_text(
     variants: &[Vec<usize>],
 ) -> Result<TextBuffer, AllocError>
     ensures { IfOk result (λ text. (standings : List LineStanding) × AreStandingsAmong (IsOneOf (map (λ v. v.items) variants.now)) line.now standings
-        × (text ≡ standings_text standings line.now.plan.units.items)) }
+        × ((possible : List Bool) × ArePartsPossible line.now (units_of_line line.now) possible
+        × (text ≡ standings_text (shown_standings possible standings) line.now.plan.units.items))) }
 {
     let standings = line_standings(alloc, line, variants)?;
-    let text = standings_text(alloc, &standings, &line.plan.units)?;
+    let possible = possible_units(alloc, line)?;
+    let shown = shown_standings(alloc, &possible, &standings)?;
+    let text = standings_text(alloc, &shown, &line.plan.units)?;
     Ok(text)
 }
 

@@ -7,6 +7,8 @@ mod check;
 mod hindrances;
 mod line_report;
 mod load;
+mod possible_places;
+mod shown_times;
 mod standing_lines;
 mod time_lines;
 mod witness_lines;

@@ -9,6 +9,7 @@ ghost use Rattle.j39_stream.specs.Streams.{plan_limits};
 
 use crate::hindrances::{Asked, is_hidden, variants_at};
 use crate::line_report::no_variant_text;
+use crate::shown_times::shown_times;
 use crate::time_lines::write_times;
 use crate::witness_lines::{findings_text, write_untold};
 use j39_line_bounds::{line_times, times_bound_these};
@@ -44,8 +45,9 @@ fn times_report(
 {
     times_bound_these();
     let times = line_times(alloc, line, variants_at(looked))?;
+    let shown = shown_times(alloc, line, &times, told)?;
     let mut text = TextBuffer::new(alloc);
-    write_times(&mut text, &line.plan, timing, &times, told)?;
+    write_times(&mut text, &line.plan, timing, &shown)?;
     write_untold(alloc, &mut text, line, told)?;
     Ok((text, verdict_of(told)))
 }

@@ -2,7 +2,9 @@
 ghost use Rattle.std.specs.Prelude.{◌≡◌, ◌++◌, IfOk, OnOk};
 ghost use Rattle.j39_load.specs.LineLists.{lines_of_each};
 ghost use Rattle.j39_line_text.specs.StandingLines.{is_staying, line_unit_at, line_unit_text, standing_text, standings_text};
+ghost use Rattle.j39_line_text.specs.StandingLines.{shown_standing, shown_standings};
 
+use crate::possible_places::is_place_possible;
 use j39_line_bounds::LineStanding;
 use j39_network::UnitPlan;
 use j39_text::TextBuffer;
@@ -35,6 +37,32 @@ fn write_unit(
     text.word(unit.label.as_str())?;
     write_standing(text, standing, unit.address.number())?;
     text.end_line()
+}
+
+// That no possible variant has a unit, where these say so, though a variant looked at does.
+fn shown_standing(possible: &[bool], standings: &[LineStanding], place: usize) -> LineStanding
+    ensures { result ≡ shown_standing possible.now standings.now place }
+{
+    if !is_place_possible(possible, place) {
+        return LineStanding::NoVariant;
+    }
+    match standings.get(place) {
+        Some(standing) => *standing,
+        None => LineStanding::NoVariant,
+    }
+}
+
+/// What is written of each unit, where this is told of it, and these say of each whether some possible variant has it.
+pub(crate) fn shown_standings(
+    alloc: Global,
+    possible: &[bool],
+    standings: &[LineStanding],
+) -> Result<Vec<LineStanding>, AllocError>
+    ensures { IfOk result (λ v. v.items ≡ shown_standings possible.now standings.now) }
+{
+    (0..standings.len())
+        .map(|place| shown_standing(possible, standings, place))
+        .collect(alloc)
 }
 
 // The unit at a place.

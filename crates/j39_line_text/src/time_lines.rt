@@ -2,12 +2,8 @@
 ghost use Rattle.std.specs.Prelude.{◌≡◌, ◌++◌, ◌*◌, OnOk};
 ghost use Rattle.j39_load.specs.LineLists.{lines_of_each};
 ghost use Rattle.j39_line_text.specs.TimeLines.{flow_time_text, line_flow_line, line_need_line, line_times_text, need_time_text, youngest_text};
-ghost use Rattle.j39_line_text.specs.TimeLines.{is_need_of, is_told_unmet, tells_unmet, told_of_need};
 
-use j39_findings::Finding;
 use j39_line_bounds::{FlowTime, LineTimes, NeedTime};
-use j39_line_check::ToldFinding;
-use j39_line_findings::LineFinding;
 use j39_load::bits_of_second;
 use j39_network::{FlowPlan, NeedPlan, Plan, Timing};
 use j39_plan_text::{write_age, write_flow, write_known_delay, write_time};
@@ -86,90 +82,46 @@ fn write_need_time(text: &mut TextBuffer, within: u16, time: NeedTime) -> Result
     }
 }
 
-// Whether a finding is that this need is unmet.
-fn is_need_of(place: usize, finding: Finding) -> bool
-    ensures { result ≡ is_need_of place finding }
-{
-    match finding {
-        Finding::NeedUnmet(need) => need == place,
-        _ => false,
-    }
-}
-
-fn tells_unmet(place: usize, finding: LineFinding) -> bool
-    ensures { result ≡ tells_unmet place finding }
-{
-    match finding {
-        LineFinding::OfPlan(finding) => is_need_of(place, finding),
-        LineFinding::OfLoad(_) => false,
-    }
-}
-
-fn is_told_unmet(told: &[ToldFinding], place: usize) -> bool
-    ensures { result ≡ is_told_unmet told.now place }
-{
-    told.iter().any(|one| tells_unmet(place, one.finding))
-}
-
-// What is told of a need: that it is unmet, where this is found, which needn't be in a variant whose times are told.
-fn told_of_need(times: &LineTimes, told: &[ToldFinding], place: usize) -> NeedTime
-    ensures { result ≡ told_of_need times.now told.now place }
-{
-    if is_told_unmet(told, place) {
-        NeedTime::Unmet
-    } else {
-        times.need(place)
-    }
-}
-
 // A need, where it asks for an age.
 #[tactic(auto, unfolding(crate::specs::TimeLines::line_need_line))]
 fn write_need_line(
     text: &mut TextBuffer,
     plan: &Plan,
     times: &LineTimes,
-    told: &[ToldFinding],
     place: usize,
     need: &NeedPlan,
 ) -> Result<(), AllocError>
-    ensures { OnOk result (text.new ≡ text.old ++ line_need_line plan.now times.now told.now place need.now) }
+    ensures { OnOk result (text.new ≡ text.old ++ line_need_line plan.now times.now place need.now) }
 {
     let Some(within) = need.within else {
         return Ok(());
     };
     write_need(text, plan, place, need)?;
-    write_need_time(text, within, told_of_need(times, told, place))?;
+    write_need_time(text, within, times.need(place))?;
     text.end_line()
 }
 
-fn write_needs(
-    text: &mut TextBuffer,
-    plan: &Plan,
-    times: &LineTimes,
-    told: &[ToldFinding],
-) -> Result<(), AllocError>
-    ensures { OnOk result (text.new ≡ text.old ++ lines_of_each (line_need_line plan.now times.now told.now) 0 plan.now.needs.items) }
+fn write_needs(text: &mut TextBuffer, plan: &Plan, times: &LineTimes) -> Result<(), AllocError>
+    ensures { OnOk result (text.new ≡ text.old ++ lines_of_each (line_need_line plan.now times.now) 0 plan.now.needs.items) }
 {
     for (place, need) in plan.needs.iter().enumerate() {
-        write_need_line(text, plan, times, told, place, need)?;
+        write_need_line(text, plan, times, place, need)?;
     }
     Ok(())
 }
 
-/// Writes each flow with its worst delay, each need that asks for an age with its worst, or that it is found to be unmet,
-/// and the greatest load.
+/// Writes each flow with its worst delay, each need that asks for an age with its worst, and the greatest load.
 #[tactic(auto, unfolding(crate::specs::TimeLines::line_times_text))]
 pub(crate) fn write_times(
     text: &mut TextBuffer,
     plan: &Plan,
     timing: Timing,
     times: &LineTimes,
-    told: &[ToldFinding],
 ) -> Result<(), AllocError>
-    ensures { OnOk result (text.new ≡ text.old ++ line_times_text plan.now timing times.now told.now) }
+    ensures { OnOk result (text.new ≡ text.old ++ line_times_text plan.now timing times.now) }
 {
     write_flows(text, plan, timing, times)?;
-    write_needs(text, plan, times, told)?;
+    write_needs(text, plan, times)?;
     text.field("load ", times.load)?;
     text.field(" of ", bits_of_second(timing.bitrate))?;
     text.end_line()

@@ -39,8 +39,8 @@ fn first_meeting(
     Ok(found)
 }
 
-// The first possible variant that meets one of these conditions.
-fn first_of_any(
+/// The first possible variant that meets one of these conditions, where these are the boxes of what isn't built.
+pub(crate) fn first_of_any(
     alloc: Global,
     line: &ProductLine,
     holes: &mut Vec<Vec<Vec<bool>>>,

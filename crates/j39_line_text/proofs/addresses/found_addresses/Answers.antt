@@ -22,5 +22,7 @@ returns c found =
       };
       standings = told.0;
       are_standings = subst (λ vs. AreStandingsAmong (IsOneOf vs) c.args.line.now told.0) c.variants_at.ensures told.1;
-      text_is = told.2;
+      possible = told.2.0;
+      are_possible = told.2.1;
+      text_is = told.2.2;
     }

@@ -12,7 +12,7 @@ loop-place-init c = sym (append-nil c.args.text.now)
 
 pub loop-place-preserved : goal.loop-place-preserved
 loop-place-preserved c =
-    let line = line_need_line c.args.plan.now c.args.times.now c.args.told.now in
+    let line = line_need_line c.args.plan.now c.args.times.now in
     let k = c.loop-place.place in
     let need = c.need-item.result in
     let step = more line k c.deref-need-items.result.now need c.loop-place-test.true in
