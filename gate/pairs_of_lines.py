@@ -8,7 +8,7 @@ sys.dont_write_bytecode = True
 from turned import Pair, Turn
 
 CRATE = "j39_line_bounds"
-NUMBERS = "laws::told_numbers_bound_times"
+NUMBERS = "laws::reported_numbers_bound_times"
 
 
 def in_bounds(name: str, function: str, turns: tuple[Turn, ...]) -> Pair:

@@ -10,7 +10,7 @@ from turned import Pair, Turn
 CRATE = "j39_load"
 KEPT = "laws::frames_that_keep_a_plan"
 RECEIVED = "laws::kept_plans_lose_no_receiver"
-LOSSLESS = "laws::long_messages_take_the_frames_told"
+LOSSLESS = "laws::long_messages_take_the_frames_reported"
 LONG_RUN = "laws::loads_hold_in_the_long_run"
 
 

@@ -33,6 +33,9 @@ OTHER_NAME = re.compile(r"/dev/(?:stdin|fd/\d+)|\b(?:fifo|link)\b|(?<=>Plan )(?:
 
 RANDOM = random.Random(33).randbytes(20000)
 
+# Whether plot.py can draw here.
+DRAWS = importlib.util.find_spec("matplotlib") is not None
+
 
 def tool(name: str) -> str:
     """A tool as a shell calls it."""
@@ -124,7 +127,7 @@ class OtherFiles(InFolder):
         for name in self.files:
             what = lines_without_frames(name)
             picture = self.path(f"{os.path.basename(name)}.svg")
-            pictures = [["plot.py", "--addresses", "-o", picture]] if name.endswith(("random", "log")) else []
+            pictures = [["plot.py", "--addresses", "-o", picture]] if DRAWS and name.endswith(("random", "log")) else []
             for words in (["against.py"], ["signals.py"], *pictures):
                 tool = words[0][:-3]
                 status, answer, said = run(*words, PLAN, name)
@@ -149,7 +152,8 @@ class OtherFiles(InFolder):
             "drive.txt": "  can0  18FEEE00   [8]  8A FF 00 30 FF FF FF FF\n",
         }.items():
             log = self.write(name, text)
-            for words in (["against.py", PLAN, log], ["signals.py", PLAN, log], ["plot.py", PLAN, log, "SPN110", "-o", self.path("a.svg")]):
+            picture = [["plot.py", PLAN, log, "SPN110", "-o", self.path("a.svg")]] if DRAWS else []
+            for words in (["against.py", PLAN, log], ["signals.py", PLAN, log], *picture):
                 status, answer, said = run(*words)
                 self.assertEqual((status, answer), (2, ""), words)
                 self.assertIn(f"has no frame, and {text.count(chr(10))} lines that spell none: {CONVERTER}\n", said)
@@ -250,7 +254,7 @@ class Interrupted(InFolder):
             ended, answer, said = self.ended(words, interrupts=1, lines=lines)
             status, whole, said_of_file = run(*words[:2], LOG)
             self.assertEqual((ended, answer.replace("fifo", LOG), said), (status, whole, said_of_file), words)
-        if importlib.util.find_spec("matplotlib"):
+        if DRAWS:
             ended, answer, said = self.ended(["plot.py", PLAN, "fifo", "SPN190", "-o", "a.svg"], interrupts=1, lines=lines)
             self.assertEqual((ended, answer, said), (0, "", run("plot.py", PLAN, LOG, "SPN190", "-o", self.path("b.svg"))[2]))
             self.assertIn("EEC1.SPN190", text_of(self.path("a.svg")))

@@ -79,10 +79,14 @@ class Shown(InFolder):
         for name in PAGES:
             commands = [(command, shown) for command, shown in blocks(page(name)) if COMMAND.search(command)]
             self.assertGreaterEqual(len(commands), least.get(name, 0), name)
+            unmade: dict[str, str] = {}  # the files of commands that can't be run, with what these miss
             for command, shown in commands:
+                files = re.findall(r"/tmp/[\w.]+", command)
+                reason = missing(command) or next((unmade[file] for file in files if file in unmade), None)
                 with self.subTest(command):
-                    if missing(command):
-                        self.skipTest(missing(command))
+                    if reason:
+                        unmade.update((file, reason) for file in files)
+                        self.skipTest(reason)
                     self.assertEqual(self.output(command), shown + "\n")
 
     def test_plans_are_answered_as_shown(self) -> None:

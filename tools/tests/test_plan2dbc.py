@@ -538,6 +538,7 @@ to = "DISPLAY"
                 self.assertEqual([made[key] for key in ("group", "flow")], [wanted[key] for key in ("group", "flow")])
                 self.assertIn('"EC1"  # 34 bytes\n', back)
 
+    @needs("canmatrix", "python3-canmatrix")
     def test_a_group_of_several_lengths(self) -> None:
         """Its message has the least one, so that others decode what goes in one frame; its first record is an ordinary signal."""
         dbc, told = self.made(example("trouble_codes.toml"))
@@ -551,6 +552,7 @@ to = "DISPLAY"
         frame = canmatrix.formats.loadp_flat(dbc).frames[0]
         self.assertEqual(frame.decode(bytes.fromhex("04FF6E000301FFFF"))["DTC"].raw_value, 0x0103006E)
 
+    @needs("canmatrix", "python3-canmatrix")
     def test_units_of_measurement_have_no_fraction(self) -> None:
         """So others decode what the plan says."""
         dbc, _ = self.made(example("tractor_and_implement.toml"))
@@ -565,6 +567,7 @@ to = "DISPLAY"
         self.assertIn('(0.00012207,0) [0|7.84360785] "rad/s"', text_of(self.made(plan)[0]))
         self.assertEqual(said(self.back(plan)), said(tomllib.loads(text_of(plan))))
 
+    @needs("canmatrix", "python3-canmatrix")
     def test_what_dbc2plan_wrote_beside(self) -> None:
         """Numbers of parameters, tables of values, ranges, receivers, comments, names and times come back as what a DBC has for them."""
         number = 0x8CF00400
@@ -596,6 +599,7 @@ to = "DISPLAY"
             unit["name"]["identity"] = number
         self.assertEqual(said(self.back(self.path("plan.toml"))), said(there))
 
+    @needs("canmatrix", "python3-canmatrix")
     def test_units_of_any_serial_number(self) -> None:
         """A DBC says nothing of their numbers."""
         plan = "version = 4\n" + "".join(written("unit", {"label": label, "address": at}) + f"name = {{ {name} }}\n" for label, at, name in (
@@ -604,6 +608,7 @@ to = "DISPLAY"
         self.assertEqual([line for line in text_of(dbc).splitlines() if line.startswith('BA_ "NmJ1939IdentityNumber"')], ['BA_ "NmJ1939IdentityNumber" BU_ TOOL 0;'])
         self.assertEqual(said(self.back(self.path("plan.toml"))), said(tomllib.loads(plan)))
 
+    @needs("canmatrix", "python3-canmatrix")
     def test_a_destination_that_no_unit_has(self) -> None:
         """It is that of the file again."""
         name = self.write("file.dbc", f'BU_: GEARBOX\nBO_ {0x8C000003} TSC1: 8 GEARBOX\n SG_ S : 0|8@1+ (1,0) [0|0] "" Vector__XXX\n')

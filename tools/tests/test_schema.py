@@ -115,14 +115,16 @@ class Schema(InFolder):
     def test_it_has_the_versions_of_the_reader(self) -> None:
         """Of each table whose keys not all versions know that know the table, by the list of keys in the reader's sources."""
         versions = {word: number for number, word in enumerate(("First", "Second", "Third", "Fourth"), 1)}
-        tables = {"heads": None, "timing": "timing", "units": "unit", "groups": "group", "signals": "signal", "flows": "flow"}
+        tables = {"TOP": None, "TIMING": "timing", "UNIT": "unit", "GROUP": "group", "SIGNAL": "signal", "FLOW": "flow"}
         first = {None: 1} | {table: number for (place, table), number in pairs(schema.since()) if place is None}
+        source = text_of(os.path.join(TOP, "crates", "j39_plan", "src", "reading", "keys.rt"))
+        lists = dict(re.findall(r"^pub const (\w+)_KEYS: \[\(Key, Version\); \d+\] = \[\n(.*?)^\];$", source, re.MULTILINE | re.DOTALL))
+        self.assertEqual(set(lists), set(tables))
         shown: dict[object, int] = {}
-        for file, table in tables.items():
-            source = text_of(os.path.join(TOP, "crates", "j39_plan", "src", "reading", f"{file}.rt"))
-            keys = re.findall(r"^    \(Key::(\w+), Version::(\w+)\),$", source, re.MULTILINE)
+        for name, table in tables.items():
+            keys = re.findall(r"^    \(Key::(\w+), Version::(\w+)\),$", lists[name], re.MULTILINE)
             words = [re.sub(r"(?<=.)(?=[A-Z])", "_", key).lower() for key, _ in keys]
-            self.assertEqual(words, list(rules(table)["properties"]), file)
+            self.assertEqual(words, list(rules(table)["properties"]), name)
             shown.update(((table, word), versions[version]) for word, (_, version) in zip(words, keys, strict=True)
                          if versions[version] > first.get(table, 1))
         self.assertEqual(shown, {place: number for place, number in pairs(schema.since()) if place[0] in tables.values()})

@@ -1,10 +1,10 @@
 -- How an audit ends, by how the commands end that it makes.
-use Rattle.std.proofs.Common.{◌≡◌, ◌⊎◌, ℕ, Bool, true, false, List, Option, Result, Ok, Err, inl, inr, refl}
+use Rattle.std.proofs.Common.{◌≡◌, ℕ, Bool, true, false, List, Option, Result, inl, inr, refl}
 use Rattle.j39_app.specs.Answers.{IsOfSome}
 use Rattle.j39_app.specs.AuditAnswers.{IsAuditOf, is_hindered}
 use Rattle.j39_app.specs.Faults.{Ends}
 use Rattle.j39_app.specs.Known.{AreLeft, MayBeTooLong}
-use Rattle.j39_app.proofs.Ending.{put_ends, whole_ends}
+use Rattle.j39_app.proofs.Ending.{ends_too, put_ends, whole_ends}
 use Rattle.j39_audit.specs.AuditText.{IsAudit}
 use Rattle.j39_network.specs.declared.plan.Plan.{Plan}
 use Rattle.j39_plan_text.specs.CheckText.{IsReport}
@@ -16,20 +16,16 @@ use Rattle.j39_stream.specs.declared.verdict.Verdict.{Verdict}
 
 -- what is written is said in other words
 ends_said : {W : Type 0} {IsText IsOther : List ℕ → Verdict → Type 0} {IsPart : List ℕ → Type 0} {AtOnce IsTooLong IsBroken : Type 0} {state : W → SinkState}
-    {told ended : W} (says : (text : List ℕ) (verdict : Verdict) → IsText text verdict → IsOther text verdict) (r : Result Verdict Fault)
-    → Ends IsText IsPart AtOnce IsTooLong IsBroken state told ended r → Ends IsOther IsPart AtOnce IsTooLong IsBroken state told ended r
-ends_said says (Ok verdict) ends =
-    let (text, is, put) = ends.written in
-    record { written = (text, says text verdict is, put); calm = ends.calm; cut = tt; at_once = ends.at_once; long = ends.long; device = ends.device }
-ends_said says (Err fault) ends =
-    record { written = tt; calm = tt; cut = ends.cut; at_once = ends.at_once; long = ends.long; device = ends.device }
+    {start ended : W} (says : (text : List ℕ) (verdict : Verdict) → IsText text verdict → IsOther text verdict) (r : Result Verdict Fault)
+    → Ends IsText IsPart AtOnce IsTooLong IsBroken state start ended r → Ends IsOther IsPart AtOnce IsTooLong IsBroken state start ended r
+ends_said says r ends = ends_too says (λ text part. part) (λ now. now) (λ long. long) (λ broken. broken) r ends
 
-module _ {W : Type 0} {most : Limits} {old new : SourceState} {state : W → SinkState} {told ended : W} (plan : Plan) (part : Bool)
+module _ {W : Type 0} {most : Limits} {old new : SourceState} {state : W → SinkState} {start ended : W} (plan : Plan) (part : Bool)
     (stamps : ℕ) (known : Option (List ℕ)) (IsBroken : Type 0) (opened : AreLeft known old.left)
     (breaks : HasFailed old.failures new.failures → IsBroken) (r : Result Verdict Fault) where
-  ends_where : (b : Bool) → is_hindered plan ≡ b → (b ≡ true → PutsText (IsReport plan) state told ended r)
-      → (b ≡ false → AnswersWhole (IsAudit plan part stamps) (IsOfAny (IsAudit plan part stamps)) most old new state told ended r)
-      → Ends (IsAuditOf part stamps plan known) (IsOfSome (IsAuditOf part stamps plan known)) (Unit {0}) (MayBeTooLong most known) IsBroken state told ended r
+  ends_where : (b : Bool) → is_hindered plan ≡ b → (b ≡ true → PutsText (IsReport plan) state start ended r)
+      → (b ≡ false → AnswersWhole (IsAudit plan part stamps) (IsOfAny (IsAudit plan part stamps)) most old new state start ended r)
+      → Ends (IsAuditOf part stamps plan known) (IsOfSome (IsAuditOf part stamps plan known)) (Unit {0}) (MayBeTooLong most known) IsBroken state start ended r
   ends_where true is puts answers =
       ends_said {IsOther = IsAuditOf part stamps plan known} (λ text verdict report. inl (is, report)) r
       (put_ends (λ text verdict report. (verdict, inl (is, report))) r (puts refl))
@@ -38,7 +34,7 @@ module _ {W : Type 0} {most : Limits} {old new : SourceState} {state : W → Sin
       (whole_ends known (IsOfSome (IsAuditOf part stamps plan known)) IsBroken opened
       (λ log text of audit. (audit.0, inr (is, (log, of, audit.1)))) breaks r (answers refl))
 
-  pub audit_ends : (is_hindered plan ≡ true → PutsText (IsReport plan) state told ended r)
-      → (is_hindered plan ≡ false → AnswersWhole (IsAudit plan part stamps) (IsOfAny (IsAudit plan part stamps)) most old new state told ended r)
-      → Ends (IsAuditOf part stamps plan known) (IsOfSome (IsAuditOf part stamps plan known)) (Unit {0}) (MayBeTooLong most known) IsBroken state told ended r
+  pub audit_ends : (is_hindered plan ≡ true → PutsText (IsReport plan) state start ended r)
+      → (is_hindered plan ≡ false → AnswersWhole (IsAudit plan part stamps) (IsOfAny (IsAudit plan part stamps)) most old new state start ended r)
+      → Ends (IsAuditOf part stamps plan known) (IsOfSome (IsAuditOf part stamps plan known)) (Unit {0}) (MayBeTooLong most known) IsBroken state start ended r
   audit_ends = ends_where (is_hindered plan) refl

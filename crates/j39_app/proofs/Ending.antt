@@ -7,8 +7,8 @@ use Rattle.std.proofs.lemmas.List.{length-append}
 use Rattle.j39_app.specs.Answers.{IsAnswerOfTwo, IsOfBytes, IsOfSome}
 use Rattle.j39_app.specs.Faults.{Ends}
 use Rattle.j39_app.specs.Known.{AreFrontOf, AreLeft, AreOf, AreOfPlan, MayBeTooLong}
-use Rattle.j39_app.proofs.WholeInputs.{some_same, whole_file}
-use Rattle.j39_plan_text.specs.PlanText.{Describes, IsLineText, IsRefusedText}
+use Rattle.j39_app.proofs.WholeInputs.{some_same, whole_file, whole_where}
+use Rattle.j39_plan_text.specs.PlanText.{IsLineText, IsRefusedText}
 use Rattle.j39_variants.specs.declared.line.ProductLine.{ProductLine}
 use Rattle.j39_stream.specs.CommandEnds.{AnswersInPieces, AnswersWhole, PutsText}
 use Rattle.j39_stream.specs.Streams.{HasFailed, PassesLimits, SinkState, SourceState}
@@ -16,7 +16,8 @@ use Rattle.j39_stream.specs.declared.fault.Fault.{Fault}
 use Rattle.j39_stream.specs.declared.fault.Fault.TheVariants.{Memory, Device, TooLong}
 use Rattle.j39_stream.specs.declared.limits.Limits.{Limits}
 use Rattle.j39_stream.specs.declared.verdict.Verdict.{Verdict}
-use Rattle.j39_stream.specs.declared.verdict.Verdict.TheVariants.{Unreadable}
+use Rattle.j39_stream.specs.declared.verdict.Verdict.TheVariants.{Done, Unreadable}
+use Rattle.j39_stream.proofs.Parts.{none_taken}
 
 -- ---- what was read of bytes that are known
 
@@ -47,7 +48,7 @@ front_read known left end front rest opened read = λ all is. begins left end fr
 
 module _ {V W : Type 0} {IsText : List ℕ → V → Type 0} {IsPart : List ℕ → Type 0} {AtOnce IsTooLong IsBroken : Type 0} {state : W → SinkState} where
   -- its file can't be opened
-  pub not_opened : {told : W} (r : Result V Fault) → IsErrOf r Device → IsBroken → Ends IsText IsPart AtOnce IsTooLong IsBroken state told told r
+  pub not_opened : {start : W} (r : Result V Fault) → IsErrOf r Device → IsBroken → Ends IsText IsPart AtOnce IsTooLong IsBroken state start start r
   not_opened r fails broken = rw fails record {
     written = tt;
     calm = tt;
@@ -58,8 +59,8 @@ module _ {V W : Type 0} {IsText : List ℕ → V → Type 0} {IsPart : List ℕ 
   }
 
   -- it puts one text
-  pub put_ends : {told ended : W} (says : (text : List ℕ) (answer : V) → IsText text answer → IsPart text) (r : Result V Fault)
-      → PutsText IsText state told ended r → Ends IsText IsPart AtOnce IsTooLong IsBroken state told ended r
+  pub put_ends : {start ended : W} (says : (text : List ℕ) (answer : V) → IsText text answer → IsPart text) (r : Result V Fault)
+      → PutsText IsText state start ended r → Ends IsText IsPart AtOnce IsTooLong IsBroken state start ended r
   put_ends says (Ok answer) puts = record {
     written = puts.written;
     calm = puts.calm;
@@ -90,11 +91,11 @@ module _ {V W : Type 0} {IsText : List ℕ → V → Type 0} {IsPart : List ℕ 
 
 -- it reads all of it before it writes
 module _ {V W : Type 0} {IsText : List ℕ → List ℕ → V → Type 0} {IsPart : List ℕ → List ℕ → Type 0} {most : Limits} {old new : SourceState}
-    {state : W → SinkState} {told ended : W} {AtOnce : Type 0} (known : Option (List ℕ)) (IsPartOf : List ℕ → Type 0) (IsBroken : Type 0)
+    {state : W → SinkState} {start ended : W} {AtOnce : Type 0} (known : Option (List ℕ)) (IsPartOf : List ℕ → Type 0) (IsBroken : Type 0)
     (opened : AreLeft known old.left) (says : (bytes text : List ℕ) → AreOf known bytes → IsPart bytes text → IsPartOf text)
     (breaks : HasFailed old.failures new.failures → IsBroken) where
-  pub whole_ends : (r : Result V Fault) → AnswersWhole IsText IsPart most old new state told ended r
-      → Ends (IsOfBytes IsText known) IsPartOf AtOnce (MayBeTooLong most known) IsBroken state told ended r
+  pub whole_ends : (r : Result V Fault) → AnswersWhole IsText IsPart most old new state start ended r
+      → Ends (IsOfBytes IsText known) IsPartOf AtOnce (MayBeTooLong most known) IsBroken state start ended r
   whole_ends (Ok answer) answers =
       let (input, text, read, end, is, put) = answers.written in
       record {
@@ -136,13 +137,13 @@ module _ {V W : Type 0} {IsText : List ℕ → List ℕ → V → Type 0} {IsPar
       }
 
 -- it writes while it reads
-module _ {W : Type 0} {IsText : List ℕ → List ℕ → Verdict → Type 0} {most : Limits} {old new : SourceState} {state : W → SinkState} {told ended : W}
+module _ {W : Type 0} {IsText : List ℕ → List ℕ → Verdict → Type 0} {most : Limits} {old new : SourceState} {state : W → SinkState} {start ended : W}
     (known : Option (List ℕ)) (IsTextOf : List ℕ → Verdict → Type 0) (IsPartOf : List ℕ → Type 0) (IsBroken : Type 0) (opened : AreLeft known old.left)
     (says : (input text : List ℕ) (verdict : Verdict) → AreFrontOf known input → IsText input text verdict → IsPartOf text)
     (breaks : HasFailed old.failures new.failures → IsBroken) where
   pub pieces_end : (r : Result Verdict Fault)
-      → IfOk r (λ verdict. (text : List ℕ) × IsTextOf text verdict × Appends (state told).taken (state ended).taken text)
-      → AnswersInPieces IsText most old new state told ended r → Ends IsTextOf IsPartOf ⊥ (MayBeTooLong most known) IsBroken state told ended r
+      → IfOk r (λ verdict. (text : List ℕ) × IsTextOf text verdict × Appends (state start).taken (state ended).taken text)
+      → AnswersInPieces IsText most old new state start ended r → Ends IsTextOf IsPartOf ⊥ (MayBeTooLong most known) IsBroken state start ended r
   pieces_end (Ok verdict) written answers = record {
     written = written;
     calm = answers.calm.1;
@@ -164,95 +165,69 @@ module _ {W : Type 0} {IsText : List ℕ → List ℕ → Verdict → Type 0} {m
     device = λ e. elim (answers.device e) [ inl of ↦ inl (breaks of) | inr to ↦ inr to ];
   }
 
--- what ends so ends as another one that writes such texts
-pub ends_weaker : {V W : Type 0} {IsText Was : List ℕ → V → Type 0} {IsPart WasPart : List ℕ → Type 0}
-    {AtOnce WasAtOnce IsTooLong WasTooLong IsBroken : Type 0} {state : W → SinkState} {told ended : W} (weaker : (text : List ℕ) (answer : V) → IsText text answer → Was text answer) (parts : (text : List ℕ) → IsPart text → WasPart text)
-    (sooner : WasAtOnce → AtOnce) (longer : IsTooLong → WasTooLong) (r : Result V Fault)
-    → Ends IsText IsPart AtOnce IsTooLong IsBroken state told ended r → Ends Was WasPart WasAtOnce WasTooLong IsBroken state told ended r
-ends_weaker weaker parts sooner longer (Ok answer) ends =
-    let (text, is, put) = ends.written in
-    record {
-      written = (text, weaker text answer is, put);
-      calm = ends.calm;
-      cut = tt;
-      at_once = λ e. ends.at_once (sooner e);
-      long = λ e. longer (ends.long e);
-      device = ends.device;
-    }
-ends_weaker weaker parts sooner longer (Err fault) ends = record {
-  written = tt;
-  calm = tt;
-  cut = elim ends.cut [
-    | inl same ↦ inl same
-    | inr (text, is, part) ↦ inr (text, parts text is, part)
-  ];
-  at_once = λ e. ends.at_once (sooner e);
-  long = λ e. longer (ends.long e);
-  device = ends.device;
-}
+-- a log is read, to its end where this is the answer
+pub log_ends : {W : Type 0} {IsText : List ℕ → List ℕ → Verdict → Type 0} {most : Limits} {old new : SourceState} {state : W → SinkState} {start ended : W}
+    (known : Option (List ℕ)) (IsBroken : Type 0) → AreLeft known old.left → (HasFailed old.failures new.failures → IsBroken) → (r : Result Verdict Fault)
+    → AnswersInPieces IsText most old new state start ended r
+    → Ends (λ text verdict. (log : List ℕ) × (verdict ≡ Done → AreOf known log) × IsText log text verdict)
+    (IsOfSome (λ text verdict. (log : List ℕ) × AreFrontOf known log × IsText log text verdict)) ⊥ (MayBeTooLong most known) IsBroken state start ended r
+log_ends known IsBroken opened breaks r answers =
+    pieces_end known _ _ IsBroken opened (λ input text verdict of is. (verdict, (input, of, is))) breaks r
+    (whole_where _ _ known _ _ r Done opened answers.written) answers
 
--- ---- an order of two files
+-- ---- a part of what is done
 
--- the first one describes a plan, and the other one is read by it
-module _ {W : Type 0} {AtOnce FirstLong Long FirstBroken Broken : Type 0} {state : W → SinkState} {told ended : W}
-    (IsTextFor IsFrontFor : ProductLine → Option (List ℕ) → List ℕ → Verdict → Type 0) (first second : Option (List ℕ)) (found : ProductLine) (bytes : List ℕ) (of : AreOf first bytes)
-    (described : Describes bytes found) where
-  by_plan : (r : Result Verdict Fault) → Ends (IsTextFor found second) (IsOfSome (IsFrontFor found second)) AtOnce Long Broken state told ended r
-      → Ends (IsAnswerOfTwo IsTextFor first second) (IsOfSome (IsAnswerOfTwo IsFrontFor first second)) AtOnce (FirstLong ⊎ (AreOfPlan first × Long))
-      (FirstBroken ⊎ (AreOfPlan first × Broken)) state told ended r
-  by_plan (Ok verdict) by =
-      let (text, is, put) = by.written in
+module _ {V W : Type 0} {IsText IsOther : List ℕ → V → Type 0} {IsPart IsFront : List ℕ → Type 0}
+    {AtOnce Later IsTooLong IsLonger IsBroken IsWorse : Type 0} {state : W → SinkState} {start ended : W}
+    (says : (text : List ℕ) (v : V) → IsText text v → IsOther text v) (parts : (text : List ℕ) → IsPart text → IsFront text)
+    (sooner : Later → AtOnce) (longs : IsTooLong → IsLonger) (breaks : IsBroken → IsWorse) where
+  -- a part whose end is that of the whole
+  pub ends_too : (r : Result V Fault) → Ends IsText IsPart AtOnce IsTooLong IsBroken state start ended r
+      → Ends IsOther IsFront Later IsLonger IsWorse state start ended r
+  ends_too (Ok v) read =
+      let (text, said, put) = read.written in
       record {
-        written = (text, inr (bytes, found, of, described, is), put);
-        calm = by.calm;
+        written = (text, says text v said, put);
+        calm = read.calm;
         cut = tt;
         at_once = λ _ _. tt;
         long = λ e. cc e;
         device = λ e. cc e;
       }
-  by_plan (Err fault) by = record {
+  ends_too (Err fault) read = record {
     written = tt;
     calm = tt;
-    cut = elim by.cut [
-      | inl same ↦ inl same
-      | inr (text, (verdict, is), part) ↦ inr (text, (verdict, inr (bytes, found, of, described, is)), part)
-    ];
-    at_once = by.at_once;
-    long = λ e. inr ((bytes, found, of, described), by.long e);
-    device = λ e. elim (by.device e) [ inl broken ↦ inl (inr ((bytes, found, of, described), broken)) | inr to ↦ inr to ];
+    cut = elim read.cut [ inl same ↦ inl same | inr (text, part, put) ↦ inr (text, parts text part, put) ];
+    at_once = λ once. read.at_once (sooner once);
+    long = λ e. longs (read.long e);
+    device = λ e. elim (read.device e) [ inl broken ↦ inl (breaks broken) | inr to ↦ inr to ];
   }
 
-module _ {W : Type 0} {AtOnce FirstLong Long FirstBroken Broken : Type 0} {state : W → SinkState} {told middle : W}
-    (IsTextFor IsFrontFor : ProductLine → Option (List ℕ) → List ℕ → Verdict → Type 0) (first second : Option (List ℕ)) (plan : Result (Option ProductLine) Fault)
-    (read : Ends (IsOfBytes IsLineText first) (λ text. (bytes : List ℕ) × AreOf first bytes × IsRefusedText bytes text) (Unit {0}) FirstLong FirstBroken
-    state told middle plan) where
-  -- the plan's can't be read
-  pub no_plan : (fault : Fault) (r : Result Verdict Fault) → plan ≡ Err fault → IsErrOf r fault
-      → Ends (IsAnswerOfTwo IsTextFor first second) (IsOfSome (IsAnswerOfTwo IsFrontFor first second)) AtOnce (FirstLong ⊎ (AreOfPlan first × Long))
-      (FirstBroken ⊎ (AreOfPlan first × Broken)) state told middle r
-  no_plan fault r is ends =
+module _ {V U W : Type 0} {IsText : List ℕ → V → Type 0} {IsOther : List ℕ → U → Type 0} {IsPart IsFront : List ℕ → Type 0}
+    {AtOnce Later IsTooLong IsLonger IsBroken IsWorse : Type 0} {state : W → SinkState} {start ended : W} where
+  -- a part that gave up
+  pub fails_too : (fault : Fault) (r : Result V Fault) (s : Result U Fault) → r ≡ Err fault → IsErrOf s fault
+      → ((text : List ℕ) → IsPart text → IsFront text) → (Later → AtOnce) → (IsTooLong → IsLonger) → (IsBroken → IsWorse)
+      → Ends IsText IsPart AtOnce IsTooLong IsBroken state start ended r → Ends IsOther IsFront Later IsLonger IsWorse state start ended s
+  fails_too fault r s is ends parts sooner longs breaks read =
       let before = rw is at read in
       rw ends record {
         written = tt;
         calm = tt;
-        cut = elim before.cut [
-          | inl same ↦ inl same
-          | inr (text, (bytes, of, refused), part) ↦ inr (text, (Unreadable, inl (bytes, of, refused, refl)), part)
-        ];
-        at_once = λ _ other. before.at_once tt (λ is. other (cc is));
-        long = λ e. inl (before.long (cc e));
-        device = λ e. elim (before.device (cc e)) [ inl broken ↦ inl (inl broken) | inr to ↦ inr to ];
+        cut = elim before.cut [ inl same ↦ inl same | inr (text, part, put) ↦ inr (text, parts text part, put) ];
+        at_once = λ once other. before.at_once (sooner once) (λ same. other (cc same));
+        long = λ e. longs (before.long (cc e));
+        device = λ e. elim (before.device (cc e)) [ inl broken ↦ inl (breaks broken) | inr to ↦ inr to ];
       }
 
-  -- it describes none
-  pub plan_refused : plan ≡ Ok None
-      → Ends (IsAnswerOfTwo IsTextFor first second) (IsOfSome (IsAnswerOfTwo IsFrontFor first second)) AtOnce (FirstLong ⊎ (AreOfPlan first × Long))
-      (FirstBroken ⊎ (AreOfPlan first × Broken)) state told middle (Ok Unreadable)
-  plan_refused is =
+  -- one that answered, where its answer is another one's
+  pub answers_too : (v : V) (u : U) (r : Result V Fault) → r ≡ Ok v → ((text : List ℕ) → IsText text v → IsOther text u)
+      → Ends IsText IsPart AtOnce IsTooLong IsBroken state start ended r → Ends IsOther IsFront Later IsLonger IsWorse state start ended (Ok u)
+  answers_too v u r is says read =
       let before = rw is at read in
-      let (text, (bytes, of, refused), put) = before.written in
+      let (text, said, put) = before.written in
       record {
-        written = (text, inl (bytes, of, refused, refl), put);
+        written = (text, says text said, put);
         calm = before.calm;
         cut = tt;
         at_once = λ _ _. tt;
@@ -260,13 +235,63 @@ module _ {W : Type 0} {AtOnce FirstLong Long FirstBroken Broken : Type 0} {state
         device = λ e. cc e;
       }
 
+module _ {V W : Type 0} {IsText : List ℕ → V → Type 0} {IsPart : List ℕ → Type 0} {AtOnce IsTooLong IsBroken : Type 0} {state : W → SinkState} {start : W} where
+  -- memory was refused before anything was written
+  pub wants_memory : (r : Result V Fault) → IsErrOf r Memory → Ends IsText IsPart AtOnce IsTooLong IsBroken state start start r
+  wants_memory r wants = rw wants record {
+    written = tt;
+    calm = tt;
+    cut = inl refl;
+    at_once = λ _ _. refl;
+    long = λ e. cc e;
+    device = λ e. cc e;
+  }
+
+  -- nothing is written
+  pub says_nothing : (v : V) → IsText [] v → Ends IsText IsPart AtOnce IsTooLong IsBroken state start start (Ok v)
+  says_nothing v is = record {
+    written = ([], is, none_taken _);
+    calm = refl;
+    cut = tt;
+    at_once = λ _ _. tt;
+    long = λ e. cc e;
+    device = λ e. cc e;
+  }
+
+-- what follows a part that wrote nothing
+pub continues : {V W : Type 0} {IsText : List ℕ → V → Type 0} {IsPart : List ℕ → Type 0} {AtOnce IsTooLong IsBroken : Type 0} {state : W → SinkState}
+    {start middle ended : W} {r : Result V Fault} → middle ≡ start → Ends IsText IsPart AtOnce IsTooLong IsBroken state middle ended r
+    → Ends IsText IsPart AtOnce IsTooLong IsBroken state start ended r
+continues {V} {W} {IsText} {IsPart} {AtOnce} {IsTooLong} {IsBroken} {state} {start} {middle} {ended} {r} same ends =
+    subst (λ (w : W). Ends IsText IsPart AtOnce IsTooLong IsBroken state w ended r) same ends
+
+-- ---- an order of two files
+
+module _ {W : Type 0} {AtOnce FirstLong Long FirstBroken Broken : Type 0} {state : W → SinkState} {start middle : W}
+    (IsTextFor IsFrontFor : ProductLine → Option (List ℕ) → List ℕ → Verdict → Type 0) (first second : Option (List ℕ))
+    (plan : Result (Option ProductLine) Fault)
+    (read : Ends (IsOfBytes IsLineText first) (λ text. (bytes : List ℕ) × AreOf first bytes × IsRefusedText bytes text) (Unit {0}) FirstLong FirstBroken
+    state start middle plan) where
+  -- the plan's can't be read
+  pub no_plan : (fault : Fault) (r : Result Verdict Fault) → plan ≡ Err fault → IsErrOf r fault
+      → Ends (IsAnswerOfTwo IsTextFor first second) (IsOfSome (IsAnswerOfTwo IsFrontFor first second)) AtOnce (FirstLong ⊎ (AreOfPlan first × Long))
+      (FirstBroken ⊎ (AreOfPlan first × Broken)) state start middle r
+  no_plan fault r is ends =
+      fails_too fault plan r is ends (λ text part. (Unreadable, inl (part.0, part.1, part.2, refl))) (λ _. tt) (λ long. inl long) (λ broken. inl broken) read
+
+  -- it describes none
+  pub plan_refused : plan ≡ Ok None
+      → Ends (IsAnswerOfTwo IsTextFor first second) (IsOfSome (IsAnswerOfTwo IsFrontFor first second)) AtOnce (FirstLong ⊎ (AreOfPlan first × Long))
+      (FirstBroken ⊎ (AreOfPlan first × Broken)) state start middle (Ok Unreadable)
+  plan_refused is = answers_too None Unreadable plan is (λ text part. inl (part.0, part.1, part.2, refl)) read
+
   -- the other file is read by the plan
-  pub plan_known : {ended : W} (found : ProductLine) (r : Result Verdict Fault) → plan ≡ Ok (Some found) → middle ≡ told
+  pub plan_known : {ended : W} (found : ProductLine) (r : Result Verdict Fault) → plan ≡ Ok (Some found) → middle ≡ start
       → Ends (IsTextFor found second) (IsOfSome (IsFrontFor found second)) AtOnce Long Broken state middle ended r
       → Ends (IsAnswerOfTwo IsTextFor first second) (IsOfSome (IsAnswerOfTwo IsFrontFor first second)) AtOnce (FirstLong ⊎ (AreOfPlan first × Long))
-      (FirstBroken ⊎ (AreOfPlan first × Broken)) state told ended r
-  plan_known {ended} found r is same by =
+      (FirstBroken ⊎ (AreOfPlan first × Broken)) state start ended r
+  plan_known found r is same by =
       let before = rw is at read in
       let (text, (bytes, of, described), put) = before.written in
-      by_plan IsTextFor IsFrontFor first second found bytes of described.0 r
-      (subst (λ (w : W). Ends (IsTextFor found second) (IsOfSome (IsFrontFor found second)) AtOnce Long Broken state w ended r) same by)
+      ends_too (λ text verdict is. inr (bytes, found, of, described.0, is)) (λ text is. (is.0, inr (bytes, found, of, described.0, is.1))) (λ now. now)
+      (λ long. inr ((bytes, found, of, described.0), long)) (λ broken. inr ((bytes, found, of, described.0), broken)) r (continues same by)

@@ -1,5 +1,4 @@
 pub mod AuditEnds
 pub mod BusesRead
 pub mod Ending
-pub mod VehicleEnds
 pub mod WholeInputs

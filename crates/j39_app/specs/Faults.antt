@@ -61,57 +61,57 @@ AsksForMemory _ = Unit {0}
 -- how an order ends: the text that is defined for it was written, with the answer; where a fault comes, nothing was written or a part of
 -- a text, and nothing before another fault than the device's where the text is put at once; and what the faults come of
 pub record Ends {V W : Type 0} (IsText : List ℕ → V → Type 0) (IsPart : List ℕ → Type 0) (AtOnce IsTooLong IsBroken : Type 0) (state : W → SinkState)
-    (told ended : W) (result : Result V Fault) : Type 0 where
-  pub written : IfOk result (λ answer. (text : List ℕ) × IsText text answer × Appends (state told).taken (state ended).taken text)
-  pub calm : OnOk result ((state ended).failures ≡ (state told).failures)
-  pub cut : OnErr result ((ended ≡ told) ⊎ ((text : List ℕ) × IsPart text × AppendsPart (state told).taken (state ended).taken text))
-  pub at_once : AtOnce → result ≢ Err Device → OnErr result (ended ≡ told)
+    (start ended : W) (result : Result V Fault) : Type 0 where
+  pub written : IfOk result (λ answer. (text : List ℕ) × IsText text answer × Appends (state start).taken (state ended).taken text)
+  pub calm : OnOk result ((state ended).failures ≡ (state start).failures)
+  pub cut : OnErr result ((ended ≡ start) ⊎ ((text : List ℕ) × IsPart text × AppendsPart (state start).taken (state ended).taken text))
+  pub at_once : AtOnce → result ≢ Err Device → OnErr result (ended ≡ start)
   pub long : IsErrOf result TooLong → IsTooLong
-  pub device : IsErrOf result Device → IsBroken ⊎ HasFailed (state told).failures (state ended).failures
+  pub device : IsErrOf result Device → IsBroken ⊎ HasFailed (state start).failures (state ended).failures
 
 -- the same of what reads the file of a name
 abbrev pub EndsByFile : {File V W : Type 0} → (Option (List ℕ) → List ℕ → V → Type 0) → (Option (List ℕ) → List ℕ → Type 0) → Type 0 → Limits
     → (List ℕ → Type 0) → Names → (File → SourceState) → List ℕ → (W → SinkState) → W → W → Result V Fault → Type 0
-EndsByFile IsText IsPart AtOnce limits stays_shut files state_of name state told ended result =
-    Ends (IsText (files name)) (IsPart (files name)) AtOnce (MayBeTooLong limits (files name)) (HasFileFailed stays_shut files state_of name) state told ended
+EndsByFile IsText IsPart AtOnce limits stays_shut files state_of name state start ended result =
+    Ends (IsText (files name)) (IsPart (files name)) AtOnce (MayBeTooLong limits (files name)) (HasFileFailed stays_shut files state_of name) state start ended
     result
 
 -- of what reads the file of a plan, and then another one by the plan, of which less may have come where a part of the text stands written
 abbrev pub EndsByTwo : {File W : Type 0} → (ProductLine → Option (List ℕ) → List ℕ → Verdict → Type 0) → (ProductLine → Option (List ℕ) → List ℕ → Verdict → Type 0)
     → Type 0 → Limits → (List ℕ → Type 0) → Names → (File → SourceState) → List ℕ → List ℕ → (W → SinkState) → W → W → Result Verdict Fault → Type 0
-EndsByTwo IsText IsFront AtOnce limits stays_shut files state_of plan other state told ended result =
+EndsByTwo IsText IsFront AtOnce limits stays_shut files state_of plan other state start ended result =
     Ends (IsAnswerOfTwo IsText (files plan) (files other)) (IsOfSome (IsAnswerOfTwo IsFront (files plan) (files other))) AtOnce
     (IsOfTwo (λ most name. MayBeTooLong most (files name)) files limits plan other)
-    (IsOfTwo (λ _ name. HasFileFailed stays_shut files state_of name) files limits plan other) state told ended result
+    (IsOfTwo (λ _ name. HasFileFailed stays_shut files state_of name) files limits plan other) state start ended result
 
 -- of what reads a vehicle file, and then the files of the plans that it names
 abbrev pub EndsByVehicle : {File W : Type 0} → (List ℕ → Type 0) → Names → (File → SourceState) → List ℕ → (W → SinkState) → W → W
     → Result Verdict Fault → Type 0
-EndsByVehicle stays_shut files state_of vehicle state told ended result =
+EndsByVehicle stays_shut files state_of vehicle state start ended result =
     Ends (IsAnswerOfVehicle files vehicle) (IsOfSome (IsAnswerOfVehicle files vehicle)) (Unit {0})
     (IsOfVehicleFiles (λ name. MayBeTooLong plan_limits (files name)) files vehicle)
-    (IsOfVehicleFiles (λ name. HasFileFailed stays_shut files state_of name) files vehicle) state told ended result
+    (IsOfVehicleFiles (λ name. HasFileFailed stays_shut files state_of name) files vehicle) state start ended result
 
 -- of what reads the file of the plan of a bus
 abbrev pub EndsByBus : {File W : Type 0} → (List ℕ → Type 0) → Names → (File → SourceState) → List ℕ → BusTable → (W → SinkState) → W → W
     → Result (Option Plan) Fault → Type 0
-EndsByBus stays_shut files state_of vehicle table state told ended result =
+EndsByBus stays_shut files state_of vehicle table state start ended result =
     Ends (IsTextOfBusFile files vehicle table) (λ text. IsOfBus (IsBusRefusedBy files text table) vehicle table) (Unit {0})
     (IsOfBus (λ name. MayBeTooLong plan_limits (files name)) vehicle table)
-    (IsOfBus (λ name. HasFileFailed stays_shut files state_of name) vehicle table) state told ended result
+    (IsOfBus (λ name. HasFileFailed stays_shut files state_of name) vehicle table) state start ended result
 
 -- and of what reads those of all buses
 abbrev pub EndsByBuses : {File W : Type 0} → (List ℕ → Type 0) → Names → (File → SourceState) → List ℕ → List BusTable → (W → SinkState) → W → W
     → Result (Option (Vec BusPlan Global)) Fault → Type 0
-EndsByBuses stays_shut files state_of vehicle tables state told ended result =
+EndsByBuses stays_shut files state_of vehicle tables state start ended result =
     Ends (λ text buses. ArePlansText files vehicle tables text (option_map (λ v. v.items) buses)) (IsSomeBusRefused files vehicle tables) (Unit {0})
     (IsOfSomeBus files vehicle (λ table name. MayBeTooLong plan_limits (files name)) tables)
-    (IsOfSomeBus files vehicle (λ table name. HasFileFailed stays_shut files state_of name) tables) state told ended result
+    (IsOfSomeBus files vehicle (λ table name. HasFileFailed stays_shut files state_of name) tables) state start ended result
 
 -- and of what writes of a vehicle file that was read
 abbrev pub EndsByPlans : {File W : Type 0} → (List ℕ → Type 0) → Names → (File → SourceState) → List ℕ → VehicleFile → (W → SinkState) → W → W
     → Result Verdict Fault → Type 0
-EndsByPlans stays_shut files state_of vehicle file state told ended result =
+EndsByPlans stays_shut files state_of vehicle file state start ended result =
     Ends (IsTextOfBuses files vehicle file) (IsOfSome (IsTextOfBuses files vehicle file)) (Unit {0})
     (IsOfSomeBus files vehicle (λ table name. MayBeTooLong plan_limits (files name)) file.buses.items)
-    (IsOfSomeBus files vehicle (λ table name. HasFileFailed stays_shut files state_of name) file.buses.items) state told ended result
+    (IsOfSomeBus files vehicle (λ table name. HasFileFailed stays_shut files state_of name) file.buses.items) state start ended result

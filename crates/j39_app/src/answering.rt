@@ -1,28 +1,20 @@
 //! What is written for an order.
-ghost use Rattle.std.specs.Prelude.{◌≡◌, IsErrOf, OnOk, map, string_bytes};
-ghost use Rattle.j39_app.specs.Answers.{IsAnswer, IsFrontAnswer, IsOfBytes, IsOfSome};
-ghost use Rattle.j39_app.specs.Faults.{AsksForMemory, Ends, EndsByFile, HasFileFailed, IsOfRead, PutsAtOnce};
+ghost use Rattle.std.specs.Prelude.{◌≡◌, IsErrOf, OnOk};
+ghost use Rattle.j39_app.specs.Answers.{IsAnswer, IsFrontAnswer, IsOfSome};
+ghost use Rattle.j39_app.specs.Faults.{AsksForMemory, Ends, HasFileFailed, IsOfRead, PutsAtOnce};
 ghost use Rattle.j39_app.specs.Known.{MayBeTooLong};
-ghost use Rattle.j39_line_text.specs.LineAddressesText.{IsLineAddressesText};
-ghost use Rattle.j39_line_text.specs.LineCheckText.{IsLineCheckText};
-ghost use Rattle.j39_line_text.specs.LineLoadText.{IsLineLoadText};
-ghost use Rattle.j39_plan_text.specs.ShownLines.{IsShowText};
-ghost use Rattle.j39_plan_text.specs.VariantText.{IsVariantText};
 ghost use Rattle.j39_stream.specs.CommandEnds.{AnswersWhole, IsOfAny};
 ghost use Rattle.j39_stream.specs.Streams.{HasFailed, plan_limits};
 ghost use Rattle.j39_text.specs.FrameText.{IsInputText};
 
 use crate::answering_vehicles::vehicle_files;
-use crate::auditing::AuditCommand;
-use crate::by_plan::{FollowCommand, ReadCommand, RunCommand, by_two};
-use crate::{
-    Fault, Folder, Order, Sink, Source, Verdict, addresses_line_text, check_line_text, frame_text,
-    input_text, load_line_text, put_all, show_text, variant_text,
-};
+use crate::by_plan::{CommandByPlan, by_two};
+use crate::plan_command::{PlanCommand, of_plan_file};
+use crate::{Fault, Folder, Order, Sink, Source, Verdict, frame_text, input_text, put_all};
 use std::alloc::Global;
 
-// Each command holds its buffers and tables in a frame of its own, since that of `answer` lies on the stack below all
-// of them.
+// What reads an input or files holds its buffers and tables in a frame of its own, since that of `answer` lies on the
+// stack below all of them.
 #[inline(never)]
 fn input_by<S: Source, W: Sink>(
     alloc: Global,
@@ -32,73 +24,6 @@ fn input_by<S: Source, W: Sink>(
     ensures { AnswersWhole IsInputText (IsOfAny IsInputText) plan_limits (S.state input.old) (S.state input.new) W.state sink.old sink.new result }
 {
     input_text(alloc, input, sink)
-}
-
-#[inline(never)]
-fn show_file<F: Folder, W: Sink>(
-    alloc: Global,
-    files: &F,
-    plan: &str,
-    sink: &mut W,
-) -> Result<Verdict, Fault>
-    ensures { EndsByFile (IsOfBytes IsShowText) (λ known. IsOfSome (IsOfBytes IsShowText known)) (Unit {0}) plan_limits
-        (F.stays_shut files.now) (F.bytes_of files.now) F.File.state plan.now W.state sink.old sink.new result }
-{
-    show_text(alloc, &mut files.open(plan)?, sink)
-}
-
-#[inline(never)]
-fn variant_file<F: Folder, W: Sink>(
-    alloc: Global,
-    files: &F,
-    plan: &str,
-    labels: &[String],
-    sink: &mut W,
-) -> Result<Verdict, Fault>
-    ensures { let words = map string_bytes labels.now in
-        EndsByFile (IsOfBytes (IsVariantText words)) (λ known. IsOfSome (IsOfBytes (IsVariantText words) known)) (Unit {0}) plan_limits
-        (F.stays_shut files.now) (F.bytes_of files.now) F.File.state plan.now W.state sink.old sink.new result }
-{
-    variant_text(alloc, labels, &mut files.open(plan)?, sink)
-}
-
-#[inline(never)]
-fn check_file<F: Folder, W: Sink>(
-    alloc: Global,
-    files: &F,
-    plan: &str,
-    sink: &mut W,
-) -> Result<Verdict, Fault>
-    ensures { EndsByFile (IsOfBytes IsLineCheckText) (λ known. IsOfSome (IsOfBytes IsLineCheckText known)) (Unit {0}) plan_limits
-        (F.stays_shut files.now) (F.bytes_of files.now) F.File.state plan.now W.state sink.old sink.new result }
-{
-    check_line_text(alloc, &mut files.open(plan)?, sink)
-}
-
-#[inline(never)]
-fn addresses_file<F: Folder, W: Sink>(
-    alloc: Global,
-    files: &F,
-    plan: &str,
-    sink: &mut W,
-) -> Result<Verdict, Fault>
-    ensures { EndsByFile (IsOfBytes IsLineAddressesText) (λ known. IsOfSome (IsOfBytes IsLineAddressesText known)) (Unit {0}) plan_limits
-        (F.stays_shut files.now) (F.bytes_of files.now) F.File.state plan.now W.state sink.old sink.new result }
-{
-    addresses_line_text(alloc, &mut files.open(plan)?, sink)
-}
-
-#[inline(never)]
-fn load_file<F: Folder, W: Sink>(
-    alloc: Global,
-    files: &F,
-    plan: &str,
-    sink: &mut W,
-) -> Result<Verdict, Fault>
-    ensures { EndsByFile (IsOfBytes IsLineLoadText) (λ known. IsOfSome (IsOfBytes IsLineLoadText known)) (Unit {0}) plan_limits
-        (F.stays_shut files.now) (F.bytes_of files.now) F.File.state plan.now W.state sink.old sink.new result }
-{
-    load_line_text(alloc, &mut files.open(plan)?, sink)
 }
 
 /// Writes what is asked for by an order: of the bytes of the files that it names, of its own line, or of the first line
@@ -123,25 +48,29 @@ pub fn answer<F: Folder, S: Source, W: Sink>(
     match order {
         Order::Input => input_by(alloc, input, sink),
         Order::Frame(line) => frame_text(alloc, line.as_bytes(), sink),
-        Order::Show(plan) => show_file(alloc, files, plan, sink),
-        Order::Variant(plan, labels) => variant_file(alloc, files, plan, labels, sink),
-        Order::Check(plan) => check_file(alloc, files, plan, sink),
-        Order::Addresses(plan) => addresses_file(alloc, files, plan, sink),
-        Order::Load(plan) => load_file(alloc, files, plan, sink),
-        Order::Run(plan, schedule) => by_two(alloc, files, &RunCommand, plan, schedule, sink),
-        Order::Read(plan, log) => by_two(alloc, files, &ReadCommand, plan, log, sink),
+        Order::Show(plan) => of_plan_file(alloc, files, PlanCommand::Show, plan, sink),
+        Order::Variant(plan, labels) => {
+            of_plan_file(alloc, files, PlanCommand::Variant(labels), plan, sink)
+        }
+        Order::Check(plan) => of_plan_file(alloc, files, PlanCommand::Check, plan, sink),
+        Order::Addresses(plan) => of_plan_file(alloc, files, PlanCommand::Addresses, plan, sink),
+        Order::Load(plan) => of_plan_file(alloc, files, PlanCommand::Load, plan, sink),
+        Order::Run(plan, schedule) => by_two(
+            alloc,
+            files,
+            CommandByPlan::Run,
+            plan,
+            schedule,
+            sink,
+        ),
+        Order::Read(plan, log) => by_two(alloc, files, CommandByPlan::Read, plan, log, sink),
         Order::Follow(plan, log, frames) => {
-            let following = FollowCommand {
-                all_frames: frames.are_all(),
-            };
-            by_two(alloc, files, &following, plan, log, sink)
+            let command = CommandByPlan::Follow(frames.are_all());
+            by_two(alloc, files, command, plan, log, sink)
         }
         Order::Audit(plan, log, part, stamps) => {
-            let auditing = AuditCommand {
-                part: *part,
-                stamps: *stamps,
-            };
-            by_two(alloc, files, &auditing, plan, log, sink)
+            let command = CommandByPlan::Audit(*part, *stamps);
+            by_two(alloc, files, command, plan, log, sink)
         }
         Order::Vehicle(vehicle) => vehicle_files(alloc, files, vehicle, sink),
         Order::Help(text) => {

@@ -7,8 +7,7 @@ ghost use Rattle.j39_plan_text.specs.CheckText.{IsReport};
 ghost use Rattle.j39_stream.specs.CommandEnds.{AnswersWhole, IsOfAny, PutsText};
 ghost use Rattle.j39_stream.specs.Streams.{log_limits};
 
-use crate::by_plan::ReadsByPlan;
-use crate::{Fault, Folder, Sink, Source, Verdict, audit_text, put_all};
+use crate::{Fault, Sink, Source, Verdict, audit_text, put_all};
 use j39_findings::{Finding, check};
 use j39_network::Plan;
 use j39_plan_text::{PlanFindings, write_check};
@@ -51,6 +50,7 @@ fn put_findings<W: Sink>(alloc: Global, plan: &Plan, sink: &mut W) -> Result<Ver
 
 /// Writes which premises of a plan a log refutes. Where addresses or identifiers of the plan aren't what they should be
 /// (findings F1 to F12, F24, F26 to F28) it writes what the check command does, and reads nothing.
+#[inline(never)]
 pub fn audit_planned<S: Source, W: Sink>(
     alloc: Global,
     plan: &Plan,
@@ -69,45 +69,5 @@ pub fn audit_planned<S: Source, W: Sink>(
         put_findings(alloc, plan, sink)
     } else {
         audit_text(alloc, plan, part, stamps, log, sink)
-    }
-}
-
-/// Which premises of the plan a log refutes: of a log in which frames may be missing or of a whole one, by a logger of
-/// this error in microseconds.
-#[derive(Drop)]
-pub(crate) struct AuditCommand {
-    pub(crate) part: bool,
-    pub(crate) stamps: u64,
-}
-
-impl<F: Folder, W: Sink> ReadsByPlan<F, W> for AuditCommand {
-    ghost use Rattle.j39_app.specs.AuditAnswers.{IsAuditOf};
-    ghost use Rattle.j39_stream.specs.Streams.{log_limits};
-
-    ghost says = { λ auditing. IsAuditOf auditing.part auditing.stamps };
-
-    ghost begins = { λ auditing. IsAuditOf auditing.part auditing.stamps };
-
-    ghost puts_at_once = { Unit {0} };
-
-    ghost limits = { log_limits };
-
-    #[inline(never)]
-    fn write(
-        &self,
-        alloc: Global,
-        files: &F,
-        plan: &Plan,
-        name: &str,
-        sink: &mut W,
-    ) -> Result<Verdict, Fault> {
-        audit_planned(
-            alloc,
-            plan,
-            self.part,
-            self.stamps,
-            &mut files.open(name)?,
-            sink,
-        )
     }
 }

@@ -1,134 +1,53 @@
 //! What reads another file by the plan of a first one: a schedule, or a log.
-ghost use Rattle.std.specs.Prelude.{◌≡◌, IfOk, OnSome};
+ghost use Rattle.std.specs.Prelude.{◌≡◌, ℕ, List, Option, IfOk, OnSome};
 ghost use Rattle.j39_app.specs.Answers.{IsForOnePlan, IsOfBytes, IsOfSome, IsRefusedOf};
-ghost use Rattle.j39_app.specs.Faults.{Ends, EndsByFile, EndsByTwo, HasFileFailed};
-ghost use Rattle.j39_plan_text.specs.PlanText.{IsLineText, RefusesChoices};
-ghost use Rattle.j39_stream.specs.Streams.{plan_limits};
+ghost use Rattle.j39_app.specs.Faults.{Ends, EndsByFile, EndsByTwo};
+ghost use Rattle.j39_app.specs.Known.{AreLeft, MayBeTooLong};
+ghost use Rattle.j39_app.specs.PlanCommands.{IsFrontByPlan, IsTextByPlan, PutsByPlan, limits_by_plan};
+ghost use Rattle.j39_plan_text.specs.PlanText.{IsLineText};
+ghost use Rattle.j39_stream.specs.Streams.{HasFailed, plan_limits};
 
+use crate::auditing::audit_planned;
 use crate::{
-    Fault, Folder, Sink, Verdict, follow_text, line_text, read_text, refuse_choices, run_planned,
+    Fault, Folder, Sink, Source, Verdict, follow_text, line_text, read_text, refuse_choices,
+    run_planned,
 };
 use j39_network::Plan;
 use j39_variants::ProductLine;
 use std::alloc::Global;
 
-/// What reads a file by a plan, and writes what it finds. It holds its buffers and tables in a frame of its own.
-pub(crate) trait ReadsByPlan<F: Folder, W: Sink> {
-    ghost use Rattle.std.specs.Prelude.{ℕ, List, Option};
-    ghost use Rattle.j39_app.specs.Answers.{IsOfSome};
-    ghost use Rattle.j39_app.specs.Faults.{EndsByFile};
-    ghost use Rattle.j39_network.specs.declared.plan.Plan.{Plan as APlan};
-    ghost use Rattle.j39_stream.specs.declared.limits.Limits.{Limits as SomeLimits};
-    ghost use Rattle.j39_stream.specs.declared.verdict.Verdict.{Verdict as AVerdict};
-
-    /// This is written for a plan and the bytes of the file, where they are known, with this verdict.
-    ghost says: { Self → APlan → Option (List ℕ) → List ℕ → AVerdict → Type 0 };
-
-    /// Where a fault comes, a part of such a text may stand written.
-    ghost begins: { Self → APlan → Option (List ℕ) → List ℕ → AVerdict → Type 0 };
-
-    /// What is written is put at once, and not while it reads.
-    ghost puts_at_once: { Type 0 };
-
-    /// How much of the file is read.
-    ghost limits: { SomeLimits };
-
-    fn write(
-        &self,
-        alloc: Global,
-        files: &F,
-        plan: &Plan,
-        name: &str,
-        sink: &mut W,
-    ) -> Result<Verdict, Fault>
-        ensures { EndsByFile (says self.now plan.now) (λ known. IsOfSome (begins self.now plan.now known)) puts_at_once limits
-            (F.stays_shut files.now) (F.bytes_of files.now) F.File.state name.now W.state sink.old sink.new result };
+/// What is asked of another file by a plan.
+#[derive(Clone, Copy)]
+pub(crate) enum CommandByPlan {
+    /// What happens on the bus of the plan by a schedule.
+    Run,
+    /// What a log says of the groups of the plan.
+    Read,
+    /// Who sent what in a log, by its own claims: of all frames, or of those of planned groups.
+    Follow(bool),
+    /// Which premises of the plan a log refutes: of a log in which frames may be missing or of a whole one, by a logger
+    /// of this error in microseconds.
+    Audit(bool, u64),
 }
 
-/// What happens on the bus of the plan by a schedule.
-pub(crate) struct RunCommand;
-
-impl<F: Folder, W: Sink> ReadsByPlan<F, W> for RunCommand {
-    ghost use Rattle.j39_app.specs.Answers.{IsRunFrontOf, IsRunOf};
-    ghost use Rattle.j39_stream.specs.Streams.{plan_limits};
-
-    ghost says = { λ _. IsRunOf };
-
-    ghost begins = { λ _. IsRunFrontOf };
-
-    ghost puts_at_once = { ⊥ };
-
-    ghost limits = { plan_limits };
-
-    #[inline(never)]
-    fn write(
-        &self,
-        alloc: Global,
-        files: &F,
-        plan: &Plan,
-        name: &str,
-        sink: &mut W,
-    ) -> Result<Verdict, Fault> {
-        run_planned(alloc, plan, &mut files.open(name)?, sink)
-    }
-}
-
-/// What a log says of the groups of the plan.
-pub(crate) struct ReadCommand;
-
-impl<F: Folder, W: Sink> ReadsByPlan<F, W> for ReadCommand {
-    ghost use Rattle.j39_app.specs.Answers.{IsReadFrontOf, IsReadOf};
-    ghost use Rattle.j39_stream.specs.Streams.{log_limits};
-
-    ghost says = { λ _. IsReadOf };
-
-    ghost begins = { λ _. IsReadFrontOf };
-
-    ghost puts_at_once = { ⊥ };
-
-    ghost limits = { log_limits };
-
-    #[inline(never)]
-    fn write(
-        &self,
-        alloc: Global,
-        files: &F,
-        plan: &Plan,
-        name: &str,
-        sink: &mut W,
-    ) -> Result<Verdict, Fault> {
-        read_text(alloc, plan, &mut files.open(name)?, sink)
-    }
-}
-
-/// Who sent what in a log, by its own claims: of all frames, or of those of planned groups.
-#[derive(Drop)]
-pub(crate) struct FollowCommand {
-    pub(crate) all_frames: bool,
-}
-
-impl<F: Folder, W: Sink> ReadsByPlan<F, W> for FollowCommand {
-    ghost use Rattle.j39_app.specs.Answers.{IsFollowFrontOf, IsFollowOf};
-    ghost use Rattle.j39_stream.specs.Streams.{log_limits};
-
-    ghost says = { λ following. IsFollowOf following.all_frames };
-
-    ghost begins = { λ following. IsFollowFrontOf following.all_frames };
-
-    ghost puts_at_once = { ⊥ };
-
-    ghost limits = { log_limits };
-
-    #[inline(never)]
-    fn write(
-        &self,
-        alloc: Global,
-        files: &F,
-        plan: &Plan,
-        name: &str,
-        sink: &mut W,
-    ) -> Result<Verdict, Fault> {
-        follow_text(alloc, plan, self.all_frames, &mut files.open(name)?, sink)
+// Reads the other file by the plan, and writes what it finds.
+fn write_by_plan<S: Source, W: Sink>(
+    alloc: Global,
+    command: CommandByPlan,
+    plan: &Plan,
+    file: &mut S,
+    sink: &mut W,
+) -> Result<Verdict, Fault>
+    ensures { (known : Option (List ℕ)) → AreLeft known (S.state file.old).left
+        → Ends (IsTextByPlan command plan.now known) (IsOfSome (IsFrontByPlan command plan.now known)) (PutsByPlan command)
+        (MayBeTooLong (limits_by_plan command) known) (HasFailed (S.state file.old).failures (S.state file.new).failures)
+        W.state sink.old sink.new result }
+{
+    match command {
+        CommandByPlan::Run => run_planned(alloc, plan, file, sink),
+        CommandByPlan::Read => read_text(alloc, plan, file, sink),
+        CommandByPlan::Follow(all_frames) => follow_text(alloc, plan, all_frames, file, sink),
+        CommandByPlan::Audit(part, stamps) => audit_planned(alloc, plan, part, stamps, file, sink),
     }
 }
 
@@ -146,49 +65,37 @@ fn line_of<F: Folder, W: Sink>(
     line_text(alloc, &mut files.open(name)?, sink)
 }
 
-// Writes that a plan has choices, once the other file is open.
-fn refuse_opened<F: Folder, W: Sink>(
+// Opens the other file, and writes it for the plan of a line of vehicles that has one alone, else that the plan has
+// choices.
+fn by_line<F: Folder, W: Sink>(
     alloc: Global,
     files: &F,
-    name: &str,
-    sink: &mut W,
-) -> Result<Verdict, Fault>
-    ensures { Ends RefusesChoices (IsOfSome RefusesChoices) (Unit {0}) ⊥ (HasFileFailed (F.stays_shut files.now) (F.bytes_of files.now) F.File.state name.now)
-        W.state sink.old sink.new result }
-{
-    let _opened = files.open(name)?;
-    refuse_choices(alloc, sink)
-}
-
-// Writes it for the plan of a line of vehicles that has one alone, else that the plan has choices.
-fn by_line<C: ReadsByPlan<F, W>, F: Folder, W: Sink>(
-    alloc: Global,
-    files: &F,
-    command: &C,
+    command: CommandByPlan,
     line: &ProductLine,
     name: &str,
     sink: &mut W,
 ) -> Result<Verdict, Fault>
-    ensures { EndsByFile (IsForOnePlan (C.says command.now) line.now) (λ known. IsOfSome (IsForOnePlan (C.begins command.now) line.now known))
-        C.puts_at_once C.limits (F.stays_shut files.now) (F.bytes_of files.now) F.File.state name.now W.state sink.old sink.new result }
+    ensures { EndsByFile (IsForOnePlan (IsTextByPlan command) line.now) (λ known. IsOfSome (IsForOnePlan (IsFrontByPlan command) line.now known))
+        (PutsByPlan command) (limits_by_plan command) (F.stays_shut files.now) (F.bytes_of files.now) F.File.state name.now W.state sink.old sink.new result }
 {
+    let mut file = files.open(name)?;
     if line.has_choices() {
-        refuse_opened(alloc, files, name, sink)
+        refuse_choices(alloc, sink)
     } else {
-        command.write(alloc, files, &line.plan, name, sink)
+        write_by_plan(alloc, command, &line.plan, &mut file, sink)
     }
 }
 
 /// Reads the file of a plan, and then another one by the plan, whose file is opened once the plan was read.
-pub(crate) fn by_two<C: ReadsByPlan<F, W>, F: Folder, W: Sink>(
+pub(crate) fn by_two<F: Folder, W: Sink>(
     alloc: Global,
     files: &F,
-    command: &C,
+    command: CommandByPlan,
     plan: &str,
     other: &str,
     sink: &mut W,
 ) -> Result<Verdict, Fault>
-    ensures { EndsByTwo (IsForOnePlan (C.says command.now)) (IsForOnePlan (C.begins command.now)) C.puts_at_once C.limits
+    ensures { EndsByTwo (IsForOnePlan (IsTextByPlan command)) (IsForOnePlan (IsFrontByPlan command)) (PutsByPlan command) (limits_by_plan command)
         (F.stays_shut files.now) (F.bytes_of files.now) F.File.state plan.now other.now W.state sink.old sink.new result }
 {
     match line_of(alloc, files, plan, sink)? {

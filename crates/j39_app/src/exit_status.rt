@@ -4,7 +4,7 @@ ghost use Rattle.j39_app.specs.Status.{status_of};
 
 use crate::{Fault, Verdict};
 
-/// The exit status that tells how a command ended.
+/// The exit status that says how a command ended.
 pub fn status(outcome: &Result<Verdict, Fault>) -> u8
     ensures { result ≡ status_of outcome.now }
 {

@@ -7,6 +7,7 @@ mod auditing;
 mod by_plan;
 mod exit_status;
 mod folder;
+mod plan_command;
 mod program;
 
 pub use answering::answer;

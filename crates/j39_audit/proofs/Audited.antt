@@ -17,6 +17,7 @@ both true same other = same
 both false same other = other
 
 looks : (log : AuditLog) (past : AuditPast) → RecallsAudit log past → tallied log ≡ look_at past
+unfolding tallied
 looks log past recalls = λ i m.
     both (is_of_moments m.word) (recalls.follows.moments.counted (key_of m))
     (both (is_of_load m.word) (recalls.follows.by_load.counted (key_of (mark_by_bus m)))

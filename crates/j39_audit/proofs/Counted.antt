@@ -6,27 +6,27 @@ use Rattle.std.proofs.lemmas.List.{append-nil, length_push}
 use Rattle.std.specs.List.{filter}
 use Rattle.std.proofs.lemmas.Bool.{ne_eqb}
 use Rattle.std.specs.HashMap.{get}
-use Rattle.j39_audit.specs.Counting.{Greatest, Key, Noted, greater, greatest_behind, is_same_key, key_of, most_times, never, told_at, told_by, told_more, told_of}
+use Rattle.j39_audit.specs.Counting.{Greatest, Key, Noted, greater, greatest_behind, is_same_key, key_of, most_times, never, reported_at, reported_by, reported_more, occurrences_of}
 use Rattle.j39_audit.specs.declared.tally.MarkTally.{MarkTally}
 use Rattle.j39_audit.specs.inside.Recalling.{AreCounted}
-use Rattle.j39_audit.specs.declared.tally.Told.{Told}
+use Rattle.j39_audit.specs.declared.tally.Occurrences.{Occurrences}
 
 greatest_push : (w : Greatest) (l : List Noted) (n : Noted) → greatest_behind w (l ++ n ∷ []) ≡ greater (greatest_behind w l) n.line n.detail
 unfolding greatest_behind
 greatest_push w [] n = refl
 greatest_push w (m ∷ l) n = greatest_push (greater w m.line m.detail) l n
 
-told_push : (l : List Noted) (n : Noted) → told_of (l ++ n ∷ []) ≡ told_more (told_of l) n.line n.detail
+reported_push : (l : List Noted) (n : Noted) → occurrences_of (l ++ n ∷ []) ≡ reported_more (occurrences_of l) n.line n.detail
 unfolding greatest_behind
-told_push [] n = refl
-told_push (m ∷ l) n =
+reported_push [] n = refl
+reported_push (m ∷ l) n =
     let push = length_push l n in
     let begun : Greatest = (m.detail, m.line) in
     let more : min (length (l ++ n ∷ []) + 1) most_times ≡ min (min (length l + 1) most_times + 1) most_times = omega (arith, push) in
     let apart : min (length l + 1) most_times ≢ 0 = omega arith in
     let some : (min (length l + 1) most_times == 0) ≡ false = ne_eqb _ _ apart in
-    rw some (ap (λ (k : ℕ). told_by k m.line m.detail (greatest_behind begun (l ++ n ∷ []))) more
-    ∙ ap (λ (g : Greatest). told_by (min (min (length l + 1) most_times + 1) most_times) m.line m.detail g) (greatest_push begun l n))
+    rw some (ap (λ (k : ℕ). reported_by k m.line m.detail (greatest_behind begun (l ++ n ∷ []))) more
+    ∙ ap (λ (g : Greatest). reported_by (min (min (length l + 1) most_times + 1) most_times) m.line m.detail g) (greatest_push begun l n))
 
 -- where a table stays, what is counted does
 pub counted_on : (a b : MarkTally) (noted : List Noted) → b.found ≡ a.found → AreCounted a noted → AreCounted b noted
@@ -35,18 +35,18 @@ counted_on a b noted same counted = λ key. ap (λ h. unwrap_or (get is_same_key
 abbrev is_at : Key → Noted → Bool
 is_at key n = is_same_key (key_of n.mark) key
 
--- what is told of a mark, with one that is another, and with one that is the same
-pub told_past : (noted : List Noted) (n : Noted) (key : Key) → is_same_key (key_of n.mark) key ≡ false
-    → told_at (noted ++ n ∷ []) key ≡ told_at noted key
-unfolding told_at
-told_past noted n key other =
-    ap told_of (filter-append (is_at key) noted (n ∷ []) ∙ rw other (append-nil (filter (is_at key) noted)))
+-- what is reported of a mark, with one that is another, and with one that is the same
+pub reported_past : (noted : List Noted) (n : Noted) (key : Key) → is_same_key (key_of n.mark) key ≡ false
+    → reported_at (noted ++ n ∷ []) key ≡ reported_at noted key
+unfolding reported_at
+reported_past noted n key other =
+    ap occurrences_of (filter-append (is_at key) noted (n ∷ []) ∙ rw other (append-nil (filter (is_at key) noted)))
 
-pub told_here : (noted : List Noted) (n : Noted) (key : Key) → is_same_key (key_of n.mark) key ≡ true
-    → told_at (noted ++ n ∷ []) key ≡ told_more (told_at noted key) n.line n.detail
-unfolding told_at
-told_here noted n key same =
-    ap told_of (filter-append (is_at key) noted (n ∷ []) ∙ rw same refl) ∙ told_push (filter (is_at key) noted) n
+pub reported_here : (noted : List Noted) (n : Noted) (key : Key) → is_same_key (key_of n.mark) key ≡ true
+    → reported_at (noted ++ n ∷ []) key ≡ reported_more (reported_at noted key) n.line n.detail
+unfolding reported_at
+reported_here noted n key same =
+    ap occurrences_of (filter-append (is_at key) noted (n ∷ []) ∙ rw same refl) ∙ reported_push (filter (is_at key) noted) n
 
 -- keys that are the same are equal
 and_left : (a b : Bool) → (a && b) ≡ true → a ≡ true
@@ -69,11 +69,11 @@ same_keys a b is =
 -- ---- a table
 
 -- what a table has at a key, once this was put at that of a mark
-pub settled : (same : Bool) (cell old : Option Told) (new : Told) (noted : List Noted) (n : Noted) (key : Key) → cell ≡ cond same (Some new) old
-    → same ≡ is_same_key (key_of n.mark) key → new ≡ told_more (told_at noted (key_of n.mark)) n.line n.detail
-    → unwrap_or old never ≡ told_at noted key → unwrap_or cell never ≡ told_at (noted ++ n ∷ []) key
+pub settled : (same : Bool) (cell old : Option Occurrences) (new : Occurrences) (noted : List Noted) (n : Noted) (key : Key) → cell ≡ cond same (Some new) old
+    → same ≡ is_same_key (key_of n.mark) key → new ≡ reported_more (reported_at noted (key_of n.mark)) n.line n.detail
+    → unwrap_or old never ≡ reported_at noted key → unwrap_or cell never ≡ reported_at (noted ++ n ∷ []) key
 settled true cell old new noted n key at is more before =
-    ap (λ (o : Option Told). unwrap_or o never) at ∙ more
-    ∙ ap (λ (k : Key). told_more (told_at noted k) n.line n.detail) (same_keys (key_of n.mark) key (sym is)) ∙ sym (told_here noted n key (sym is))
+    ap (λ (o : Option Occurrences). unwrap_or o never) at ∙ more
+    ∙ ap (λ (k : Key). reported_more (reported_at noted k) n.line n.detail) (same_keys (key_of n.mark) key (sym is)) ∙ sym (reported_here noted n key (sym is))
 settled false cell old new noted n key at is more before =
-    ap (λ (o : Option Told). unwrap_or o never) at ∙ before ∙ sym (told_past noted n key (sym is))
+    ap (λ (o : Option Occurrences). unwrap_or o never) at ∙ before ∙ sym (reported_past noted n key (sym is))

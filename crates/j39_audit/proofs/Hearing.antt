@@ -1,10 +1,11 @@
 -- Lines of a log, one after another.
-use Rattle.std.proofs.Common.{◌≡◌, ◌<◌, ◌≤◌, ◌++◌, ◌∷◌, [], ℕ, List, Bor, Option, Some, None, refl, ap, subst, ◌∙◌, arith}
+use Rattle.std.proofs.Common.{◌≡◌, ◌<◌, ◌≤◌, ◌+◌, ◌++◌, ◌∷◌, [], ℕ, Bool, true, false, List, Bor, Option, Vec, Global, inl, inr, refl, ap, subst, ◌∙◌, arith}
 use Rattle.std.specs.Prelude.{IfNone, IfSome}
 use Rattle.std.specs.Option.{option_copied}
-use Rattle.j39_follow.specs.LogLines.{IsInterface, NamesInterface}
-use Rattle.j39_id.proofs.CutLines.{tells_lines}
-use Rattle.j39_id.specs.Lines.{Line, Pending, answer_to_end, at_start, behind_all, cutter_line, lines, tells, told, told_at_end}
+use Rattle.j39_follow.specs.LogLines.{IsElsewhere, IsInterface, IsReadPart}
+use Rattle.j39_follow.proofs.LinesRead.{names_it, not_elsewhere}
+use Rattle.j39_id.proofs.CutLines.{yields_lines}
+use Rattle.j39_id.specs.Lines.{Line, Pending, answer_to_end, at_start, behind_all, cutter_line, lines, yields, yielded, yielded_at_end}
 use Rattle.j39_id.specs.declared.cut.Cut.{Cut}
 use Rattle.j39_id.specs.declared.cut.Cut.TheVariants as cuts
 use Rattle.j39_id.specs.declared.frame.Frame.{Frame}
@@ -13,8 +14,10 @@ use Rattle.j39_id.specs.declared.line_error.LineError.TheVariants.{Empty, NoHash
 use Rattle.j39_log.specs.declared.line_counts.LineCounts.{LineCounts}
 use Rattle.j39_log.specs.LineCounting.{AreWithin, IsLineMore}
 use Rattle.j39_tp.specs.declared.packet.Packet.{Packet}
-use Rattle.j39_audit.specs.AuditText.{AuditPast, AuditsLine, AuditsLines, passed_by, past_with_frame}
+use Rattle.j39_audit.specs.AuditText.{AuditPast, AuditsLine, AuditsLines, AuditsPart, AuditsShort, passed_by, past_with_frame, with_next_number}
 use Rattle.j39_audit.specs.Settings.{Settings}
+use Rattle.j39_audit.specs.declared.audit_log.AuditLog.{AuditLog}
+use Rattle.j39_audit.specs.inside.Auditing.{AccordsWith, RecallsAudit}
 
 -- none of these is a line of its own
 pub as_many_lines : (s : Settings) (e : LineError) (past : AuditPast) → (passed_by s e past).number ≡ past.number
@@ -52,21 +55,72 @@ within_line old new most more less line within = record {
   elsewhere = omega (arith, less, within.elsewhere, line.elsewhere);
 }
 
--- the interface that the part of a line names
-pub names_it : (part : List ℕ) (found : Option (Bor (List ℕ))) → IfSome found (λ i. IsInterface part i.now)
-    → IfNone found ((i : List ℕ) → ¬ IsInterface part i) → NamesInterface part (option_copied found)
-names_it part None some none = none
-names_it part (Some i) some none = some
+-- the number of a line, its interface and its counts are no part of what is followed
+pub follows_still : (log : AuditLog) (past : AuditPast) {number n f k b e : ℕ} {interface : Option (Vec ℕ Global)} {counts : LineCounts} {i : Option (List ℕ)}
+    → AccordsWith log past
+    → AccordsWith (record log { number = number; interface = interface; counts = counts }) (record past {
+      number = n;
+      interface = i;
+      frames = f;
+      skipped = k;
+      bad = b;
+      elsewhere = e;
+    })
+follows_still log past follows = record {
+  knows = follows.knows;
+  counted = follows.counted;
+  newest_is = follows.newest_is;
+  moments = follows.moments;
+  by_load = follows.by_load;
+  asking = follows.asking;
+  broadcasts = follows.broadcasts;
+}
 
-tells_given : (cut : Cut) (p : Pending) → tells cut (cutter_line cut p) ≡ tells cut p.held
-tells_given cuts.More p = refl
-tells_given cuts.Line p = refl
-tells_given cuts.Long p = refl
+-- one line more is begun
+pub next_line : (log : AuditLog) (past : AuditPast) → RecallsAudit log past
+    → RecallsAudit (record log { number = log.number + 1 }) (with_next_number past)
+next_line log past recalls = record {
+  follows = follows_still log past recalls.follows;
+  number_is = ap (λ (n : ℕ). n + 1) recalls.number_is;
+  interface_is = recalls.interface_is;
+  frames_are = recalls.frames_are;
+  skipped_are = recalls.skipped_are;
+  bad_are = recalls.bad_are;
+  elsewhere_are = recalls.elsewhere_are;
+}
 
--- with what a cutter tells at the end all lines are told
-pub all_lines_told : (input : List ℕ) (cut : Cut) (p : Pending) (line : List ℕ) → p ≡ behind_all at_start input → cut ≡ answer_to_end p
-    → line ≡ cutter_line cut p → told at_start input ++ tells cut line ≡ lines input
-all_lines_told input cut p line at answered gave =
-    let end : tells cut line ≡ told_at_end p = ap (tells cut) gave ∙ tells_given cut p ∙ ap (λ (k : Cut). tells k p.held) answered in
-    ap (λ (l : List Line). told at_start input ++ l) end
-    ∙ ap (λ (r : Pending). told at_start input ++ told_at_end r) at ∙ tells_lines input
+-- a line is read by its part and by the interface that was found in it
+module _ (s : Settings) (past next : AuditPast) (line part : List ℕ) (found : Option (Bor (List ℕ))) (part_is : IsReadPart line part)
+    (named : IfSome found (λ i. IsInterface part i.now)) (none : IfNone found ((i : List ℕ) → ¬ IsInterface part i)) where
+  pub heard_elsewhere : (kept : Option (List ℕ)) → kept ≡ past.interface → IsElsewhere kept part (option_copied found)
+      → next ≡ record past { elsewhere = past.elsewhere + 1 } → AuditsShort s past line next
+  heard_elsewhere kept same there is = (
+    part,
+    option_copied found,
+    part_is,
+    names_it part found named none,
+    inl (subst (λ (i : Option (List ℕ)). IsElsewhere i part (option_copied found)) same there, is),
+  )
+
+  pub heard_here : (test : Bool) (kept : Option (List ℕ)) → test ≡ false → (IsElsewhere kept part (option_copied found) → test ≡ true)
+      → kept ≡ past.interface → AuditsPart s past line part (option_copied found) next → AuditsShort s past line next
+  heard_here test kept isnt yielded same reads = (
+    part,
+    option_copied found,
+    part_is,
+    names_it part found named none,
+    inr (not_elsewhere test kept past.interface part (option_copied found) isnt yielded same, reads),
+  )
+
+reports_given : (cut : Cut) (p : Pending) → yields cut (cutter_line cut p) ≡ yields cut p.held
+reports_given cuts.More p = refl
+reports_given cuts.Line p = refl
+reports_given cuts.Long p = refl
+
+-- with what a cutter yields at the end all lines are reported
+pub all_lines_reported : (input : List ℕ) (cut : Cut) (p : Pending) (line : List ℕ) → p ≡ behind_all at_start input → cut ≡ answer_to_end p
+    → line ≡ cutter_line cut p → yielded at_start input ++ yields cut line ≡ lines input
+all_lines_reported input cut p line at answered gave =
+    let end : yields cut line ≡ yielded_at_end p = ap (yields cut) gave ∙ reports_given cut p ∙ ap (λ (k : Cut). yields k p.held) answered in
+    ap (λ (l : List Line). yielded at_start input ++ l) end
+    ∙ ap (λ (r : Pending). yielded at_start input ++ yielded_at_end r) at ∙ yields_lines input

@@ -13,7 +13,7 @@ and_false : (b : Bool) → (b && false) ≡ false
 and_false true = refl
 and_false false = refl
 
--- what is known is what the claims tell
+-- what is known is what the claims report
 pub known_knowledge : (s : Settings) (known : Known) (claims : HeardClaims) → KnowsClaims s known claims → known_by known ≡ knowledge s claims
 known_knowledge s known claims knows = λ i. record { last = λ u. knows.last u i; taken = λ a. knows.taken a i }
 

@@ -4,6 +4,7 @@ pub mod Begun
 pub mod Below
 pub mod Counted
 pub mod Hearing
+pub mod Keeping
 pub mod Knowing
 pub mod Noting
 pub mod Pausing

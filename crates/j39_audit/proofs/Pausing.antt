@@ -1,48 +1,48 @@
 -- What is kept of pauses, with one more, and where they end.
-use Rattle.std.proofs.Common.{◌≡◌, ◌≢◌, ℕ, zero, suc, ◌+◌, ◌<◌, ◌==◌, ◌++◌, List, Bool, true, false, cond, Option, Some, None, length, refl, sym, ap, subst, ◌∙◌, add-one, arith, inl, inr, eq-eqb}
-use Rattle.std.specs.Prelude.{IfSome, is_some, slice_index_or}
-use Rattle.std.proofs.lemmas.Bool.{cases_eq, cases_lt, cases_Bool, ne_eqb, true≢false}
-use Rattle.std.proofs.lemmas.List.{append-nil, get_or_past}
+use Rattle.std.proofs.Common.{◌≡◌, ◌≢◌, ℕ, zero, suc, ◌+◌, ◌<◌, ◌==◌, ◌++◌, List, Bool, true, false, cond, Option, Some, None, length, refl, sym, ap, ◌∙◌, add-one, inl, inr, eq-eqb}
+use Rattle.std.specs.Prelude.{is_some, slice_index_or}
+use Rattle.std.proofs.lemmas.Bool.{cases_eq, cases_Bool, ne_eqb, true≢false}
+use Rattle.std.proofs.lemmas.List.{append-nil}
 use Rattle.j39_network.specs.declared.plan.timing.Timing.{Timing}
-use Rattle.j39_audit.specs.Counting.{Key}
+use Rattle.j39_audit.specs.Counting.{Key, Noted}
 use Rattle.j39_audit.specs.Moments.{Moments, ends_with, listed_pauses_ended, pause_ended, pauses_ended, silence_behind, silent_noted}
 use Rattle.j39_audit.specs.Settings.{Settings}
+use Rattle.j39_audit.specs.declared.moments.Moments.{Moments as KeptMoments}
+use Rattle.j39_audit.specs.declared.pauses.LastFrame.{LastFrame}
 use Rattle.j39_audit.specs.declared.pauses.Newest.{Newest}
+use Rattle.j39_audit.specs.declared.pauses.Pauses.{Pauses}
+use Rattle.j39_audit.specs.declared.tally.MarkTally.{MarkTally}
+use Rattle.j39_audit.specs.inside.Recalling.{AreCounted, AreNear, ArePausesNear, IsKeptAt, RecallsMoments, far_ahead, last_in_pauses, newest_in}
+use Rattle.j39_audit.proofs.Keeping.{none_either, none_is}
 
--- ---- tables
+-- ---- where none is kept
 
--- one place is set
-pub placed : {X : Type 0} (place : ℕ) (one : X) (new old : ℕ → X) → ((n : ℕ) → n ≢ place → new n ≡ old n) → new place ≡ one
-    → (n : ℕ) → new n ≡ cond (place == n) one (old n)
-placed place one new old others here n = elim (cases_eq place n) [
-  | inl same ↦ rw (eq-eqb place n same) (ap new (sym same) ∙ here)
-  | inr other ↦ rw (ne_eqb place n other) (others n (λ e. other (sym e)))
-]
+pub none_near : (old new : Pauses) → ((n : ℕ) → newest_in new n ≡ None) → ((u : ℕ) → last_in_pauses new u ≡ None)
+    → length new.newest.items ≡ length old.newest.items → length new.last.items ≡ length old.last.items → ArePausesNear old → ArePausesNear new
+none_near old new newest last newest_size last_size near = record {
+  newest = λ n. none_is (λ x. x.moment < far_ahead) _ (newest n);
+  last = λ u. none_is _ _ (last u);
+  newest_size = newest_size ∙ near.newest_size;
+  last_size = last_size ∙ near.last_size;
+}
 
-pub none_either : {X : Type 0} (test : Bool) (x : Option X) → x ≡ None → cond test None x ≡ None
-none_either true x is = refl
-none_either false x is = is
+-- ---- what times report, where other pauses and other notes are kept
 
-pub some_either : {X : Type 0} (P : X → Type 0) (test : Bool) (one old : Option X) → IfSome one P → IfSome old P → IfSome (cond test one old) P
-some_either P true one old is other = is
-some_either P false one old is other = other
+pub near_with : {kept : KeptMoments} {tally : MarkTally} {pauses : Pauses} → AreNear kept → ArePausesNear pauses
+    → AreNear (record kept { untimely = tally; pauses = pauses })
+near_with near pauses = record { earliest = near.earliest; since = near.since; pauses = pauses }
 
-pub none_is : {X : Type 0} (P : X → Type 0) (x : Option X) → x ≡ None → IfSome x P
-none_is P x none = subst (λ o. IfSome o P) (sym none) tt
-
--- where one is kept at a place, each is as it has to be
-pub placed_is : {X : Type 0} (P : X → Type 0) (place : ℕ) (one : Option X) (new old : ℕ → Option X) → ((n : ℕ) → n ≢ place → new n ≡ old n)
-    → new place ≡ one → IfSome one P → ((n : ℕ) → IfSome (old n) P) → (n : ℕ) → IfSome (new n) P
-placed_is P place one new old others here is was n =
-    subst (λ o. IfSome o P) (sym (placed place one new old others here n)) (some_either P (place == n) one (old n) is (was n))
-
--- what was forgotten isn't kept, also past the end of a table
-pub forgotten : {X : Type 0} (place : ℕ) (items : List (Option X)) (size : ℕ) → length items ≡ size → (place < size → slice_index_or items place None ≡ None)
-    → slice_index_or items place None ≡ None
-forgotten place items size long here = elim (cases_lt place size) [
-  | inl inside ↦ here inside
-  | inr past ↦ get_or_past items place None (omega (arith, past, long))
-]
+pub recalls_with : {kept : KeptMoments} {m : Moments} {tally : MarkTally} {untimely : List Noted} {pauses : Pauses} {newest : ℕ → Option Newest}
+    {last : ℕ → Option LastFrame} → RecallsMoments kept m → AreCounted tally untimely → IsKeptAt pauses.newest.items pauses.open newest
+    → IsKeptAt pauses.last.items pauses.open last
+    → RecallsMoments (record kept { untimely = tally; pauses = pauses }) (record m { untimely = untimely; newest = newest; last = last })
+recalls_with recalls counted newest last = record {
+  before = recalls.before;
+  since = recalls.since;
+  earliest = recalls.earliest;
+  counted = counted;
+  pauses = record { newest = newest; last = last };
+}
 
 -- ---- flows, one after another
 
@@ -76,7 +76,7 @@ pub is_nothing : {X : Type 0} (x : Option X) → is_some x ≡ false → x ≡ N
 is_nothing None none = refl
 is_nothing (Some x) none = absurd (true≢false none)
 
--- nothing is told of a flow of which no message is kept
+-- nothing is reported of a flow of which no message is kept
 pub none_open : (s : Settings) (t : Timing) (n : ℕ) (m : Moments) → m.newest n ≡ None → pause_ended s t n m ≡ m
 none_open s t n m none =
     let nothing : m.untimely ++ silent_noted n (m.newest n) (silence_behind s t n (m.newest n) m.last) ≡ m.untimely =

@@ -8,7 +8,7 @@ use Rattle.std.proofs.lemmas.Bool.{lt-ltb, ltb-true, ne_eqb, true≢false}
 use Rattle.std.proofs.lemmas.List.{append-nil}
 use Rattle.std.proofs.lemmas.List.Folds.{list_any_more}
 use Rattle.std.proofs.lemmas.List.Sums.{count_by_more_no, count_by_more_yes}
-use Rattle.std.proofs.lemmas.Option.{get_or_from_slice_get, slice_get_within}
+use Rattle.std.proofs.lemmas.Option.{get_or_from_slice_get, slice_get_read, slice_get_within}
 use Rattle.j39_audit.specs.Below.{each_below}
 use Rattle.j39_audit.specs.Counting.{Noted}
 use Rattle.j39_audit.specs.SentMessages.{all_marked, is_nearest, marked, noted_at}
@@ -94,6 +94,19 @@ meant_next {X = X} meant near all n x at old new is before = subst (AreMeant mea
   near_is = only_next (λ (x : X). meant x && near x) all n x at old.near before.near_is;
 })
 
+-- a place of a loop over all of them
+pub meant_read : {X : Type 0} {meant near : X → Bool} {all : List X} {n : ℕ} {x : X} {is_meant : Bool} {old new : Meant} → n < length all
+    → x ≡ get_or all n x → is_meant ≡ meant x → new ≡ meant_more is_meant (is_meant && near x) n old → AreMeant meant near all n old
+    → AreMeant meant near all (n + 1) new
+meant_read {meant = meant} {near = near} {all = all} {n = n} {x = x} {old = old} {new = new} less read tested is before =
+    meant_next meant near all n x (slice_get_read all (length all) n x refl less read) old new
+    (is ∙ ap (λ (b : Bool). meant_more b (b && near x) n old) tested) before
+
+-- and its end
+pub meant_whole : {X : Type 0} {meant near : X → Bool} {all : List X} {n : ℕ} {m : Meant} → n ≡ length all → AreMeant meant near all n m
+    → AreAllMeant meant near all m
+meant_whole {meant = meant} {near = near} {all = all} {m = m} end are = subst (λ (n : ℕ). AreMeant meant near all n m) end are
+
 -- ---- of all places
 
 pub some_in_all : {X : Type 0} (test : X → Bool) (all : List X) (only : OnlyPlace) → IsOnlyPlace test all (length all) only → list_any test all ≡ is_somewhere only
@@ -102,24 +115,20 @@ some_in_all {X = X} test all only is = ap (λ (l : List X). list_any test l) (sy
 count_in_all : {X : Type 0} (test : X → Bool) (all : List X) (only : OnlyPlace) → IsOnlyPlace test all (length all) only → IsCountOf only (count_by test all)
 count_in_all {X = X} test all only is = subst (λ (l : List X). IsCountOf only (count_by test l)) (take-length all) is.count
 
-pub one_alone : {X : Type 0} (test : X → Bool) (all : List X) (i : ℕ) → IsOnlyPlace test all (length all) (At i) → (count_by test all == 1) ≡ true
-one_alone test all i is = eq-eqb _ 1 (count_in_all test all (At i) is)
+abbrev is_alone : OnlyPlace → Bool
+is_alone Nowhere = false
+is_alone (At i) = true
+is_alone Several = false
 
-pub none_alone : {X : Type 0} (test : X → Bool) (all : List X) → IsOnlyPlace test all (length all) Nowhere → (count_by test all == 1) ≡ false
-none_alone test all is = let none = count_in_all test all Nowhere is in ne_eqb _ 1 (λ e. absurd (omega (arith, none, e)))
+alone : {X : Type 0} (test : X → Bool) (all : List X) (only : OnlyPlace) → IsOnlyPlace test all (length all) only → (count_by test all == 1) ≡ is_alone only
+alone test all Nowhere is = let none = count_in_all test all Nowhere is in ne_eqb _ 1 (λ e. absurd (omega (arith, none, e)))
+alone test all (At i) is = eq-eqb _ 1 (count_in_all test all (At i) is)
+alone test all Several is = let some = count_in_all test all Several is in ne_eqb _ 1 (λ e. absurd (omega (arith, some, e)))
 
-pub several_alone : {X : Type 0} (test : X → Bool) (all : List X) → IsOnlyPlace test all (length all) Several → (count_by test all == 1) ≡ false
-several_alone test all is = let some = count_in_all test all Several is in ne_eqb _ 1 (λ e. absurd (omega (arith, some, e)))
-
-pub marks_nowhere : {X : Type 0} (test : X → Bool) (all : List X) (line : ℕ) (word : Word) → IsOnlyPlace test all (length all) Nowhere
-    → all_marked line word test all ≡ []
+all_marks : {X : Type 0} (test : X → Bool) (all : List X) (only : OnlyPlace) (line : ℕ) (word : Word) → IsOnlyPlace test all (length all) only
+    → AreMarksOf line word only (all_marked line word test all)
 unfolding all_marked
-marks_nowhere test all line word is = is.marks line word
-
-pub marks_one : {X : Type 0} (test : X → Bool) (all : List X) (i line : ℕ) (word : Word) → IsOnlyPlace test all (length all) (At i)
-    → all_marked line word test all ≡ noted_at line word i 0 ∷ []
-unfolding all_marked
-marks_one test all i line word is = is.marks line word
+all_marks test all only line word is = is.marks line word
 
 -- ---- of the nearest
 
@@ -139,9 +148,21 @@ module _ {X : Type 0} (meant near : X → Bool) (all : List X) where
   nearest_by only (At i) one two = subst (λ (t : X → Bool). IsOnlyPlace t all (length all) (At i)) some_are two
   nearest_by only Several one two = subst (λ (t : X → Bool). IsOnlyPlace t all (length all) Several) some_are two
 
-  pub nearest_only : (m : Meant) → AreAllMeant meant near all m → IsOnlyPlace (is_nearest meant near all) all (length all) (nearest_place m)
+  nearest_only : (m : Meant) → AreAllMeant meant near all m → IsOnlyPlace (is_nearest meant near all) all (length all) (nearest_place m)
   nearest_only m are = subst (λ (some : Bool). IsOnlyPlace (with_near some) all (length all) (nearest_place m))
       (sym (some_in_all (λ (x : X). meant x && near x) all m.near are.near_is)) (nearest_by m.all m.near are.all_is are.near_is)
+
+-- whether the nearest are at one place alone, and how they are noted
+pub record AreNearest {X : Type 0} (nearest : X → Bool) (all : List X) (only : OnlyPlace) : Type 0 where
+  pub alone_is : (count_by nearest all == 1) ≡ is_alone only
+  pub marks : (line : ℕ) (word : Word) → AreMarksOf line word only (all_marked line word nearest all)
+
+pub nearest_are : {X : Type 0} {meant near : X → Bool} {all : List X} {m : Meant} {only : OnlyPlace} → AreAllMeant meant near all m → nearest_place m ≡ only
+    → AreNearest (is_nearest meant near all) all only
+nearest_are {meant = meant} {near = near} {all = all} {m = m} {only = only} are is =
+    let test = is_nearest meant near all in
+    let there = subst (IsOnlyPlace test all (length all)) is (nearest_only meant near all m are) in
+    record { alone_is = alone test all only there; marks = λ line word. all_marks test all only line word there }
 
 -- ---- where one passes there is a first one
 

@@ -112,6 +112,6 @@ with_sign_of (Some t) (Some u) idle a = deaf_if_overdue t idle u (a.asked u) a
 abbrev pub asked_behind : Settings → Knowledge → Bool → Bool → Option ℕ → Frame → ℕ → Asking → Asking
 asked_behind s k broken anew time f line a = asked_at s k f time line (answered_at s f (asked_before anew broken a))
 
--- and with what it tells of the unit for which it counts
+-- and with what it reports of the unit for which it counts
 unfoldable pub asking_behind : Settings → Knowledge → Bool → Bool → Option ℕ → Frame → ℕ → Option ℕ → Option ℕ → Asking → Asking
 asking_behind s k broken anew time f line unit idle a = with_sign_of s.plan.timing unit idle (asked_behind s k broken anew time f line a)

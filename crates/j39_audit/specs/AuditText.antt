@@ -26,7 +26,7 @@ use Rattle.j39_audit.specs.Below.{each_below, sum_below}
 use Rattle.j39_audit.specs.BegunBroadcasts.{BegunBroadcasts, all_ended as all_broadcasts_ended, announcement_in, broadcasts_before, broadcasts_behind, no_broadcasts, packet_with}
 use Rattle.j39_audit.specs.Breaks.{breaks, line_time, newest_behind}
 use Rattle.j39_audit.specs.Claiming.{HeardClaims, broken_off, knowledge, no_claims}
-use Rattle.j39_audit.specs.Counting.{Noted, told_in}
+use Rattle.j39_audit.specs.Counting.{Noted, reported_in}
 use Rattle.j39_audit.specs.Looking.{IsPacketOf, break_noted, claims_behind, frame_noted, noted_if}
 use Rattle.j39_audit.specs.Moments.{Moments, all_pauses_ended, begins_anew, behind_bad, behind_gap, moments_behind, no_moments, with_packet_stream}
 use Rattle.j39_audit.specs.MessageStreams.{nothing_sighted, sighted_behind}
@@ -38,11 +38,11 @@ use Rattle.j39_audit.specs.declared.by_load.Bound.TheVariants.{Bus}
 use Rattle.j39_audit.specs.declared.mark.Mark.{Mark}
 use Rattle.j39_audit.specs.declared.mark.Word.{Word}
 use Rattle.j39_audit.specs.declared.mark.Word.TheVariants.{Short, Stranger, Nobody, Address, Cannot, Layout, NoFlow, Priority, Urgent, Seen, Unclear, Asked, Counted, Unsure, Break, NearFlow, NearRequest, SilentFlow, Deaf, NearPackets, SilentPackets, NearOrLate, SilentOrLate}
-use Rattle.j39_audit.specs.declared.tally.Told.{Told}
+use Rattle.j39_audit.specs.declared.tally.Occurrences.{Occurrences}
 
 -- ---- a log
 
--- what came so far: how many lines, the interface of the log, the newest time, the claims, what was noted, what the times tell by the bus and by
+-- what came so far: how many lines, the interface of the log, the newest time, the claims, what was noted, what the times report by the bus and by
 -- load, who is asked for claims, the planned broadcasts, and how many lines there were of each sort
 pub record AuditPast : Type 0 where
   pub number : ℕ
@@ -85,7 +85,7 @@ bad_line s past = record past {
   broadcasts = all_broadcasts_ended past.broadcasts;
 }
 
--- a line of an 11-bit identifier is skipped, which is told of behind the first frame; one without a word isn't counted
+-- a line of an 11-bit identifier is skipped, which is reported of behind the first frame; one without a word isn't counted
 abbrev pub skipped_line : AuditPast → AuditPast
 skipped_line past = record past {
   skipped = past.skipped + 1;
@@ -103,7 +103,7 @@ passed_by s _ past = bad_line s past
 abbrev pub claims_before : Settings → AuditPast → Option ℕ → HeardClaims
 claims_before s past time = broken_off (breaks s.stamps past.newest time) past.claims
 
--- what is noted at a frame of this time and packet, and what the times tell behind it
+-- what is noted at a frame of this time and packet, and what the times report behind it
 abbrev pub noted_newly : Settings → AuditPast → Option ℕ → Frame → Option Packet → List Noted
 noted_newly s past time f packet =
     break_noted past.number (breaks s.stamps past.newest time) ++ frame_noted s (claims_before s past time) f packet past.number
@@ -268,10 +268,10 @@ subject_of plan SilentOrLate subject group detail =
 subject_of plan _ subject group detail = unit_text plan subject
 
 -- by how much at most, and the first line at which it was so much
-unfoldable pub worst_text : Told → List ℕ
+unfoldable pub worst_text : Occurrences → List ℕ
 worst_text t = field (codes " worst ") t.worst_at ++ (field (codes " by ") t.worst ++ codes " us")
 
-abbrev pub measure_text : Word → Told → List ℕ
+abbrev pub measure_text : Word → Occurrences → List ℕ
 measure_text NearFlow t = worst_text t
 measure_text NearRequest t = worst_text t
 measure_text SilentFlow t = worst_text t
@@ -282,44 +282,44 @@ measure_text SilentOrLate t = worst_text t
 measure_text _ t = []
 
 -- how often, and the first line
-unfoldable pub times_text : Word → Told → List ℕ
+unfoldable pub times_text : Word → Occurrences → List ℕ
 times_text word t = field (codes " times ") t.times ++ (field (codes " first ") t.first ++ (measure_text word t ++ 10 ∷ []))
 
-unfoldable pub accusing_line : Plan → Mark → Told → List ℕ
+unfoldable pub accusing_line : Plan → Mark → Occurrences → List ℕ
 accusing_line plan m t = word_text m.word ++ (subject_of plan m.word m.subject m.group t.detail ++ times_text m.word t)
 
 abbrev pub mark_at : Word → ℕ → ℕ → Mark
 mark_at word subject group = record { word = word; subject = subject; group = group }
 
--- what is told of each mark
+-- what is reported of each mark
 abbrev pub Look : Type 0
-Look = Mark → Told
+Look = Mark → Occurrences
 
--- a flow of which by the bus nothing is told may be told by load
+-- a flow of which by the bus nothing is reported may be reported by load
 abbrev pub if_not_by_bus : Look → Mark → Mark → Mark
 if_not_by_bus look by_bus or_late = if (look by_bus).times == 0 then or_late else by_bus
 
-abbrev pub told_mark : Look → Word → ℕ → ℕ → Mark
-told_mark look NearFlow subject group = if_not_by_bus look (mark_at NearFlow subject group) (mark_at NearOrLate subject group)
-told_mark look SilentFlow subject group = if_not_by_bus look (mark_at SilentFlow subject group) (mark_at SilentOrLate subject group)
-told_mark look word subject group = mark_at word subject group
+abbrev pub reported_mark : Look → Word → ℕ → ℕ → Mark
+reported_mark look NearFlow subject group = if_not_by_bus look (mark_at NearFlow subject group) (mark_at NearOrLate subject group)
+reported_mark look SilentFlow subject group = if_not_by_bus look (mark_at SilentFlow subject group) (mark_at SilentOrLate subject group)
+reported_mark look word subject group = mark_at word subject group
 
 -- the line of a mark, where it was found, and how many lines that is
-unfoldable pub line_of_mark : Plan → Mark → Told → List ℕ
+unfoldable pub line_of_mark : Plan → Mark → Occurrences → List ℕ
 line_of_mark plan m t = if t.times == 0 then [] else accusing_line plan m t
 
-unfoldable pub lines_told : Told → ℕ
-lines_told t = if t.times == 0 then 0 else 1
+unfoldable pub lines_reported : Occurrences → ℕ
+lines_reported t = if t.times == 0 then 0 else 1
 
-unfoldable pub line_told : Plan → Look → Mark → List ℕ
-line_told plan look m = line_of_mark plan m (look m)
+unfoldable pub line_reported : Plan → Look → Mark → List ℕ
+line_reported plan look m = line_of_mark plan m (look m)
 
 -- those of a word and a subject, of a word, and of all words
 unfoldable pub subject_lines : Settings → Look → Word → ℕ → List ℕ
-subject_lines s look word u = each_below (λ g. line_told s.plan look (told_mark look word u g)) (groups_named s word)
+subject_lines s look word u = each_below (λ g. line_reported s.plan look (reported_mark look word u g)) (groups_named s word)
 
 unfoldable pub subject_count : Settings → Look → Word → ℕ → ℕ
-subject_count s look word u = sum_below (λ g. lines_told (look (told_mark look word u g))) (groups_named s word)
+subject_count s look word u = sum_below (λ g. lines_reported (look (reported_mark look word u g))) (groups_named s word)
 
 unfoldable pub word_lines : Settings → Look → Word → List ℕ
 word_lines s look word = each_below (subject_lines s look word) (subjects s word)
@@ -390,7 +390,7 @@ text_by s counts look =
 abbrev pub counts_of : AuditPast → LineCounts
 counts_of past = record { frames = past.frames; skipped = past.skipped; bad = past.bad; elsewhere = past.elsewhere }
 
--- what is told of each mark: of those that speak of times by the times, by the bus or by load, of units that don't answer by who is asked, of
+-- what is reported of each mark: of those that speak of times by the times, by the bus or by load, of units that don't answer by who is asked, of
 -- packets that come late by the broadcasts, of the others by the frames
 abbrev pub is_of_moments : Word → Bool
 is_of_moments NearFlow = true
@@ -404,7 +404,7 @@ is_of_load NearOrLate = true
 is_of_load SilentOrLate = true
 is_of_load _ = false
 
--- what is told by load has the marks of what is told by the bus
+-- what is reported by load has the marks of what is reported by the bus
 abbrev pub word_by_bus : Word → Word
 word_by_bus NearOrLate = NearFlow
 word_by_bus SilentOrLate = SilentFlow
@@ -423,10 +423,10 @@ is_of_broadcasts _ = false
 
 abbrev pub look_at : AuditPast → Look
 look_at past m =
-    if is_of_moments m.word then told_in past.moments.untimely m
-    else if is_of_load m.word then told_in past.by_load.untimely (mark_by_bus m)
-    else if is_of_asking m.word then told_in past.asking.deaf m
-    else if is_of_broadcasts m.word then told_in past.broadcasts.late m else told_in past.noted m
+    if is_of_moments m.word then reported_in past.moments.untimely m
+    else if is_of_load m.word then reported_in past.by_load.untimely (mark_by_bus m)
+    else if is_of_asking m.word then reported_in past.asking.deaf m
+    else if is_of_broadcasts m.word then reported_in past.broadcasts.late m else reported_in past.noted m
 
 abbrev pub audit_text : Settings → AuditPast → List ℕ
 audit_text s past = text_by s (counts_of past) (look_at past)

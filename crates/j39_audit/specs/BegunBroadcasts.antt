@@ -12,7 +12,7 @@ use Rattle.j39_tp.specs.Chunks.{packets_of}
 use Rattle.j39_tp.specs.declared.packet.Packet.{Packet}
 use Rattle.j39_tp.specs.declared.packet.Packet.TheVariants.{Bam}
 use Rattle.j39_audit.specs.Claiming.{Knowledge}
-use Rattle.j39_audit.specs.Counting.{Noted}
+use Rattle.j39_audit.specs.Counting.{Noted, noted_by}
 use Rattle.j39_audit.specs.Looking.{announced_message}
 use Rattle.j39_audit.specs.MessageStreams.{longest_us, shortest_us, stream_mark}
 use Rattle.j39_audit.specs.Moments.{long_before}
@@ -98,8 +98,7 @@ abbrev pub late_by : Timing → Option ℕ → BegunBroadcast → Option ℕ
 late_by t idle one = if one.left == 0 then None else excess idle (one.moment + longest_us t t.broadcast_gap_most)
 
 abbrev pub late_noted : ℕ → ℕ → Option ℕ → List Noted
-late_noted u line None = []
-late_noted u line (Some by) = record { mark = stream_mark SilentPackets u; line = line; detail = by } ∷ []
+late_noted u line by = noted_by (stream_mark SilentPackets u) line by
 
 abbrev pub next_packet : BegunBroadcast → ℕ → ℕ → BegunBroadcast
 next_packet one moment line = record { left = one.left - 1; moment = moment; line = line }

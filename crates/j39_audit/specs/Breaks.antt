@@ -13,7 +13,7 @@ abbrev pub clock_time : Option ℕ → Option ℕ
 clock_time None = None
 clock_time (Some time) = if nat_lt time (2 ^ 60) then Some time else None
 
--- the time of a line, by what is printed of it; where the plan tells nothing of its bus no line has one
+-- the time of a line, by what is printed of it; where the plan reports nothing of its bus no line has one
 abbrev pub line_time : Plan → List ℕ → Option ℕ
 line_time plan text = if is_none plan.timing then None else clock_time (moment_of text)
 

@@ -1,15 +1,20 @@
 -- What is counted of a log, and at which lines.
-use Rattle.std.specs.Prelude.{ℕ, ◌+◌, ◌-◌, ◌^◌, min, ◌==◌, ◌&&◌, Bool, if◌then◌else◌, List, [], ◌∷◌, filter, length, nat_eq, nat_lt}
+use Rattle.std.specs.Prelude.{ℕ, ◌+◌, ◌-◌, ◌^◌, min, ◌==◌, ◌&&◌, Bool, if◌then◌else◌, List, [], ◌∷◌, filter, length, nat_eq, nat_lt, Option, Some, None}
 use Rattle.j39_audit.specs.declared.mark.Mark.{Mark}
 use Rattle.j39_audit.specs.declared.mark.Word.{Word}
 use Rattle.j39_audit.specs.declared.mark.Word.TheVariants.{Short, Stranger, Nobody, Address, Cannot, Layout, NoFlow, Priority, Urgent, Seen, Unclear, Asked, Counted, Unsure, Break, NearFlow, NearRequest, SilentFlow, Deaf, NearPackets, SilentPackets, NearOrLate, SilentOrLate}
-use Rattle.j39_audit.specs.declared.tally.Told.{Told}
+use Rattle.j39_audit.specs.declared.tally.Occurrences.{Occurrences}
 
 -- what was found at a line, with a number that belongs to it
 pub record Noted : Type 0 where
   pub mark : Mark
   pub line : ℕ
   pub detail : ℕ
+
+-- a mark of a line, where it is one by so much
+abbrev pub noted_by : Mark → ℕ → Option ℕ → List Noted
+noted_by mark line None = []
+noted_by mark line (Some by) = record { mark = mark; line = line; detail = by } ∷ []
 
 abbrev pub word_number : Word → ℕ
 word_number Short = 0
@@ -46,7 +51,7 @@ key_of m = (word_number m.word, m.subject, m.group)
 abbrev pub is_same_key : Key → Key → Bool
 is_same_key a b = (nat_eq a.0 b.0 && nat_eq a.1 b.1) && nat_eq a.2 b.2
 
-abbrev pub never : Told
+abbrev pub never : Occurrences
 never = record { times = 0; first = 0; detail = 0; worst = 0; worst_at = 0 }
 
 -- where counts stop; a log has fewer lines
@@ -65,22 +70,22 @@ greatest_behind so_far [] = so_far
 greatest_behind so_far (n ∷ rest) = greatest_behind (greater so_far n.line n.detail) rest
 
 -- how often something was found, the first line and what belongs to it there, and where the greatest such number is
-abbrev pub told_by : ℕ → ℕ → ℕ → Greatest → Told
-told_by times first detail worst = record { times = times; first = first; detail = detail; worst = worst.0; worst_at = worst.1 }
+abbrev pub reported_by : ℕ → ℕ → ℕ → Greatest → Occurrences
+reported_by times first detail worst = record { times = times; first = first; detail = detail; worst = worst.0; worst_at = worst.1 }
 
-abbrev pub told_of : List Noted → Told
-told_of [] = never
-told_of (n ∷ rest) = told_by (min (length rest + 1) most_times) n.line n.detail (greatest_behind (n.detail, n.line) rest)
+abbrev pub occurrences_of : List Noted → Occurrences
+occurrences_of [] = never
+occurrences_of (n ∷ rest) = reported_by (min (length rest + 1) most_times) n.line n.detail (greatest_behind (n.detail, n.line) rest)
 
 -- with one line more
-abbrev pub told_more : Told → ℕ → ℕ → Told
-told_more t line detail =
-    if t.times == 0 then told_by 1 line detail (detail, line)
-    else told_by (min (t.times + 1) most_times) t.first t.detail (greater (t.worst, t.worst_at) line detail)
+abbrev pub reported_more : Occurrences → ℕ → ℕ → Occurrences
+reported_more t line detail =
+    if t.times == 0 then reported_by 1 line detail (detail, line)
+    else reported_by (min (t.times + 1) most_times) t.first t.detail (greater (t.worst, t.worst_at) line detail)
 
 -- that of one mark
-unfoldable pub told_at : List Noted → Key → Told
-told_at noted key = told_of (filter (λ (n : Noted). is_same_key (key_of n.mark) key) noted)
+unfoldable pub reported_at : List Noted → Key → Occurrences
+reported_at noted key = occurrences_of (filter (λ (n : Noted). is_same_key (key_of n.mark) key) noted)
 
-abbrev pub told_in : List Noted → Mark → Told
-told_in noted m = told_at noted (key_of m)
+abbrev pub reported_in : List Noted → Mark → Occurrences
+reported_in noted m = reported_at noted (key_of m)

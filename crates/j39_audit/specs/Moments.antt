@@ -1,4 +1,4 @@
--- The moments at which messages were ready to be sent, as far as the times of a log tell.
+-- The moments at which messages were ready to be sent, as far as the times of a log report.
 use Rattle.std.specs.Prelude.{ℕ, zero, suc, ◌+◌, ◌-◌, ◌*◌, ◌^◌, nat_le, nat_lt, ◌==◌, ◌&&◌, not, Bool, true, false, if◌then◌else◌, List, [], ◌∷◌, ◌++◌, length, slice_index_or, Option, Some, None}
 use Rattle.std.specs.Int.{div_ceil}
 use Rattle.std.specs.List.{slice_get}
@@ -10,7 +10,7 @@ use Rattle.j39_network.specs.declared.plan.timing.Bitrate.TheVariants.{Kbit125, 
 use Rattle.j39_network.specs.declared.plan.timing.ErrorRate.{ErrorRate}
 use Rattle.j39_network.specs.declared.plan.timing.Timing.{Timing}
 use Rattle.j39_audit.specs.Breaks.{is_set_back}
-use Rattle.j39_audit.specs.Counting.{Key, Noted, is_same_key, key_of}
+use Rattle.j39_audit.specs.Counting.{Key, Noted, is_same_key, key_of, noted_by}
 use Rattle.j39_audit.specs.Near.{candidate, earliest_next, excess}
 use Rattle.j39_audit.specs.MessageStreams.{flow_pause, nothing_sighted, sighted_behind, sighted_stream, stream_mark}
 use Rattle.j39_audit.specs.Pauses.{is_with_unit, last_of_ends, unclear_behind}
@@ -28,7 +28,7 @@ use Rattle.j39_audit.specs.declared.streams.MessageStream.{MessageStream}
 use Rattle.j39_audit.specs.declared.tally.Sighting.{Sighting}
 use Rattle.j39_audit.specs.declared.window.Window.{Window}
 
--- what the times so far tell: the time of the line before, where it is a frame that has one; since when
+-- what the times so far report: the time of the line before, where it is a frame that has one; since when
 -- all was queued that begins from here on, or by load all has ended that ends from here on; of each stream the earliest moment of the newest message; and what was found; of each flow with a pause that hasn't
 -- ended the newest message, and of each unit the last frame since its last claim. Moments are counted in microseconds from 2^33 before the zero
 -- of the log's times, so that no bound lies before it
@@ -121,8 +121,7 @@ abbrev pub moment_window : Settings → Option ℕ → ℕ → Option ℕ → Wi
 moment_window s slack time since = record { lower = lower_bound slack since; upper = time + long_before + logger_error s }
 
 abbrev pub near_noted : MessageStream → ℕ → Option ℕ → List Noted
-near_noted stream line None = []
-near_noted stream line (Some by) = record { mark = stream.mark; line = line; detail = by } ∷ []
+near_noted stream line by = noted_by stream.mark line by
 
 abbrev pub with_earliest : Key → Option ℕ → (Key → Option ℕ) → Key → Option ℕ
 with_earliest key moment earliest other = if is_same_key key other then moment else earliest other

@@ -36,7 +36,7 @@ earliest step windows (suc n) = earliest_next step (earliest step windows n) (wi
 abbrev pub earliest_at : ℕ → (ℕ → Window) → ℕ → Option ℕ
 earliest_at step windows j = candidate step (earliest step windows j) (windows j)
 
--- message j is told as too near
+-- message j is reported as too near
 abbrev pub is_too_near : ℕ → (ℕ → Window) → ℕ → Bool
 is_too_near step windows j = is_later_than (earliest_at step windows j) (windows j).upper
 

@@ -10,18 +10,18 @@ use Rattle.j39_network.specs.declared.plan.Plan.{Plan}
 use Rattle.j39_network.specs.declared.plan.timing.Timing.{Timing}
 use Rattle.j39_network.specs.declared.plan.unit_plan.UnitPlan.{UnitPlan}
 
--- the bits of a response time, where one is told
-abbrev pub bits_told : Option Delay → Option ℕ
-bits_told (Some (Within bits)) = Some bits
-bits_told (Some (Beyond bits)) = Some bits
-bits_told _ = None
+-- the bits of a response time, where one is reported
+abbrev pub bits_reported : Option Delay → Option ℕ
+bits_reported (Some (Within bits)) = Some bits
+bits_reported (Some (Beyond bits)) = Some bits
+bits_reported _ = None
 
 -- so many microseconds of true time by the logger's clock, which differs by a thousandth at most
 abbrev pub us_at_logger : ℕ → ℕ
 us_at_logger us = us + us / 1000 + 1
 
 abbrev pub response : Timing → Option Delay → Option ℕ
-response timing delay = option_map (λ bits. us_at_logger (us_of_bits timing bits)) (bits_told delay)
+response timing delay = option_map (λ bits. us_at_logger (us_of_bits timing bits)) (bits_reported delay)
 
 -- those of the flows of a plan, in order
 abbrev pub AreResponsesBy : Plan → Option Timing → List (Option ℕ) → Type 0

@@ -45,13 +45,13 @@ abbrev pub fits_group : SentMessage → GroupPlan → Bool
 fits_group m group =
     (nat_le group.length m.size && nat_le m.size group.most) && option_map_or (λ bytes. is_selected group.when bytes) m.bytes true
 
--- the bytes have the bits by which the group is told from others
-abbrev pub is_told_by : SentMessage → GroupPlan → Bool
-is_told_by m group = option_map_or (λ _. option_map_or (λ bytes. is_selected group.when bytes) m.bytes false) group.when false
+-- the bytes have the bits by which the group is distinguished from others
+abbrev pub is_reported_by : SentMessage → GroupPlan → Bool
+is_reported_by m group = option_map_or (λ _. option_map_or (λ bytes. is_selected group.when bytes) m.bytes false) group.when false
 
 abbrev pub passes : SentMessage → Test → GroupPlan → Bool
 passes m Fitting group = fits_group m group
-passes m Selected group = is_told_by m group
+passes m Selected group = is_reported_by m group
 passes m Any group = true
 
 -- the group at the place is the unit's, and passes

@@ -28,7 +28,7 @@ unfoldable pub latest : ℕ → (ℕ → Window) → ℕ → Option ℕ
 latest pause windows zero = None
 latest pause windows (suc n) = Some (latest_next pause (latest pause windows n) (windows n))
 
--- by a lower bound of the moment of message j, or of the one that is missing there, the flow is told as silent
+-- by a lower bound of the moment of message j, or of the one that is missing there, the flow is reported as silent
 abbrev pub is_silent : ℕ → (ℕ → Window) → ℕ → Option ℕ → Bool
 is_silent pause windows j lower = lies_behind pause (latest pause windows j) lower
 

@@ -4,14 +4,15 @@ ghost use Rattle.std.specs.List.{slice_get};
 ghost use Rattle.std.specs.Option.{option_map_or};
 ghost use Rattle.j39_network.specs.declared.plan.flow_plan.FlowPlan.{FlowPlan as AFlow};
 ghost use Rattle.j39_network.specs.declared.plan.request_plan.RequestPlan.{RequestPlan as ARequest};
+ghost use Rattle.j39_text.specs.Texts.{place_field};
 ghost use Rattle.j39_audit.specs.AuditText.{accusing_line, measure_text, named_flow_text, packets_text, request_text, sending_text};
 ghost use Rattle.j39_audit.specs.AuditText.{stranger_text, subject_of, times_text, unit_and_group_text, unit_at_text};
 ghost use Rattle.j39_audit.specs.AuditText.{unit_text, word_text, worst_text};
 
 use crate::mark::{Mark, Word};
-use crate::tally::Told;
+use crate::tally::Occurrences;
 use j39_follow::{write_name, write_to};
-use j39_network::{FlowPlan, Plan, RequestPlan, To};
+use j39_network::{Plan, To};
 use j39_text::{TextBuffer, group_label, unit_label};
 use std::alloc::AllocError;
 
@@ -80,17 +81,20 @@ fn write_unit_at(
     text.field(" at ", address)
 }
 
-/// Writes which group is sent, by whom and to whom.
+/// Writes the place of a flow or a request behind this, and which group is sent, by whom and to whom.
 #[tactic(auto, unfolding(crate::specs::AuditText::sending_text))]
 pub(crate) fn write_sending(
     text: &mut TextBuffer,
+    begin: &str,
+    place: usize,
     plan: &Plan,
     group: usize,
     sender: usize,
     to: To,
 ) -> Result<(), AllocError>
-    ensures { OnOk result (text.new ≡ text.old ++ sending_text plan.now group sender to) }
+    ensures { OnOk result (text.new ≡ text.old ++ (place_field begin.now place ++ sending_text plan.now group sender to)) }
 {
+    text.place(begin, place)?;
     text.word(" ")?;
     text.word(group_label(plan, group))?;
     text.word(" ")?;
@@ -100,45 +104,37 @@ pub(crate) fn write_sending(
 }
 
 #[tactic(auto, unfolding(crate::specs::AuditText::named_flow_text))]
-fn write_flow_named(
-    text: &mut TextBuffer,
-    plan: &Plan,
-    place: usize,
-    flow: &FlowPlan,
-) -> Result<(), AllocError>
-    ensures { OnOk result (text.new ≡ text.old ++ named_flow_text plan.now place flow.now) }
-{
-    text.place(" flow ", place)?;
-    write_sending(text, plan, flow.group, flow.sender, flow.to)
-}
-
 fn write_flow_at(text: &mut TextBuffer, plan: &Plan, place: usize) -> Result<(), AllocError>
     ensures { OnOk result (text.new ≡ text.old ++ option_map_or (λ (flow : AFlow). named_flow_text plan.now place flow) (slice_get plan.now.flows.items place) []) }
 {
     match plan.flows.get(place) {
-        Some(flow) => write_flow_named(text, plan, place, flow),
+        Some(flow) => write_sending(
+            text,
+            " flow ",
+            place,
+            plan,
+            flow.group,
+            flow.sender,
+            flow.to,
+        ),
         None => Ok(()),
     }
 }
 
 #[tactic(auto, unfolding(crate::specs::AuditText::request_text))]
-fn write_request_named(
-    text: &mut TextBuffer,
-    plan: &Plan,
-    place: usize,
-    request: &RequestPlan,
-) -> Result<(), AllocError>
-    ensures { OnOk result (text.new ≡ text.old ++ request_text plan.now place request.now) }
-{
-    text.place(" request ", place)?;
-    write_sending(text, plan, request.group, request.sender, request.to)
-}
-
 fn write_request_at(text: &mut TextBuffer, plan: &Plan, place: usize) -> Result<(), AllocError>
     ensures { OnOk result (text.new ≡ text.old ++ option_map_or (λ (r : ARequest). request_text plan.now place r) (slice_get plan.now.requests.items place) []) }
 {
     match plan.requests.get(place) {
-        Some(request) => write_request_named(text, plan, place, request),
+        Some(request) => write_sending(
+            text,
+            " request ",
+            place,
+            plan,
+            request.group,
+            request.sender,
+            request.to,
+        ),
         None => Ok(()),
     }
 }
@@ -178,17 +174,17 @@ fn write_subject(
 }
 
 #[tactic(auto, unfolding(crate::specs::AuditText::worst_text))]
-fn write_worst(text: &mut TextBuffer, told: Told) -> Result<(), AllocError>
-    ensures { OnOk result (text.new ≡ text.old ++ worst_text told) }
+fn write_worst(text: &mut TextBuffer, reported: Occurrences) -> Result<(), AllocError>
+    ensures { OnOk result (text.new ≡ text.old ++ worst_text reported) }
 {
-    text.field(" worst ", told.worst_at)?;
-    text.field(" by ", told.worst)?;
+    text.field(" worst ", reported.worst_at)?;
+    text.field(" by ", reported.worst)?;
     text.word(" us")
 }
 
 // Writes by how much at most, where a word has a measure.
-fn write_measure(text: &mut TextBuffer, word: Word, told: Told) -> Result<(), AllocError>
-    ensures { OnOk result (text.new ≡ text.old ++ measure_text word told) }
+fn write_measure(text: &mut TextBuffer, word: Word, reported: Occurrences) -> Result<(), AllocError>
+    ensures { OnOk result (text.new ≡ text.old ++ measure_text word reported) }
 {
     match word {
         Word::NearFlow
@@ -197,18 +193,18 @@ fn write_measure(text: &mut TextBuffer, word: Word, told: Told) -> Result<(), Al
         | Word::SilentFlow
         | Word::SilentPackets
         | Word::NearOrLate
-        | Word::SilentOrLate => write_worst(text, told),
+        | Word::SilentOrLate => write_worst(text, reported),
         _ => Ok(()),
     }
 }
 
 #[tactic(auto, unfolding(crate::specs::AuditText::times_text))]
-fn write_times(text: &mut TextBuffer, word: Word, told: Told) -> Result<(), AllocError>
-    ensures { OnOk result (text.new ≡ text.old ++ times_text word told) }
+fn write_times(text: &mut TextBuffer, word: Word, reported: Occurrences) -> Result<(), AllocError>
+    ensures { OnOk result (text.new ≡ text.old ++ times_text word reported) }
 {
-    text.field(" times ", told.times)?;
-    text.field(" first ", told.first)?;
-    write_measure(text, word, told)?;
+    text.field(" times ", reported.times)?;
+    text.field(" first ", reported.first)?;
+    write_measure(text, word, reported)?;
     text.end_line()
 }
 
@@ -218,11 +214,11 @@ pub(crate) fn write_accusing(
     text: &mut TextBuffer,
     plan: &Plan,
     mark: Mark,
-    told: Told,
+    reported: Occurrences,
 ) -> Result<(), AllocError>
-    ensures { OnOk result (text.new ≡ text.old ++ accusing_line plan.now mark told) }
+    ensures { OnOk result (text.new ≡ text.old ++ accusing_line plan.now mark reported) }
 {
     text.word(word_text(mark.word))?;
-    write_subject(text, plan, mark, told.detail)?;
-    write_times(text, mark.word, told)
+    write_subject(text, plan, mark, reported.detail)?;
+    write_times(text, mark.word, reported)
 }

@@ -93,7 +93,7 @@ pub(crate) fn announced_to_all(
     ensures { option_map sent_as result ≡ announced_to_all unit frame.now announced }
 {
     match announced {
-        Some(told) => Some(message_announced(unit, frame, told.size, told.number)),
+        Some(reported) => Some(message_announced(unit, frame, reported.size, reported.number)),
         None => None,
     }
 }

@@ -1,5 +1,5 @@
 //! Which units are asked for claims, and which of them don't answer.
-ghost use Rattle.std.specs.Prelude.{◌≡◌, ◌≢◌, ◌<◌, ◌^◌, ℕ, true, IfOk, IfSome, OnOk, Some, None, if◌then◌else◌, length, slice_index_or};
+ghost use Rattle.std.specs.Prelude.{◌≡◌, ◌≢◌, ◌<◌, ◌^◌, ℕ, true, IfOk, IfSome, OnOk, Some, None, if◌then◌else◌, length};
 ghost use Rattle.std.specs.Option.{option_or};
 ghost use Rattle.j39_audit.specs.Asking.{Asking as AnAsking, all_forgotten, answered, answered_at, asked_at, asked_before, asked_behind, asked_with};
 ghost use Rattle.j39_audit.specs.Asking.{asks_for_claims as is_for_claims, holds_surely, is_asked_to_claim, is_for, is_overdue, is_sender, nobody_asked, with_deaf};
@@ -13,6 +13,7 @@ use crate::frame_marks::is_claiming;
 use crate::idle::LONG_BEFORE;
 use crate::known::Known;
 use crate::mark::{Word, make_mark};
+use crate::places::{forget_at, forget_each, kept_at, nothing_kept};
 use crate::senders::{SureSender, may_be, sender_at};
 use crate::streams::longest_us;
 use crate::tally::MarkTally;
@@ -40,28 +41,6 @@ pub(crate) struct Asking {
     // Whether there may be one.
     pub open: bool,
     pub deaf: MarkTally,
-}
-
-// No request to so many units.
-fn nothing_asked(alloc: Global, count: usize) -> Result<Vec<Option<ClaimRequest>>, AllocError>
-    ensures size { IfOk result (λ asked. length asked.items ≡ count) }
-    ensures none { IfOk result (λ asked. (u : ℕ) → slice_index_or asked.items u None ≡ None) }
-{
-    let mut asked = Vec::new(alloc);
-    for _unit in 0..count {
-        asked.push(None)?;
-    }
-    Ok(asked)
-}
-
-// Forgets the request to each unit.
-fn forget_requests(asked: &mut Vec<Option<ClaimRequest>>)
-    ensures size { length asked.new.items ≡ length asked.old.items }
-    ensures none { (u : ℕ) → slice_index_or asked.new.items u None ≡ None }
-{
-    for unit in 0..asked.len() {
-        asked[unit] = None;
-    }
 }
 
 // Whether a frame is a claim.
@@ -143,36 +122,12 @@ impl Asking {
     pub fn new(alloc: Global, basis: &Basis<'_>) -> Result<Self, AllocError>
         ensures { IfOk result (λ new. RecallsAsking (settings_of basis.now) new nobody_asked) }
     {
-        let asked = nothing_asked(alloc, basis.plan.units.len())?;
+        let asked = nothing_kept(alloc, basis.plan.units.len())?;
         Ok(Asking {
             asked,
             open: false,
             deaf: MarkTally::new(alloc),
         })
-    }
-
-    // The request to a unit that it hasn't answered.
-    fn request(&self, unit: usize) -> Option<ClaimRequest>
-        ensures { result ≡ request_in self.now unit }
-    {
-        if unit < self.asked.len() {
-            self.asked[unit]
-        } else {
-            None
-        }
-    }
-
-    // Forgets that to a unit.
-    fn forget(&mut self, unit: usize)
-        ensures open { self.new.open ≡ self.old.open }
-        ensures deaf { self.new.deaf ≡ self.old.deaf }
-        ensures size { length self.new.asked.items ≡ length self.old.asked.items }
-        ensures others { (u : ℕ) → u ≢ unit → request_in self.new u ≡ request_in self.old u }
-        ensures here { unit < length self.old.asked.items → request_in self.new unit ≡ None }
-    {
-        if unit < self.asked.len() {
-            self.asked[unit] = None;
-        }
     }
 
     /// Forgets them all.
@@ -181,7 +136,7 @@ impl Asking {
             → RecallsAsking (settings_of basis.now) self.new (all_forgotten a) }
     {
         if self.open {
-            forget_requests(&mut self.asked);
+            forget_each(&mut self.asked);
             self.open = false;
         }
     }
@@ -202,7 +157,7 @@ impl Asking {
             → RecallsAsking (settings_of basis.now) self.new (answered claimant a) }
     {
         if let Some(unit) = claimant {
-            self.forget(unit);
+            forget_at(&mut self.asked, unit);
         }
     }
 
@@ -309,8 +264,8 @@ impl Asking {
         self.take_timed(basis, known, time, frame, line);
     }
 
-    // Tells that a unit didn't answer.
-    fn tell(
+    // Reports that a unit didn't answer.
+    fn report(
         &mut self,
         basis: &Basis<'_>,
         unit: usize,
@@ -319,7 +274,7 @@ impl Asking {
         ensures { OnOk result ((a : AnAsking) → RecallsAsking (settings_of basis.now) self.old a
             → RecallsAsking (settings_of basis.now) self.new (with_deaf unit request a)) }
     {
-        self.forget(unit);
+        forget_at(&mut self.asked, unit);
         self.deaf.note(make_mark(Word::Deaf, unit), request.line, 0)
     }
 
@@ -339,12 +294,12 @@ impl Asking {
         let Some(unit) = unit else {
             return Ok(());
         };
-        let Some(request) = self.request(unit) else {
+        let Some(request) = kept_at(&self.asked, unit) else {
             return Ok(());
         };
         if !is_overdue(timing, request, idle) {
             return Ok(());
         }
-        self.tell(basis, unit, request)
+        self.report(basis, unit, request)
     }
 }

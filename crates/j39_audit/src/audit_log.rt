@@ -1,16 +1,19 @@
 //! What an audit keeps of a log.
 ghost use Rattle.std.specs.Prelude.{◌≡◌, ◌≤◌, ◌<◌, ◌^◌, ◌++◌, nat_lt, ℕ, List, [], Option, IfOk, IfSome, OnOk};
 ghost use Rattle.std.specs.Option.{option_copied};
-ghost use Rattle.j39_id.specs.Lines.{Line, tells};
+ghost use Rattle.j39_id.specs.Lines.{Line, yields};
 ghost use Rattle.j39_log.specs.LineCounting.{AreWithin, IsLineMore};
 ghost use Rattle.j39_audit.specs.AuditText.{AuditPast, bad_line, is_of_asking, is_of_broadcasts, is_of_load, is_of_moments, mark_by_bus, passed_by, skipped_line};
 ghost use Rattle.j39_audit.specs.BegunBroadcasts.{BegunBroadcasts as SomeBroadcasts, broadcasts_behind, packet_with};
 ghost use Rattle.j39_audit.specs.Claiming.{HeardClaims, broken_off};
+ghost use Rattle.j39_audit.specs.Counting.{Noted};
 ghost use Rattle.j39_audit.specs.Looking.{break_noted};
+ghost use Rattle.j39_audit.specs.MessageStreams.{nothing_sighted, sighted_behind};
 ghost use Rattle.j39_audit.specs.Moments.{Moments as SomeMoments, with_packet_stream};
+ghost use Rattle.j39_audit.specs.Pauses.{unclear_behind};
 ghost use Rattle.j39_audit.specs.Settings.{Settings};
 ghost use Rattle.j39_audit.specs.inside.Auditing.{AccordsWith, AreAllNear, HasAudited, HasAuditedWhole, IsWithinLines, RecallsAudit, TakesFrame, TakesFrameLine, TakesLine};
-ghost use Rattle.j39_audit.specs.inside.Auditing.{tallied};
+ghost use Rattle.j39_audit.specs.inside.Auditing.{AreOnlyTimesNew, RecallsTimes, tallied, times_behind};
 ghost use Rattle.j39_audit.specs.inside.Recalling.{AreNear, KnowsClaims, Notes, RecallsBroadcasts, RecallsMoments, known_by, settings_of};
 
 use crate::announcements::{Announcement, announcement_in};
@@ -21,8 +24,8 @@ use crate::frame_marks::{note_if, take_frame};
 use crate::known::Known;
 use crate::mark::{Mark, Word, make_mark};
 use crate::moments::{Moments, Seen};
-use crate::pauses::ending_of;
-use crate::tally::{MarkTally, Told};
+use crate::pauses::{Ending, ending_of};
+use crate::tally::{MarkTally, Occurrences};
 use crate::times::{begins_anew, breaks, line_time, newest_behind};
 use j39_follow::{interface, is_elsewhere, keep_interface, kept_interface, read_part, time_text};
 use j39_id::{Cut, Frame, LineError, read_frame};
@@ -36,12 +39,12 @@ pub(crate) struct AuditLog<'a> {
     pub basis: Basis<'a>,
     // The number of the last line that was read, counted from 1.
     pub number: u64,
-    // That of the first line that names one.
+    // The interface of the first line that names one: the log's.
     pub interface: Option<Vec<u8>>,
     pub newest: Option<u64>,
     pub known: Known,
     pub tally: MarkTally,
-    // What times tell by the bus, and by load.
+    // What times report by the bus, and by load.
     pub moments: Moments,
     pub by_load: Moments,
     pub asking: Asking,
@@ -93,7 +96,7 @@ fn is_of_load(word: Word) -> bool
     matches!(word, Word::NearOrLate | Word::SilentOrLate)
 }
 
-// The mark under which what a mark tells by load is found.
+// The mark under which what a mark reports by load is found.
 fn mark_by_bus(mark: Mark) -> Mark
     ensures { result ≡ mark_by_bus mark }
 {
@@ -182,20 +185,74 @@ impl<'a> AuditLog<'a> {
     }
 
     /// What was found of a mark.
-    pub fn told(&self, mark: Mark) -> Told
+    #[tactic(auto, unfolding(crate::specs::inside::Auditing::tallied))]
+    pub fn reported(&self, mark: Mark) -> Occurrences
         ensures { result ≡ tallied self.now mark }
     {
         if is_of_moments(mark.word) {
-            self.moments.untimely.told(mark)
+            self.moments.untimely.reported(mark)
         } else if is_of_load(mark.word) {
-            self.by_load.untimely.told(mark_by_bus(mark))
+            self.by_load.untimely.reported(mark_by_bus(mark))
         } else if is_of_asking(mark.word) {
-            self.asking.deaf.told(mark)
+            self.asking.deaf.reported(mark)
         } else if is_of_broadcasts(mark.word) {
-            self.broadcasts.late.told(mark)
+            self.broadcasts.late.reported(mark)
         } else {
-            self.tally.told(mark)
+            self.tally.reported(mark)
         }
+    }
+
+    // Takes what times report of a frame of this time that was noted, just before which the log breaks off and times begin
+    // anew, or they don't, at which these pauses end, and which announces this.
+    fn take_times(
+        &mut self,
+        broken: bool,
+        anew: bool,
+        time: Option<u64>,
+        frame: &Frame,
+        ending: Ending,
+        announced: Option<Announcement>,
+    ) -> Result<(), AllocError>
+        requires time { IfSome time (λ t. t < 2 ^ 61) }
+        requires near { AreAllNear self.old }
+        ensures near { OnOk result (AreAllNear self.new) }
+        ensures kept { AreOnlyTimesNew self.old self.new }
+        ensures times { OnOk result ((past : AuditPast) (noted : List Noted) → RecallsTimes (settings_of self.old.basis) self.old past
+            → self.old.tally.sighting ≡ sighted_behind nothing_sighted noted → self.old.tally.unclear.items ≡ unclear_behind [] noted
+            → RecallsTimes (settings_of self.old.basis) self.new
+            (times_behind (settings_of self.old.basis) (known_by self.old.known) broken anew time frame.now self.old.number noted ending announced past)) }
+    {
+        let seen = Seen {
+            sighting: self.tally.sighting,
+            unclear: self.tally.unclear.as_slice(),
+            ending,
+        };
+        self.moments
+            .look(&self.basis, broken, anew, time, frame, seen, self.number)?;
+        self.by_load.look(
+            &self.basis.by_load(),
+            broken,
+            anew,
+            time,
+            frame,
+            seen,
+            self.number,
+        )?;
+        let unit = self.tally.sighting.unit;
+        self.asking
+            .take_sign(&self.basis, unit, self.moments.since)?;
+        take_packet(
+            &mut self.broadcasts,
+            &mut self.moments,
+            &self.basis,
+            &self.known,
+            unit,
+            frame,
+            announced,
+            time,
+            self.number,
+        )?;
+        Ok(())
     }
 
     // Takes the frame of a line of this time.
@@ -242,36 +299,7 @@ impl<'a> AuditLog<'a> {
             packet,
             self.number,
         )?;
-        let seen = Seen {
-            sighting: self.tally.sighting,
-            unclear: self.tally.unclear.as_slice(),
-            ending,
-        };
-        self.moments
-            .look(&self.basis, broken, anew, time, frame, seen, self.number)?;
-        self.by_load.look(
-            &self.basis.by_load(),
-            broken,
-            anew,
-            time,
-            frame,
-            seen,
-            self.number,
-        )?;
-        let unit = self.tally.sighting.unit;
-        self.asking
-            .take_sign(&self.basis, unit, self.moments.since)?;
-        take_packet(
-            &mut self.broadcasts,
-            &mut self.moments,
-            &self.basis,
-            &self.known,
-            unit,
-            frame,
-            announced,
-            time,
-            self.number,
-        )?;
+        self.take_times(broken, anew, time, frame, ending, announced)?;
         Ok(())
     }
 
@@ -385,11 +413,11 @@ impl<'a> AuditLog<'a> {
         }
     }
 
-    /// Reads what a cutter tells: a line, a line that is too long, or nothing yet.
+    /// Reads what a cutter yields: a line, a line that is too long, or nothing yet.
     pub fn read(&mut self, cut: Cut, line: &[u8]) -> Result<(), AllocError>
         requires room { (most : ℕ) × IsWithinLines self.old most × (most ≤ 2 ^ 62) }
         ensures lines { OnOk result ((s : Settings) (ls : List Line) → HasAudited s self.old ls
-            → HasAudited s self.new (ls ++ tells cut line.now)) }
+            → HasAudited s self.new (ls ++ yields cut line.now)) }
         ensures count { OnOk result ((most more : ℕ) → IsWithinLines self.old most → most < more → IsWithinLines self.new more) }
     {
         match cut {

@@ -44,7 +44,7 @@ pub(crate) fn moving_of(alloc: Global, plan: &Plan) -> Result<Vec<bool>, AllocEr
     Ok(moving)
 }
 
-// A row that tells of none of so many groups.
+// A row that reports of none of so many groups.
 fn none_sent(alloc: Global, count: usize) -> Result<Vec<bool>, AllocError>
     ensures size { IfOk result (λ row. length row.items ≡ count) }
     ensures none { IfOk result (λ row. (g : ℕ) → slice_index_or row.items g false ≡ false) }

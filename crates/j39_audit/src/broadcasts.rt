@@ -1,11 +1,11 @@
 //! Packets of broadcasts that the plan knows: which of them come too late behind the frame before.
-ghost use Rattle.std.specs.Prelude.{◌≡◌, ◌≢◌, ◌+◌, ◌<◌, ◌^◌, ℕ, true, IfOk, IfSome, OnOk, None, length, slice_index_or};
+ghost use Rattle.std.specs.Prelude.{◌≡◌, ◌+◌, ◌<◌, ◌^◌, IfOk, IfSome, OnOk, None, length};
 ghost use Rattle.j39_audit.specs.BegunBroadcasts.{BegunBroadcasts as SomeBroadcasts, all_ended, announced_to_all, begun_by, broadcasts_before, broadcasts_behind};
-ghost use Rattle.j39_audit.specs.BegunBroadcasts.{ended_before, ended_with, is_packet_to_all, late_by, late_noted, no_broadcasts};
+ghost use Rattle.j39_audit.specs.BegunBroadcasts.{ended_before, ended_with, is_packet_to_all, late_by, no_broadcasts};
 ghost use Rattle.j39_audit.specs.BegunBroadcasts.{packet_of, stream_of_packets, packet_with, with_one, with_packet, with_sent};
 ghost use Rattle.j39_audit.specs.Claiming.{Knowledge};
 ghost use Rattle.j39_audit.specs.Near.{excess};
-ghost use Rattle.j39_audit.specs.inside.Recalling.{Notes, RecallsBroadcasts, begun_in, known_by, sent_as, settings_of};
+ghost use Rattle.j39_audit.specs.inside.Recalling.{RecallsBroadcasts, begun_in, known_by, sent_as, settings_of};
 
 use crate::announcements::{Announcement, announced_to_all, is_paced};
 use crate::basis::Basis;
@@ -14,6 +14,7 @@ use crate::known::Known;
 use crate::mark::{Word, make_mark};
 use crate::messages::UnitMessage;
 use crate::pauses::Ending;
+use crate::places::{forget_at, forget_each, keep_at, kept_at, nothing_kept};
 use crate::streams::{MessageStream, longest_us, shortest_us};
 use crate::tally::MarkTally;
 use j39_id::Frame;
@@ -38,28 +39,6 @@ pub(crate) struct BegunBroadcasts {
     // Whether there may be one.
     pub open: bool,
     pub late: MarkTally,
-}
-
-// None of so many units.
-fn none_begun(alloc: Global, count: usize) -> Result<Vec<Option<BegunBroadcast>>, AllocError>
-    ensures size { IfOk result (λ begun. length begun.items ≡ count) }
-    ensures none { IfOk result (λ begun. (u : ℕ) → slice_index_or begun.items u None ≡ None) }
-{
-    let mut begun = Vec::new(alloc);
-    for _unit in 0..count {
-        begun.push(None)?;
-    }
-    Ok(begun)
-}
-
-// Forgets that of each unit.
-fn forget_begun(begun: &mut Vec<Option<BegunBroadcast>>)
-    ensures size { length begun.new.items ≡ length begun.old.items }
-    ensures none { (u : ℕ) → slice_index_or begun.new.items u None ≡ None }
-{
-    for unit in 0..begun.len() {
-        begun[unit] = None;
-    }
 }
 
 // The broadcast that a message begins, if it is planned.
@@ -134,26 +113,11 @@ fn late_by(timing: Timing, idle: Option<u64>, one: BegunBroadcast) -> Option<u64
     }
 }
 
-// Notes that a packet comes too late behind the frame of this line, where it does by so much.
-fn note_late(
-    late: &mut MarkTally,
-    unit: usize,
-    line: u64,
-    by: Option<u64>,
-) -> Result<(), AllocError>
-    ensures { OnOk result (Notes late.old late.new (late_noted unit line by)) }
-{
-    match by {
-        Some(by) => late.note(make_mark(Word::SilentPackets, unit), line, by),
-        None => Ok(()),
-    }
-}
-
 impl BegunBroadcasts {
     pub fn new(alloc: Global, basis: &Basis<'_>) -> Result<Self, AllocError>
         ensures { IfOk result (λ new. RecallsBroadcasts (settings_of basis.now) new no_broadcasts) }
     {
-        let begun = none_begun(alloc, basis.plan.units.len())?;
+        let begun = nothing_kept(alloc, basis.plan.units.len())?;
         Ok(BegunBroadcasts {
             begun,
             open: false,
@@ -161,41 +125,14 @@ impl BegunBroadcasts {
         })
     }
 
-    // The broadcast of a unit.
-    fn of(&self, unit: usize) -> Option<BegunBroadcast>
-        ensures { result ≡ begun_in self.now unit }
-    {
-        if unit < self.begun.len() {
-            self.begun[unit]
-        } else {
-            None
-        }
-    }
-
-    // Keeps this as that of a unit.
-    fn set(&mut self, unit: usize, one: Option<BegunBroadcast>)
+    // Keeps this as the broadcast of a unit.
+    fn set(&mut self, basis: &Basis<'_>, unit: usize, one: Option<BegunBroadcast>)
         requires { unit < length self.old.begun.items }
-        ensures open { self.new.open ≡ true }
-        ensures late { self.new.late ≡ self.old.late }
-        ensures size { length self.new.begun.items ≡ length self.old.begun.items }
-        ensures others { (u : ℕ) → u ≢ unit → begun_in self.new u ≡ begun_in self.old u }
-        ensures here { begun_in self.new unit ≡ one }
+        ensures { (b : SomeBroadcasts) → RecallsBroadcasts (settings_of basis.now) self.old b
+            → RecallsBroadcasts (settings_of basis.now) self.new (with_one unit one b) }
     {
         self.open = true;
-        self.begun[unit] = one;
-    }
-
-    // Forgets that of a unit.
-    fn forget(&mut self, unit: usize)
-        ensures open { self.new.open ≡ self.old.open }
-        ensures late { self.new.late ≡ self.old.late }
-        ensures size { length self.new.begun.items ≡ length self.old.begun.items }
-        ensures others { (u : ℕ) → u ≢ unit → begun_in self.new u ≡ begun_in self.old u }
-        ensures here { unit < length self.old.begun.items → begun_in self.new unit ≡ None }
-    {
-        if unit < self.begun.len() {
-            self.begun[unit] = None;
-        }
+        keep_at(&mut self.begun, unit, one);
     }
 
     /// Forgets them all.
@@ -204,7 +141,7 @@ impl BegunBroadcasts {
             → RecallsBroadcasts (settings_of basis.now) self.new (all_ended b) }
     {
         if self.open {
-            forget_begun(&mut self.begun);
+            forget_each(&mut self.begun);
             self.open = false;
         }
     }
@@ -226,7 +163,7 @@ impl BegunBroadcasts {
     {
         match ending {
             Ending::Nothing => {}
-            Ending::OfUnit(unit) => self.forget(unit),
+            Ending::OfUnit(unit) => forget_at(&mut self.begun, unit),
             Ending::OfAll => self.forget_all(basis),
         }
     }
@@ -247,7 +184,7 @@ impl BegunBroadcasts {
         ensures value { result ≡ packet_of timing unit frame.now (begun_in self.now unit) }
         ensures few { IfSome result (λ stream. stream.step < 2 ^ 27) }
     {
-        match self.of(unit) {
+        match kept_at(&self.begun, unit) {
             Some(_one) => {
                 if is_packet_to_all(frame) {
                     Some(stream_of_packets(timing, unit))
@@ -295,6 +232,7 @@ impl BegunBroadcasts {
             → RecallsBroadcasts (settings_of basis.now) self.new (with_packet timing unit idle moment line one b)) }
     {
         self.set(
+            basis,
             unit,
             Some(BegunBroadcast {
                 left: one.left.saturating_sub(1),
@@ -302,7 +240,9 @@ impl BegunBroadcasts {
                 line,
             }),
         );
-        note_late(&mut self.late, unit, one.line, late_by(timing, idle, one))
+        let mark = make_mark(Word::SilentPackets, unit);
+        let by = late_by(timing, idle, one);
+        self.late.note_by(mark, one.line, by)
     }
 
     // Takes a frame of a unit that announces nothing to all.
@@ -321,7 +261,7 @@ impl BegunBroadcasts {
             → RecallsBroadcasts (settings_of basis.now) self.new
             (with_sent (settings_of basis.now) k timing unit frame.now idle moment line None (b.begun unit) b)) }
     {
-        let Some(one) = self.of(unit) else {
+        let Some(one) = kept_at(&self.begun, unit) else {
             return Ok(());
         };
         if is_packet_to_all(frame) {
@@ -347,7 +287,7 @@ impl BegunBroadcasts {
             (with_one unit (begun_by (settings_of basis.now) (known_by known.now) (sent_as message.now) moment line) b) }
     {
         let one = begun_by(basis, known, message, moment, line);
-        self.set(unit, one);
+        self.set(basis, unit, one);
     }
 
     // Takes a frame of a unit of the plan, which announces this, if it does.

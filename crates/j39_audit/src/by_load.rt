@@ -1,6 +1,6 @@
 //! How late a message may be, by the load of the bus.
 ghost use Rattle.std.specs.Prelude.{◌≡◌, ◌≤◌, ◌^◌, IfOk, map};
-ghost use Rattle.j39_audit.specs.Responses.{AreResponses, bits_told, response, us_at_logger};
+ghost use Rattle.j39_audit.specs.Responses.{AreResponses, bits_reported, response, us_at_logger};
 
 use j39_load::{Delay, Loads, timing_of, us_of_bits};
 use j39_network::{Plan, Timing};
@@ -15,9 +15,9 @@ pub enum Bound {
     Load,
 }
 
-// The bits of a response time, where one is told.
-fn bits_told(delay: Option<Delay>) -> Option<u32>
-    ensures { result ≡ bits_told delay }
+// The bits of a response time, where one is reported.
+fn bits_reported(delay: Option<Delay>) -> Option<u32>
+    ensures { result ≡ bits_reported delay }
 {
     match delay {
         Some(Delay::Within(bits)) => Some(bits),
@@ -41,13 +41,13 @@ fn us_at_logger(us: u64) -> u64
 fn response(timing: Timing, delay: &Option<Delay>) -> Option<u64>
     ensures { result ≡ response timing delay.now }
 {
-    match bits_told(*delay) {
+    match bits_reported(*delay) {
         Some(bits) => Some(us_at_logger(us_of_bits(timing, u64::from(bits)) as u64)),
         None => None,
     }
 }
 
-// The same of each of these.
+// How long behind their moments messages of each of these delays have been sent at most.
 fn responses_by(
     alloc: Global,
     timing: Timing,

@@ -23,7 +23,7 @@ impl Earliest {
         }
     }
 
-    /// That of a stream.
+    /// The earliest moment of the newest message of the stream of a mark, where one is known.
     pub fn of(&self, mark: Mark) -> Option<u64>
         ensures { result ≡ earliest_in self.now (key_of mark) }
     {

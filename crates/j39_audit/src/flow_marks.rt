@@ -13,23 +13,23 @@ use crate::mark::{Word, make_mark};
 use crate::messages::{UnitMessage, asks, is_near, is_of};
 use crate::only_place::{Meant, OnlyPlace};
 use crate::tally::MarkTally;
-use j39_network::{FlowPlan, RequestPlan};
+use j39_network::{FlowPlan, To};
 use std::alloc::AllocError;
 
-// With the flow at one more place, if a message may be meant for it.
-fn with_flow(
+// With one more place, of one that goes to these, if a message may be meant for it.
+fn meant_with(
     basis: &Basis<'_>,
     known: &Known,
     message: &UnitMessage<'_>,
-    flow: &FlowPlan,
+    is_meant: bool,
+    to: To,
     place: usize,
     meant: Meant,
 ) -> Meant
-    ensures { result ≡ meant_more (is_of (settings_of basis.now) (known_by known.now) (sent_as message.now) flow.now)
-        (is_of (settings_of basis.now) (known_by known.now) (sent_as message.now) flow.now && is_near (settings_of basis.now) (known_by known.now) (sent_as message.now) flow.now.to) place meant }
+    ensures { result ≡ meant_more is_meant (is_meant && is_near (settings_of basis.now) (known_by known.now) (sent_as message.now) to) place meant }
 {
-    if is_of(basis, known, message, flow) {
-        meant.with(true, is_near(basis, known, message, flow.to), place)
+    if is_meant {
+        meant.with(true, is_near(basis, known, message, to), place)
     } else {
         meant
     }
@@ -43,12 +43,13 @@ pub(crate) fn flows_meant(basis: &Basis<'_>, known: &Known, message: &UnitMessag
     let mut meant = Meant::nothing();
     for place in 0..basis.plan.flows.len() {
         let flow = &basis.plan.flows[place];
-        meant = with_flow(basis, known, message, flow, place, meant);
+        let is_meant = is_of(basis, known, message, flow);
+        meant = meant_with(basis, known, message, is_meant, flow.to, place, meant);
     }
     meant
 }
 
-// Whether a message is of a flow, where this tells whether some flow is near.
+// Whether a message is of a flow, where this says whether some flow is near.
 fn is_nearest_flow(
     basis: &Basis<'_>,
     known: &Known,
@@ -121,25 +122,6 @@ pub(crate) fn note_flows(
     }
 }
 
-// With the request at one more place, if it may be this one.
-fn with_request(
-    basis: &Basis<'_>,
-    known: &Known,
-    message: &UnitMessage<'_>,
-    request: &RequestPlan,
-    place: usize,
-    meant: Meant,
-) -> Meant
-    ensures { result ≡ meant_more (asks_by_plan (settings_of basis.now) (known_by known.now) (sent_as message.now) request.now)
-        (asks_by_plan (settings_of basis.now) (known_by known.now) (sent_as message.now) request.now && is_near (settings_of basis.now) (known_by known.now) (sent_as message.now) request.now.to) place meant }
-{
-    if asks(basis, known, message, request) {
-        meant.with(true, is_near(basis, known, message, request.to), place)
-    } else {
-        meant
-    }
-}
-
 // Which request of the plan a request may be.
 fn requests_meant(basis: &Basis<'_>, known: &Known, message: &UnitMessage<'_>) -> Meant
     ensures { AreAllMeant (asks_by_plan (settings_of basis.now) (known_by known.now) (sent_as message.now))
@@ -148,7 +130,8 @@ fn requests_meant(basis: &Basis<'_>, known: &Known, message: &UnitMessage<'_>) -
     let mut meant = Meant::nothing();
     for place in 0..basis.plan.requests.len() {
         let request = &basis.plan.requests[place];
-        meant = with_request(basis, known, message, request, place, meant);
+        let is_meant = asks(basis, known, message, request);
+        meant = meant_with(basis, known, message, is_meant, request.to, place, meant);
     }
     meant
 }

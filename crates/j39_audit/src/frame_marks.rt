@@ -1,5 +1,5 @@
 //! What is noted at a frame.
-ghost use Rattle.std.specs.Prelude.{◌≡◌, ◌∷◌, [], ◌||◌, ◌<◌, ◌≤◌, true, false, IfSome, IsSome, length, OnOk, Some};
+ghost use Rattle.std.specs.Prelude.{◌≡◌, ◌∷◌, [], ◌||◌, ◌<◌, ◌≤◌, true, false, IfSome, length, OnOk};
 ghost use Rattle.std.specs.Option.{option_map};
 ghost use Rattle.j39_id.specs.Addresses.{is_address};
 ghost use Rattle.j39_id.specs.FrameMeaning.{name_in};
@@ -182,10 +182,13 @@ pub(crate) fn announced(
     }
 }
 
-// The message that a packet announces.
-fn announced_by(unit: usize, frame: &Frame, packet: &Packet) -> Option<UnitMessage<'static>>
-    ensures { option_map sent_as result ≡ message_announced unit frame.now (Some packet.now) }
+// The message that a packet announces, if there is one that does.
+fn announced_by(unit: usize, frame: &Frame, packet: Option<Packet>) -> Option<UnitMessage<'static>>
+    ensures { option_map sent_as result ≡ message_announced unit frame.now packet }
 {
+    let Some(packet) = packet else {
+        return None;
+    };
     match packet {
         Packet::Rts { size, pgn, .. } => {
             Some(announced(unit, frame, usize::from(size.bytes()), pgn.number()))
@@ -194,6 +197,17 @@ fn announced_by(unit: usize, frame: &Frame, packet: &Packet) -> Option<UnitMessa
             Some(announced(unit, frame, usize::from(size.bytes()), pgn.number()))
         }
         _ => None,
+    }
+}
+
+// The message that a frame is or announces.
+fn message_of(unit: usize, frame: &Frame, packet: Option<Packet>) -> Option<UnitMessage<'_>>
+    ensures { option_map sent_as result ≡ message_sent unit frame.now packet }
+{
+    if is_single(frame) {
+        Some(single(unit, frame))
+    } else {
+        announced_by(unit, frame, packet)
     }
 }
 
@@ -207,60 +221,23 @@ fn note_deviation(tally: &mut MarkTally, mark: Option<Mark>, line: u64) -> Resul
     }
 }
 
-// Notes what a message is, and how it differs.
+// Notes what a message is, and how it differs, if there is one.
 fn note_message(
     tally: &mut MarkTally,
     basis: &Basis<'_>,
     known: &Known,
-    message: &UnitMessage<'_>,
+    message: Option<UnitMessage<'_>>,
     line: u64,
 ) -> Result<(), AllocError>
-    ensures { OnOk result (Notes tally.old tally.new (message_noted (settings_of basis.now) (known_by known.now) line (Some (sent_as message.now)))) }
+    ensures { OnOk result (Notes tally.old tally.new (message_noted (settings_of basis.now) (known_by known.now) line (option_map sent_as message.entry))) }
 {
-    let meant = flows_meant(basis, known, message);
-    note_deviation(tally, deviation(basis, known, message, meant), line)?;
-    note_flows(tally, basis, known, message, meant, line)?;
-    Ok(())
-}
-
-// Notes the message that a packet announces.
-fn note_announced(
-    tally: &mut MarkTally,
-    basis: &Basis<'_>,
-    known: &Known,
-    frame: &Frame,
-    packet: Option<Packet>,
-    line: u64,
-    unit: usize,
-) -> Result<(), AllocError>
-    ensures { OnOk result (Notes tally.old tally.new (message_noted (settings_of basis.now) (known_by known.now) line (message_announced unit frame.now packet))) }
-{
-    let Some(packet) = packet else {
+    let Some(message) = message else {
         return Ok(());
     };
-    match announced_by(unit, frame, &packet) {
-        Some(message) => note_message(tally, basis, known, &message, line),
-        None => Ok(()),
-    }
-}
-
-// Notes the message that a frame is or announces.
-fn note_messages(
-    tally: &mut MarkTally,
-    basis: &Basis<'_>,
-    known: &Known,
-    frame: &Frame,
-    packet: Option<Packet>,
-    line: u64,
-    unit: usize,
-) -> Result<(), AllocError>
-    ensures { OnOk result (Notes tally.old tally.new (message_noted (settings_of basis.now) (known_by known.now) line (message_sent unit frame.now packet))) }
-{
-    if is_single(frame) {
-        note_message(tally, basis, known, &single(unit, frame), line)
-    } else {
-        note_announced(tally, basis, known, frame, packet, line, unit)
-    }
+    let meant = flows_meant(basis, known, &message);
+    note_deviation(tally, deviation(basis, known, &message, meant), line)?;
+    note_flows(tally, basis, known, &message, meant, line)?;
+    Ok(())
 }
 
 // Notes the request that a frame is.
@@ -310,7 +287,7 @@ fn note_counted(
     ensures { OnOk result (Notes tally.old tally.new (counted (settings_of basis.now) (known_by known.now) frame.now packet line unit)) }
 {
     tally.note(make_mark(Word::Counted, unit), line, 0)?;
-    note_messages(tally, basis, known, frame, packet, line, unit)?;
+    note_message(tally, basis, known, message_of(unit, frame, packet), line)?;
     note_request(tally, basis, known, frame, line, unit)?;
     let urgent = is_urgent(basis, frame, unit);
     note_if(tally, urgent, make_mark(Word::Urgent, unit), line, 0)?;
@@ -340,7 +317,7 @@ fn note_sent(
     }
 }
 
-// Notes a claim, and keeps what it tells.
+// Notes a claim, and keeps what it reports.
 fn take_claim(
     tally: &mut MarkTally,
     basis: &Basis<'_>,

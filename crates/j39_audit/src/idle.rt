@@ -1,6 +1,6 @@
 //! Where a log shows that its bus was idle, and when its frames ended.
 ghost use Rattle.std.specs.Prelude.{◌≡◌, ◌<◌, ◌≤◌, ◌*◌, ◌^◌, IfSome};
-ghost use Rattle.j39_audit.specs.Moments.{bit_us, damaged_at_once, idle_behind, idle_mark, earliest_end, is_apart, leaves_idle, reach_back, shows_idle, since_behind};
+ghost use Rattle.j39_audit.specs.Moments.{bit_us, damaged_at_once, idle_mark, earliest_end, is_apart, leaves_idle, reach_back, shows_idle, since_behind};
 ghost use Rattle.j39_audit.specs.inside.Recalling.{far_ahead, settings_of};
 
 use crate::basis::Basis;
@@ -105,29 +105,6 @@ fn idle_mark(basis: &Basis<'_>, timing: Timing, bytes: usize, time: u64) -> u64
     (time + LONG_BEFORE).saturating_sub(reach_back(timing, bytes) + basis.logger_error())
 }
 
-// The idle mark behind a frame of this time, where the frame of the line before had this one, and the mark was this.
-fn idle_behind(
-    basis: &Basis<'_>,
-    timing: Timing,
-    broken: bool,
-    bytes: usize,
-    time: u64,
-    before: Option<u64>,
-    idle: Option<u64>,
-) -> Option<u64>
-    requires bytes { bytes < 2 ^ 16 }
-    requires time { time < 2 ^ 61 }
-    requires near { IfSome idle (λ q. q < far_ahead) }
-    ensures value { result ≡ idle_behind (settings_of basis.now) timing broken bytes time before idle }
-    ensures few { IfSome result (λ q. q < far_ahead) }
-{
-    if shows_idle(basis, timing, broken, bytes, time, before) {
-        Some(idle_mark(basis, timing, bytes, time))
-    } else {
-        idle
-    }
-}
-
 // When a frame of this time ended at the earliest.
 fn earliest_end(basis: &Basis<'_>, time: u64) -> u64
     requires { time < 2 ^ 61 }
@@ -155,7 +132,13 @@ pub(crate) fn since_behind(
     ensures few { IfSome result (λ q. q < far_ahead) }
 {
     match basis.bound {
-        Bound::Bus => idle_behind(basis, timing, broken, bytes, time, before, since),
+        Bound::Bus => {
+            if shows_idle(basis, timing, broken, bytes, time, before) {
+                Some(idle_mark(basis, timing, bytes, time))
+            } else {
+                since
+            }
+        }
         Bound::Load => Some(earliest_end(basis, time)),
     }
 }

@@ -1,10 +1,11 @@
-//! What the claims of a log tell of units and addresses.
+//! What the claims of a log report of units and addresses.
 ghost use Rattle.std.specs.Prelude.{◌≡◌, ◌≢◌, ◌<◌, ◌≤◌, ℕ, true, false, Some, None, IfOk, IfSome, if◌then◌else◌, length, slice_index_or};
 ghost use Rattle.j39_audit.specs.Claiming.{HeardClaims, broken_off, no_claims, with_claim};
 ghost use Rattle.j39_audit.specs.Settings.{moves};
 ghost use Rattle.j39_audit.specs.inside.Recalling.{KnowsClaims, last_in, settings_of, taken_in};
 
 use crate::basis::Basis;
+use crate::places::{kept_at, nothing_kept};
 use std::alloc::{AllocError, Global};
 
 const ADDRESSES: usize = 256;
@@ -14,18 +15,6 @@ const ADDRESSES: usize = 256;
 pub(crate) struct Known {
     pub last: Vec<Option<u8>>,
     pub taken: Vec<bool>,
-}
-
-// No last claim of so many units.
-fn nowhere(alloc: Global, count: usize) -> Result<Vec<Option<u8>>, AllocError>
-    ensures size { IfOk result (λ last. length last.items ≡ count) }
-    ensures none { IfOk result (λ last. (u : ℕ) → slice_index_or last.items u None ≡ None) }
-{
-    let mut last = Vec::new(alloc);
-    for _unit in 0..count {
-        last.push(None)?;
-    }
-    Ok(last)
 }
 
 // No address that is taken.
@@ -44,7 +33,7 @@ impl Known {
     pub fn new(alloc: Global, basis: &Basis<'_>) -> Result<Self, AllocError>
         ensures { IfOk result (λ known. KnowsClaims (settings_of basis.now) known no_claims) }
     {
-        let last = nowhere(alloc, basis.plan.units.len())?;
+        let last = nothing_kept(alloc, basis.plan.units.len())?;
         let taken = untaken(alloc)?;
         Ok(Known { last, taken })
     }
@@ -53,11 +42,7 @@ impl Known {
     pub fn last(&self, unit: usize) -> Option<u8>
         ensures { result ≡ last_in self.now unit }
     {
-        if unit < self.last.len() {
-            self.last[unit]
-        } else {
-            None
-        }
+        kept_at(&self.last, unit)
     }
 
     /// Whether an address was claimed by a NAME of no unit.

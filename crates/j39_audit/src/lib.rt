@@ -20,6 +20,7 @@ mod moments;
 mod nearness;
 mod only_place;
 mod pauses;
+mod places;
 mod reading;
 mod senders;
 mod settings;

@@ -5,7 +5,7 @@ ghost use Rattle.std.specs.Option.{option_copied, option_map_or, option_or};
 ghost use Rattle.j39_signal.specs.Selectors.{is_selected};
 ghost use Rattle.j39_network.specs.declared.plan.group_plan.GroupPlan.{GroupPlan as AGroup};
 ghost use Rattle.j39_audit.specs.SentMessages.{asks_by_plan, deviation, first_group, fits_group, goes, has_priority, is_fit};
-ghost use Rattle.j39_audit.specs.SentMessages.{is_fit_group, is_group, is_near, is_of, is_own, is_told_by, may_hear, passes};
+ghost use Rattle.j39_audit.specs.SentMessages.{is_fit_group, is_group, is_near, is_of, is_own, is_reported_by, may_hear, passes};
 ghost use Rattle.j39_audit.specs.SentMessages.{flow_group, without_flow};
 ghost use Rattle.j39_audit.specs.declared.messages.Test.TheVariants.{Any, Fitting, Selected};
 ghost use Rattle.j39_audit.specs.inside.Recalling.{known_by, sent_as, settings_of};
@@ -38,7 +38,7 @@ pub(crate) struct UnitMessage<'a> {
 pub enum Test {
     /// That the length and the bytes fit.
     Fitting,
-    /// That it is told from others by the bytes.
+    /// That it is distinguished from others by the bytes.
     Selected,
     /// Nothing more.
     Any,
@@ -63,9 +63,9 @@ fn fits(message: &UnitMessage<'_>, group: &GroupPlan) -> bool
         && selects(group, message.bytes, true)
 }
 
-// Whether a group is told from others by the bytes of a message.
-fn is_told_by(message: &UnitMessage<'_>, group: &GroupPlan) -> bool
-    ensures { result ≡ is_told_by (sent_as message.now) group.now }
+// Whether a group is distinguished from others by the bytes of a message.
+fn is_reported_by(message: &UnitMessage<'_>, group: &GroupPlan) -> bool
+    ensures { result ≡ is_reported_by (sent_as message.now) group.now }
 {
     match group.when {
         Some(_selector) => selects(group, message.bytes, false),
@@ -78,7 +78,7 @@ fn passes(message: &UnitMessage<'_>, test: Test, group: &GroupPlan) -> bool
 {
     match test {
         Test::Fitting => fits(message, group),
-        Test::Selected => is_told_by(message, group),
+        Test::Selected => is_reported_by(message, group),
         Test::Any => true,
     }
 }

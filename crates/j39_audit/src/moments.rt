@@ -1,18 +1,19 @@
-//! What the times of a log tell of the moments of messages.
+//! What the times of a log report of the moments of messages.
 ghost use Rattle.std.specs.Prelude.{◌≡◌, ◌<◌, ◌≤◌, ◌^◌, ◌++◌, [], ℕ, List, Option, IfOk, IfSome, OnOk, Some, length};
 ghost use Rattle.std.specs.Option.{option_map};
 ghost use Rattle.j39_audit.specs.Counting.{Noted};
-ghost use Rattle.j39_audit.specs.Moments.{Moments as AMoments, begun_anew, behind_bad, behind_gap, lower_bound, moments_behind, near_noted, no_moments, with_moment};
+ghost use Rattle.j39_audit.specs.Moments.{Moments as AMoments, begun_anew, behind_bad, behind_gap, lower_bound, moments_behind, no_moments, with_moment};
 ghost use Rattle.j39_audit.specs.Moments.{listed_pauses_ended, moment_window, with_counted, with_ending, with_frame_of, with_message, with_packet_stream, with_stream, with_time};
 ghost use Rattle.j39_audit.specs.MessageStreams.{nothing_sighted, sighted_behind, sighted_stream};
 ghost use Rattle.j39_audit.specs.Pauses.{unclear_behind};
-ghost use Rattle.j39_audit.specs.inside.Recalling.{AreNear, Notes, RecallsMoments, far_ahead, settings_of};
+ghost use Rattle.j39_audit.specs.inside.Recalling.{AreNear, RecallsMoments, far_ahead, settings_of};
 
 use crate::basis::Basis;
 use crate::earliest::Earliest;
 use crate::idle::{LONG_BEFORE, since_behind};
 use crate::nearness::{candidate, excess, kept_behind};
 use crate::pauses::{Ending, LastFrame, Pauses};
+use crate::places::keep_at;
 use crate::streams::{MessageStream, sighted_stream};
 use crate::tally::{MarkTally, Sighting};
 use crate::window::Window;
@@ -20,7 +21,7 @@ use j39_id::Frame;
 use j39_network::Timing;
 use std::alloc::{AllocError, Global};
 
-/// What the times of a log tell so far: the time of the line before, where it is a frame that has one, since when all was
+/// What the times of a log report so far: the time of the line before, where it is a frame that has one, since when all was
 /// queued that begins from here on, or by load all has ended that ends from here on, of each stream the earliest moment of
 /// its newest message, of flows with a pause what is kept of these, and what was found.
 #[derive(Drop)]
@@ -65,21 +66,6 @@ fn moment_window(basis: &Basis<'_>, slack: Option<u64>, time: u64, since: Option
     Window {
         lower: lower_bound(slack, since),
         upper: time + LONG_BEFORE + basis.logger_error(),
-    }
-}
-
-// Notes that a message is too near, where it is by so much.
-fn note_near(
-    untimely: &mut MarkTally,
-    stream: MessageStream,
-    line: u64,
-    by: Option<u64>,
-) -> Result<(), AllocError>
-    ensures { OnOk result (Notes untimely.old untimely.new (near_noted stream line by)) }
-{
-    match by {
-        Some(by) => untimely.note(stream.mark, line, by),
-        None => Ok(()),
     }
 }
 
@@ -173,7 +159,7 @@ impl Moments {
     {
         let moment = candidate(stream.step, self.earliest.of(stream.mark), window);
         let by = excess(moment, window.upper);
-        note_near(&mut self.untimely, stream, line, by)?;
+        self.untimely.note_by(stream.mark, line, by)?;
         self.earliest.set(stream.mark, kept_behind(moment, window))?;
         Ok(())
     }
@@ -238,7 +224,9 @@ impl Moments {
         ensures moments { (m : AMoments) → RecallsMoments self.old m → RecallsMoments self.new (with_frame_of unit line m) }
     {
         let since = self.since;
-        self.pauses.set_last(unit, LastFrame { line, since });
+        let last = LastFrame { line, since };
+        self.pauses.open = true;
+        keep_at(&mut self.pauses.last, unit, Some(last));
     }
 
     // Keeps a frame that counts for a unit, if there is one.

@@ -1,10 +1,11 @@
 //! What is kept of flows with a pause, and where their pauses end.
-ghost use Rattle.std.specs.Prelude.{◌≡◌, ◌≢◌, ◌<◌, ℕ, IfOk, Some, None, true, length, slice_index_or};
+ghost use Rattle.std.specs.Prelude.{◌≡◌, ℕ, IfOk, None, length};
 ghost use Rattle.j39_audit.specs.Pauses.{earlier_of, ending_at, ending_of, goes_to_it, is_with_unit, last_of_ends};
 ghost use Rattle.j39_audit.specs.inside.Recalling.{known_by, last_in_pauses, newest_in, settings_of};
 
 use crate::basis::Basis;
 use crate::known::Known;
+use crate::places::{forget_each, kept_at, nothing_kept};
 use j39_follow::unit_named;
 use j39_id::addresses::NULL_ADDRESS;
 use j39_id::{Frame, cannot_claim, carried_name, claims_address};
@@ -51,50 +52,6 @@ pub(crate) struct Pauses {
     pub open: bool,
 }
 
-// No newest message.
-fn no_newest(alloc: Global) -> Result<Vec<Option<Newest>>, AllocError>
-    ensures size { IfOk result (λ newest. length newest.items ≡ 512) }
-    ensures none { IfOk result (λ newest. (n : ℕ) → slice_index_or newest.items n None ≡ None) }
-{
-    let mut newest = Vec::new(alloc);
-    for _place in 0..FLOWS {
-        newest.push(None)?;
-    }
-    Ok(newest)
-}
-
-// No last frame.
-fn no_last(alloc: Global) -> Result<Vec<Option<LastFrame>>, AllocError>
-    ensures size { IfOk result (λ last. length last.items ≡ 128) }
-    ensures none { IfOk result (λ last. (u : ℕ) → slice_index_or last.items u None ≡ None) }
-{
-    let mut last = Vec::new(alloc);
-    for _unit in 0..UNITS {
-        last.push(None)?;
-    }
-    Ok(last)
-}
-
-// Forgets the newest message of each flow.
-fn forget_newest(newest: &mut Vec<Option<Newest>>)
-    ensures size { length newest.new.items ≡ length newest.old.items }
-    ensures none { (n : ℕ) → slice_index_or newest.new.items n None ≡ None }
-{
-    for place in 0..newest.len() {
-        newest[place] = None;
-    }
-}
-
-// Forgets the last frame of each unit.
-fn forget_last(last: &mut Vec<Option<LastFrame>>)
-    ensures size { length last.new.items ≡ length last.old.items }
-    ensures none { (u : ℕ) → slice_index_or last.new.items u None ≡ None }
-{
-    for unit in 0..last.len() {
-        last[unit] = None;
-    }
-}
-
 // The one of the earlier line.
 fn earlier_of(one: Option<LastFrame>, other: Option<LastFrame>) -> Option<LastFrame>
     ensures { result ≡ earlier_of one other }
@@ -115,8 +72,8 @@ impl Pauses {
         ensures newest_size { IfOk result (λ pauses. length pauses.newest.items ≡ 512) }
         ensures last_size { IfOk result (λ pauses. length pauses.last.items ≡ 128) }
     {
-        let newest = no_newest(alloc)?;
-        let last = no_last(alloc)?;
+        let newest = nothing_kept(alloc, FLOWS)?;
+        let last = nothing_kept(alloc, UNITS)?;
         Ok(Pauses {
             newest,
             last,
@@ -128,22 +85,14 @@ impl Pauses {
     pub fn newest(&self, place: usize) -> Option<Newest>
         ensures { result ≡ newest_in self.now place }
     {
-        if place < self.newest.len() {
-            self.newest[place]
-        } else {
-            None
-        }
+        kept_at(&self.newest, place)
     }
 
     /// The last frame of a unit.
     pub fn last(&self, unit: usize) -> Option<LastFrame>
         ensures { result ≡ last_in_pauses self.now unit }
     {
-        if unit < self.last.len() {
-            self.last[unit]
-        } else {
-            None
-        }
+        kept_at(&self.last, unit)
     }
 
     /// The last frame of a flow's sender, or of those of its sender and of its one receiver the one of the earlier line.
@@ -156,58 +105,6 @@ impl Pauses {
         }
     }
 
-    /// Keeps a last frame of a unit.
-    pub fn set_last(&mut self, unit: usize, last: LastFrame)
-        requires { unit < length self.old.last.items }
-        ensures newest { self.new.newest ≡ self.old.newest }
-        ensures size { length self.new.last.items ≡ length self.old.last.items }
-        ensures others { (u : ℕ) → u ≢ unit → last_in_pauses self.new u ≡ last_in_pauses self.old u }
-        ensures here { last_in_pauses self.new unit ≡ Some last }
-        ensures open { self.new.open ≡ true }
-    {
-        self.open = true;
-        self.last[unit] = Some(last);
-    }
-
-    /// Forgets that of a unit.
-    pub fn forget_last(&mut self, unit: usize)
-        ensures newest { self.new.newest ≡ self.old.newest }
-        ensures size { length self.new.last.items ≡ length self.old.last.items }
-        ensures others { (u : ℕ) → u ≢ unit → last_in_pauses self.new u ≡ last_in_pauses self.old u }
-        ensures here { unit < length self.old.last.items → last_in_pauses self.new unit ≡ None }
-        ensures open { self.new.open ≡ self.old.open }
-    {
-        if unit < self.last.len() {
-            self.last[unit] = None;
-        }
-    }
-
-    /// Keeps a newest message of a flow.
-    pub fn set_newest(&mut self, place: usize, newest: Newest)
-        requires { place < length self.old.newest.items }
-        ensures last { self.new.last ≡ self.old.last }
-        ensures size { length self.new.newest.items ≡ length self.old.newest.items }
-        ensures others { (n : ℕ) → n ≢ place → newest_in self.new n ≡ newest_in self.old n }
-        ensures here { newest_in self.new place ≡ Some newest }
-        ensures open { self.new.open ≡ true }
-    {
-        self.open = true;
-        self.newest[place] = Some(newest);
-    }
-
-    /// Forgets that of a flow.
-    pub fn forget_newest(&mut self, place: usize)
-        ensures last { self.new.last ≡ self.old.last }
-        ensures size { length self.new.newest.items ≡ length self.old.newest.items }
-        ensures others { (n : ℕ) → n ≢ place → newest_in self.new n ≡ newest_in self.old n }
-        ensures here { place < length self.old.newest.items → newest_in self.new place ≡ None }
-        ensures open { self.new.open ≡ self.old.open }
-    {
-        if place < self.newest.len() {
-            self.newest[place] = None;
-        }
-    }
-
     /// Forgets them all.
     pub fn forget(&mut self)
         ensures newest { (n : ℕ) → newest_in self.new n ≡ None }
@@ -215,8 +112,8 @@ impl Pauses {
         ensures newest_size { length self.new.newest.items ≡ length self.old.newest.items }
         ensures last_size { length self.new.last.items ≡ length self.old.last.items }
     {
-        forget_newest(&mut self.newest);
-        forget_last(&mut self.last);
+        forget_each(&mut self.newest);
+        forget_each(&mut self.last);
         self.open = false;
     }
 }

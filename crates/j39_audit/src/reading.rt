@@ -1,7 +1,7 @@
 //! Reading a log.
 ghost use Rattle.std.specs.Prelude.{◌≡◌, ◌≢◌, ◌+◌, ◌≤◌, ◌^◌, ◌++◌, ℕ, List, [], length, Err, IfOk, OnOk, IsErrOf};
 ghost use Rattle.std.specs.Io.KnownBytes.{Consumes, IsAtEnd};
-ghost use Rattle.j39_id.specs.Lines.{Line, behind_all, lines, told};
+ghost use Rattle.j39_id.specs.Lines.{Line, behind_all, lines, yielded};
 ghost use Rattle.j39_stream.specs.Streams.{HasFailed, KeepsLimits, PassesLimits, log_limits};
 ghost use Rattle.j39_audit.specs.Settings.{Settings};
 ghost use Rattle.j39_audit.specs.inside.Auditing.{HasAudited, HasReadLog, IsWithinLines};
@@ -16,7 +16,7 @@ fn read_piece(log: &mut AuditLog<'_>, cutter: &mut Cutter, piece: &[u8]) -> Resu
     requires room { (most : ℕ) × IsWithinLines log.old most × (most + length piece.now ≤ 2 ^ 62) }
     ensures pending { OnOk result (cutter.new.pending ≡ behind_all cutter.old.pending piece.now) }
     ensures lines { OnOk result ((s : Settings) (before : List Line) → HasAudited s log.old before
-        → HasAudited s log.new (before ++ told cutter.old.pending piece.now)) }
+        → HasAudited s log.new (before ++ yielded cutter.old.pending piece.now)) }
     ensures count { OnOk result ((most : ℕ) → IsWithinLines log.old most → IsWithinLines log.new (most + length piece.now)) }
 {
     let mut rest = piece;

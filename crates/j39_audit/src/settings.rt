@@ -1,4 +1,4 @@
-//! What the basis of an audit tells.
+//! What the basis of an audit reports.
 ghost use Rattle.std.specs.Prelude.{◌≡◌, ◌≤◌};
 ghost use Rattle.j39_audit.specs.Claiming.{has_strangers, is_address_of, is_free_for};
 ghost use Rattle.j39_audit.specs.SentMessages.{has_flow_of};

@@ -8,6 +8,7 @@ use crate::basis::Basis;
 use crate::mark::{Word, make_mark};
 use crate::moments::{Moments, lower_bound};
 use crate::pauses::{Ending, LastFrame, Newest, Pauses, is_with_unit};
+use crate::places::{forget_at, keep_at};
 use crate::silence::{lag, latest_next};
 use crate::streams::{FlowPause, flow_pause};
 use crate::tally::MarkTally;
@@ -112,7 +113,9 @@ impl Moments {
         let by = lag(pause, latest, window.lower);
         note_silent(&mut self.untimely, place, newest, by)?;
         let moment = latest_next(pause, latest, window);
-        self.pauses.set_newest(place, Newest { moment, line });
+        let next = Newest { moment, line };
+        self.pauses.open = true;
+        keep_at(&mut self.pauses.newest, place, Some(next));
         Ok(())
     }
 
@@ -153,7 +156,7 @@ impl Moments {
         let newest = self.pauses.newest(place);
         let by = silence_behind(basis, timing, &self.pauses, place, newest);
         note_silent(&mut self.untimely, place, newest, by)?;
-        self.pauses.forget_newest(place);
+        forget_at(&mut self.pauses.newest, place);
         Ok(())
     }
 
@@ -253,7 +256,7 @@ impl Moments {
             → RecallsMoments self.new (unit_pauses_ended (settings_of basis.now) timing unit m)) }
     {
         self.end_flows(basis, timing, Some(unit))?;
-        self.pauses.forget_last(unit);
+        forget_at(&mut self.pauses.last, unit);
         Ok(())
     }
 

@@ -25,7 +25,7 @@ const MILLION: u64 = 1_000_000;
 
 /// How near the moments of a stream's messages come, how far behind its moment lies what bounds one, where that is known,
 /// how long behind one another's moments they come at most, where that is seen, all in microseconds, and by which mark it
-/// is told.
+/// is reported.
 #[derive(Clone, Copy, PartialEq, Eq)]
 pub struct MessageStream {
     pub mark: Mark,

@@ -1,11 +1,11 @@
 //! What is written of a log that was read.
-ghost use Rattle.std.specs.Prelude.{◌≡◌, ◌≤◌, ◌<◌, ◌++◌, length, IfOk, OnOk};
+ghost use Rattle.std.specs.Prelude.{◌≡◌, ◌≤◌, ◌<◌, ◌++◌, IfOk, OnOk};
 ghost use Rattle.j39_audit.specs.AuditText.{accusation_count, accusations, accusing_at, deviations_line, flow_seen};
-ghost use Rattle.j39_audit.specs.AuditText.{flow_seen_line, flows_seen, groups_named, if_not_by_bus, line_told, lines_told, mark_at, told_mark};
+ghost use Rattle.j39_audit.specs.AuditText.{flow_seen_line, flows_seen, groups_named, if_not_by_bus, line_reported, lines_reported, reported_mark};
 ghost use Rattle.j39_audit.specs.AuditText.{request_seen, request_seen_line, requests_seen, sorts_text, subject_count};
 ghost use Rattle.j39_audit.specs.AuditText.{subject_lines, subjects, text_by, times_of, unit_frames_line, unit_seen};
 ghost use Rattle.j39_audit.specs.AuditText.{units_seen, word_count, word_lines};
-ghost use Rattle.j39_audit.specs.inside.Auditing.{tallied};
+ghost use Rattle.j39_audit.specs.inside.Auditing.{all_seen, seen_at, seen_places, tallied};
 ghost use Rattle.j39_audit.specs.inside.Recalling.{settings_of};
 
 use crate::accusing::{write_accusing, write_sending};
@@ -73,20 +73,20 @@ fn groups_named(basis: &Basis<'_>, word: Word) -> usize
     }
 }
 
-// The mark that is told of a flow, where by the bus nothing may be.
+// The mark that is reported of a flow, where by the bus nothing may be.
 fn if_not_by_bus(log: &AuditLog<'_>, by_bus: Mark, or_late: Mark) -> Mark
     ensures { result ≡ if_not_by_bus (tallied log.now) by_bus or_late }
 {
-    if log.told(by_bus).times == 0 {
+    if log.reported(by_bus).times == 0 {
         or_late
     } else {
         by_bus
     }
 }
 
-// The mark that is told of what a word, a subject and a group name: by load that of a flow of which by the bus nothing is.
-fn told_mark(log: &AuditLog<'_>, word: Word, subject: usize, group: usize) -> Mark
-    ensures { result ≡ told_mark (tallied log.now) word subject group }
+// The mark that is reported of what a word, a subject and a group name: by load that of a flow of which by the bus nothing is.
+fn reported_mark(log: &AuditLog<'_>, word: Word, subject: usize, group: usize) -> Mark
+    ensures { result ≡ reported_mark (tallied log.now) word subject group }
 {
     let mark = Mark {
         word,
@@ -115,22 +115,22 @@ fn told_mark(log: &AuditLog<'_>, word: Word, subject: usize, group: usize) -> Ma
 }
 
 // Writes the line of a mark where it was found, and answers how many lines that is.
-#[tactic(auto, unfolding(crate::specs::AuditText::line_told, crate::specs::AuditText::line_of_mark, crate::specs::AuditText::lines_told))]
+#[tactic(auto, unfolding(crate::specs::AuditText::line_reported, crate::specs::AuditText::line_of_mark, crate::specs::AuditText::lines_reported))]
 fn write_line(
     text: &mut TextBuffer,
     plan: &Plan,
     log: &AuditLog<'_>,
     mark: Mark,
 ) -> Result<u64, AllocError>
-    ensures text { OnOk result (text.new ≡ text.old ++ line_told plan.now (tallied log.now) mark) }
-    ensures count { IfOk result (λ n. n ≡ lines_told (tallied log.now mark)) }
+    ensures text { OnOk result (text.new ≡ text.old ++ line_reported plan.now (tallied log.now) mark) }
+    ensures count { IfOk result (λ n. n ≡ lines_reported (tallied log.now mark)) }
     ensures few { IfOk result (λ n. n ≤ 1) }
 {
-    let told = log.told(mark);
-    if told.times == 0 {
+    let reported = log.reported(mark);
+    if reported.times == 0 {
         return Ok(0);
     }
-    write_accusing(text, plan, mark, told)?;
+    write_accusing(text, plan, mark, reported)?;
     Ok(1)
 }
 
@@ -148,7 +148,7 @@ fn write_subject_lines(
 {
     let mut count = 0;
     for group in 0..groups_named(basis, word) {
-        let mark = told_mark(log, word, subject, group);
+        let mark = reported_mark(log, word, subject, group);
         count += write_line(text, basis.plan, log, mark)?;
     }
     Ok(count)
@@ -188,6 +188,12 @@ fn write_accusations(
     Ok(count)
 }
 
+fn times_of(log: &AuditLog<'_>, word: Word, subject: usize) -> u64
+    ensures { result ≡ times_of (tallied log.now) word subject }
+{
+    log.reported(make_mark(word, subject)).times
+}
+
 #[tactic(auto, unfolding(crate::specs::AuditText::flow_seen_line))]
 fn write_flow(
     text: &mut TextBuffer,
@@ -199,8 +205,7 @@ fn write_flow(
 ) -> Result<(), AllocError>
     ensures { OnOk result (text.new ≡ text.old ++ flow_seen_line plan.now place flow.now seen unclear) }
 {
-    text.place("flow ", place)?;
-    write_sending(text, plan, flow.group, flow.sender, flow.to)?;
+    write_sending(text, "flow ", place, plan, flow.group, flow.sender, flow.to)?;
     text.field(" seen ", seen)?;
     text.field(" unclear ", unclear)?;
     text.end_line()
@@ -216,31 +221,17 @@ fn write_request(
 ) -> Result<(), AllocError>
     ensures { OnOk result (text.new ≡ text.old ++ request_seen_line plan.now place request.now seen) }
 {
-    text.place("request ", place)?;
-    write_sending(text, plan, request.group, request.sender, request.to)?;
+    write_sending(
+        text,
+        "request ",
+        place,
+        plan,
+        request.group,
+        request.sender,
+        request.to,
+    )?;
     text.field(" seen ", seen)?;
     text.end_line()
-}
-
-#[tactic(auto, unfolding(crate::specs::AuditText::unit_frames_line))]
-fn write_frames(
-    text: &mut TextBuffer,
-    plan: &Plan,
-    unit: usize,
-    frames: u64,
-) -> Result<(), AllocError>
-    ensures { OnOk result (text.new ≡ text.old ++ unit_frames_line plan.now unit frames) }
-{
-    text.word("unit ")?;
-    text.word(unit_label(plan, unit))?;
-    text.field(" frames ", frames)?;
-    text.end_line()
-}
-
-fn times_of(log: &AuditLog<'_>, word: Word, subject: usize) -> u64
-    ensures { result ≡ times_of (tallied log.now) word subject }
-{
-    log.told(make_mark(word, subject)).times
 }
 
 fn write_flow_seen(
@@ -259,15 +250,6 @@ fn write_flow_seen(
     }
 }
 
-fn write_flows(text: &mut TextBuffer, plan: &Plan, log: &AuditLog<'_>) -> Result<(), AllocError>
-    ensures { OnOk result (text.new ≡ text.old ++ flows_seen plan.now (tallied log.now)) }
-{
-    for place in 0..plan.flows.len() {
-        write_flow_seen(text, plan, log, place)?;
-    }
-    Ok(())
-}
-
 fn write_request_seen(
     text: &mut TextBuffer,
     plan: &Plan,
@@ -283,15 +265,7 @@ fn write_request_seen(
     }
 }
 
-fn write_requests(text: &mut TextBuffer, plan: &Plan, log: &AuditLog<'_>) -> Result<(), AllocError>
-    ensures { OnOk result (text.new ≡ text.old ++ requests_seen plan.now (tallied log.now)) }
-{
-    for place in 0..plan.requests.len() {
-        write_request_seen(text, plan, log, place)?;
-    }
-    Ok(())
-}
-
+#[tactic(auto, unfolding(crate::specs::AuditText::unit_frames_line))]
 fn write_unit_seen(
     text: &mut TextBuffer,
     plan: &Plan,
@@ -300,15 +274,51 @@ fn write_unit_seen(
 ) -> Result<(), AllocError>
     ensures { OnOk result (text.new ≡ text.old ++ unit_seen plan.now (tallied log.now) unit) }
 {
-    let frames = times_of(log, Word::Counted, unit);
-    write_frames(text, plan, unit, frames)
+    text.word("unit ")?;
+    text.word(unit_label(plan, unit))?;
+    text.field(" frames ", times_of(log, Word::Counted, unit))?;
+    text.end_line()
 }
 
-fn write_units(text: &mut TextBuffer, plan: &Plan, log: &AuditLog<'_>) -> Result<(), AllocError>
-    ensures { OnOk result (text.new ≡ text.old ++ units_seen plan.now (tallied log.now)) }
+// Of how many flows, requests or units a word is counted.
+fn seen_places(plan: &Plan, word: Word) -> usize
+    ensures { result ≡ seen_places word plan.now }
 {
-    for place in 0..plan.units.len() {
-        write_unit_seen(text, plan, log, place)?;
+    match word {
+        Word::Seen => plan.flows.len(),
+        Word::Asked => plan.requests.len(),
+        _ => plan.units.len(),
+    }
+}
+
+// Writes how often a word was counted of the flow, the request or the unit at a place.
+fn write_seen(
+    text: &mut TextBuffer,
+    plan: &Plan,
+    log: &AuditLog<'_>,
+    word: Word,
+    place: usize,
+) -> Result<(), AllocError>
+    ensures { OnOk result (text.new ≡ text.old ++ seen_at word plan.now (tallied log.now) place) }
+{
+    match word {
+        Word::Seen => write_flow_seen(text, plan, log, place),
+        Word::Asked => write_request_seen(text, plan, log, place),
+        _ => write_unit_seen(text, plan, log, place),
+    }
+}
+
+// Writes it of each.
+fn write_all_seen(
+    text: &mut TextBuffer,
+    plan: &Plan,
+    log: &AuditLog<'_>,
+    word: Word,
+) -> Result<(), AllocError>
+    ensures { OnOk result (text.new ≡ text.old ++ all_seen word plan.now (tallied log.now)) }
+{
+    for place in 0..seen_places(plan, word) {
+        write_seen(text, plan, log, word, place)?;
     }
     Ok(())
 }
@@ -335,16 +345,16 @@ fn write_deviations(text: &mut TextBuffer, count: u64) -> Result<(), AllocError>
 }
 
 /// Writes what was found in a log, and answers how many lines accuse.
-#[tactic(auto, unfolding(crate::specs::AuditText::text_by))]
+#[tactic(auto, unfolding(crate::specs::AuditText::text_by, crate::specs::AuditText::flows_seen, crate::specs::AuditText::requests_seen, crate::specs::AuditText::units_seen))]
 pub(crate) fn write_audit(text: &mut TextBuffer, log: &AuditLog<'_>) -> Result<u64, AllocError>
     ensures text { OnOk result (text.new ≡ text.old ++ text_by (settings_of log.now.basis) log.now.counts (tallied log.now)) }
     ensures count { IfOk result (λ n. n ≡ accusation_count (settings_of log.now.basis) (tallied log.now)) }
 {
     let plan = log.basis.plan;
     let count = write_accusations(text, &log.basis, log)?;
-    write_flows(text, plan, log)?;
-    write_requests(text, plan, log)?;
-    write_units(text, plan, log)?;
+    write_all_seen(text, plan, log, Word::Seen)?;
+    write_all_seen(text, plan, log, Word::Asked)?;
+    write_all_seen(text, plan, log, Word::Counted)?;
     write_counts(text, log)?;
     write_deviations(text, count)?;
     Ok(count)

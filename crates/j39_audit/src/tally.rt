@@ -1,6 +1,6 @@
 //! How often what was found, and at which line first.
 ghost use Rattle.std.specs.Prelude.{◌≡◌, ◌<◌, ◌^◌, ◌+◌, ◌∷◌, [], min, OnOk};
-ghost use Rattle.j39_audit.specs.Counting.{greater, key_of, most_times, told_by, told_more};
+ghost use Rattle.j39_audit.specs.Counting.{greater, key_of, most_times, noted_by, reported_by, reported_more};
 ghost use Rattle.j39_audit.specs.MessageStreams.{nothing_sighted, sighted_as};
 ghost use Rattle.j39_audit.specs.Pauses.{unclear_as};
 ghost use Rattle.j39_audit.specs.inside.Recalling.{AreCounted, Notes, tallied_at};
@@ -12,7 +12,7 @@ use std::collections::HashMap;
 /// How often something was found, the number of the first line, a number that belongs to it there, the greatest such
 /// number, and the first line to which this belongs.
 #[derive(Clone, Copy, PartialEq, Eq)]
-pub struct Told {
+pub struct Occurrences {
     pub times: u64,
     pub first: u64,
     pub detail: u64,
@@ -20,7 +20,7 @@ pub struct Told {
     pub worst_at: u64,
 }
 
-const NEVER: Told = Told {
+const NEVER: Occurrences = Occurrences {
     times: 0,
     first: 0,
     detail: 0,
@@ -77,28 +77,28 @@ fn note_unclear(unclear: &mut Vec<usize>, mark: Mark) -> Result<(), AllocError>
 }
 
 // With one line more, of something that was found.
-fn again(old: Told, line: u64, detail: u64) -> Told
-    ensures { result ≡ told_by (min (old.times + 1) most_times) old.first old.detail (greater (old.worst, old.worst_at) line detail) }
+fn again(old: Occurrences, line: u64, detail: u64) -> Occurrences
+    ensures { result ≡ reported_by (min (old.times + 1) most_times) old.first old.detail (greater (old.worst, old.worst_at) line detail) }
 {
     let times = old.times.saturating_add(1);
     if old.worst < detail {
-        Told {
+        Occurrences {
             times,
             worst: detail,
             worst_at: line,
             ..old
         }
     } else {
-        Told { times, ..old }
+        Occurrences { times, ..old }
     }
 }
 
 // With one line more.
-fn one_more(old: Told, line: u64, detail: u64) -> Told
-    ensures { result ≡ told_more old line detail }
+fn one_more(old: Occurrences, line: u64, detail: u64) -> Occurrences
+    ensures { result ≡ reported_more old line detail }
 {
     if old.times == 0 {
-        Told {
+        Occurrences {
             times: 1,
             first: line,
             detail,
@@ -113,7 +113,7 @@ fn one_more(old: Told, line: u64, detail: u64) -> Told
 /// What was found in a log: of each mark how often, without a look at the others.
 #[derive(Drop)]
 pub(crate) struct MarkTally {
-    pub found: HashMap<(u8, usize, usize), Told>,
+    pub found: HashMap<(u8, usize, usize), Occurrences>,
     /// Of which flow and request the frame at hand is seen, and for which unit it counts.
     pub sighting: Sighting,
     /// Of which flows it may be a message, where they are several.
@@ -142,15 +142,25 @@ impl MarkTally {
     }
 
     /// What was found of a mark.
-    pub fn told(&self, mark: Mark) -> Told
+    pub fn reported(&self, mark: Mark) -> Occurrences
         ensures { result ≡ tallied_at self.now (key_of mark) }
     {
         match self
             .found
             .get(&(mark.word.number(), mark.subject, mark.group))
         {
-            Some(told) => *told,
+            Some(reported) => *reported,
             None => NEVER,
+        }
+    }
+
+    /// Counts a mark at a line, if it is one by so much.
+    pub fn note_by(&mut self, mark: Mark, line: u64, by: Option<u64>) -> Result<(), AllocError>
+        ensures { OnOk result (Notes self.old self.new (noted_by mark line by)) }
+    {
+        match by {
+            Some(by) => self.note(mark, line, by),
+            None => Ok(()),
         }
     }
 
@@ -158,7 +168,7 @@ impl MarkTally {
     pub fn note(&mut self, mark: Mark, line: u64, detail: u64) -> Result<(), AllocError>
         ensures { OnOk result (Notes self.old self.new (record { mark = mark; line = line; detail = detail } ∷ [])) }
     {
-        let new = one_more(self.told(mark), line, detail);
+        let new = one_more(self.reported(mark), line, detail);
         let key = (mark.word.number(), mark.subject, mark.group);
         self.sighting = sighted(self.sighting, mark);
         note_unclear(&mut self.unclear, mark)?;

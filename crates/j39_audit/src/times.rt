@@ -23,7 +23,7 @@ fn clock_time(time: Option<u64>) -> Option<u64>
     if time < TIMES { Some(time) } else { None }
 }
 
-/// The time of a line in microseconds, by what is printed of it; none where the plan tells nothing of its bus.
+/// The time of a line in microseconds, by what is printed of it; none where the plan reports nothing of its bus.
 pub(crate) fn line_time(plan: &Plan, text: &[u8]) -> Option<u64>
     ensures value { result ≡ time_of_line plan.now text.now }
     ensures few { IfSome result (λ time. time < 2 ^ 61) }

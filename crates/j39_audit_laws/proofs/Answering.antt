@@ -1,4 +1,4 @@
--- A unit that is asked for claims is told as deaf exactly where it doesn't claim.
+-- A unit that is asked for claims is reported as deaf exactly where it doesn't claim.
 use Rattle.std.proofs.Common.{◌≡◌, ℕ, zero, suc, ◌+◌, ◌*◌, ◌<◌, ◌≤◌, ◌⊎◌, Bool, true, false, cond, Option, Some, None, refl, sym, ap, subst, ◌∙◌, arith, inl, inr}
 use Rattle.std.specs.Prelude.{nat_lt}
 use Rattle.std.specs.Option.{option_or}
@@ -10,7 +10,7 @@ use Rattle.j39_timing.specs.TimedFrames.{Schedule}
 use Rattle.j39_audit.specs.Asking.{is_overdue, longest_answer_ms}
 use Rattle.j39_audit.specs.MessageStreams.{longest_us}
 use Rattle.j39_audit.specs.declared.asking.ClaimRequest.{ClaimRequest}
-use Rattle.j39_audit_laws.specs.Answering.{AnswersInTime, AnswersRequests, AreLinesOfUnit, EndsBetween, IsAnswerWithin, IsDeafAt, IsStillAsked, UnitLines, is_late, is_told_deaf, request_at, request_before, request_kept, request_next}
+use Rattle.j39_audit_laws.specs.Answering.{AnswersInTime, AnswersRequests, AreLinesOfUnit, EndsBetween, IsAnswerWithin, IsDeafAt, IsStillAsked, UnitLines, is_late, is_reported_deaf, request_at, request_before, request_kept, request_next}
 use Rattle.j39_audit_laws.specs.LogBounds.{IsMarkedBound, IsTimedBound, Lines}
 use Rattle.j39_audit_laws.specs.MarkRecords.{AreFew, KeepsTime}
 use Rattle.j39_audit_laws.proofs.OnBus.{at_most}
@@ -85,11 +85,11 @@ module _ (t : Timing) (l : UnitLines) where
     asks = asks;
     new = new;
     kept = λ m less most. absurd (omega (arith, less, most));
-    untold = λ m least less. absurd (omega (arith, least, less));
+    unstated = λ m least less. absurd (omega (arith, least, less));
   }
 
-  longer : (n : ℕ) (r : ClaimRequest) → IsStillAsked t l n r → l.forgets (suc n) ≡ false → is_told_deaf t l n ≡ false → IsStillAsked t l (suc n) r
-  longer n r was kept untold = record {
+  longer : (n : ℕ) (r : ClaimRequest) → IsStillAsked t l n r → l.forgets (suc n) ≡ false → is_reported_deaf t l n ≡ false → IsStillAsked t l (suc n) r
+  longer n r was kept unstated = record {
     first = was.first;
     before = let b = was.before in omega (arith, b);
     asks = was.asks;
@@ -98,9 +98,9 @@ module _ (t : Timing) (l : UnitLines) where
       | inl same ↦ ap l.forgets same ∙ kept
       | inr other ↦ was.kept m less (omega (arith, most, other))
     ];
-    untold = λ m least less. elim (cases_eq m n) [
-      | inl same ↦ ap (λ (k : ℕ). is_told_deaf t l k) same ∙ untold
-      | inr other ↦ was.untold m least (omega (arith, less, other))
+    unstated = λ m least less. elim (cases_eq m n) [
+      | inl same ↦ ap (λ (k : ℕ). is_reported_deaf t l k) same ∙ unstated
+      | inr other ↦ was.unstated m least (omega (arith, less, other))
     ];
   }
 
@@ -134,25 +134,25 @@ module _ (t : Timing) (l : UnitLines) where
           asks = is.asks;
           new = is.new;
           kept = λ m low high. is.kept m low (omega (arith, high));
-          untold = λ m low high. is.untold m low (omega (arith, high));
+          unstated = λ m low high. is.unstated m low (omega (arith, high));
         } in
         next_old (l.forgets (suc n)) (l.asks (suc n)) (request_before t l (suc n)) r (is.kept (suc n) (omega (arith, less)) (omega arith))
-        (before_more n ∙ kept_by t (request_at t l n) (l.signs n) r (asked_still n r was) (is.untold n less (omega arith)))
+        (before_more n ∙ kept_by t (request_at t l n) (l.signs n) r (asked_still n r was) (is.unstated n less (omega arith)))
   ]
 
-  pub deaf_is : (n : ℕ) → is_told_deaf t l n ≡ true → IsDeafAt t l n
+  pub deaf_is : (n : ℕ) → is_reported_deaf t l n ≡ true → IsDeafAt t l n
   deaf_is n is =
       let (r, idle, asked, sign, overdue) = some_late t (request_at t l n) (l.signs n) is in
       record { request = r; unanswered = unanswered n r asked; idle = idle; sign = sign; overdue = overdue }
 
-  pub is_deaf : (n : ℕ) → IsDeafAt t l n → is_told_deaf t l n ≡ true
+  pub is_deaf : (n : ℕ) → IsDeafAt t l n → is_reported_deaf t l n ≡ true
   is_deaf n is = late_some t (request_at t l n) (l.signs n) is.request is.idle (asked_still n is.request is.unanswered) is.sign is.overdue
 
-  not_deaf : (n : ℕ) → AnswersInTime t l n → is_told_deaf t l n ≡ false
-  not_deaf n answers = elim (cases_Bool (is_told_deaf t l n)) [
+  not_deaf : (n : ℕ) → AnswersInTime t l n → is_reported_deaf t l n ≡ false
+  not_deaf n answers = elim (cases_Bool (is_reported_deaf t l n)) [
     | inr not ↦ not
-    | inl told ↦
-        let is = deaf_is n told in
+    | inl stated ↦
+        let is = deaf_is n stated in
         let u = is.unanswered in
         let (m, less, most, forgets) = answers u.first is.request is.idle u.before u.asks is.sign is.overdue in
         absurd (true≢false (sym forgets ∙ u.kept m less most))
@@ -205,6 +205,6 @@ module _ (s : Schedule) (d : Damaged) (log : Lines) (fast : log.us ≤ 8) (keeps
 
 pub who_answers : (s : Schedule) (d : Damaged) (log : Lines) (t : Timing) (l : UnitLines) (n : ℕ) (is_claim : ℕ → Bool) (frame : ℕ → ℕ)
     → log.us ≤ 8 → KeepsTime log.us log.clock → IsBusWithErrors s d → ((q : ℕ) → q < s.count → s.bits q ≤ 160) → AreFew d log.few
-    → AreLinesOfUnit s log l n is_claim frame → AnswersRequests s log.us longest_answer_ms l n is_claim frame → is_told_deaf t l n ≡ false
+    → AreLinesOfUnit s log l n is_claim frame → AnswersRequests s log.us longest_answer_ms l n is_claim frame → is_reported_deaf t l n ≡ false
 who_answers s d log t l n is_claim frame fast keeps bus short seldom lines answers =
     not_deaf t l n (answered s d log fast keeps bus short seldom t l n is_claim frame lines answers)

@@ -1,4 +1,4 @@
--- Who sends the packets of a broadcast in turn is not told as silent, and what is noted of others.
+-- Who sends the packets of a broadcast in turn is not reported as silent, and what is noted of others.
 use Rattle.std.proofs.Common.{◌≡◌, ℕ, zero, suc, ◌+◌, ◌-◌, ◌*◌, ◌<◌, ◌≤◌, ◌==◌, ◌++◌, Bool, true, cond, List, Option, Some, None, refl, sym, ap, ◌∙◌, arith, inl, inr, append_assoc, eq-eqb}
 use Rattle.std.proofs.lemmas.Bool.{cases_Bool, cases_lt, le-ltb, lt-ltb, ne_eqb}
 use Rattle.std.proofs.Math.Nat.{mul-le-mul_left}

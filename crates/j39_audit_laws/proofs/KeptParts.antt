@@ -23,7 +23,7 @@ use Rattle.j39_timing.specs.TimedFrames.{Schedule}
 use Rattle.j39_timing.specs.Traffic.{IsQueuedAt}
 use Rattle.j39_load.specs.KeepsBroadcasts.{IsMessageToAll}
 use Rattle.j39_load.specs.SentFrames.{Announcing, Asking, Broadcasts, Carrying, ClearToSend, EndAcknowledged, First, FrameSources, Held, InSession, IsFrameOf, IsSentByUnit, Packet as CarriedPacket, Part, RequestToSend, Single, Source, goes_to, part_identifier, IsBroadcastFrame, IsRequestFrame, IsSessionFrame}
-use Rattle.j39_log_laws.specs.Telling.{HaveOwnNumbers}
+use Rattle.j39_log_laws.specs.HolderReports.{HaveOwnNumbers}
 use Rattle.j39_log_laws.proofs.Identifiers.{IsOther, planned_other, sent_as}
 use Rattle.j39_log_laws.proofs.SentFrames.{no_transport, planned_number}
 use Rattle.j39_run_laws.proofs.Addresses.CleanEnds.{flow_at}

@@ -1,11 +1,11 @@
--- A flow that keeps its pause is not told as silent.
+-- A flow that keeps its pause is not reported as silent.
 use Rattle.std.proofs.Common.{◌≡◌, ◌≢◌, ℕ, suc, ◌+◌, ◌-◌, ◌*◌, ◌<◌, ◌≤◌, min, Bool, false, sym, ap, arith, inl, inr, Option, Some}
 use Rattle.std.proofs.Math.Nat.{mul-le-mul_right, suc-mul}
 use Rattle.std.proofs.lemmas.Bool.{cases_Bool, cases_lt}
 use Rattle.j39_audit.specs.declared.window.Window.{Window}
 use Rattle.j39_audit.specs.Silence.{is_silent}
 use Rattle.j39_audit_laws.specs.Pausing.{ComesInTime, IsBoundAt}
-use Rattle.j39_audit_laws.proofs.Silent.{told_silent}
+use Rattle.j39_audit_laws.proofs.Silent.{reported_silent}
 use Rattle.j39_audit_laws.proofs.Spread.{AllApart, spread}
 
 -- what is found at the end of each of n pauses behind a moment, and where it stands
@@ -80,7 +80,7 @@ module _ (is_message : ℕ → Bool) (pause from to : ℕ) (frame moment : ℕ �
   kept_pauses_are_not_silent since lower bound = elim (cases_Bool (is_silent pause windows j lower)) [
     | inr not ↦ not
     | inl is ↦
-        let far = told_silent pause windows j lower is in
+        let far = reported_silent pause windows j lower is in
         let before = far.before in
         let (known, stands) = bound far.bound far.is in
         absurd (too_many moment frame (1000 * pause) far.first j (j - far.first) (1000 * (windows far.first).upper)

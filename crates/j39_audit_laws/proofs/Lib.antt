@@ -21,7 +21,7 @@ pub mod NearWalk
 pub mod OnBus
 pub mod OnLoad
 pub mod OnLogs
-pub mod ToldTimes
+pub mod ReportedTimes
 pub mod OneAudit
 pub mod OneReading
 pub mod Own
@@ -39,12 +39,12 @@ pub mod Runs
 pub mod Silent
 pub mod SilentFound
 pub mod SilentNotes
-pub mod SilentTold
+pub mod SilentReported
 pub mod Spread
 pub mod Steps
 pub mod Sure
 pub mod SureWords
-pub mod Told
+pub mod Occurrences
 pub mod Walk
 pub mod WholeLogs
 pub mod Written

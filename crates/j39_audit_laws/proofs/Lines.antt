@@ -1,4 +1,4 @@
--- The lines of a log, one after another: what each adds to what is told of a mark.
+-- The lines of a log, one after another: what each adds to what is reported of a mark.
 use Rattle.std.proofs.Common.{◌≡◌, ◌⊎◌, ℕ, ◌+◌, ◌++◌, ◌∷◌, [], List, length}
 use Rattle.std.proofs.Common.{inl, inr, refl, sym, ap, ◌∙◌, subst, arith, Option}
 use Rattle.std.specs.Prelude.{nat_lt}
@@ -37,6 +37,24 @@ frame_notes : (s : Settings) (past : AuditPast) (time : Option ℕ) (named : Opt
     → (past_with_frame s past time named f packet).noted ≡ past.noted ++ notes_at s past time f packet
 unfolding past_with_frame
 frame_notes s past time named f packet = refl
+
+-- a frame is read at the line of a number
+unfoldable pub frame_at : (s : Settings) (log : List Line) (number : ℕ) (past : AuditPast) (line part : List ℕ) (named : Option (List ℕ)) (f : Frame) (time : List ℕ)
+    (packet : Option Packet) → IsLineOf s log number past (ShortLine line) → IsReadHere past line part named → Spells part f → IsTimeText line time
+    → IsPacketOf f packet → IsFrameAt s log number (claims_before s past (line_time s.plan time)) f packet
+frame_at s log number past line part named f time packet line_is reads spelled time_is packet_is = record {
+  past = past;
+  line = line;
+  line_is = line_is;
+  part = part;
+  named = named;
+  reads = reads;
+  time = time;
+  spelled = spelled;
+  time_is = time_is;
+  packet_is = packet_is;
+  claims_are = refl;
+}
 
 -- once a line has begun: nothing is noted; or it is short; or it is a frame
 pub record IsQuiet (past next : AuditPast) : Type 0 where
@@ -168,7 +186,7 @@ module _ (s : Settings) (log : List Line) (m : Mark) (accuses : IsAccusing m.wor
     abbrev old : List Noted
     old = hits m past.noted
 
-    -- something is told more
+    -- something is reported more
     abbrev Grows : Type 0
     Grows = (n : Noted) × (more : List Noted) × (hits m next.noted ≡ old ++ n ∷ more)
 
@@ -263,19 +281,9 @@ module _ (s : Settings) (log : List Line) (m : Mark) (accuses : IsAccusing m.wor
           | inl there ↦ absurd (seen_word broken breaks_off x there accused)
           | inr there ↦
               let (line_is, is_marked) = noted_means s claims is.f is.packet begun.number x there accused in
-              let here : IsFrameAt s log number claims is.f is.packet = record {
-                past = begun;
-                line = l;
-                line_is = subst (IsLineOf s log number begun) same is_line;
-                part = is.part;
-                named = is.named;
-                reads = is.reads;
-                time = is.time;
-                spelled = is.spelled;
-                time_is = is.text;
-                packet_is = is.packet_is;
-                claims_are = refl;
-              } in (
+              let here : IsFrameAt s log number claims is.f is.packet =
+              frame_at s log number begun l is.part is.named is.f is.time is.packet (subst (IsLineOf s log number begun) same is_line) is.reads is.spelled
+              is.text is.packet_is in (
                 line_is ∙ ap (λ (k : ℕ). k + 1) count,
                 inr (
                   claims,

@@ -1,10 +1,10 @@
 -- What is noted at a frame is what the frame is marked with, and each mark that accuses is noted once at most.
-use Rattle.std.proofs.Common.{◌≡◌, ℕ, ◌==◌, ◌∷◌, [], List, Bool, true, false, not, if◌then◌else◌}
+use Rattle.std.proofs.Common.{◌≡◌, ℕ, zero, suc, ◌==◌, ◌||◌, ◌∷◌, [], List, Bool, true, false, not, if◌then◌else◌}
 use Rattle.std.proofs.Common.{inl, inr, refl, sym, ap, ◌∙◌, subst, length, Option, Some, None}
 use Rattle.std.specs.Prelude.{count_by}
-use Rattle.std.specs.List.{list_any, position, slice_get}
+use Rattle.std.specs.List.{list_all, list_any, position, slice_get}
 use Rattle.std.specs.Option.{option_map_or, option_or}
-use Rattle.std.proofs.lemmas.Bool.{cond_both, true≢false}
+use Rattle.std.proofs.lemmas.Bool.{and_parts, cond_both, true≢false}
 use Rattle.std.proofs.lemmas.Option.{none-some, same_Some}
 use Rattle.j39_id.specs.declared.frame.Frame.{Frame}
 use Rattle.j39_tp.specs.declared.packet.Packet.{Packet}
@@ -69,30 +69,52 @@ unseen SilentPackets is = absurd is
 unseen NearOrLate is = absurd is
 unseen SilentOrLate is = absurd is
 
+abbrev every_word : List Word
+every_word = Short ∷ Stranger ∷ NobodyThere ∷ Address ∷ Cannot ∷ Layout ∷ NoFlow ∷ Priority ∷ Urgent ∷ Seen ∷ Unclear ∷ Asked
+    ∷ Counted ∷ Unsure ∷ Break ∷ NearFlow ∷ NearRequest ∷ SilentFlow ∷ Deaf ∷ NearPackets ∷ SilentPackets ∷ NearOrLate ∷ SilentOrLate ∷ []
+
+among_them : (w : Word) → (n : ℕ) × (slice_get every_word n ≡ Some w)
+among_them Short = (0, refl)
+among_them Stranger = (1, refl)
+among_them NobodyThere = (2, refl)
+among_them Address = (3, refl)
+among_them Cannot = (4, refl)
+among_them Layout = (5, refl)
+among_them NoFlow = (6, refl)
+among_them Priority = (7, refl)
+among_them Urgent = (8, refl)
+among_them Seen = (9, refl)
+among_them Unclear = (10, refl)
+among_them Asked = (11, refl)
+among_them Counted = (12, refl)
+among_them Unsure = (13, refl)
+among_them Break = (14, refl)
+among_them NearFlow = (15, refl)
+among_them NearRequest = (16, refl)
+among_them SilentFlow = (17, refl)
+among_them Deaf = (18, refl)
+among_them NearPackets = (19, refl)
+among_them SilentPackets = (20, refl)
+among_them NearOrLate = (21, refl)
+among_them SilentOrLate = (22, refl)
+
+all_at : {X : Type 0} (p : X → Bool) (xs : List X) (n : ℕ) (x : X) → list_all p xs ≡ true → slice_get xs n ≡ Some x → p x ≡ true
+all_at p [] n x all at = absurd (none-some x at)
+all_at p (y ∷ xs) zero x all at = subst (λ z. p z ≡ true) (same_Some y x at) (and_parts (p y) (list_all p xs) all).0
+all_at p (y ∷ xs) (suc n) x all at = all_at p xs n x (and_parts (p y) (list_all p xs) all).1 at
+
+if_so : (a b : Bool) → (not a || b) ≡ true → a ≡ true → b ≡ true
+if_so true b so is = so
+if_so false b so is = absurd (true≢false (sym is))
+
+-- what is so of each of them is so of a word
+pub by_words : (p q : Word → Bool) → list_all (λ w. not (p w) || q w) every_word ≡ true → (w : Word) → p w ≡ true → q w ≡ true
+by_words p q all w is =
+    let (n, at) = among_them w in
+    if_so (p w) (q w) (all_at (λ v. not (p v) || q v) every_word n w all at) is
+
 seen_another : (w : Word) → is_seen w ≡ true → is_another w ≡ true
-seen_another Short is = refl
-seen_another Stranger is = refl
-seen_another NobodyThere is = refl
-seen_another Address is = refl
-seen_another Cannot is = refl
-seen_another Layout is = refl
-seen_another NoFlow is = refl
-seen_another Priority is = refl
-seen_another Urgent is = absurd (true≢false (sym is))
-seen_another Seen is = refl
-seen_another Unclear is = refl
-seen_another Asked is = refl
-seen_another Counted is = refl
-seen_another Unsure is = refl
-seen_another Break is = refl
-seen_another NearFlow is = refl
-seen_another NearRequest is = refl
-seen_another SilentFlow is = refl
-seen_another Deaf is = refl
-seen_another NearPackets is = refl
-seen_another SilentPackets is = refl
-seen_another NearOrLate is = refl
-seen_another SilentOrLate is = refl
+seen_another = by_words is_seen is_another refl
 
 -- ---- how a message differs
 
@@ -123,29 +145,7 @@ unfolding deviation
 differs_so s k m = differs_with s k m (position (is_fit s k m) s.plan.flows.items)
 
 pub of_message_another : (w : Word) → is_of_message w ≡ true → is_another w ≡ true
-of_message_another Urgent is = absurd (true≢false (sym is))
-of_message_another Short is = refl
-of_message_another Stranger is = refl
-of_message_another NobodyThere is = refl
-of_message_another Address is = refl
-of_message_another Cannot is = refl
-of_message_another Layout is = refl
-of_message_another NoFlow is = refl
-of_message_another Priority is = refl
-of_message_another Seen is = refl
-of_message_another Unclear is = refl
-of_message_another Asked is = refl
-of_message_another Counted is = refl
-of_message_another Unsure is = refl
-of_message_another Break is = refl
-of_message_another NearFlow is = refl
-of_message_another NearRequest is = refl
-of_message_another SilentFlow is = refl
-of_message_another Deaf is = refl
-of_message_another NearPackets is = refl
-of_message_another SilentPackets is = refl
-of_message_another NearOrLate is = refl
-of_message_another SilentOrLate is = refl
+of_message_another = by_words is_of_message is_another refl
 
 -- the unit of a message is its sender
 pub sender_of : (u : ℕ) (f : Frame) (packet : Option Packet) (m : SentMessage) → message_sent u f packet ≡ Some m → m.unit ≡ u

@@ -1,4 +1,4 @@
--- A message is told as too near exactly where there is no room for the steps of its stream.
+-- A message is reported as too near exactly where there is no room for the steps of its stream.
 use Rattle.std.proofs.Common.{◌≡◌, ◌↔◌, ℕ, zero, suc, ◌+◌, ◌-◌, ◌*◌, ◌<◌, ◌≤◌, ◌⊎◌, max, true, false, refl, subst, sym, ap, ◌∙◌, arith, inl, inr, Option, Some, None}
 use Rattle.std.proofs.lemmas.Bool.{cases_Bool, cases_eq, cases_lt, ltb-true, lt-ltb, true≢false}
 use Rattle.j39_audit.specs.declared.window.Window.{Window}
@@ -86,7 +86,7 @@ module _ (step : ℕ) (windows : ℕ → Window) where
         (i, x, omega (arith, up), bound, omega (arith, at, steps, more))
   ]
 
-  -- where none was told before, it is no less than each
+  -- where none was reported before, it is no less than each
   no_less : (j : ℕ) → ((k : ℕ) → k < j → is_too_near step windows k ≡ false) → (i x : ℕ) → i ≤ j → (windows i).lower ≡ Some x
       → (e : ℕ) × (here j ≡ Some e) × (x + (j - i) * step ≤ e)
   no_less zero none i x up bound =
@@ -109,16 +109,16 @@ module _ (step : ℕ) (windows : ℕ → Window) where
         (e, is, omega (arith, low, far, more))
   ]
 
-  pub told_near : (j : ℕ) → is_too_near step windows j ≡ true → IsTooNear step windows j
+  pub reported_near : (j : ℕ) → is_too_near step windows j ≡ true → IsTooNear step windows j
   unfolding IsOfBound
-  told_near j is =
+  reported_near j is =
       let (e, at, less) = later_is (here j) (windows j).upper is in
       let (i, x, up, bound, steps) = of_bounds j e at in
       record { first = i; before = up; lower = x; bound = bound; no_room = omega (arith, less, steps) }
 
   pub first_near : (j : ℕ) → ((k : ℕ) → k < j → is_too_near step windows k ≡ false) → (is_too_near step windows j ≡ true) ↔ IsTooNear step windows j
   first_near j none = (
-    told_near j,
+    reported_near j,
     λ near.
         let (e, at, low) = no_less j none near.first near.lower near.before near.bound in
         let room = near.no_room in
@@ -127,7 +127,7 @@ module _ (step : ℕ) (windows : ℕ → Window) where
 
   pub some_near : (n : ℕ) → ((j : ℕ) × (j < n) × (is_too_near step windows j ≡ true)) ↔ ((j : ℕ) × (j < n) × IsTooNear step windows j)
   some_near n = (
-    λ told. let (j, inside, is) = told in (j, inside, told_near j is),
+    λ stated. let (j, inside, is) = stated in (j, inside, reported_near j is),
     λ found.
         let (j, inside, near) = found in
         elim (first_or_none (is_too_near step windows) j) [
@@ -143,7 +143,7 @@ module _ (step : ℕ) (windows : ℕ → Window) where
   kept_steps_are_not_near n moment within apart j inside = elim (cases_Bool (is_too_near step windows j)) [
     | inr not ↦ not
     | inl is ↦
-        let near = told_near j is in
+        let near = reported_near j is in
         let i = near.first in
         let before = near.before in
         let (p, up, far) = spread (1000 * step) (1000 * near.lower) (j - i) (λ k. moment (i + k))

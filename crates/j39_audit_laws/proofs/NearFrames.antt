@@ -7,16 +7,20 @@ use Rattle.std.proofs.lemmas.Bool.{and_from, cases_Bool, cases_eq, cond-false, c
 use Rattle.std.proofs.lemmas.List.{append-nil}
 use Rattle.std.proofs.lemmas.Option.{none-some, option_and_then_some, same_Some}
 use Rattle.j39_id.specs.Ident.{pgn_of}
+use Rattle.j39_id.specs.Lines.{Line}
 use Rattle.j39_id.specs.declared.frame.Frame.{Frame}
 use Rattle.j39_network.specs.declared.plan.group_plan.GroupPlan.{GroupPlan}
 use Rattle.j39_network.specs.declared.plan.pace.Pace.{Pace}
 use Rattle.j39_network.specs.declared.plan.timing.Timing.{Timing}
+use Rattle.j39_audit.specs.AuditText.{claims_before, noted_newly}
+use Rattle.j39_audit.specs.Breaks.{breaks}
+use Rattle.j39_audit.specs.Claiming.{knowledge}
 use Rattle.j39_audit.specs.Counting.{Key, Noted, is_same_key, key_of}
 use Rattle.j39_audit.specs.Looking.{is_single}
 use Rattle.j39_audit.specs.MessageStreams.{asked_stream, flow_pace, flow_stream, group_in_flow, is_in_stream, nothing_sighted, paced_stream, request_period, request_priority, sighted_behind, sighted_stream, stream_mark, stream_pause}
-use Rattle.j39_audit.specs.Moments.{Moments, all_pauses_ended, begun_anew, ends_with, listed_pauses_ended, moment_window, moments_behind, near_noted, pause_ended, pauses_dropped, pauses_ended, silence_behind, silent_noted, since_behind, with_counted, with_ending, with_frame_of, with_message, with_moment, with_pause, with_stream, with_time}
+use Rattle.j39_audit.specs.Moments.{Moments, all_pauses_ended, begins_anew, begun_anew, ends_with, listed_pauses_ended, moment_window, moments_behind, near_noted, pause_ended, pauses_dropped, pauses_ended, silence_behind, silent_noted, since_behind, with_counted, with_ending, with_frame_of, with_message, with_moment, with_pause, with_stream, with_time}
 use Rattle.j39_audit.specs.Near.{candidate, earliest_next, excess}
-use Rattle.j39_audit.specs.Pauses.{unclear_behind}
+use Rattle.j39_audit.specs.Pauses.{ending_of, unclear_behind}
 use Rattle.j39_audit.specs.Settings.{Settings}
 use Rattle.j39_audit.specs.declared.mark.Mark.{Mark}
 use Rattle.j39_audit.specs.declared.mark.Word.TheVariants.{NearFlow, NearRequest}
@@ -29,7 +33,28 @@ use Rattle.j39_audit.specs.declared.streams.MessageStream.{MessageStream}
 use Rattle.j39_audit.specs.declared.tally.Sighting.{Sighting}
 use Rattle.j39_audit.specs.declared.window.Window.{Window}
 use Rattle.j39_audit.proofs.Counted.{same_keys}
+use Rattle.j39_audit_laws.specs.PauseLines.{FrameLine, time_there}
 use Rattle.j39_audit_laws.proofs.Hits.{HaveWords, hits, hits_both, no_hits, same_mark}
+
+-- a frame of this line: whether the log breaks off just before it and times begin anew, what is noted of it, and which pauses end at it
+pub record FrameThere : Type 0 where
+  pub broken : Bool
+  pub anew : Bool
+  pub f : Frame
+  pub line : ℕ
+  pub notes : List Noted
+  pub ending : Ending
+
+-- as a log has it
+abbrev pub frame_there : {s : Settings} {log : List Line} {number : ℕ} → FrameLine s log number → FrameThere
+frame_there {s} l = record {
+  broken = breaks s.stamps l.at.past.newest (time_there l);
+  anew = begins_anew s.stamps l.at.past.newest (time_there l);
+  f = l.f;
+  line = l.at.past.number;
+  notes = noted_newly s l.at.past (time_there l) l.f l.packet;
+  ending = ending_of s (knowledge s (claims_before s l.at.past (time_there l))) l.f;
+}
 
 module _ (b : Settings) (t : Timing) (timed : b.plan.timing ≡ Some t) (n : ℕ) where
   abbrev pub mark : Mark
@@ -233,7 +258,25 @@ module _ (b : Settings) (t : Timing) (timed : b.plan.timing ≡ Some t) (n : ℕ
 
   -- ---- a frame
 
-  module _ (broken anew : Bool) (f : Frame) (line : ℕ) (notes : List Noted) (ending : Ending) where
+  module _ (there : FrameThere) where
+    abbrev broken : Bool
+    broken = there.broken
+
+    abbrev anew : Bool
+    anew = there.anew
+
+    abbrev f : Frame
+    f = there.f
+
+    abbrev line : ℕ
+    line = there.line
+
+    abbrev notes : List Noted
+    notes = there.notes
+
+    abbrev ending : Ending
+    ending = there.ending
+
     abbrev sighting : Sighting
     sighting = sighted_behind nothing_sighted notes
 

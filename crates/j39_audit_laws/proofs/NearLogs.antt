@@ -1,4 +1,4 @@
--- In a log of a bus that keeps to its plan no flow is told by load as too near.
+-- In a log of a bus that keeps to its plan no flow is reported by load as too near.
 use Rattle.std.proofs.Common.{◌≡◌, ℕ, ◌+◌, ◌-◌, ◌*◌, ◌<◌, List, Bool, false, map}
 use Rattle.std.proofs.Common.{inl, inr, refl, sym, ap, ◌∙◌, subst, arith, Option, Some, None}
 use Rattle.std.specs.Prelude.{slice_index_or}
@@ -17,24 +17,21 @@ use Rattle.j39_network.specs.declared.plan.timing.Timing.{Timing}
 use Rattle.j39_network.specs.declared.plan.unit_plan.UnitPlan.{UnitPlan}
 use Rattle.j39_timing.specs.TimedFrames.{Schedule}
 use Rattle.j39_load.specs.Clocks.{bit_time}
-use Rattle.j39_load.specs.KeptTimes.{IsTold}
+use Rattle.j39_load.specs.KeptTimes.{IsReportedBound}
 use Rattle.j39_load.specs.LoadFindings.{AsksOfBus}
 use Rattle.j39_load.specs.Loads.{us_of_bits}
 use Rattle.j39_load.specs.SentFrames.{FrameSources, HasPeriodMs}
 use Rattle.j39_load.specs.declared.waits.delay.Delay.{Delay}
-use Rattle.j39_audit.specs.AuditText.{AuditPast, AuditsLines, look_at, log_ended, mark_at, claims_before, moments_with_frame, noted_newly, nothing_read}
-use Rattle.j39_audit.specs.Breaks.{breaks, line_time}
-use Rattle.j39_audit.specs.Claiming.{knowledge}
-use Rattle.j39_audit.specs.Counting.{Noted, told_at, told_of}
+use Rattle.j39_audit.specs.AuditText.{AuditPast, AuditsLines, look_at, log_ended, mark_at, moments_with_frame, nothing_read}
+use Rattle.j39_audit.specs.Breaks.{line_time}
+use Rattle.j39_audit.specs.Counting.{Noted, reported_at, occurrences_of}
 use Rattle.j39_audit.specs.Looking.{is_single}
 use Rattle.j39_audit.specs.MessageStreams.{flow_pace, flow_stream, group_in_flow, is_in_stream, paced_stream, shortest_us, stream_pause}
-use Rattle.j39_audit.specs.Moments.{Moments, all_pauses_ended, begins_anew, behind_gap, earliest_end, long_before, lower_bound, moment_window, moments_behind}
+use Rattle.j39_audit.specs.Moments.{Moments, all_pauses_ended, behind_gap, earliest_end, long_before, lower_bound, moment_window, moments_behind}
 use Rattle.j39_audit.specs.Near.{is_too_near}
-use Rattle.j39_audit.specs.Pauses.{ending_of}
 use Rattle.j39_audit.specs.Responses.{response, us_at_logger}
 use Rattle.j39_audit.specs.Settings.{Settings, by_load as judged_by_load, logger_error, response_of}
 use Rattle.j39_audit.specs.declared.mark.Word.TheVariants.{NearOrLate}
-use Rattle.j39_audit.specs.declared.pauses.Ending.{Ending}
 use Rattle.j39_audit.specs.declared.streams.MessageStream.{MessageStream}
 use Rattle.j39_audit.specs.declared.window.Window.{Window}
 use Rattle.j39_audit_laws.specs.ByLoad.{AreOfFlow, IsNoneNear}
@@ -44,7 +41,7 @@ use Rattle.j39_audit_laws.specs.MarkRecords.{KeepsTime}
 use Rattle.j39_audit_laws.specs.PauseLines.{FrameLine, time_there}
 use Rattle.j39_audit_laws.proofs.NearFrames as frames
 use Rattle.j39_audit_laws.proofs.NearWalk.{AreItsMessages, IsSoFar, as_lines, by_message, by_other, first_so_far, same_so_far}
-use Rattle.j39_audit_laws.proofs.ToldTimes.{none_near_by_load}
+use Rattle.j39_audit_laws.proofs.ReportedTimes.{none_near_by_load}
 use Rattle.j39_audit_laws.proofs.Walk.{IsFrameNext, IsNext, at_end, load_with}
 
 -- ---- a log
@@ -52,7 +49,7 @@ use Rattle.j39_audit_laws.proofs.Walk.{IsFrameNext, IsNext, at_end, load_with}
 module _ (s : Settings) (log : List Line) (timing : Timing) (timed : s.plan.timing ≡ Some timing) (delays : List (Option Delay))
     (responses : s.responses ≡ map (response timing) delays) (bus : Schedule) (planned : ℕ → Bool) (sent : FrameSources)
     (none_near : IsNoneNear s.plan timing delays bus planned sent) (clock place : ℕ → ℕ) (n bits ms : ℕ) (is_message : ℕ → Bool)
-    (keeps : KeepsTime (bit_time timing.bitrate) clock) (is_log : IsLogOfBus s log bus clock place) (told : IsTold delays n bits)
+    (keeps : KeepsTime (bit_time timing.bitrate) clock) (is_log : IsLogOfBus s log bus clock place) (stated : IsReportedBound delays n bits)
     (period : HasPeriodMs s.plan n ms) (of_flow : AreOfFlow planned sent n is_message) (seen : AreSeenAs s log place n is_message) where
   abbrev b : Settings
   b = judged_by_load s
@@ -74,7 +71,7 @@ module _ (s : Settings) (log : List Line) (timing : Timing) (timed : s.plan.timi
 
   its_response : response_of b n ≡ Some slack
   its_response =
-      let at : slice_get (map (response timing) delays) n ≡ Some (Some slack) = slice_get-map (response timing) delays n ∙ (elim told [
+      let at : slice_get (map (response timing) delays) n ≡ Some (Some slack) = slice_get-map (response timing) delays n ∙ (elim stated [
         | inl is ↦ ap (option_map (response timing)) is
         | inr is ↦ ap (option_map (response timing)) is
       ]) in
@@ -111,7 +108,7 @@ module _ (s : Settings) (log : List Line) (timing : Timing) (timed : s.plan.timi
   none_of_these : (number count : ℕ) (line : ℕ → ℕ) (windows : ℕ → Window) → AreItsMessages s log place is_message IsUpper IsLower number count line windows
       → (j : ℕ) → j < count → is_too_near step windows j ≡ false
   none_of_these number count line windows are =
-      none_near n bits ms count is_message (λ k. place (line k)) logs windows told period of_flow refl keeps_from
+      none_near n bits ms count is_message (λ k. place (line k)) logs windows stated period of_flow refl keeps_from
       (as_lines s log place is_message IsUpper IsLower bus clock is_log number count line windows are) (record { upper = are.upper; lower = are.lower })
 
   abbrev IsKept : ℕ → Moments → Type 0
@@ -126,39 +123,29 @@ module _ (s : Settings) (log : List Line) (timing : Timing) (timed : s.plan.timi
     abbrev l : FrameLine s log (number + 1)
     l = record { claims = one.claims; f = one.f; packet = one.packet; at = one.at }
 
-    abbrev broken : Bool
-    broken = breaks s.stamps one.at.past.newest (time_there l)
-
-    abbrev anew : Bool
-    anew = begins_anew s.stamps one.at.past.newest (time_there l)
-
-    abbrev notes : List Noted
-    notes = noted_newly s one.at.past (time_there l) one.f one.packet
-
-    abbrev ending : Ending
-    ending = ending_of s (knowledge s (claims_before s one.at.past (time_there l))) one.f
+    abbrev there : frames.FrameThere
+    there = frames.frame_there l
 
     abbrev with_frame : Option ℕ → Moments
-    with_frame time = moments_behind b broken anew time one.f one.at.past.number notes ending past.by_load
+    with_frame time = moments_behind b there.broken there.anew time one.f one.at.past.number there.notes there.ending past.by_load
 
-    by_other_frame : (new : Moments) → frames.IsOtherFrame b timing timed n broken anew one.f one.at.past.number notes ending past.by_load new
+    by_other_frame : (new : Moments) → frames.IsOtherFrame b timing timed n there past.by_load new
         → IsKept (number + 1) new
     by_other_frame new other =
-        by_other s log place is_message IsUpper IsLower b timing timed n step none_of_these number past.by_load so_far broken anew one.f one.at.past.number notes ending
+        by_other s log place is_message IsUpper IsLower b timing timed n step none_of_these number past.by_load so_far there
         new other
 
     by_time : (time : ℕ) → time_there l ≡ Some time → IsKept (number + 1) (with_frame (Some time))
     by_time time at =
         let new : Moments = with_frame (Some time) in
-        let (since, kind) = frames.timed_frame b timing timed n broken anew one.f one.at.past.number notes ending time past.by_load in
+        let (since, kind) = frames.timed_frame b timing timed n there time past.by_load in
         elim kind [
           | inl other ↦ by_other_frame new other
           | inr near ↦
               let (step_is, slack_is) = its_stream one.f near.stream near.stream_is in
               let lower : (moment_window b near.stream.slack time new.since).lower ≡ Some (earliest_end b time - slack) =
               ap (λ (o : Option ℕ). lower_bound o new.since) slack_is ∙ ap (lower_bound (Some slack)) since.0 in
-              by_message s log place is_message IsUpper IsLower b timing timed n step none_of_these number past.by_load so_far broken anew one.f
-              one.at.past.number notes ending time new near step_is l (seen (number + 1) l near.seen) (time_shifted time at)
+              by_message s log place is_message IsUpper IsLower b timing timed n step none_of_these number past.by_load so_far there time new near step_is l (seen (number + 1) l near.seen) (time_shifted time at)
               (λ x is. end_shifted time at x (same_Some x (earliest_end b time - slack) (sym is ∙ lower)))
         ]
       where
@@ -183,7 +170,7 @@ module _ (s : Settings) (log : List Line) (timing : Timing) (timed : s.plan.timi
         ∙ ap (λ (p : AuditPast). moments_with_frame b s one.at.past (line_time s.plan one.at.time) one.f one.packet p.by_load) one.past_is in
         subst (IsKept (number + 1)) (sym load) (elim (time_there l) as (λ o. time_there l ≡ o → IsKept (number + 1) (with_frame o)) [
           | None ↦ λ _. by_other_frame (with_frame None)
-              (frames.timeless_frame b timing timed n broken anew one.f one.at.past.number notes ending past.by_load)
+              (frames.timeless_frame b timing timed n there past.by_load)
           | Some time ↦ λ at. by_time time at
         ] refl)
 
@@ -207,12 +194,12 @@ module _ (s : Settings) (log : List Line) (timing : Timing) (timed : s.plan.timi
       (with_gap (number + 1) all (kept_on number past.by_load all (frames.all_near b timing timed n past.by_load) is))
   more number past next is (count, inr (inr (inr one))) = by_frame number past next one is
 
-  pub never_told : (end : AuditPast) → AuditsLines s nothing_read log end → (look_at (log_ended s end) (mark_at NearOrLate n 0)).times ≡ 0
-  unfolding told_at
-  never_told end read =
+  pub never_stated : (end : AuditPast) → AuditsLines s nothing_read log end → (look_at (log_ended s end) (mark_at NearOrLate n 0)).times ≡ 0
+  unfolding reported_at
+  never_stated end read =
       let first = first_so_far s log place is_message IsUpper IsLower b timing timed n step none_of_these nothing_read.by_load refl refl in
       let is = at_end s log Holds more end first read in
-      ap (λ (l : List Noted). (told_of l).times) ((frames.all_near b timing timed n end.by_load).noted ∙ is.none)
+      ap (λ (l : List Noted). (occurrences_of l).times) ((frames.all_near b timing timed n end.by_load).noted ∙ is.none)
 
 pub logs_not_near : (s : Settings) (timing : Timing) (stays : UnitPlan → Bool) (delays : List (Option Delay)) → Clean s.plan
     → AsksOfBus s.plan timing stays delays → s.plan.timing ≡ Some timing → timing.drift ≡ 0 → s.responses ≡ map (response timing) delays
@@ -220,10 +207,10 @@ pub logs_not_near : (s : Settings) (timing : Timing) (stays : UnitPlan → Bool)
 logs_not_near s timing stays delays clean asks timed none responses =
     let kept = none_near_by_load s.plan timing stays delays clean asks none in
     record {
-      in_order = λ order bus planned sent held legal keeps log clock place n bits ms is_message end ticks is_log told period of_flow seen read.
-          never_told s log timing timed delays responses bus planned sent (kept.in_order order bus planned sent held legal keeps)
-          clock place n bits ms is_message ticks is_log told period of_flow seen end read;
-      in_any_order = λ bus controllers planned sent held legal keeps queues log clock place n bits ms is_message end ticks is_log told period of_flow seen read.
-          never_told s log timing timed delays responses bus planned sent (kept.in_any_order bus controllers planned sent held legal keeps queues)
-          clock place n bits ms is_message ticks is_log told period of_flow seen end read;
+      in_order = λ order bus planned sent held legal keeps log clock place n bits ms is_message end ticks is_log stated period of_flow seen read.
+          never_stated s log timing timed delays responses bus planned sent (kept.in_order order bus planned sent held legal keeps)
+          clock place n bits ms is_message ticks is_log stated period of_flow seen end read;
+      in_any_order = λ bus controllers planned sent held legal keeps queues log clock place n bits ms is_message end ticks is_log stated period of_flow seen read.
+          never_stated s log timing timed delays responses bus planned sent (kept.in_any_order bus controllers planned sent held legal keeps queues)
+          clock place n bits ms is_message ticks is_log stated period of_flow seen end read;
     }

@@ -1,4 +1,4 @@
--- In a whole log of a bus no flow that keeps its period is told as too near by the bus, whatever others do.
+-- In a whole log of a bus no flow that keeps its period is reported as too near by the bus, whatever others do.
 use Rattle.std.proofs.Common.{◌≡◌, ℕ, ◌+◌, ◌-◌, ◌*◌, ◌<◌, ◌≤◌, List, Bool, true, false, length}
 use Rattle.std.proofs.Common.{inl, inr, refl, sym, ap, ◌∙◌, subst, arith, Option, Some, None}
 use Rattle.std.specs.Prelude.{nat_le, ◌≢◌, ◌&&◌, not}
@@ -16,19 +16,15 @@ use Rattle.j39_network.specs.declared.plan.timing.Timing.{Timing}
 use Rattle.j39_timing.specs.Messages.{frame_end}
 use Rattle.j39_timing.specs.TimedFrames.{Schedule}
 use Rattle.j39_load.specs.Clocks.{bit_time}
-use Rattle.j39_audit.specs.AuditText.{AuditPast, AuditsLines, look_at, log_ended, mark_at, claims_before, broadcasts_there, counted_for, moments_with_frame, noted_newly, nothing_read}
-use Rattle.j39_audit.specs.Breaks.{breaks}
-use Rattle.j39_audit.specs.Claiming.{knowledge}
-use Rattle.j39_audit.specs.Counting.{Noted, key_of, told_at, told_of}
+use Rattle.j39_audit.specs.AuditText.{AuditPast, AuditsLines, look_at, log_ended, mark_at, broadcasts_there, counted_for, moments_with_frame, nothing_read}
+use Rattle.j39_audit.specs.Counting.{Noted, key_of, reported_at, occurrences_of}
 use Rattle.j39_audit.specs.Looking.{is_single}
 use Rattle.j39_audit.specs.MessageStreams.{flow_pace, flow_stream, group_in_flow, is_in_stream, paced_stream, shortest_us, stream_pause}
 use Rattle.j39_audit.specs.Moments.{Moments, all_pauses_ended, begins_anew, behind_gap, earliest_end, long_before, lower_bound, moment_window, moments_behind}
 use Rattle.j39_audit.specs.Near.{is_too_near}
-use Rattle.j39_audit.specs.Pauses.{ending_of}
 use Rattle.j39_audit.specs.Settings.{Settings, logger_error, response_of}
 use Rattle.j39_audit.specs.declared.mark.Mark.{Mark}
 use Rattle.j39_audit.specs.declared.mark.Word.TheVariants.{NearFlow}
-use Rattle.j39_audit.specs.declared.pauses.Ending.{Ending}
 use Rattle.j39_audit.specs.declared.streams.MessageStream.{MessageStream}
 use Rattle.j39_audit.specs.declared.window.Window.{Window}
 use Rattle.j39_audit_laws.specs.KeptLogs.{AreSeenAs, IsLogOfBus}
@@ -52,7 +48,7 @@ use Rattle.j39_audit_laws.specs.PauseLines.{IsPassedOver}
 use Rattle.j39_audit_laws.specs.MarkRecords.{AreFew, ShowsIdle, longest_reach}
 use Rattle.j39_audit_laws.proofs.ExactClocks.{exact_clocks}
 use Rattle.j39_audit_laws.proofs.OnLogs.{not_near}
-use Rattle.j39_audit_laws.proofs.ToldTimes.{behind}
+use Rattle.j39_audit_laws.proofs.ReportedTimes.{behind}
 use Rattle.j39_audit_laws.proofs.NearClocks.{fast, packet_mark, same_bit, within_ms}
 
 -- ---- a log
@@ -205,7 +201,7 @@ module _ (s : Settings) (log : List Line) (timing : Timing) (timed : s.plan.timi
 
   -- ---- a frame
 
-  -- what an idle mark tells of the moments of messages
+  -- what an idle mark reports of the moments of messages
   bound_by : (number x : ℕ) (since : Option ℕ) → FrameLine s log number → ((q : ℕ) → since ≡ Some q → IsShownMark number q)
       → lower_bound (Some (1001 * jitter)) since ≡ Some x → IsMarkedBound bus logs jitter (place number) x
   bound_by number x None l mark e = absurd (none-some x e)
@@ -234,17 +230,8 @@ module _ (s : Settings) (log : List Line) (timing : Timing) (timed : s.plan.timi
     abbrev l : FrameLine s log (number + 1)
     l = record { claims = one.claims; f = one.f; packet = one.packet; at = one.at }
 
-    abbrev broken : Bool
-    broken = breaks s.stamps one.at.past.newest (time_there l)
-
-    abbrev anew : Bool
-    anew = begins_anew s.stamps one.at.past.newest (time_there l)
-
-    abbrev notes : List Noted
-    notes = noted_newly s one.at.past (time_there l) one.f one.packet
-
-    abbrev ending : Ending
-    ending = ending_of s (knowledge s (claims_before s one.at.past (time_there l))) one.f
+    abbrev there : frames.FrameThere
+    there = frames.frame_there l
 
     abbrev m : Moments
     m = past.moments
@@ -253,22 +240,22 @@ module _ (s : Settings) (log : List Line) (timing : Timing) (timed : s.plan.timi
     bytes = length one.f.payload.items
 
     abbrev with_frame : Option ℕ → Moments
-    with_frame time = moments_behind s broken anew time one.f one.at.past.number notes ending m
+    with_frame time = moments_behind s there.broken there.anew time one.f one.at.past.number there.notes there.ending m
 
     abbrev start : Moments
-    start = begun_anew s anew broken m
+    start = begun_anew s there.anew there.broken m
 
     -- what was known before it was so before the frame, if times go on
     start_last : (τ : ℕ) → start.before ≡ Some τ → IsLastAt number τ
-    start_last τ e = elim (cases_Bool anew) [
-      | inl begins ↦ absurd (none-some τ (sym (frames.begun_marks s timing timed n broken anew one.f one.at.past.number notes ending m begins).0 ∙ e))
-      | inr on ↦ far.last τ (sym (frames.goes_on s timing timed n broken anew one.f one.at.past.number notes ending m on).0 ∙ e)
+    start_last τ e = elim (cases_Bool there.anew) [
+      | inl begins ↦ absurd (none-some τ (sym (frames.begun_marks s timing timed n there m begins).0 ∙ e))
+      | inr on ↦ far.last τ (sym (frames.goes_on s timing timed n there m on).0 ∙ e)
     ]
 
     start_mark : (q : ℕ) → start.since ≡ Some q → IsShownMark number q
-    start_mark q e = elim (cases_Bool anew) [
-      | inl begins ↦ absurd (none-some q (sym (frames.begun_marks s timing timed n broken anew one.f one.at.past.number notes ending m begins).1 ∙ e))
-      | inr on ↦ far.mark q (sym (frames.goes_on s timing timed n broken anew one.f one.at.past.number notes ending m on).1 ∙ e)
+    start_mark q e = elim (cases_Bool there.anew) [
+      | inl begins ↦ absurd (none-some q (sym (frames.begun_marks s timing timed n there m begins).1 ∙ e))
+      | inr on ↦ far.mark q (sym (frames.goes_on s timing timed n there m on).1 ∙ e)
     ]
 
     reach : reach_back timing bytes ≡ longest_reach us bytes (damaged_at_once timing)
@@ -312,15 +299,15 @@ module _ (s : Settings) (log : List Line) (timing : Timing) (timed : s.plan.timi
             }
 
     -- the idle mark behind the frame
-    mark_there : (time q : ℕ) → time_there l ≡ Some time → since_behind s timing broken bytes time start.before start.since ≡ Some q → IsShownMark (number + 1) q
+    mark_there : (time q : ℕ) → time_there l ≡ Some time → since_behind s timing there.broken bytes time start.before start.since ≡ Some q → IsShownMark (number + 1) q
     mark_there time q at e =
-        let idle : idle_behind s timing broken bytes time start.before start.since ≡ Some q =
-        sym (ap (λ (x : Bound). since_by x (idle_behind s timing broken bytes time start.before start.since) (earliest_end s time)) by_bus) ∙ e in
-        let test : Bool = shows_idle s timing broken bytes time start.before in
+        let idle : idle_behind s timing there.broken bytes time start.before start.since ≡ Some q =
+        sym (ap (λ (x : Bound). since_by x (idle_behind s timing there.broken bytes time start.before start.since) (earliest_end s time)) by_bus) ∙ e in
+        let test : Bool = shows_idle s timing there.broken bytes time start.before in
         elim (cases_Bool test) [
           | inl shows ↦
-              let rest = (and_parts (not s.part) (not broken && (leaves_idle timing && is_apart (logger_error s) timing bytes time start.before)) shows).1 in
-              let more = (and_parts (not broken) (leaves_idle timing && is_apart (logger_error s) timing bytes time start.before) rest).1 in
+              let rest = (and_parts (not s.part) (not there.broken && (leaves_idle timing && is_apart (logger_error s) timing bytes time start.before)) shows).1 in
+              let more = (and_parts (not there.broken) (leaves_idle timing && is_apart (logger_error s) timing bytes time start.before) rest).1 in
               let apart = (and_parts (leaves_idle timing) (is_apart (logger_error s) timing bytes time start.before) more).1 in
               let same : idle_mark s timing bytes time ≡ q =
               same_Some (idle_mark s timing bytes time) q (sym (cond-true test (Some (idle_mark s timing bytes time)) start.since shows) ∙ idle) in
@@ -328,23 +315,22 @@ module _ (s : Settings) (log : List Line) (timing : Timing) (timed : s.plan.timi
           | inr not ↦ later_mark number q (start_mark q (sym (cond-false test (Some (idle_mark s timing bytes time)) start.since not) ∙ idle))
         ]
 
-    by_other_frame : (new : Moments) → frames.IsOtherFrame s timing timed n broken anew one.f one.at.past.number notes ending m new → IsKept (number + 1) new
+    by_other_frame : (new : Moments) → frames.IsOtherFrame s timing timed n there m new → IsKept (number + 1) new
     by_other_frame new other =
-        by_other s log place is_message IsUpper IsLower s timing timed n step none_of_these number m far.kept broken anew one.f one.at.past.number notes ending
+        by_other s log place is_message IsUpper IsLower s timing timed n step none_of_these number m far.kept there
         new other
 
     by_time : (time : ℕ) → time_there l ≡ Some time → IsHeld (number + 1) (with_frame (Some time))
     by_time time at =
         let new : Moments = with_frame (Some time) in
-        let (marks, kind) = frames.timed_frame s timing timed n broken anew one.f one.at.past.number notes ending time m in
+        let (marks, kind) = frames.timed_frame s timing timed n there time m in
         let mark : (q : ℕ) → new.since ≡ Some q → IsShownMark (number + 1) q = λ q e. mark_there time q at (sym marks.0 ∙ e) in
         record {
           kept = elim kind [
             | inl other ↦ by_other_frame new other
             | inr near ↦
                 let (step_is, slack_is) = its_stream one.f near.stream near.stream_is in
-                by_message s log place is_message IsUpper IsLower s timing timed n step none_of_these number m far.kept broken anew one.f
-                one.at.past.number notes ending time new near step_is l (seen (number + 1) l near.seen) (time_shifted time at)
+                by_message s log place is_message IsUpper IsLower s timing timed n step none_of_these number m far.kept there time new near step_is l (seen (number + 1) l near.seen) (time_shifted time at)
                 (λ x is. bound_by (number + 1) x new.since l mark (sym (ap (λ (o : Option ℕ). lower_bound o new.since) slack_is) ∙ is))
           ];
           last = λ τ e.
@@ -362,10 +348,10 @@ module _ (s : Settings) (log : List Line) (timing : Timing) (timed : s.plan.timi
 
     by_no_time : time_there l ≡ None → IsHeld (number + 1) (with_frame None)
     by_no_time none_there =
-        let marks = frames.timeless_marks s timing timed n broken anew one.f one.at.past.number notes ending m
+        let marks = frames.timeless_marks s timing timed n there m
         (ap (λ (o : Option ℕ). begins_anew s.stamps one.at.past.newest o) none_there) in
         record {
-          kept = by_other_frame (with_frame None) (frames.timeless_frame s timing timed n broken anew one.f one.at.past.number notes ending m);
+          kept = by_other_frame (with_frame None) (frames.timeless_frame s timing timed n there m);
           last = λ τ e. absurd (none-some τ (sym marks.0 ∙ e));
           mark = λ q e. absurd (none-some q (sym marks.1 ∙ e));
         }
@@ -440,7 +426,7 @@ module _ (s : Settings) (log : List Line) (timing : Timing) (timed : s.plan.timi
   more number past next is (count, inr (inr (inr one))) = by_frame number past next one is
 
   pub never_near : (end : AuditPast) → AuditsLines s nothing_read log end → (look_at (log_ended s end) (mark_at NearFlow n 0)).times ≡ 0
-  unfolding told_at
+  unfolding reported_at
   never_near end read =
       let first : Holds 0 nothing_read = record {
         kept = first_so_far s log place is_message IsUpper IsLower s timing timed n step none_of_these nothing_read.moments refl refl;
@@ -448,7 +434,7 @@ module _ (s : Settings) (log : List Line) (timing : Timing) (timed : s.plan.timi
         mark = λ q e. absurd (none-some q e);
       } in
       let is = at_end s log Holds more end first read in
-      ap (λ (l : List Noted). (told_of l).times) ((frames.all_near s timing timed n end.moments).noted ∙ is.kept.none)
+      ap (λ (l : List Noted). (occurrences_of l).times) ((frames.all_near s timing timed n end.moments).noted ∙ is.kept.none)
 
 pub periods_not_near : PeriodsAreNotNear
 periods_not_near s log timing bus damaged held release clock place n ms is_message end timed by_bus none keeps errors short few part is_log whole seen read =

@@ -1,16 +1,13 @@
--- A log's messages of a flow since times began anew, with their bounds, line by line: none is told as too near.
+-- A log's messages of a flow since times began anew, with their bounds, line by line: none is reported as too near.
 use Rattle.std.proofs.Common.{◌≡◌, ◌⊎◌, ℕ, zero, suc, ◌+◌, ◌-◌, ◌<◌, ◌≤◌, ◌==◌, List, [], Bool, true, false, cond, nat_lt}
 use Rattle.std.proofs.Common.{inl, inr, refl, sym, ap, ◌∙◌, subst, arith, Option, Some, None}
 use Rattle.std.proofs.lemmas.Bool.{cases_lt, cond-false, cond-true, eq-eqb, ne_eqb}
 use Rattle.j39_id.specs.Lines.{Line}
-use Rattle.j39_id.specs.declared.frame.Frame.{Frame}
 use Rattle.j39_network.specs.declared.plan.timing.Timing.{Timing}
 use Rattle.j39_timing.specs.TimedFrames.{Schedule}
-use Rattle.j39_audit.specs.Counting.{Noted}
 use Rattle.j39_audit.specs.Moments.{Moments, moment_window}
 use Rattle.j39_audit.specs.Near.{candidate, earliest, earliest_next, excess, is_later_than, is_too_near}
 use Rattle.j39_audit.specs.Settings.{Settings}
-use Rattle.j39_audit.specs.declared.pauses.Ending.{Ending}
 use Rattle.j39_audit.specs.declared.window.Window.{Window}
 use Rattle.j39_audit_laws.specs.KeptLogs.{IsLogOfBus}
 use Rattle.j39_audit_laws.specs.PauseLines.{FrameLine}
@@ -43,7 +40,7 @@ one_more step j window windows =
     ap (λ (o : Option ℕ). earliest_next step o (with_window j window windows j)) (same_below step j window windows j (omega arith))
     ∙ ap (earliest_next step (earliest step windows j)) here
 
--- what isn't told has no excess
+-- what isn't reported has no excess
 pub none_over : (o : Option ℕ) (upper : ℕ) → is_later_than o upper ≡ false → excess o upper ≡ None
 unfolding is_later_than excess
 none_over None upper is = refl
@@ -160,7 +157,7 @@ module _ (s : Settings) (log : List Line) (place : ℕ → ℕ) (is_message : �
       ];
     }
 
-  -- ---- none is told
+  -- ---- none is reported
 
   module _ (b : Settings) (timing : Timing) (timed : b.plan.timing ≡ Some timing) (n step : ℕ)
       (none_near : (number count : ℕ) (line : ℕ → ℕ) (windows : ℕ → Window) → AreItsMessages number count line windows
@@ -224,10 +221,10 @@ module _ (s : Settings) (log : List Line) (place : ℕ → ℕ) (is_message : �
       messages = no_messages 0 (λ k. 0) (λ k. record { lower = None; upper = 0 });
     }
 
-    module _ (number : ℕ) (m : Moments) (is : IsSoFar number m) (broken anew : Bool) (f : Frame) (line_number : ℕ) (notes : List Noted) (ending : Ending) where
-      pub by_other : (new : Moments) → frames.IsOtherFrame b timing timed n broken anew f line_number notes ending m new → IsSoFar (number + 1) new
+    module _ (number : ℕ) (m : Moments) (is : IsSoFar number m) (there : frames.FrameThere) where
+      pub by_other : (new : Moments) → frames.IsOtherFrame b timing timed n there m new → IsSoFar (number + 1) new
       by_other new other =
-          let start = begun_so_far number m anew is in
+          let start = begun_so_far number m there.anew is in
           record {
             none = other.noted ∙ start.none;
             count = start.count;
@@ -237,29 +234,29 @@ module _ (s : Settings) (log : List Line) (place : ℕ → ℕ) (is_message : �
             messages = later_on number start.count start.line start.windows start.messages;
           }
 
-      pub by_message : (time : ℕ) (new : Moments) (near : frames.IsNearFrame b timing timed n broken anew f line_number notes ending time m new)
+      pub by_message : (time : ℕ) (new : Moments) (near : frames.IsNearFrame b timing timed n there time m new)
           → near.stream.step ≡ step → FrameLine s log (number + 1) → is_message (place (number + 1)) ≡ true
           → IsUpper (place (number + 1)) (moment_window b near.stream.slack time new.since).upper
           → ((x : ℕ) → (moment_window b near.stream.slack time new.since).lower ≡ Some x → IsLower (place (number + 1)) x) → IsSoFar (number + 1) new
       by_message time new near step_is l its upper lower =
-          let start = begun_so_far number m anew is in
+          let start = begun_so_far number m there.anew is in
           let window : Window = moment_window b near.stream.slack time new.since in
           let windows : ℕ → Window = with_window start.count window start.windows in
           let messages : AreItsMessages (number + 1) (suc start.count) (with_line start.count (number + 1) start.line) windows =
           with_one number start.count start.line start.windows start.messages l its window upper lower in
           let here : windows start.count ≡ window = window_here number start.count start.line start.windows start.messages l its window upper lower in
-          let untold = none_near (number + 1) (suc start.count) (with_line start.count (number + 1) start.line) windows messages start.count (omega arith) in
-          let at : is_later_than (candidate near.stream.step (frames.begun b timing timed n broken anew f line_number notes ending m) window) window.upper ≡ false =
-          ap (λ (k : ℕ). is_later_than (candidate k (frames.begun b timing timed n broken anew f line_number notes ending m) window) window.upper) step_is
+          let unstated = none_near (number + 1) (suc start.count) (with_line start.count (number + 1) start.line) windows messages start.count (omega arith) in
+          let at : is_later_than (candidate near.stream.step (frames.begun b timing timed n there m) window) window.upper ≡ false =
+          ap (λ (k : ℕ). is_later_than (candidate k (frames.begun b timing timed n there m) window) window.upper) step_is
           ∙ ap (λ (o : Option ℕ). is_later_than (candidate step o window) window.upper)
           (start.is ∙ sym (same_below step start.count window start.windows start.count (omega arith)))
-          ∙ ap (λ (x : Window). is_later_than (candidate step (earliest step windows start.count) x) x.upper) (sym here) ∙ untold in
+          ∙ ap (λ (x : Window). is_later_than (candidate step (earliest step windows start.count) x) x.upper) (sym here) ∙ unstated in
           record {
             none = near.noted (none_over _ window.upper at) ∙ start.none;
             count = suc start.count;
             line = with_line start.count (number + 1) start.line;
             windows = windows;
-            is = near.earliest ∙ ap (λ (k : ℕ). earliest_next k (frames.begun b timing timed n broken anew f line_number notes ending m) window) step_is
+            is = near.earliest ∙ ap (λ (k : ℕ). earliest_next k (frames.begun b timing timed n there m) window) step_is
                 ∙ ap (λ (o : Option ℕ). earliest_next step o window) start.is ∙ sym (one_more step start.count window start.windows);
             messages = messages;
           }

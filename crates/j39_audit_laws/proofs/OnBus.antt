@@ -1,4 +1,4 @@
--- Streams on a bus that keep their period, or their pause, are not told.
+-- Streams on a bus that keep their period, or their pause, are not reported.
 use Rattle.std.proofs.Common.{◌≡◌, ◌≢◌, ℕ, zero, suc, ◌+◌, ◌-◌, ◌*◌, ◌<◌, ◌≤◌, ◌⊎◌, Bool, false, ◌&&◌, ltb, refl, subst, sym, ap, ◌∙◌, arith, inl, inr, Option, Some}
 use Rattle.std.proofs.Math.Nat.{mul-le-mul_left}
 use Rattle.std.proofs.lemmas.Bool.{and_from, and_parts, cases_eq, cases_lt, lt-ltb, ltb-true}
@@ -8,6 +8,7 @@ use Rattle.j39_audit.specs.declared.window.Window.{Window}
 use Rattle.j39_audit.specs.Near.{is_too_near}
 use Rattle.j39_audit.specs.Silence.{is_silent}
 use Rattle.j39_audit_laws.specs.Stepping.{AreStepsApart, AreMomentsWithin}
+use Rattle.j39_audit_laws.specs.LogBounds.{IsTimedBound, Lines}
 use Rattle.j39_audit_laws.specs.MarkRecords.{IsMarkOf, KeepsTime}
 use Rattle.j39_audit_laws.specs.StreamRecords.{AreBounds, AreLines, AreMsApart, AreReleasedFirst, HaveJitter}
 use Rattle.j39_audit_laws.specs.StreamRecords.{IsBoundByFrame, IsBoundFrom, IsOneAtATime, KeepsMs}
@@ -32,6 +33,12 @@ at_most us clock keeps a b more less within =
     let quick = (keeps a b less).1 in
     let whole = difference us a b less in
     omega (arith, quick, whole, within)
+
+-- no frame ends behind the bound of its line's time
+pub timed_before : (s : Schedule) (log : Lines) (of bound : ℕ) → IsTimedBound s log of bound → log.clock (frame_end s of) ≤ 1000 * bound
+timed_before s log of bound timed =
+    let at = timed.at.1 in
+    omega (arith, at, timed.is)
 
 at_least : (us : ℕ) (clock : ℕ → ℕ) → KeepsTime us clock → (a b more : ℕ) → a * us + more ≤ b * us → a ≤ b → clock a + 999 * more ≤ clock b
 at_least us clock keeps a b more behind less =

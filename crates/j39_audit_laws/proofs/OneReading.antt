@@ -1,44 +1,17 @@
 -- A log is read in one way.
 use Rattle.std.proofs.Common.{◌≡◌, ◌⊎◌, ◌+◌, ℕ, List, [], ◌∷◌, Option, Some, None, inl, inr, refl, sym, ap, subst, ◌∙◌}
 use Rattle.j39_id.proofs.LineLaws.{not_both, one_fault, one_spelled}
-use Rattle.j39_id.specs.FrameLine.{IsLastWord}
 use Rattle.j39_id.specs.Lines.{Line, Short as ShortLine, Long}
 use Rattle.j39_id.specs.declared.frame.Frame.{Frame}
 use Rattle.j39_id.specs.declared.line_error.LineError.{LineError}
 use Rattle.j39_tp.specs.declared.packet.Packet.{Packet}
 use Rattle.j39_log.proofs.OneText.{one_packet}
-use Rattle.j39_follow.specs.LogLines.{IsElsewhere, IsReadPart, IsTimeText, NamesInterface}
-use Rattle.j39_follow.proofs.Lines.FirstWords.{one_first_word}
-use Rattle.j39_follow.proofs.Lines.Splitting.{one_split}
+use Rattle.j39_follow.proofs.OneText.{one_interface, one_part, one_time}
+use Rattle.j39_follow.specs.LogLines.{IsElsewhere, NamesInterface}
 use Rattle.j39_audit.specs.AuditText.{AuditPast, AuditsFrame, AuditsLine, AuditsLines, AuditsPart, AuditsShort, passed_by, past_with_frame, with_next_number}
 use Rattle.j39_audit.specs.Breaks.{line_time}
 use Rattle.j39_audit.specs.Looking.{IsPacketOf}
 use Rattle.j39_audit.specs.Settings.{Settings}
-
--- ---- the parts of a line
-
-pub one_part : (line p q : List ℕ) → IsReadPart line p → IsReadPart line q → p ≡ q
-one_part line p q (inl a) (inl b) =
-    let same = one_split line a.last.front a.word b.last.front b.word (a.last, refl) (b.last, refl) in
-    sym a.front_is ∙ same.0 ∙ b.front_is
-one_part line p q (inl a) (inr b) = absurd (b.0 p a)
-one_part line p q (inr a) (inl b) = absurd (a.0 q b)
-one_part line p q (inr a) (inr b) = a.1 ∙ sym b.1
-
-pub one_interface : (part : List ℕ) (a b : Option (List ℕ)) → NamesInterface part a → NamesInterface part b → a ≡ b
-one_interface part (Some i) (Some j) a b =
-    let same = one_split part a.last.front a.word b.last.front b.word (a.last, refl) (b.last, refl) in
-    let before = subst (λ (f : List ℕ). IsLastWord f i) same.0 a.before in
-    ap Some (one_split b.last.front before.front i b.before.front j (before, refl) (b.before, refl)).1
-one_interface part (Some i) None a b = absurd (b i a)
-one_interface part None (Some j) a b = absurd (a j b)
-one_interface part None None a b = refl
-
-pub one_time : (line t u : List ℕ) → IsTimeText line t → IsTimeText line u → t ≡ u
-one_time line t u (inl a) (inl b) = one_first_word line t u a.0 b.0
-one_time line t u (inl a) (inr b) = absurd (b.0 t a)
-one_time line t u (inr a) (inl b) = absurd (a.0 u b)
-one_time line t u (inr a) (inr b) = a.1 ∙ sym b.1
 
 pub one_packet_of : (f : Frame) (p q : Option Packet) → IsPacketOf f p → IsPacketOf f q → p ≡ q
 one_packet_of f (Some p) (Some q) a b = ap Some (one_packet f p q a b)

@@ -14,7 +14,7 @@ use Rattle.j39_id.specs.declared.frame.Frame.{Frame}
 use Rattle.j39_network.specs.declared.plan.Plan.{Plan}
 use Rattle.j39_network.specs.declared.plan.timing.Timing.{Timing}
 use Rattle.j39_tp.specs.declared.packet.Packet.{Packet}
-use Rattle.j39_audit.specs.AuditText.{Look, groups_named, line_of_mark, line_told, look_at, mark_at, subject_lines, told_mark}
+use Rattle.j39_audit.specs.AuditText.{Look, groups_named, line_of_mark, line_reported, look_at, mark_at, subject_lines, reported_mark}
 use Rattle.j39_audit.specs.Below.{each_below}
 use Rattle.j39_audit.specs.Claiming.{HeardClaims, Knowledge, knowledge}
 use Rattle.j39_audit.specs.Looking.{is_above_unplanned, is_claim, is_of_own_group, is_of_transport, is_single, is_urgent, may_be_transport, single}
@@ -24,26 +24,26 @@ use Rattle.j39_audit.specs.declared.mark.Mark.{Mark}
 use Rattle.j39_audit.specs.declared.mark.Word.{Word}
 use Rattle.j39_audit.specs.declared.mark.Word.TheVariants.{Short, Stranger, Nobody as NobodyThere, Address, Cannot, Layout, NoFlow, Priority, Urgent, Seen, Unclear, Asked, Counted, Unsure, Break, NearFlow, NearRequest, SilentFlow, Deaf, NearPackets, SilentPackets, NearOrLate, SilentOrLate}
 use Rattle.j39_audit.specs.declared.messages.Test.TheVariants.{Any}
-use Rattle.j39_audit.specs.declared.tally.Told.{Told}
-use Rattle.j39_audit_laws.specs.FoundLines.{Differs, IsAccusing, IsFoundAt, IsFrameAt, IsAccusedAs, IsToldAt}
+use Rattle.j39_audit.specs.declared.tally.Occurrences.{Occurrences}
+use Rattle.j39_audit_laws.specs.FoundLines.{Differs, IsAccusing, IsFoundAt, IsFrameAt, IsAccusedAs, IsReportedAt}
 use Rattle.j39_audit_laws.specs.OwnPart.{AlwaysCan, AreItsOwn, ClaimsItsOwn, IsByThePlan, IsItsNumber, IsNotNamed, LooksAsPlanned, SentBy, WaitsForPlanned}
 use Rattle.j39_audit_laws.proofs.Planned.{at_place, claims_so, differing_number, its_address, place_at, planned_alike, some_group}
 use Rattle.j39_audit_laws.proofs.Marking.{sender_of}
-use Rattle.j39_audit_laws.proofs.Told.{lines_are_of_log}
+use Rattle.j39_audit_laws.proofs.Occurrences.{lines_are_of_log}
 
 -- ---- what is never found isn't written
 
 first_there : (n : ℕ) (rest : List ℕ) → Contains (n ∷ rest) n
 first_there n rest = (0, omega arith, refl)
 
-told_never : (s : Settings) (log : List Line) (m : Mark) (t : Told) → IsToldAt s log m t → ((n : ℕ) → ¬ IsFoundAt s log n m) → t.times ≡ 0
-told_never s log m t tells none =
-    elim (tells.lines) as (λ xs. tells.lines ≡ xs → t.times ≡ 0) [
-      | [] ↦ λ is. (let times = tells.times in let size : length tells.lines ≡ 0 = ap length is in omega (arith, times, size))
-      | n ∷ rest ↦ λ is. absurd (none n ((tells.exact n).0 (subst (λ (l : List ℕ). Contains l n) (sym is) (first_there n rest))))
+reported_never : (s : Settings) (log : List Line) (m : Mark) (t : Occurrences) → IsReportedAt s log m t → ((n : ℕ) → ¬ IsFoundAt s log n m) → t.times ≡ 0
+reported_never s log m t states none =
+    elim (states.lines) as (λ xs. states.lines ≡ xs → t.times ≡ 0) [
+      | [] ↦ λ is. (let times = states.times in let size : length states.lines ≡ 0 = ap length is in omega (arith, times, size))
+      | n ∷ rest ↦ λ is. absurd (none n ((states.exact n).0 (subst (λ (l : List ℕ). Contains l n) (sym is) (first_there n rest))))
     ] refl
 
-no_line : (plan : Plan) (m : Mark) (t : Told) → t.times ≡ 0 → line_of_mark plan m t ≡ []
+no_line : (plan : Plan) (m : Mark) (t : Occurrences) → t.times ≡ 0 → line_of_mark plan m t ≡ []
 unfolding line_of_mark
 no_line plan m t none = cond-true (t.times == 0) [] _ (eq-eqb t.times 0 none)
 
@@ -52,41 +52,41 @@ unfolding each_below
 none_below {X} list none zero = refl
 none_below {X} list none (suc n) = ap (λ (l : List X). l ++ list n) (none_below list none n) ∙ none n
 
--- what accuses so is told itself
-pub told_itself : (look : Look) (w : Word) (u g : ℕ) → IsAccusing w → told_mark look w u g ≡ mark_at w u g
-told_itself look Short u g is = refl
-told_itself look Stranger u g is = refl
-told_itself look NobodyThere u g is = refl
-told_itself look Address u g is = refl
-told_itself look Cannot u g is = refl
-told_itself look Layout u g is = refl
-told_itself look NoFlow u g is = refl
-told_itself look Priority u g is = refl
-told_itself look Urgent u g is = refl
-told_itself look Seen u g is = absurd is
-told_itself look Unclear u g is = absurd is
-told_itself look Asked u g is = absurd is
-told_itself look Counted u g is = absurd is
-told_itself look Unsure u g is = absurd is
-told_itself look Break u g is = absurd is
-told_itself look NearFlow u g is = absurd is
-told_itself look NearRequest u g is = absurd is
-told_itself look SilentFlow u g is = absurd is
-told_itself look Deaf u g is = absurd is
-told_itself look NearPackets u g is = absurd is
-told_itself look SilentPackets u g is = absurd is
-told_itself look NearOrLate u g is = absurd is
-told_itself look SilentOrLate u g is = absurd is
+-- what accuses so is reported itself
+pub stated_itself : (look : Look) (w : Word) (u g : ℕ) → IsAccusing w → reported_mark look w u g ≡ mark_at w u g
+stated_itself look Short u g is = refl
+stated_itself look Stranger u g is = refl
+stated_itself look NobodyThere u g is = refl
+stated_itself look Address u g is = refl
+stated_itself look Cannot u g is = refl
+stated_itself look Layout u g is = refl
+stated_itself look NoFlow u g is = refl
+stated_itself look Priority u g is = refl
+stated_itself look Urgent u g is = refl
+stated_itself look Seen u g is = absurd is
+stated_itself look Unclear u g is = absurd is
+stated_itself look Asked u g is = absurd is
+stated_itself look Counted u g is = absurd is
+stated_itself look Unsure u g is = absurd is
+stated_itself look Break u g is = absurd is
+stated_itself look NearFlow u g is = absurd is
+stated_itself look NearRequest u g is = absurd is
+stated_itself look SilentFlow u g is = absurd is
+stated_itself look Deaf u g is = absurd is
+stated_itself look NearPackets u g is = absurd is
+stated_itself look SilentPackets u g is = absurd is
+stated_itself look NearOrLate u g is = absurd is
+stated_itself look SilentOrLate u g is = absurd is
 
 pub none_of_subject : (s : Settings) (log : List Line) (word : Word) (u : ℕ) → IsAccusing word → ((g n : ℕ) → ¬ IsFoundAt s log n (mark_at word u g))
     → IsNotNamed s log word u
-unfolding subject_lines line_told
+unfolding subject_lines line_reported
 none_of_subject s log word u accuses none end read =
     let look : Look = look_at end in
-    none_below (λ (g : ℕ). line_told s.plan look (told_mark look word u g))
-    (λ g. ap (λ (m : Mark). line_of_mark s.plan m (look m)) (told_itself look word u g accuses)
+    none_below (λ (g : ℕ). line_reported s.plan look (reported_mark look word u g))
+    (λ g. ap (λ (m : Mark). line_of_mark s.plan m (look m)) (stated_itself look word u g accuses)
     ∙ no_line s.plan (mark_at word u g) (look (mark_at word u g))
-    (told_never s log (mark_at word u g) (look (mark_at word u g)) (lines_are_of_log s log end read (mark_at word u g) accuses) (none g)))
+    (reported_never s log (mark_at word u g) (look (mark_at word u g)) (lines_are_of_log s log end read (mark_at word u g) accuses) (none g)))
     (groups_named s word)
 
 -- only frames are found of another word than that of short lines

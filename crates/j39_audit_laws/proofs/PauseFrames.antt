@@ -30,7 +30,7 @@ use Rattle.j39_audit.specs.declared.tally.Sighting.{Sighting}
 use Rattle.j39_audit.specs.declared.window.Window.{Window}
 use Rattle.j39_audit_laws.specs.SilentFlows.{IsEndOfFlow}
 use Rattle.j39_audit_laws.proofs.Hits.{In, in_left}
-use Rattle.j39_audit_laws.proofs.PauseSteps.{AreOthers, AreShown, EndsIt, IsOpen, IsSame, IsTold, Keeps, Watched, all_keep, all_told, bound, claimed, ending_keeps, lags_since, listed, listed_keep, same_more, same_open, same_shown, told_by, told_on}
+use Rattle.j39_audit_laws.proofs.PauseSteps.{AreOthers, AreShown, EndsIt, IsOpen, IsSame, IsStated, Keeps, Watched, all_keep, all_stated, bound, claimed, ending_keeps, lags_since, listed, listed_keep, same_more, same_open, same_shown, stated_by, reported_on}
 use Rattle.j39_run_laws.proofs.Addresses.CleanEnds.{flow_at}
 
 module _ (plain : Settings) (w : Watched (judged_by_load plain)) where
@@ -147,8 +147,8 @@ module _ (plain : Settings) (w : Watched (judged_by_load plain)) where
       since = refl;
     }
 
-    told_stream : (x : MessageStream) (since : ℕ) → IsStreamOf n x → IsOpen s w m → m.since ≡ Some since → bound s w < since → IsTold s w (behind x)
-    told_stream x since of is since_is late =
+    stated_stream : (x : MessageStream) (since : ℕ) → IsStreamOf n x → IsOpen s w m → m.since ≡ Some since → bound s w < since → IsStated s w (behind x)
+    stated_stream x since of is since_is late =
         let window : Window = moment_window s x.slack time m.since in
         let inner : Moments = with_message x window line m in
         let slack : x.slack ≡ w.pause.slack = of.slack ∙ sym (pause_parts w.pause w.pause_is).0 in
@@ -158,27 +158,27 @@ module _ (plain : Settings) (w : Watched (judged_by_load plain)) where
         ap (λ (o : Option Newest). lag w.pause.pause (newest_moment o) window.lower) is.newest_is
         ∙ ap (λ (o : Option ℕ). lag w.pause.pause (Some is.newest.moment) o) lower ∙ lagging.1 in
         let new : Moments = with_pause (Some w.pause.pause) n window line inner in
-        let told : IsTold s w new =
-        told_by s w inner new is.newest (lag w.pause.pause (newest_moment (inner.newest n)) window.lower) lagging.0
+        let stated : IsStated s w new =
+        stated_by s w inner new is.newest (lag w.pause.pause (newest_moment (inner.newest n)) window.lower) lagging.0
         (ap (λ (o : Option Newest). new_notes inner o (lag w.pause.pause (newest_moment (inner.newest n)) window.lower)) is.newest_is) by in
-        subst (λ (k : ℕ). IsTold s w (with_pause x.pause k window line inner)) (sym of.subject)
-        (subst (λ (o : Option ℕ). IsTold s w (with_pause o n window line inner)) (sym (of.pause ∙ its_pause)) told)
+        subst (λ (k : ℕ). IsStated s w (with_pause x.pause k window line inner)) (sym of.subject)
+        (subst (λ (o : Option ℕ). IsStated s w (with_pause o n window line inner)) (sym (of.pause ∙ its_pause)) stated)
       where
         new_notes : Moments → Option Newest → Option ℕ → List Noted
         new_notes inner o by = inner.untimely ++ silent_noted n o by
 
     pub with_messages_of : (f : Frame) (flow request : Option ℕ) (since : ℕ) → IsOpen s w m → m.since ≡ Some since → (flow ≡ Some n → bound s w < since)
         → (IsSame s w m (with_stream s time line (sighted_stream s t f flow request) m) × IsUnseen f flow)
-        ⊎ IsTold s w (with_stream s time line (sighted_stream s t f flow request) m)
+        ⊎ IsStated s w (with_stream s time line (sighted_stream s t f flow request) m)
     with_messages_of f None None since is since_is late =
         inl (record { newest = refl; last = λ u end. refl; since = refl }, λ e. absurd (none-some n e))
     with_messages_of f None (Some r) since is since_is late =
-        elim (asked_stream s t f r) as (λ o. asked_stream s t f r ≡ o → (IsSame s w m (with_stream s time line o m) × IsUnseen f None) ⊎ IsTold s w (with_stream s time line o m)) [
+        elim (asked_stream s t f r) as (λ o. asked_stream s t f r ≡ o → (IsSame s w m (with_stream s time line o m) × IsUnseen f None) ⊎ IsStated s w (with_stream s time line o m)) [
           | None ↦ λ _. inl (record { newest = refl; last = λ u end. refl; since = refl }, λ e. absurd (none-some n e))
           | Some x ↦ λ at. inl (same_stream x x.pause (inl (asked_parts f r x at)), λ e. absurd (none-some n e))
         ] refl
     with_messages_of f (Some k) request since is since_is late =
-        elim (flow_stream s t f k) as (λ o. flow_stream s t f k ≡ o → (IsSame s w m (with_stream s time line o m) × IsUnseen f (Some k)) ⊎ IsTold s w (with_stream s time line o m)) [
+        elim (flow_stream s t f k) as (λ o. flow_stream s t f k ≡ o → (IsSame s w m (with_stream s time line o m) × IsUnseen f (Some k)) ⊎ IsStated s w (with_stream s time line o m)) [
           | None ↦ λ at. inl (
             record { newest = refl; last = λ u end. refl; since = refl },
             λ e. subst (λ (i : ℕ). flow_stream s t f i ≡ None) (same_Some k n e) at,
@@ -186,7 +186,7 @@ module _ (plain : Settings) (w : Watched (judged_by_load plain)) where
           | Some x ↦ λ at.
               let of = stream_parts f k x at in
               elim (cases_eq k n) [
-                | inl same ↦ inr (told_stream x since (subst (λ (i : ℕ). IsStreamOf i x) same of) is since_is (late (ap Some same)))
+                | inl same ↦ inr (stated_stream x since (subst (λ (i : ℕ). IsStreamOf i x) same of) is since_is (late (ap Some same)))
                 | inr other ↦ inl (same_stream x x.pause (inr (λ e. other (sym of.subject ∙ e))), λ e. absurd (other (same_Some k n e)))
               ]
         ] refl
@@ -357,7 +357,7 @@ module _ (plain : Settings) (w : Watched (judged_by_load plain)) where
       not_contained others (i, less, at) = others i less (get_or_default unclear i 0 n less ∙ at)
 
       abbrev Goes : Moments → Type 0
-      Goes new = IsStill m new ⊎ IsTold s w new
+      Goes new = IsStill m new ⊎ IsStated s w new
 
       on_time : (τ : ℕ) → time ≡ Some τ → anew ≡ false → Goes (with_rest (Some t) (Some τ) m)
       on_time τ at begun =
@@ -367,19 +367,19 @@ module _ (plain : Settings) (w : Watched (judged_by_load plain)) where
           let d : Moments = with_stream s τ line (sighted_stream s t f sighting.flow sighting.request) c in
           let opened : IsOpen s w a = record { newest = is.newest; newest_is = is.newest_is; moment = is.moment; line = is.line } in
           elim (claimed s w ending a opened (λ ends. shown (inr (inl ends)))) [
-            | inr told ↦ inr (told_on s w b (with_counted s sighting.unit line d) (λ note in_b.
+            | inr stated ↦ inr (reported_on s w b (with_counted s sighting.unit line d) (λ note in_b.
                 counted_keeps sighting.unit line d note (stream_keeps τ line c (sighted_stream s t f sighting.flow sighting.request) note
-                (listed_keep s t unclear (length unclear) b note in_b))) told)
+                (listed_keep s t unclear (length unclear) b note in_b))) stated)
             | inl (same_b, unended) ↦
                 elim (listed s w unclear b (same_open s w a b same_b opened)
                 (λ i less here. same_shown s w a b same_b (shown (inr (inr (contained i less here))))) (length unclear) (omega arith)) [
-                  | inr told ↦ inr (told_on s w c (with_counted s sighting.unit line d) (λ note in_c.
-                      counted_keeps sighting.unit line d note (stream_keeps τ line c (sighted_stream s t f sighting.flow sighting.request) note in_c)) told)
+                  | inr stated ↦ inr (reported_on s w c (with_counted s sighting.unit line d) (λ note in_c.
+                      counted_keeps sighting.unit line d note (stream_keeps τ line c (sighted_stream s t f sighting.flow sighting.request) note in_c)) stated)
                   | inl (same_c, others) ↦
                       let both : IsSame s w a c = same_more s w a b c same_b same_c in
                       elim (with_messages_of τ line c f sighting.flow sighting.request (earliest_end s τ) (same_open s w a c both opened) both.since
                       (λ seen. late seen τ at)) [
-                        | inr told ↦ inr (told_on s w d (with_counted s sighting.unit line d) (counted_keeps sighting.unit line d) told)
+                        | inr stated ↦ inr (reported_on s w d (with_counted s sighting.unit line d) (counted_keeps sighting.unit line d) stated)
                         | inl (same_d, unseen) ↦
                             let all : IsSame s w a d = same_more s w a c d both same_d in
                             let end = counts sighting.unit line (earliest_end s τ) d (same_open s w a d all opened) all.since in
@@ -404,13 +404,13 @@ module _ (plain : Settings) (w : Watched (judged_by_load plain)) where
       frame_goes = elim (cases_Bool anew) [
         | inl begins ↦
             let all : Moments = all_pauses_ended s m in
-            let told = all_told s w m is (shown (inl begins)) in
+            let stated = all_stated s w m is (shown (inl begins)) in
             let start : Moments = begun_anew s anew broken m in
             let here : start ≡ record all { before = None; since = None; earliest = λ key. None } =
             cond-true anew (record all { before = None; since = None; earliest = λ key. None }) (cond broken (pauses_dropped m) m) begins in
-            let told_there : IsTold s w start =
-            subst (IsTold s w) (sym here) (record { note = told.note; noted = told.noted; mark_is = told.mark_is }) in
-            inr (told_on s w start (with_frame m) (rest_keeps s.plan.timing time start) told_there)
+            let reported_there : IsStated s w start =
+            subst (IsStated s w) (sym here) (record { note = stated.note; noted = stated.noted; mark_is = stated.mark_is }) in
+            inr (reported_on s w start (with_frame m) (rest_keeps s.plan.timing time start) reported_there)
         | inr on ↦
             let start : begun_anew s anew broken m ≡ m =
             cond-false anew (record (all_pauses_ended s m) { before = None; since = None; earliest = λ key. None }) (cond broken (pauses_dropped m) m) on

@@ -1,4 +1,4 @@
--- What a frame does to a flow of which a message came, and none since: it stays so, or the flow is told as silent.
+-- What a frame does to a flow of which a message came, and none since: it stays so, or the flow is reported as silent.
 use Rattle.std.proofs.Common.{◌≡◌, ◌≢◌, ◌⊎◌, ℕ, zero, suc, ◌+◌, ◌-◌, ◌<◌, ◌≤◌, ◌==◌, ◌||◌, ◌++◌, ◌∷◌, [], List, Bool, true, false, cond, length}
 use Rattle.std.proofs.Common.{inl, inr, refl, sym, ap, ◌∙◌, subst, arith, Option, Some, None}
 use Rattle.std.specs.Prelude.{nat_le, nat_lt, slice_index_or}
@@ -114,14 +114,14 @@ module _ (s : Settings) (w : Watched s) where
   abbrev pub AreShown : Moments → Type 0
   AreShown m = (u : ℕ) → IsEndOfFlow flow u → IsLate (m.last u)
 
-  -- the flow was told as silent
-  pub record IsTold (m : Moments) : Type 0 where
+  -- the flow was reported as silent
+  pub record IsStated (m : Moments) : Type 0 where
     pub note : Noted
     pub noted : In note m.untimely
     pub mark_is : note.mark ≡ stream_mark SilentFlow n
 
-  pub told_on : (a b : Moments) → Keeps a b → IsTold a → IsTold b
-  told_on a b keeps told = record { note = told.note; noted = keeps told.note told.noted; mark_is = told.mark_is }
+  pub reported_on : (a b : Moments) → Keeps a b → IsStated a → IsStated b
+  reported_on a b keeps stated = record { note = stated.note; noted = keeps stated.note stated.noted; mark_is = stated.mark_is }
 
   -- nothing of it changed
   pub record IsSame (a b : Moments) : Type 0 where
@@ -181,8 +181,8 @@ module _ (s : Settings) (w : Watched s) where
   pub lags_since : (moment : ℕ) (since : Option ℕ) (x : ℕ) → since ≡ Some x → moment ≤ w.upper → bound < x → Lags moment since
   lags_since moment since x is least late = subst (Lags moment) (sym is) (lags moment x least late)
 
-  pub told_by : (m end : Moments) (one : Newest) (by : Option ℕ) (x : ℕ) → end.untimely ≡ m.untimely ++ silent_noted n (Some one) by → by ≡ Some x → IsTold end
-  told_by m end one by x untimely is =
+  pub stated_by : (m end : Moments) (one : Newest) (by : Option ℕ) (x : ℕ) → end.untimely ≡ m.untimely ++ silent_noted n (Some one) by → by ≡ Some x → IsStated end
+  stated_by m end one by x untimely is =
       let note : Noted = record { mark = stream_mark SilentFlow n; line = one.line; detail = x } in
       record {
         note = note;
@@ -191,7 +191,7 @@ module _ (s : Settings) (w : Watched s) where
         mark_is = refl;
       }
 
-  looked : (m : Moments) → IsOpen m → AreShown m → IsTold (pause_ended s t n m)
+  looked : (m : Moments) → IsOpen m → AreShown m → IsStated (pause_ended s t n m)
   looked m is shown =
       let of_ends : last_of_flow s m.last n ≡ last_of_ends m.last flow.sender flow.to =
       ap (λ (o : Option FlowPlan). option_and_then (λ (f : FlowPlan). last_of_ends m.last f.sender f.to) o) w.flow_is in
@@ -207,7 +207,7 @@ module _ (s : Settings) (w : Watched s) where
       ∙ ap (silent_by p is.newest) late.frame_is
       ∙ cond-true (nat_lt is.newest.line late.frame.line) (lag p.pause (Some is.newest.moment) (lower_bound p.slack late.frame.since)) None
       (lt-ltb is.newest.line late.frame.line behind) ∙ lagging.1 in
-      told_by m (pause_ended s t n m) is.newest (silence_behind s t n (m.newest n) m.last) lagging.0
+      stated_by m (pause_ended s t n m) is.newest (silence_behind s t n (m.newest n) m.last) lagging.0
       (ap (λ (o : Option Newest). m.untimely ++ silent_noted n o (silence_behind s t n (m.newest n) m.last)) is.newest_is) by
 
   -- ---- pauses that end
@@ -233,20 +233,20 @@ module _ (s : Settings) (w : Watched s) where
           | inr not ↦ subst (IsSame m) (sym (cond-false (ends_with s unit c) (pause_ended s t c inner) inner not)) before
         ]
 
-    it_ended : (c : ℕ) → IsOpen m → AreShown m → n < c → ends_with s unit n ≡ true → IsTold (pauses_ended s t unit c m)
+    it_ended : (c : ℕ) → IsOpen m → AreShown m → n < c → ends_with s unit n ≡ true → IsStated (pauses_ended s t unit c m)
     unfolding pauses_ended
     it_ended zero is shown less ends = absurd (omega (arith, less))
     it_ended (suc c) is shown less ends =
         let inner : Moments = pauses_ended s t unit c m in
         elim (cases_lt n c) [
           | inl below ↦
-              told_on inner (pauses_ended s t unit (suc c) m) (one_keeps c) (it_ended c is shown below ends)
+              reported_on inner (pauses_ended s t unit (suc c) m) (one_keeps c) (it_ended c is shown below ends)
           | inr above ↦
               let same : c ≡ n = omega (arith, less, above) in
               let before : IsSame m inner = others_ended c (λ inside. absurd (omega (arith, inside, above))) in
-              let told : IsTold (pause_ended s t n inner) = looked inner (same_open m inner before is) (same_shown m inner before shown) in
-              subst IsTold (sym (cond-true (ends_with s unit c) (pause_ended s t c inner) inner (ap (ends_with s unit) same ∙ ends)))
-              (subst (λ (k : ℕ). IsTold (pause_ended s t k inner)) (sym same) told)
+              let stated : IsStated (pause_ended s t n inner) = looked inner (same_open m inner before is) (same_shown m inner before shown) in
+              subst IsStated (sym (cond-true (ends_with s unit c) (pause_ended s t c inner) inner (ap (ends_with s unit) same ∙ ends)))
+              (subst (λ (k : ℕ). IsStated (pause_ended s t k inner)) (sym same) stated)
         ]
       where
         one_keeps : (c : ℕ) → Keeps (pauses_ended s t unit c m) (cond (ends_with s unit c) (pause_ended s t c (pauses_ended s t unit c m)) (pauses_ended s t unit c m))
@@ -258,13 +258,13 @@ module _ (s : Settings) (w : Watched s) where
   inside : n < length s.plan.flows.items
   inside = slice_get_within s.plan.flows.items n flow w.flow_is
 
-  pub all_told : (m : Moments) → IsOpen m → AreShown m → IsTold (all_pauses_ended s m)
+  pub all_stated : (m : Moments) → IsOpen m → AreShown m → IsStated (all_pauses_ended s m)
   unfolding all_pauses_ended
-  all_told m is shown =
+  all_stated m is shown =
       let c : ℕ = length s.plan.flows.items in
-      let told = it_ended None m c is shown inside refl in
-      subst (λ (o : Option Timing). IsTold (option_map_or (λ (x : Timing). pauses_dropped (pauses_ended s x None c m)) o m)) (sym w.timed)
-      (record { note = told.note; noted = told.noted; mark_is = told.mark_is })
+      let stated = it_ended None m c is shown inside refl in
+      subst (λ (o : Option Timing). IsStated (option_map_or (λ (x : Timing). pauses_dropped (pauses_ended s x None c m)) o m)) (sym w.timed)
+      (record { note = stated.note; noted = stated.noted; mark_is = stated.mark_is })
 
   -- ---- of a list of flows
 
@@ -280,19 +280,19 @@ module _ (s : Settings) (w : Watched s) where
           other (subst (λ (k : ℕ). slice_index_or ns k 0 ≡ n) at same)
     ]
 
-    pub listed : (c : ℕ) → c ≤ length ns → (IsSame m (listed_pauses_ended s t ns c m) × AreOthers ns c) ⊎ IsTold (listed_pauses_ended s t ns c m)
+    pub listed : (c : ℕ) → c ≤ length ns → (IsSame m (listed_pauses_ended s t ns c m) × AreOthers ns c) ⊎ IsStated (listed_pauses_ended s t ns c m)
     unfolding listed_pauses_ended
     listed zero least = inl (same_itself m, λ i less. absurd (omega (arith, less)))
     listed (suc c) least =
         let inner : Moments = listed_pauses_ended s t ns c m in
         let k : ℕ = slice_index_or ns c 0 in
         elim (listed c (omega (arith, least))) [
-          | inr told ↦ inr (told_on inner (pause_ended s t k inner) (ended_keeps s t k inner) told)
+          | inr stated ↦ inr (reported_on inner (pause_ended s t k inner) (ended_keeps s t k inner) stated)
           | inl before ↦ elim (cases_eq k n) [
             | inl same ↦
-                let told : IsTold (pause_ended s t n inner) =
+                let stated : IsStated (pause_ended s t n inner) =
                 looked inner (same_open m inner before.0 is) (same_shown m inner before.0 (shown c (omega (arith, least)) same)) in
-                inr (subst (λ (x : ℕ). IsTold (pause_ended s t x inner)) (sym same) told)
+                inr (subst (λ (x : ℕ). IsStated (pause_ended s t x inner)) (sym same) stated)
             | inr other ↦
                 inl (same_more m inner (pause_ended s t k inner) before.0 (other_ended k inner other), one_more c before.1 other)
           ]
@@ -316,15 +316,15 @@ module _ (s : Settings) (w : Watched s) where
         | inr to ↦ true≢false (sym (ap (goes_to_it u) to ∙ eq-eqb v u (sym same)) ∙ parts.1)
       ]
 
-  pub claimed : (e : Ending) (m : Moments) → IsOpen m → (EndsIt e → AreShown m) → (IsSame m (with_ending s t e m) × (¬ EndsIt e)) ⊎ IsTold (with_ending s t e m)
+  pub claimed : (e : Ending) (m : Moments) → IsOpen m → (EndsIt e → AreShown m) → (IsSame m (with_ending s t e m) × (¬ EndsIt e)) ⊎ IsStated (with_ending s t e m)
   claimed Nothing m is shown = inl (same_itself m, λ ends. elim ends [ inl e ↦ cc e | inr (u, e, with_it) ↦ cc e ])
-  claimed OfAll m is shown = inr (all_told m is (shown (inl refl)))
+  claimed OfAll m is shown = inr (all_stated m is (shown (inl refl)))
   claimed (OfUnit u) m is shown =
       let c : ℕ = length s.plan.flows.items in
       elim (cases_Bool (is_with_unit s u n)) [
         | inl with_it ↦
-            let told = it_ended (Some u) m c is (shown (inr (u, refl, with_it))) inside with_it in
-            inr (record { note = told.note; noted = told.noted; mark_is = told.mark_is })
+            let stated = it_ended (Some u) m c is (shown (inr (u, refl, with_it))) inside with_it in
+            inr (record { note = stated.note; noted = stated.noted; mark_is = stated.mark_is })
         | inr other ↦
             let same = others_ended (Some u) m c (λ less with_it. true≢false (sym with_it ∙ other)) in
             let ended : Moments = pauses_ended s t (Some u) c m in

@@ -104,7 +104,7 @@ place_at {X} test o x at is = ap (λ (p : Option X). option_map_or test p false)
 -- ---- addresses
 
 module _ (s : Settings) (moving : AreMoving s.plan s.moving) (u a : ℕ) where
-  -- one that may choose and doesn't stay is told to move
+  -- one that may choose and doesn't stay is reported to move
   moves_so : (unit : UnitPlan) → slice_get s.plan.units.items u ≡ Some unit → is_arbitrary unit.name ≡ true
       → (¬ StaysBeside s.plan.strangers (units_of s.plan) u) → moves s u ≡ true
   moves_so unit at arbitrary leaves =

@@ -10,7 +10,7 @@ use Rattle.j39_id.specs.Ident.{pgn_of}
 use Rattle.j39_id.specs.Name.{is_arbitrary}
 use Rattle.j39_id.specs.Services.{is_service, request}
 use Rattle.j39_id.specs.declared.frame.Frame.{Frame}
-use Rattle.j39_claim.specs.declared.item.Item.TheVariants.{Told}
+use Rattle.j39_claim.specs.declared.item.Item.TheVariants.{AddressClaimed}
 use Rattle.j39_claim.specs.declared.item.Say.TheVariants.{Claim}
 use Rattle.j39_claim.specs.ClaimRule.{ClaimState, PlannedUnit, claim_of}
 use Rattle.j39_findings.proofs.WhoStays.{placed}
@@ -40,8 +40,8 @@ use Rattle.j39_run_laws.proofs.Runs.Conditions.{is_unit}
 use Rattle.j39_run_laws.proofs.Runs.Units.{in_units}
 use Rattle.j39_follow.specs.Holders.{Claims}
 use Rattle.j39_follow.specs.Who.{unit_of_name}
-use Rattle.j39_log_laws.specs.Between.{MessagesGoBetweenHolders, tells_of_addresses}
-use Rattle.j39_log_laws.specs.Telling.{HaveOwnNumbers}
+use Rattle.j39_log_laws.specs.Between.{MessagesGoBetweenHolders, reports_of_addresses}
+use Rattle.j39_log_laws.specs.HolderReports.{HaveOwnNumbers}
 use Rattle.j39_log_laws.proofs.Between.{messages_go, transports}
 use Rattle.j39_log_laws.proofs.Identifiers.{IsOther, carries_none, sent_as}
 use Rattle.j39_log_laws.proofs.Logs.{claims_it, split}
@@ -49,18 +49,18 @@ use Rattle.j39_log_laws.proofs.SentFrames.{own_numbers, planned_number}
 use Rattle.j39_log_laws.proofs.FittingFlows.{of_group, planned_flow, some_there}
 use Rattle.j39_run_laws.proofs.Addresses.CleanEnds.{flow_at}
 use Rattle.j39_log_laws.proofs.Standing.{source_below}
-use Rattle.j39_log_laws.proofs.Telling.{AreTold, all_told, flow_other, packet_group}
+use Rattle.j39_log_laws.proofs.HolderReports.{AreReported, all_stated, flow_other, packet_group}
 use Rattle.j39_log_laws.proofs.UnitNames.{named}
 use Rattle.j39_audit.specs.Claiming.{Heard, is_at, newest_of}
 use Rattle.j39_audit.specs.Looking.{is_claim}
 use Rattle.j39_audit_laws.specs.OwnPart.{ClaimsAddresses, IsItsAddress}
 use Rattle.j39_audit_laws.proofs.RunFrames.{IsNewest, claims_behind_those, claims_of, heard_of, newest_here, newest_past, no_claims}
-use Rattle.j39_audit_laws.proofs.RunSteps.{IsOfMessages, IsOneStep, IsSending, IsTelling, claim_frame, claims_at, name_at, request_frame}
+use Rattle.j39_audit_laws.proofs.RunSteps.{IsOfMessages, IsOneStep, IsSending, IsReporting, claim_frame, claims_at, name_at, request_frame}
 
 -- ---- what is known of a world
 
 pub record IsKnown (plan : Plan) (w : World) : Type 0 where
-  pub told : AreTold plan w
+  pub stated : AreReported plan w
   pub sound : AreAddressesSound plan w
   pub kept : AreKeptFree plan w
   pub stand : (u a : ℕ) → (w.stations u).on ≡ true → (w.stations u).address ≡ Some a
@@ -77,7 +77,7 @@ module _ (plan : Plan) (clean : Clean plan) where
 
   all_known : Always plan (IsKnown plan)
   all_known steps w run = record {
-    told = all_told plan distinct own steps w run;
+    stated = all_stated plan distinct own steps w run;
     sound = addresses_sound plan (clean_units plan clean) steps w run;
     kept = kept_free plan (clean_units plan clean) steps w run;
     stand = stand plan steps w run;
@@ -99,7 +99,7 @@ module _ (plan : Plan) (clean : Clean plan) where
 
   pub its_own : (w : World) → IsKnown plan w → (u a : ℕ) → (w.stations u).on ≡ true → (w.stations u).address ≡ Some a → IsItsAddress plan u a
   its_own w known u a on address =
-      let unit = in_units plan u (known.told.standing.0 u on) in
+      let unit = in_units plan u (known.stated.standing.0 u on) in
       let (p, is, at) = placed plan.keep_free plan.units.items u unit in
       let name : (unit_at (units_of plan) u).name ≡ p.name = ap (λ (x : PlannedUnit). x.name) at in
       record {
@@ -127,17 +127,17 @@ module _ (plan : Plan) (clean : Clean plan) where
   no_claim : (f : Frame) → carries_name f ≡ false → is_claim f ≡ false
   no_claim f none = ap (λ (b : Bool). (b && is_address f.ident.sa) || (b && f.ident.sa == null_address)) none
 
-  pub claim_told : (w : World) → IsKnown plan w → (u a : ℕ) → (w.stations u).on ≡ true → (w.stations u).address ≡ Some a → (f : Frame)
+  pub claim_reported : (w : World) → IsKnown plan w → (u a : ℕ) → (w.stations u).on ≡ true → (w.stations u).address ≡ Some a → (f : Frame)
       → sent_of f ≡ claim_frame plan w u → IsClaimAt u a f
-  claim_told w known u a on address f e =
-      let unit = known.told.standing.0 u on in
+  claim_reported w known u a on address f e =
+      let unit = known.stated.standing.0 u on in
       let range = names_in_range plan u (in_units plan u unit) in
       let held : Option ℕ = (w.stations u).address in
-      let source : source_of held < 256 = source_below (w.stations u) (known.told.standing.1 u) in
-      let less = known.told.standing.1 u a address in
-      let told : sent_of f ≡ frame_of (name_at plan u) held (Told (Claim a)) =
-      e ∙ ap (λ (o : Option ℕ). frame_of (name_at plan u) held (Told (claim_of o))) address in
-      let c : Claims f (name_at plan u) a = claims_it (name_at plan u) range held source f a less told in
+      let source : source_of held < 256 = source_below (w.stations u) (known.stated.standing.1 u) in
+      let less = known.stated.standing.1 u a address in
+      let stated : sent_of f ≡ frame_of (name_at plan u) held (AddressClaimed (Claim a)) =
+      e ∙ ap (λ (o : Option ℕ). frame_of (name_at plan u) held (AddressClaimed (claim_of o))) address in
+      let c : Claims f (name_at plan u) a = claims_it (name_at plan u) range held source f a less stated in
       record {
         claim = or_left (claims_address f) (cannot_claim f) c.claim;
         unit_is = ap (unit_of_name plan) c.name_is ∙ named plan distinct u unit;
@@ -148,10 +148,10 @@ module _ (plan : Plan) (clean : Clean plan) where
   requests : IsOther 59904
   requests = record { range = omega arith; low = λ _. refl; unlike = λ (e : 59904 ≡ 60928). absurd (omega (arith, e)) }
 
-  pub request_told : (w : World) → IsKnown plan w → (u : ℕ) → (f : Frame) → sent_of f ≡ request_frame plan w u
+  pub request_reported : (w : World) → IsKnown plan w → (u : ℕ) → (f : Frame) → sent_of f ≡ request_frame plan w u
       → (is_claim f ≡ false) × (f.ident.sa ≡ source_of (w.stations u).address) × (pgn_of f.ident ≡ request)
-  request_told w known u f e =
-      let source = source_below (w.stations u) (known.told.standing.1 u) in
+  request_reported w known u f e =
+      let source = source_below (w.stations u) (known.stated.standing.1 u) in
       let number = ap (λ (x : Sent). x.identifier) e in
       let ident = sent_as f.ident 6 59904 255 (source_of (w.stations u).address) requests (omega arith) source number in (
         no_claim f (carries_none f 6 59904 255 (source_of (w.stations u).address) requests (omega arith) source number),
@@ -159,10 +159,10 @@ module _ (plan : Plan) (clean : Clean plan) where
         ident.group_is,
       )
 
-  -- a frame with the number of a group other than those of claims and requests tells of no address
-  untold : (f : Frame) (n : ℕ) → carries_name f ≡ false → pgn_of f.ident ≡ n → n ≢ request → tells_of_addresses f ≡ false
-  untold f n none number other =
-      false_from_ne_true (tells_of_addresses f) (λ tells. elim (or_cases (carries_name f) (requests_group f) tells) [
+  -- a frame with the number of a group other than those of claims and requests reports of no address
+  unstated : (f : Frame) (n : ℕ) → carries_name f ≡ false → pgn_of f.ident ≡ n → n ≢ request → reports_of_addresses f ≡ false
+  unstated f n none number other =
+      false_from_ne_true (reports_of_addresses f) (λ states. elim (or_cases (carries_name f) (requests_group f) states) [
         | inl carries ↦ true≢false (sym carries ∙ none)
         | inr asks ↦
             let rest = (and_parts (f.ident.edp == 0) (pgn_of f.ident == request && length f.payload.items == 3) asks).1 in
@@ -200,30 +200,30 @@ module _ (plan : Plan) (clean : Clean plan) where
       let number : p.group.pgn ≡ request = sym (ap (λ (x : Flow). x.pgn) p.flow_is) ∙ e in
       true≢false (sym (ap is_service number) ∙ planned_number plan own p.planned.group p.group p.group_is)
 
-  packet_told : (f : Frame) (d s : ℕ) (p : Packet) → d < 256 → s < 256 → sent_of f ≡ packet_frame d s p
-      → (is_claim f ≡ false) × (tells_of_addresses f ≡ false)
-  packet_told f d s p less_d less_s e =
+  packet_reported : (f : Frame) (d s : ℕ) (p : Packet) → d < 256 → s < 256 → sent_of f ≡ packet_frame d s p
+      → (is_claim f ≡ false) × (reports_of_addresses f ≡ false)
+  packet_reported f d s p less_d less_s e =
       let number = ap (λ (x : Sent). x.identifier) e in
       let none = carries_none f 7 (group_of p) d s (packet_group p) less_d less_s number in
       let group = (sent_as f.ident 7 (group_of p) d s (packet_group p) less_d less_s number).group_is in
-      (no_claim f none, untold f (group_of p) none group (unlike_request p))
+      (no_claim f none, unstated f (group_of p) none group (unlike_request p))
 
-  pub message_told : (w : World) (f : Frame) → IsOfMessages plan w (sent_of f) → (is_claim f ≡ false) × (tells_of_addresses f ≡ false)
-  message_told w f (d, s, less_d, less_s, inl (p, plain, e)) = packet_told f d s p less_d less_s e
-  message_told w f (d, s, less_d, less_s, inr (k, flow, bytes, of, inr e)) =
-      packet_told f d s (sender.announcement (dest_of flow.to) flow.pgn (length bytes)) less_d less_s e
-  message_told w f (d, s, less_d, less_s, inr (k, flow, bytes, of, inl e)) =
+  pub message_reported : (w : World) (f : Frame) → IsOfMessages plan w (sent_of f) → (is_claim f ≡ false) × (reports_of_addresses f ≡ false)
+  message_reported w f (d, s, less_d, less_s, inl (p, plain, e)) = packet_reported f d s p less_d less_s e
+  message_reported w f (d, s, less_d, less_s, inr (k, flow, bytes, of, inr e)) =
+      packet_reported f d s (sender.announcement (dest_of flow.to) flow.pgn (length bytes)) less_d less_s e
+  message_reported w f (d, s, less_d, less_s, inr (k, flow, bytes, of, inl e)) =
       let at = of.flow_is in
       let number = ap (λ (x : Sent). x.identifier) e in
       let other = flow_other plan own k flow at in
       let none = carries_none f flow.priority flow.pgn d s other less_d less_s number in
       let group = (sent_as f.ident flow.priority flow.pgn d s other less_d less_s number).group_is in
-      (no_claim f none, untold f flow.pgn none group (flow_unlike k flow at))
+      (no_claim f none, unstated f flow.pgn none group (flow_unlike k flow at))
 
   pub none_claim : (w : World) (frames : List Frame) → AllByRecursion (IsOfMessages plan w) (map sent_of frames)
       → AllByRecursion (λ (f : Frame). is_claim f ≡ false) frames
   none_claim w [] all = tt
-  none_claim w (f ∷ frames) all = ((message_told w f all.0).0, none_claim w frames all.1)
+  none_claim w (f ∷ frames) all = ((message_reported w f all.0).0, none_claim w frames all.1)
 
   -- ---- where units claimed last
 
@@ -256,7 +256,7 @@ module _ (plan : Plan) (clean : Clean plan) where
     -- a unit's claim is the newest of it, and none of another's
     module _ (t : ℕ) (on : (new.stations t).on ≡ true) (f : Frame) (sent : sent_of f ≡ claim_frame plan new t) (old : List Heard) where
       its : (a : ℕ) × ((new.stations t).address ≡ Some a) × IsClaimAt t a f
-      its = (let (a, address, fixed) = next.sound.holds t on in (a, address, claim_told new next t a on address f sent))
+      its = (let (a, address, fixed) = next.sound.holds t on in (a, address, claim_reported new next t a on address f sent))
 
       claims_then : claims_of plan old (f ∷ []) ≡ heard_of plan f ∷ old
       claims_then = ap (λ (b : Bool). cond b (heard_of plan f ∷ old) old) its.2.claim
@@ -294,10 +294,10 @@ module _ (plan : Plan) (clean : Clean plan) where
                   (none_claim w s.1 (subst (AllByRecursion (IsOfMessages plan w)) (sym s.4) sends.frames)),
             )
 
-    -- one by which a unit tells of its address: of this it is enough what these claims are
-    module _ (added : List Sent) (is : new.frames ≡ w.frames ++ added) (tells : IsTelling plan w new added) where
+    -- one by which a unit reports of its address: of this it is enough what these claims are
+    module _ (added : List Sent) (is : new.frames ≡ w.frames ++ added) (states : IsReporting plan w new added) where
       abbrev t : ℕ
-      t = tells.unit
+      t = states.unit
 
       -- the claims of the frames more, behind the old ones
       abbrev IsRight : List Frame → List Heard → Type 0
@@ -307,7 +307,7 @@ module _ (plan : Plan) (clean : Clean plan) where
       was : (x a : ℕ) → x ≢ t → (new.stations x).on ≡ true → (new.stations x).address ≡ Some a
           → ((w.stations x).on ≡ true) × ((w.stations x).address ≡ Some a)
       was x a other on address =
-          let same = tells.others x other in
+          let same = states.others x other in
           (sym (ap (λ (s : ClaimState). s.on) same) ∙ on, sym (ap (λ (s : ClaimState). s.address) same) ∙ address)
 
       with_claim_so : (l : List Frame) → map sent_of l ≡ w.frames → claims_at plan t ≡ true → (f : Frame) → sent_of f ≡ claim_frame plan new t
@@ -315,16 +315,16 @@ module _ (plan : Plan) (clean : Clean plan) where
       with_claim_so l old claims f sent = (
         λ u never. elim (cases_eq u t) [
           | inl same ↦ absurd (true≢false (sym claims ∙ ap (claims_at plan) (sym same) ∙ never))
-          | inr other ↦ of_others t tells.on f sent (claims_of plan [] l) u other ∙ heard.silent l old u never
+          | inr other ↦ of_others t states.on f sent (claims_of plan [] l) u other ∙ heard.silent l old u never
         ],
         λ u a on address. elim (cases_eq u t) [
           | inl same ↦
               let there : (new.stations t).address ≡ Some a = ap (λ (x : ℕ). (new.stations x).address) (sym same) ∙ address in
               subst (λ (x : ℕ). IsNewest x (claims_of plan (claims_of plan [] l) (f ∷ [])) a) (sym same)
-              (of_it t tells.on f sent (claims_of plan [] l) a there)
+              (of_it t states.on f sent (claims_of plan [] l) a there)
           | inr other ↦
               let before = was u a other on address in
-              let past = of_others t tells.on f sent (claims_of plan [] l) u other in
+              let past = of_others t states.on f sent (claims_of plan [] l) u other in
               elim (heard.held l old u a before.0 before.1) [
                 | inl none ↦ inl (past ∙ none)
                 | inr some ↦ inr (past ∙ some)
@@ -333,7 +333,7 @@ module _ (plan : Plan) (clean : Clean plan) where
       )
 
       right : (l more : List Frame) → map sent_of l ≡ w.frames → map sent_of more ≡ added → IsRight l (claims_of plan (claims_of plan [] l) more)
-      right l more old e = elim tells.said [
+      right l more old e = elim states.said [
         | inl (none, why) ↦
             let empty : more ≡ [] = no_frames more (e ∙ none) in
             subst (λ (m : List Frame). IsRight l (claims_of plan (claims_of plan [] l) m)) (sym empty) (
@@ -353,15 +353,15 @@ module _ (plan : Plan) (clean : Clean plan) where
             subst (λ (m : List Frame). IsRight l (claims_of plan (claims_of plan [] l) m)) (sym row) (with_claim_so l old claims f sent)
         | inr (claims, inr (two, still)) ↦
             let (g, f, row, asks, sent) = two_frames more (request_frame plan new t) (claim_frame plan new t) (e ∙ two) in
-            let other = (request_told new next t g asks).0 in
+            let other = (request_reported new next t g asks).0 in
             let past : claims_of plan (claims_of plan [] l) (g ∷ f ∷ []) ≡ claims_of plan (claims_of plan [] l) (f ∷ []) =
             ap (λ (b : Bool). claims_of plan (cond b (heard_of plan g ∷ claims_of plan [] l) (claims_of plan [] l)) (f ∷ [])) other in
             subst (λ (m : List Frame). IsRight l (claims_of plan (claims_of plan [] l) m)) (sym row)
             (subst (IsRight l) (sym past) (with_claim_so l old claims f sent))
       ]
 
-      telling_heard : IsHeardRight new
-      telling_heard = record {
+      reporting_heard : IsHeardRight new
+      reporting_heard = record {
         silent = λ log e u never.
             let s = split sent_of log w.frames added (e ∙ is) in
             ap (newest_of u) (behind s.0 s.1 log s.2) ∙ (right s.0 s.1 s.3 s.4).0 u never;
@@ -371,5 +371,5 @@ module _ (plan : Plan) (clean : Clean plan) where
       }
 
     pub heard_next : IsOneStep plan w new → IsHeardRight new
-    heard_next (added, is, inl tells) = telling_heard added is tells
+    heard_next (added, is, inl states) = reporting_heard added is states
     heard_next (added, is, inr sends) = sending_heard added is sends

@@ -7,6 +7,7 @@ use Rattle.j39_id.specs.Lines.{Line, Short as ShortLine, Long}
 use Rattle.j39_id.specs.declared.frame.Frame.{Frame}
 use Rattle.j39_id.specs.declared.line_error.LineError.{LineError}
 use Rattle.j39_id.specs.declared.line_error.LineError.TheVariants.{Empty, NoHash, ShortIdent, BadIdent, TooLong, BadData}
+use Rattle.j39_follow.proofs.OneText.{one_interface, one_part}
 use Rattle.j39_follow.specs.LogLines.{IsElsewhere, IsReadPart, NamesInterface, interface_behind}
 use Rattle.j39_tp.specs.declared.packet.Packet.{Packet}
 use Rattle.j39_audit.specs.AuditText.{AuditPast, AuditsLine, AuditsLines, claims_before, nothing_read, passed_by, past_with_frame, with_next_number}
@@ -16,7 +17,6 @@ use Rattle.j39_audit.specs.Looking.{claims_behind, is_claim}
 use Rattle.j39_audit.specs.Settings.{Settings}
 use Rattle.j39_audit_laws.specs.AuditedRuns.{AreReadAs}
 use Rattle.j39_audit_laws.specs.FoundLines.{IsFrameAt, IsLineOf, IsShortAt}
-use Rattle.j39_audit_laws.proofs.OneReading.{one_interface, one_part}
 use Rattle.j39_audit_laws.proofs.RunFrames.{claims_behind_those, claims_of, heard_of}
 
 -- ---- one line

@@ -28,7 +28,7 @@ use Rattle.j39_world.specs.World.{World}
 use Rattle.j39_world.specs.declared.flow.Flow.{Flow}
 use Rattle.j39_log_laws.proofs.Identifiers.{IsOther, IsSentAs, sent_as}
 use Rattle.j39_log_laws.proofs.SentFrames.{no_transport, planned_number}
-use Rattle.j39_log_laws.proofs.Telling.{flow_other, packet_group}
+use Rattle.j39_log_laws.proofs.HolderReports.{flow_other, packet_group}
 use Rattle.j39_audit.specs.Claiming.{Knowledge}
 use Rattle.j39_audit.specs.Looking.{IsPacketOf, announced_by, announced_message, is_single, message_sent, single}
 use Rattle.j39_audit.specs.SentMessages.{SentMessage}
@@ -183,7 +183,7 @@ module _ (plan : Plan) (clean : Clean plan) (w : World) (known : IsKnown plan w)
       directed : (to : To) → IsHeldBy w to d → m.destination ≡ d → GoesAsPlanned plan l m to
       directed ToAll held at = inr (at ∙ held)
       directed (ToOne v) (on, address) at =
-          let less = known.told.standing.1 v d address in
+          let less = known.stated.standing.1 v d address in
           inr (
             λ (e : m.destination ≡ 255). absurd (omega (arith, e, at, less)),
             inl (subst (IsItsAddress plan v) (sym at) (its_own plan clean w known v d on address)),
@@ -248,10 +248,10 @@ module _ (plan : Plan) (clean : Clean plan) (w : World) (known : IsKnown plan w)
       elim (sent_message flow.sender f packet m is sent) [
         | inl one ↦ absurd (true≢false (sym one.0 ∙ ap is_single ident.group_is ∙ not_single p))
         | inr it ↦
-            let told = announcement_bytes (dest_of flow.to) flow.pgn (length bytes) it.size it.number other.range
+            let stated = announcement_bytes (dest_of flow.to) flow.pgn (length bytes) it.size it.number other.range
             (subst (λ (b : List ℕ). Announces b it.size it.number) payload it.announces) in
             let n : SentMessage = announced_message flow.sender f it.size it.number in
-            subst (IsOfFlowPlanned plan l) it.message_is (planned_so l n refl told.1 told.0
+            subst (IsOfFlowPlanned plan l) it.message_is (planned_so l n refl stated.1 stated.0
             (λ b same. absurd (none-some b same)) (λ q same. absurd (none-some q same))
             (goes n refl (group_of p) ident (λ two. absurd (true≢false (sym two ∙ ap is_pdu2 group))) l))
       ]

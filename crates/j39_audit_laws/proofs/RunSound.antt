@@ -3,7 +3,7 @@ use Rattle.std.proofs.Common.{◌≡◌, ◌≢◌, ◌⊎◌, ℕ, ◌<◌, ◌
 use Rattle.std.proofs.Common.{inl, inr, refl, sym, ap, ◌∙◌, subst, arith, Option, Some, None}
 use Rattle.std.specs.List.{AllByRecursion}
 use Rattle.std.proofs.lemmas.Bool.{ltb-true}
-use Rattle.std.proofs.lemmas.List.{append-nil, map-append}
+use Rattle.std.proofs.lemmas.List.{append-nil}
 use Rattle.j39_id.specs.Services.{connection_management, request}
 use Rattle.j39_id.specs.declared.frame.Frame.{Frame}
 use Rattle.j39_findings.specs.Findings.{Clean}
@@ -16,14 +16,15 @@ use Rattle.j39_world.specs.World.{Stations, World, all_off}
 use Rattle.j39_claim.specs.ClaimRule.{ClaimState}
 use Rattle.j39_run_laws.proofs.Runs.Always.{always_with, leads_to_follows}
 use Rattle.j39_run_laws.proofs.Runs.Conditions.{is_unit}
-use Rattle.j39_log_laws.specs.Between.{IsSentBehind, tells_of_addresses}
+use Rattle.j39_log_laws.specs.Between.{IsSentBehind, reports_of_addresses}
 use Rattle.j39_log_laws.proofs.Identifiers.{sent_as}
-use Rattle.j39_log_laws.proofs.Telling.{flow_other, packet_group}
+use Rattle.j39_log_laws.proofs.HolderReports.{flow_other, packet_group}
 use Rattle.j39_tp.specs.Sender as sender
 use Rattle.j39_tp.specs.declared.packet.Packet.{Packet}
 use Rattle.j39_world.specs.Flows.{dest_of}
 use Rattle.j39_world.specs.SentTransfers.{group_of}
 use Rattle.j39_audit_laws.proofs.RunMessages.{announced_planned, other_none, plain_none, short_planned}
+use Rattle.j39_log_laws.proofs.Logged.{place}
 use Rattle.j39_log_laws.proofs.Logs.{split}
 use Rattle.j39_log_laws.proofs.SentFrames.{no_row, single}
 use Rattle.j39_audit.specs.Claiming.{Heard, Knowledge, newest_of}
@@ -31,28 +32,10 @@ use Rattle.j39_audit.specs.Looking.{IsPacketOf, is_single, message_sent}
 use Rattle.j39_audit.specs.SentMessages.{SentMessage}
 use Rattle.j39_audit_laws.specs.OwnPart.{IsItsAddress, IsOfFlowPlanned}
 use Rattle.j39_audit_laws.proofs.RunFrames.{IsNewest, IsSoundFrame, claims_behind_those, claims_of, no_claims, none_newest}
-use Rattle.j39_audit_laws.proofs.RunKept.{IsHeardRight, IsKnown, IsKnownOn, all_known_on, claim_told, claims_so, heard_next, its_own, message_told, none_claim, own, request_told}
-use Rattle.j39_audit_laws.proofs.RunSteps.{IsOfMessages, IsOneStep, IsSending, IsTelling, claim_frame, claims_at, one_step, request_frame}
+use Rattle.j39_audit_laws.proofs.RunKept.{IsHeardRight, IsKnown, IsKnownOn, all_known_on, claim_reported, claims_so, heard_next, its_own, message_reported, none_claim, own, request_reported}
+use Rattle.j39_audit_laws.proofs.RunSteps.{IsOfMessages, IsOneStep, IsSending, IsReporting, claim_frame, claims_at, one_step, request_frame}
 
 -- ---- where a frame stands
-
--- among those of the first list, or behind them among those of the second
-pub place : (xs ys : List Sent) (before : List Frame) (f : Frame) (behind : List Frame) → map sent_of (before ++ f ∷ behind) ≡ xs ++ ys
-    → ((front : List Frame) × (map sent_of (before ++ f ∷ front) ≡ xs))
-    ⊎ ((earlier : List Sent) × (later : List Sent) × (map sent_of before ≡ xs ++ earlier) × (ys ≡ earlier ++ sent_of f ∷ later))
-place [] ys before f behind e = inr (map sent_of before, map sent_of behind, refl, sym e ∙ map-append sent_of before (f ∷ behind))
-place (x ∷ xs) ys [] f behind e =
-    let head : sent_of f ≡ x = cc in
-    let tail : map sent_of behind ≡ xs ++ ys = cc in
-    let s = split sent_of behind xs ys tail in
-    inl (s.0, rw (head, s.3) refl)
-place (x ∷ xs) ys (g ∷ before) f behind e =
-    let head : sent_of g ≡ x = cc in
-    let tail : map sent_of (before ++ f ∷ behind) ≡ xs ++ ys = cc in
-    elim (place xs ys before f behind tail) [
-      | inl (front, is) ↦ inl (front, rw (head, is) refl)
-      | inr (earlier, later, is, at) ↦ inr (earlier, later, rw (head, is) refl, at)
-    ]
 
 all_parts : (P : Sent → Type 0) (xs : List Sent) (y : Sent) (ys : List Sent) → AllByRecursion P (xs ++ y ∷ ys) → AllByRecursion P xs × P y
 all_parts P [] y ys all = (tt, all.0)
@@ -84,7 +67,7 @@ module _ (plan : Plan) (clean : Clean plan) where
         (earlier later : List Sent) → map sent_of before ≡ w.frames ++ earlier → added ≡ earlier ++ sent_of f ∷ later → IsSoundFrame plan before f
     message_sound added is sends before f earlier later log_is at =
         let parts = all_parts (IsOfMessages plan w) earlier (sent_of f) later (subst (AllByRecursion (IsOfMessages plan w)) at sends.frames) in
-        let untold = message_told plan clean w f parts.1 in
+        let unstated = message_reported plan clean w f parts.1 in
         let sent : IsSentBehind w new before f =
         record { earlier = earlier; later = later; log_is = log_is; sent = is ∙ ap (λ (x : List Sent). w.frames ++ x) at } in
         let s = split sent_of before w.frames earlier log_is in
@@ -93,28 +76,28 @@ module _ (plan : Plan) (clean : Clean plan) where
         ∙ no_claims plan (claims_of plan [] s.0) s.1 (none_claim plan clean w s.1 (subst (AllByRecursion (IsOfMessages plan w)) (sym s.4) parts.0)) in
         let from : (u : ℕ) → (w.stations u).on ≡ true → (w.stations u).address ≡ Some f.ident.sa → IsPlannedBy u f → IsSoundFrame plan before f =
         λ u on address planned. inr (
-          untold.0,
+          unstated.0,
           λ _. record {
             unit = u;
-            inside = inside u (known.told.standing.0 u on);
+            inside = inside u (known.stated.standing.0 u on);
             own = its_own plan clean w known u f.ident.sa on address;
             newest = subst (λ (c : List Heard). IsNewest u c f.ident.sa) (sym claims) (heard.held s.0 s.3 u f.ident.sa on address);
             planned = planned;
           },
         ) in
-        by_kind before f sent untold.1 parts.1 from
+        by_kind before f sent unstated.1 parts.1 from
       where
-        by_kind : (before : List Frame) (f : Frame) → IsSentBehind w new before f → tells_of_addresses f ≡ false → IsOfMessages plan w (sent_of f)
+        by_kind : (before : List Frame) (f : Frame) → IsSentBehind w new before f → reports_of_addresses f ≡ false → IsOfMessages plan w (sent_of f)
             → ((u : ℕ) → (w.stations u).on ≡ true → (w.stations u).address ≡ Some f.ident.sa → IsPlannedBy u f → IsSoundFrame plan before f)
             → IsSoundFrame plan before f
-        by_kind before f sent untold (d, s, less_d, less_s, inl (p, plain, e)) from =
-            let (u, to, by, group, source, goes) = known.go step new before f (leads_to_follows plan w step allowed new leads) sent untold in
+        by_kind before f sent unstated (d, s, less_d, less_s, inl (p, plain, e)) from =
+            let (u, to, by, group, source, goes) = known.go step new before f (leads_to_follows plan w step allowed new leads) sent unstated in
             from u source.on source.holds (λ packet m is sends l. absurd (plain_none f d s p plain less_d less_s e u packet m is sends))
-        by_kind before f sent untold (d, s, less_d, less_s, inr (k, flow, bytes, of, inl e)) from =
+        by_kind before f sent unstated (d, s, less_d, less_s, inr (k, flow, bytes, of, inl e)) from =
             let ident = sent_as f.ident flow.priority flow.pgn d s (flow_other plan (own plan clean) k flow of.flow_is) less_d less_s
             (ap (λ (x : Sent). x.identifier) e) in
             from flow.sender of.on (of.held ∙ ap Some (sym ident.source_is)) (short_planned plan clean w known d s k flow bytes of less_d less_s f e)
-        by_kind before f sent untold (d, s, less_d, less_s, inr (k, flow, bytes, of, inr e)) from =
+        by_kind before f sent unstated (d, s, less_d, less_s, inr (k, flow, bytes, of, inr e)) from =
             let p : Packet = sender.announcement (dest_of flow.to) flow.pgn (length bytes) in
             let ident = sent_as f.ident 7 (group_of p) d s (packet_group p) less_d less_s (ap (λ (x : Sent). x.identifier) e) in
             from flow.sender of.on (of.held ∙ ap Some (sym ident.source_is)) (announced_planned plan clean w known d s k flow bytes of less_d less_s f e)
@@ -124,8 +107,8 @@ module _ (plan : Plan) (clean : Clean plan) where
         → (before : List Frame) (f : Frame) → sent_of f ≡ claim_frame plan new t → IsSoundFrame plan before f
     claim_sound t unit on claims before f sent =
         let (a, address, fixed) = next.sound.holds t on in
-        let is = claim_told plan clean new next t a on address f sent in
-        let less = next.told.standing.1 t a address in
+        let is = claim_reported plan clean new next t a on address f sent in
+        let less = next.stated.standing.1 t a address in
         let source = is.source in
         inl (
           is.claim,
@@ -146,7 +129,7 @@ module _ (plan : Plan) (clean : Clean plan) where
         → map sent_of before ≡ w.frames → sent_of f ≡ request_frame plan new t → IsSoundFrame plan before f
     request_sound t unit on still before f log_is sent =
         let (a, address, fixed) = next.sound.holds t on in
-        let is = request_told plan clean new next t f sent in
+        let is = request_reported plan clean new next t f sent in
         let at : a ≡ f.ident.sa = sym (is.1 ∙ ap source_of address) in
         let was : w.stations t ≡ new.stations t = ap (λ (x : Stations). x t) (sym still) in
         inr (
@@ -162,18 +145,18 @@ module _ (plan : Plan) (clean : Clean plan) where
           },
         )
 
-    telling_sound : (added : List Sent) → IsTelling plan w new added → (before : List Frame) (f : Frame) (earlier later : List Sent)
+    reporting_sound : (added : List Sent) → IsReporting plan w new added → (before : List Frame) (f : Frame) (earlier later : List Sent)
         → map sent_of before ≡ w.frames ++ earlier → added ≡ earlier ++ sent_of f ∷ later → IsSoundFrame plan before f
-    telling_sound added tells before f earlier later log_is at = elim tells.said [
+    reporting_sound added states before f earlier later log_is at = elim states.said [
       | inl (none, why) ↦ absurd (no_row earlier (sent_of f) later (sym at ∙ none))
       | inr (claims, inl one) ↦
-          claim_sound tells.unit tells.known tells.on claims before f (single earlier later (sent_of f) (claim_frame plan new tells.unit) (sym at ∙ one))
+          claim_sound states.unit states.known states.on claims before f (single earlier later (sent_of f) (claim_frame plan new states.unit) (sym at ∙ one))
       | inr (claims, inr (two, still)) ↦
-          elim (of_two earlier later (sent_of f) (request_frame plan new tells.unit) (claim_frame plan new tells.unit) (sym at ∙ two)) [
+          elim (of_two earlier later (sent_of f) (request_frame plan new states.unit) (claim_frame plan new states.unit) (sym at ∙ two)) [
             | inl (first, asks) ↦
                 let log : map sent_of before ≡ w.frames = log_is ∙ ap (λ (x : List Sent). w.frames ++ x) first ∙ append-nil w.frames in
-                request_sound tells.unit tells.known tells.on still before f log asks
-            | inr claim ↦ claim_sound tells.unit tells.known tells.on claims before f claim
+                request_sound states.unit states.known states.on still before f log asks
+            | inr claim ↦ claim_sound states.unit states.known states.on claims before f claim
           ]
     ]
 
@@ -181,7 +164,7 @@ module _ (plan : Plan) (clean : Clean plan) where
     next_sound sound (added, is, kind) before f behind e = elim (place w.frames added before f behind (e ∙ is)) [
       | inl (front, here) ↦ sound before f front here
       | inr (earlier, later, log_is, at) ↦ elim kind [
-        | inl tells ↦ telling_sound added tells before f earlier later log_is at
+        | inl states ↦ reporting_sound added states before f earlier later log_is at
         | inr sends ↦ message_sound added is sends before f earlier later log_is at
       ]
     ]
@@ -194,7 +177,7 @@ module _ (plan : Plan) (clean : Clean plan) where
   good_next : (w : World) → IsKnownOn plan clean w → IsGood w → (step : Step) → refusal plan w step ≡ None → (new : World) → StepsTo plan w step new → IsGood new
   good_next w known good step allowed new leads =
       let next = known.1 step allowed new leads in
-      let one = one_step plan w known.0.told.standing step allowed new leads in (
+      let one = one_step plan w known.0.stated.standing step allowed new leads in (
         heard_next plan clean w new known.0 next good.0 one,
         next_sound w new known.0 next good.0 step allowed leads good.1 one,
       )

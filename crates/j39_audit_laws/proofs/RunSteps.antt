@@ -1,4 +1,4 @@
--- What each step of a run sends: what a unit tells of its address, or frames of messages.
+-- What each step of a run sends: what a unit reports of its address, or frames of messages.
 use Rattle.std.proofs.Common.{◌≡◌, ◌≢◌, ◌⊎◌, ℕ, ◌<◌, ◌++◌, ◌∷◌, [], List, Bool, true, false, length, map}
 use Rattle.std.proofs.Common.{inl, inr, refl, sym, ap, ◌∙◌, subst, arith, Option, Some, None}
 use Rattle.std.specs.List.{AllByRecursion, slice_get}
@@ -7,7 +7,7 @@ use Rattle.std.proofs.lemmas.List.{append-nil}
 use Rattle.std.proofs.lemmas.Option.{none-some, same_Some}
 use Rattle.std.specs.Prelude.{IfSome}
 use Rattle.j39_claim.specs.declared.item.Item.{Item}
-use Rattle.j39_claim.specs.declared.item.Item.TheVariants.{Told, Request}
+use Rattle.j39_claim.specs.declared.item.Item.TheVariants.{AddressClaimed, Request}
 use Rattle.j39_claim.specs.declared.item.Say.{Say}
 use Rattle.j39_claim.specs.ClaimRule.{ClaimState, PlannedUnit, claim_of, off, said_by, started}
 use Rattle.j39_network.specs.PlannedUnits.{unit_at, units_of}
@@ -18,7 +18,7 @@ use Rattle.j39_network.specs.declared.steps.Step.{Step}
 use Rattle.j39_network.specs.declared.steps.Step.TheVariants.{Up, Down, Give, Ask, Begin, Send, Emit, Take, Lose, LateSender, LateReceiver, Rest}
 use Rattle.j39_id.specs.Addresses.{global_address}
 use Rattle.j39_signal.specs.Selectors.{is_selected}
-use Rattle.j39_tp.proofs.Answering.{IsAside, IsNoAnnouncement, RepliesAside, TellsMessage, TellsNothing, aside_answer, answers_announce_nothing, hears_told, sender_aside, timed_out_aside}
+use Rattle.j39_tp.proofs.Answering.{IsAside, IsNoAnnouncement, RepliesAside, ReportsMessage, HoldsNothing, aside_answer, answers_announce_nothing, hears_stated, sender_aside, timed_out_aside}
 use Rattle.j39_tp.specs.Chunks.{chunk}
 use Rattle.j39_tp.specs.Reasons.{timeout}
 use Rattle.j39_tp.specs.Receiver as receiver
@@ -52,7 +52,7 @@ use Rattle.j39_run_laws.proofs.Runs.ClaimInvariants.{asking_said, asking_silent,
 use Rattle.j39_run_laws.proofs.Runs.Conditions.{is_unit, none_refuses, units_known}
 use Rattle.j39_log_laws.proofs.Standing.{AreStanding, source_below, turn}
 
--- ---- what a unit tells of its address
+-- ---- what a unit reports of its address
 
 abbrev pub name_at : Plan → ℕ → ℕ
 name_at plan u = (unit_at (units_of plan) u).name
@@ -62,13 +62,13 @@ claims_at plan u = (unit_at (units_of plan) u).claims
 
 -- what it holds is claimed by this frame
 abbrev pub claim_frame : Plan → World → ℕ → Sent
-claim_frame plan w u = frame_of (name_at plan u) (w.stations u).address (Told (claim_of (w.stations u).address))
+claim_frame plan w u = frame_of (name_at plan u) (w.stations u).address (AddressClaimed (claim_of (w.stations u).address))
 
 abbrev pub request_frame : Plan → World → ℕ → Sent
 request_frame plan w u = frame_of (name_at plan u) (w.stations u).address Request
 
 -- the unit at this place is on, and has sent nothing, and never claims or holds what it held; or its claim; or a request and its claim
-pub record IsTelling (plan : Plan) (w new : World) (added : List Sent) : Type 0 where
+pub record IsReporting (plan : Plan) (w new : World) (added : List Sent) : Type 0 where
   pub unit : ℕ
   pub known : is_unit plan unit ≡ true
   pub on : (new.stations unit).on ≡ true
@@ -107,7 +107,7 @@ pub record IsSending (plan : Plan) (w new : World) (added : List Sent) : Type 0 
 
 abbrev pub IsOneStep : Plan → World → World → Type 0
 IsOneStep plan w new =
-    (added : List Sent) × (new.frames ≡ w.frames ++ added) × (IsTelling plan w new added ⊎ IsSending plan w new added)
+    (added : List Sent) × (new.frames ≡ w.frames ++ added) × (IsReporting plan w new added ⊎ IsSending plan w new added)
 
 -- ---- each step
 
@@ -145,7 +145,7 @@ module _ (plan : Plan) (w : World) (standing : AreStanding plan w.stations w.cla
                 inr (
                   claims,
                   inl (ap (map frame) (first_said (planned u) claims)
-                      ∙ ap (λ (o : Option ℕ). frame (Told (claim_of o)) ∷ []) (sym held)),
+                      ∙ ap (λ (o : Option ℕ). frame (AddressClaimed (claim_of o)) ∷ []) (sym held)),
                 )
             | inr silent ↦ inl (ap (map frame) (first_silent (planned u) silent), inl silent)
           ];
@@ -193,7 +193,7 @@ module _ (plan : Plan) (w : World) (standing : AreStanding plan w.stations w.cla
                   inr (
                     claims,
                     inl (ap (λ (o : Option Say). map frame (answer_items o)) said.0
-                        ∙ ap (λ (o : Option ℕ). frame (Told (claim_of o)) ∷ []) (sym held)),
+                        ∙ ap (λ (o : Option ℕ). frame (AddressClaimed (claim_of o)) ∷ []) (sym held)),
                   )
             ]
             | inr silent ↦
@@ -216,24 +216,24 @@ module _ (plan : Plan) (w : World) (standing : AreStanding plan w.stations w.cla
   aside_plain : (p : Packet) → IsAside p → IsNoAnnouncement p
   aside_plain p aside = answers_announce_nothing p (aside_answer p aside)
 
-  quiet_plain : (h : Heard) → TellsNothing h → AllByRecursion IsNoAnnouncement (receiver_replies h)
+  quiet_plain : (h : Heard) → HoldsNothing h → AllByRecursion IsNoAnnouncement (receiver_replies h)
   quiet_plain heards.Nothing quiet = tt
   quiet_plain heards.Closed quiet = tt
   quiet_plain heards.Complete never = absurd never
   quiet_plain (heards.Reply p) quiet = (aside_plain p quiet, tt)
   quiet_plain (heards.CompleteReply p) never = absurd never
 
-  told_plain : (h : Heard) → TellsMessage h → AllByRecursion IsNoAnnouncement (receiver_replies h)
-  told_plain heards.Nothing never = absurd never
-  told_plain heards.Closed never = absurd never
-  told_plain heards.Complete told = tt
-  told_plain (heards.Reply p) never = absurd never
-  told_plain (heards.CompleteReply p) told = (answers_announce_nothing p told, tt)
+  reported_plain : (h : Heard) → ReportsMessage h → AllByRecursion IsNoAnnouncement (receiver_replies h)
+  reported_plain heards.Nothing never = absurd never
+  reported_plain heards.Closed never = absurd never
+  reported_plain heards.Complete stated = tt
+  reported_plain (heards.Reply p) never = absurd never
+  reported_plain (heards.CompleteReply p) stated = (answers_announce_nothing p stated, tt)
 
   heard_plain : (u v : ℕ) (p : Packet) → AllByRecursion IsNoAnnouncement (receiver_replies (hearing (windows_of plan) w u v p).1)
-  heard_plain u v p = elim (hears_told (window_at (windows_of plan) v) (w.receivers v u) p) [
+  heard_plain u v p = elim (hears_stated (window_at (windows_of plan) v) (w.receivers v u) p) [
     | inl quiet_one ↦ quiet_plain (hearing (windows_of plan) w u v p).1 quiet_one
-    | inr told ↦ told_plain (hearing (windows_of plan) w u v p).1 told.0
+    | inr stated ↦ reported_plain (hearing (windows_of plan) w u v p).1 stated.0
   ]
 
   reply_plain : (r : Reaction) → RepliesAside r → AllByRecursion IsNoAnnouncement (sender_replies r)

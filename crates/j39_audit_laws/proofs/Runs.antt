@@ -1,17 +1,20 @@
 -- Of the frames of a run of a plan without findings these lines aren't written.
 use Rattle.std.proofs.Common.{◌≡◌, ℕ, zero, suc, ◌<◌, ◌++◌, ◌∷◌, [], List, length, map}
-use Rattle.std.proofs.Common.{inl, inr, refl, sym, ap, ◌∙◌, subst, arith, append_assoc}
+use Rattle.std.proofs.Common.{inl, inr, refl, sym, ap, ◌∙◌, subst, arith, append_assoc, None}
 use Rattle.std.specs.Prelude.{Contains, slice_index_or}
+use Rattle.std.specs.List.{AllByRecursion}
 use Rattle.std.proofs.lemmas.List.Elements.{All-contains, Contains-append_right}
+use Rattle.j39_id.specs.Lines.{Line}
 use Rattle.j39_id.specs.declared.frame.Frame.{Frame}
 use Rattle.j39_findings.specs.Findings.{Clean}
 use Rattle.j39_network.specs.declared.plan.Plan.{Plan}
 use Rattle.j39_world.specs.Sent.{sent_of}
 use Rattle.j39_world.specs.SoundPlan.{Always}
 use Rattle.j39_world.specs.World.{World}
-use Rattle.j39_audit.specs.Settings.{Settings}
+use Rattle.j39_audit.specs.Settings.{AreMoving, Settings}
+use Rattle.j39_audit.specs.declared.mark.Word.{Word}
 use Rattle.j39_audit.specs.declared.mark.Word.TheVariants.{Short, Stranger, Nobody, Address, Cannot, Layout, NoFlow, Priority}
-use Rattle.j39_audit_laws.specs.AuditedRuns.{ArePartsKept, AreFramesOf, IsNotWrittenOf}
+use Rattle.j39_audit_laws.specs.AuditedRuns.{ArePartsKept, AreFramesOf, AreReadAs, IsNotWritten, IsNotWrittenOf}
 use Rattle.j39_audit_laws.proofs.RunAudits.{AreSound, no_address_line, no_cannot_line, no_layout_line, no_no_flow_line, no_nobody_line, no_priority_line, no_short_line, no_stranger_line}
 use Rattle.j39_audit_laws.proofs.RunFrames.{IsSoundFrame}
 use Rattle.j39_audit_laws.proofs.RunSound.{all_sound}
@@ -50,36 +53,39 @@ module _ (s : Settings) (plan : Plan) (same : s.plan ≡ plan) (w : World) (fram
     )
   ]
 
-pub short_of_no_run : (plan : Plan) → Clean plan → Always plan (IsNotWrittenOf Short plan)
-short_of_no_run plan clean steps w run s log frames same moving reads of = no_short_line s log frames reads
+module _ (plan : Plan) (clean : Clean plan) where
+  never_of : (word : Word) → ((s : Settings) → AreMoving s.plan s.moving → (log : List Line) (frames : List Frame) → AreReadAs None log frames
+      → AreSound s frames → IsNotWritten s log word) → Always plan (IsNotWrittenOf word plan)
+  never_of word never steps w run s log frames same moving reads of =
+      never s moving log frames reads (are_sound s plan same w frames of (all_sound plan clean steps w run))
 
-pub stranger_of_no_run : (plan : Plan) → Clean plan → Always plan (IsNotWrittenOf Stranger plan)
-stranger_of_no_run plan clean steps w run s log frames same moving reads of =
-    no_stranger_line s moving log frames reads (are_sound s plan same w frames of (all_sound plan clean steps w run))
-
-pub nobody_of_no_run : (plan : Plan) → Clean plan → Always plan (IsNotWrittenOf Nobody plan)
-nobody_of_no_run plan clean steps w run s log frames same moving reads of =
-    no_nobody_line s moving log frames reads (are_sound s plan same w frames of (all_sound plan clean steps w run))
-
-pub address_of_no_run : (plan : Plan) → Clean plan → Always plan (IsNotWrittenOf Address plan)
-address_of_no_run plan clean steps w run s log frames same moving reads of =
-    no_address_line s moving log frames reads (are_sound s plan same w frames of (all_sound plan clean steps w run))
-
-pub cannot_of_no_run : (plan : Plan) → Clean plan → Always plan (IsNotWrittenOf Cannot plan)
-cannot_of_no_run plan clean steps w run s log frames same moving reads of =
-    no_cannot_line s moving log frames reads (are_sound s plan same w frames of (all_sound plan clean steps w run))
-
-pub layout_of_no_run : (plan : Plan) → Clean plan → Always plan (IsNotWrittenOf Layout plan)
-layout_of_no_run plan clean steps w run s log frames same moving reads of =
-    no_layout_line s moving log frames reads (are_sound s plan same w frames of (all_sound plan clean steps w run))
-
-pub no_flow_of_no_run : (plan : Plan) → Clean plan → Always plan (IsNotWrittenOf NoFlow plan)
-no_flow_of_no_run plan clean steps w run s log frames same moving reads of =
-    no_no_flow_line s moving log frames reads (are_sound s plan same w frames of (all_sound plan clean steps w run))
-
-pub priority_of_no_run : (plan : Plan) → Clean plan → Always plan (IsNotWrittenOf Priority plan)
-priority_of_no_run plan clean steps w run s log frames same moving reads of =
-    no_priority_line s moving log frames reads (are_sound s plan same w frames of (all_sound plan clean steps w run))
+  pub never_written : Always plan (λ (w : World). AllByRecursion (λ (word : Word). IsNotWrittenOf word plan w)
+      (Short ∷ Stranger ∷ Nobody ∷ Address ∷ Cannot ∷ Layout ∷ NoFlow ∷ Priority ∷ []))
+  never_written steps w run = (
+    λ s log frames same moving reads of. no_short_line s log frames reads,
+    (
+      never_of Stranger no_stranger_line steps w run,
+      (
+        never_of Nobody no_nobody_line steps w run,
+        (
+          never_of Address no_address_line steps w run,
+          (
+            never_of Cannot no_cannot_line steps w run,
+            (
+              never_of Layout no_layout_line steps w run,
+              (
+                never_of NoFlow no_no_flow_line steps w run,
+                (
+                  never_of Priority no_priority_line steps w run,
+                  tt,
+                ),
+              ),
+            ),
+          ),
+        ),
+      ),
+    ),
+  )
 
 -- and each unit keeps its part
 pub parts_of_runs : (plan : Plan) → Clean plan → Always plan (ArePartsKept plan)

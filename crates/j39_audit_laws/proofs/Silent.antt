@@ -1,4 +1,4 @@
--- A flow is told as silent exactly where no pauses lead from a message to a bound behind it.
+-- A flow is reported as silent exactly where no pauses lead from a message to a bound behind it.
 use Rattle.std.proofs.Common.{◌≡◌, ◌↔◌, ℕ, zero, suc, ◌+◌, ◌-◌, ◌*◌, ◌<◌, ◌≤◌, ◌⊎◌, Bool, true, false, refl, sym, ap, arith, inl, inr, Option, Some, None}
 use Rattle.std.proofs.lemmas.Bool.{cases_Bool, cases_eq, cases_lt, ltb-true, lt-ltb, true≢false}
 use Rattle.j39_audit.specs.declared.window.Window.{Window}
@@ -47,18 +47,18 @@ module _ (pause : ℕ) (windows : ℕ → Window) where
   IsOfBound : ℕ → ℕ → Type 0
   IsOfBound m l = (i : ℕ) × (i ≤ m) × (l ≡ (windows i).upper + (m - i) * pause)
 
-  abbrev told_at : ℕ → Bool
-  told_at k = is_silent pause windows k (windows k).lower
+  abbrev stated_at : ℕ → Bool
+  stated_at k = is_silent pause windows k (windows k).lower
 
   next_is : (j : ℕ) → (latest pause windows (suc j) ≡ Some (windows j).upper)
       ⊎ (latest pause windows (suc j) ≡ Some (within_pause pause (latest pause windows j) (windows j).upper))
   unfolding latest
-  next_is j = elim (cases_Bool (told_at j)) [
+  next_is j = elim (cases_Bool (stated_at j)) [
     | inl silent ↦ inl (rw (silent) refl)
     | inr not ↦ inr (rw (not) refl)
   ]
 
-  next_where_not : (j : ℕ) → told_at j ≡ false → latest pause windows (suc j) ≡ Some (within_pause pause (latest pause windows j) (windows j).upper)
+  next_where_not : (j : ℕ) → stated_at j ≡ false → latest pause windows (suc j) ≡ Some (within_pause pause (latest pause windows j) (windows j).upper)
   unfolding latest
   next_where_not j not = rw (not) refl
 
@@ -85,8 +85,8 @@ module _ (pause : ℕ) (windows : ℕ → Window) where
     ]
   ]
 
-  -- where none was told before, it is no more than each
-  no_more : (j : ℕ) → ((k : ℕ) → k < suc j → told_at k ≡ false) → (i : ℕ) → i ≤ j
+  -- where none was reported before, it is no more than each
+  no_more : (j : ℕ) → ((k : ℕ) → k < suc j → stated_at k ≡ false) → (i : ℕ) → i ≤ j
       → (l : ℕ) × (latest pause windows (suc j) ≡ Some l) × (l ≤ (windows i).upper + (j - i) * pause)
   no_more zero none i up =
       let same : i ≡ 0 = omega (arith, up) in
@@ -109,16 +109,16 @@ module _ (pause : ℕ) (windows : ℕ → Window) where
             (within_pause pause (latest pause windows (suc j)) (windows (suc j)).upper, kept, omega (arith, less, far, one))
       ]
 
-  pub told_silent : (j : ℕ) (lower : Option ℕ) → is_silent pause windows j lower ≡ true → IsTooFar pause windows j lower
+  pub reported_silent : (j : ℕ) (lower : Option ℕ) → is_silent pause windows j lower ≡ true → IsTooFar pause windows j lower
   unfolding IsOfBound latest
-  told_silent zero lower is = let (m, y, kept, bound, less) = behind_is pause None lower is in absurd (grind (arith, kept))
-  told_silent (suc j) lower is =
+  reported_silent zero lower is = let (m, y, kept, bound, less) = behind_is pause None lower is in absurd (grind (arith, kept))
+  reported_silent (suc j) lower is =
       let (m, y, kept, bound, less) = behind_is pause (latest pause windows (suc j)) lower is in
       let (i, up, steps) = of_bounds j m kept in
       let one = one_more i j pause up in
       record { first = i; before = omega (arith, up); bound = y; is = bound; gap = omega (arith, less, steps, one) }
 
-  found_silent : (j : ℕ) → ((k : ℕ) → k < j → told_at k ≡ false) → (lower : Option ℕ) → IsTooFar pause windows j lower → is_silent pause windows j lower ≡ true
+  found_silent : (j : ℕ) → ((k : ℕ) → k < j → stated_at k ≡ false) → (lower : Option ℕ) → IsTooFar pause windows j lower → is_silent pause windows j lower ≡ true
   found_silent zero none lower far = let before = far.before in absurd (omega (arith, before))
   found_silent (suc j) none lower far =
       let i = far.first in
@@ -129,16 +129,16 @@ module _ (pause : ℕ) (windows : ℕ → Window) where
       let one = one_more i j pause inside in
       lies_behind_at pause (latest pause windows (suc j)) lower l far.bound kept far.is (omega (arith, less, one, gap))
 
-  pub first_silent : (j : ℕ) → ((k : ℕ) → k < j → told_at k ≡ false) → (lower : Option ℕ)
+  pub first_silent : (j : ℕ) → ((k : ℕ) → k < j → stated_at k ≡ false) → (lower : Option ℕ)
       → (is_silent pause windows j lower ≡ true) ↔ IsTooFar pause windows j lower
-  first_silent j none lower = (told_silent j lower, found_silent j none lower)
+  first_silent j none lower = (reported_silent j lower, found_silent j none lower)
 
-  pub some_silent : (n : ℕ) → ((j : ℕ) × (j < n) × (told_at j ≡ true)) ↔ ((j : ℕ) × (j < n) × IsTooFar pause windows j (windows j).lower)
+  pub some_silent : (n : ℕ) → ((j : ℕ) × (j < n) × (stated_at j ≡ true)) ↔ ((j : ℕ) × (j < n) × IsTooFar pause windows j (windows j).lower)
   some_silent n = (
-    λ told. let (j, inside, is) = told in (j, inside, told_silent j (windows j).lower is),
+    λ stated. let (j, inside, is) = stated in (j, inside, reported_silent j (windows j).lower is),
     λ found.
         let (j, inside, far) = found in
-        elim (first_or_none told_at j) [
+        elim (first_or_none stated_at j) [
           | inl it ↦ let (k, below, is, first) = it in (k, omega (arith, below, inside), is)
           | inr none ↦ (j, inside, found_silent j none (windows j).lower far)
         ],

@@ -1,4 +1,4 @@
--- A flow of which no message comes for long, while its ends are there, is told as silent.
+-- A flow of which no message comes for long, while its ends are there, is reported as silent.
 use Rattle.std.proofs.Common.{◌≡◌, ◌≢◌, ◌⊎◌, ℕ, ◌+◌, ◌-◌, ◌*◌, ◌^◌, ◌<◌, ◌≤◌, List, [], Bool, true, false, length}
 use Rattle.std.proofs.Common.{inl, inr, refl, sym, ap, ◌∙◌, subst, arith, Option, Some, None}
 use Rattle.std.specs.Prelude.{Contains}
@@ -28,7 +28,7 @@ use Rattle.j39_audit_laws.specs.MarkRecords.{KeepsTime}
 use Rattle.j39_audit_laws.specs.PauseLines.{BeginsAnew, ClaimEndsPause, CountsFor, EndsPauseAt, FrameLine, IsBadAt, IsMessageAt, IsSeenOf, IsUnclearOf, time_there}
 use Rattle.j39_audit_laws.specs.SilentFlows.{AreFramesOnBus, IsEndOfFlow, IsLongSilent}
 use Rattle.j39_audit_laws.proofs.PauseFrames as frames
-use Rattle.j39_audit_laws.proofs.PauseSteps.{AreShown, IsLate, IsOpen, IsTold, Watched, all_keep, all_told, bound, told_on}
+use Rattle.j39_audit_laws.proofs.PauseSteps.{AreShown, IsLate, IsOpen, IsStated, Watched, all_keep, all_stated, bound, reported_on}
 use Rattle.j39_audit_laws.proofs.Walk.{IsFrameNext, IsNext, IsNoFrame, at_end, bad_no_frame, inside_log, load_with, one_frame_at}
 
 cases_le : (m n : ℕ) → (m ≤ n) ⊎ (n < m)
@@ -100,7 +100,7 @@ module _ (plain : Settings) (log : List Line) (t : Timing) (timed : plain.plan.t
 
   abbrev pub Holds : ℕ → AuditPast → Type 0
   Holds number past = (past.number ≡ number)
-      × ((number < long.first) ⊎ (IsTold s w past.by_load ⊎ ((long.first ≤ number) × GoesOn number × IsWatched number past.by_load)))
+      × ((number < long.first) ⊎ (IsStated s w past.by_load ⊎ ((long.first ≤ number) × GoesOn number × IsWatched number past.by_load)))
 
   all_shown : (number : ℕ) (m : Moments) → long.last ≤ number → IsWatched number m → AreShown s w m
   all_shown number m after is u end =
@@ -229,7 +229,7 @@ module _ (plain : Settings) (log : List Line) (t : Timing) (timed : plain.plan.t
       abbrev Still : Type 0
       Still = frames.IsStill plain w broken anew time f at.past.number noted ending m new
 
-      goes_there : Still ⊎ IsTold s w new
+      goes_there : Still ⊎ IsStated s w new
       goes_there = frames.frame_goes plain w broken anew time f at.past.number noted ending m is.opened quiet timeless ends_behind late_message
 
       watched : Still → IsWatched number new
@@ -318,7 +318,7 @@ module _ (plain : Settings) (log : List Line) (t : Timing) (timed : plain.plan.t
   }
 
   abbrev Then : ℕ → AuditPast → Type 0
-  Then number past = (number < long.first) ⊎ (IsTold s w past.by_load ⊎ ((long.first ≤ number) × GoesOn number × IsWatched number past.by_load))
+  Then number past = (number < long.first) ⊎ (IsStated s w past.by_load ⊎ ((long.first ≤ number) × GoesOn number × IsWatched number past.by_load))
 
   passes_on : (number : ℕ) (past next : AuditPast) → IsNoFrame plain log (number + 1) → ¬ IsBadAt plain log (number + 1)
       → next.by_load.newest n ≡ past.by_load.newest n → ((u : ℕ) → next.by_load.last u ≡ past.by_load.last u) → long.first ≤ number → GoesOn number
@@ -336,17 +336,17 @@ module _ (plain : Settings) (log : List Line) (t : Timing) (timed : plain.plan.t
       ap (λ (p : AuditPast). p.by_load) one.next_is ∙ load_with plain one.at.past (line_time plain.plan one.at.time) one.at.named one.f one.packet
       ∙ ap (λ (p : AuditPast). moments_with_frame s plain one.at.past (line_time plain.plan one.at.time) one.f one.packet p.by_load) one.past_is
 
-  -- told is told
-  stays_told : (number : ℕ) (past next : AuditPast) → IsNext plain log (number + 1) past next → IsTold s w past.by_load → IsTold s w next.by_load
-  stays_told number past next (count, inl passed) told = subst (IsTold s w) (sym passed.load_is) told
-  stays_told number past next (count, inr (inl gap)) told =
-      subst (IsTold s w) (sym gap.load_is) (record { note = told.note; noted = told.noted; mark_is = told.mark_is })
-  stays_told number past next (count, inr (inr (inl bad))) told =
-      let all = told_on s w past.by_load (all_pauses_ended s past.by_load) (all_keep s past.by_load) told in
-      subst (IsTold s w) (sym (ap (λ (p : AuditPast). p.by_load) bad.next_is)) (record { note = all.note; noted = all.noted; mark_is = all.mark_is })
-  stays_told number past next (count, inr (inr (inr one))) told =
-      subst (IsTold s w) (sym (load_next number past next one))
-      (told_on s w past.by_load _ (frames.frame_keeps plain w _ _ _ one.f one.at.past.number _ _ past.by_load) told)
+  -- reported is reported
+  stays_reported : (number : ℕ) (past next : AuditPast) → IsNext plain log (number + 1) past next → IsStated s w past.by_load → IsStated s w next.by_load
+  stays_reported number past next (count, inl passed) stated = subst (IsStated s w) (sym passed.load_is) stated
+  stays_reported number past next (count, inr (inl gap)) stated =
+      subst (IsStated s w) (sym gap.load_is) (record { note = stated.note; noted = stated.noted; mark_is = stated.mark_is })
+  stays_reported number past next (count, inr (inr (inl bad))) stated =
+      let all = reported_on s w past.by_load (all_pauses_ended s past.by_load) (all_keep s past.by_load) stated in
+      subst (IsStated s w) (sym (ap (λ (p : AuditPast). p.by_load) bad.next_is)) (record { note = all.note; noted = all.noted; mark_is = all.mark_is })
+  stays_reported number past next (count, inr (inr (inr one))) stated =
+      subst (IsStated s w) (sym (load_next number past next one))
+      (reported_on s w past.by_load _ (frames.frame_keeps plain w _ _ _ one.f one.at.past.number _ _ past.by_load) stated)
 
   -- while the pause goes on, at each line
   goes_more : (number : ℕ) (past next : AuditPast) → past.number ≡ number → IsNext plain log (number + 1) past next → long.first ≤ number → GoesOn number
@@ -362,15 +362,15 @@ module _ (plain : Settings) (log : List Line) (t : Timing) (timed : plain.plan.t
         | inl between ↦ absurd (long.unended (number + 1) (omega (arith, first)) between (inl bad.bad))
         | inr behind ↦ omega (arith, behind)
       ] in
-      let told = all_told s w past.by_load is.opened (all_shown number past.by_load after is) in
-      inr (inl (subst (IsTold s w) (sym (ap (λ (p : AuditPast). p.by_load) bad.next_is))
-      (record { note = told.note; noted = told.noted; mark_is = told.mark_is })))
+      let stated = all_stated s w past.by_load is.opened (all_shown number past.by_load after is) in
+      inr (inl (subst (IsStated s w) (sym (ap (λ (p : AuditPast). p.by_load) bad.next_is))
+      (record { note = stated.note; noted = stated.noted; mark_is = stated.mark_is })))
   goes_more number past next at (count, inr (inr (inr one))) first goes is =
       let q : ℕ = number + 1 in
       let counted : past.number + 1 ≡ q = ap (λ (k : ℕ). k + 1) at in
       let load = load_next number past next one in
       elim (goes_there q past one.claims one.f one.packet one.at one.past_is counted number refl first goes is) [
-        | inr told ↦ inr (inl (subst (IsTold s w) (sym load) told))
+        | inr stated ↦ inr (inl (subst (IsStated s w) (sym load) stated))
         | inl still ↦ elim (goes_next number goes) [
           | inl on ↦
               let there = watched q past one.claims one.f one.packet one.at one.past_is counted number refl first goes is still in
@@ -419,7 +419,7 @@ module _ (plain : Settings) (log : List Line) (t : Timing) (timed : plain.plan.t
       | inl here ↦ begins number past next at is here
       | inr apart ↦ elim state [
         | inl before ↦ inl (omega (arith, before, apart))
-        | inr (inl told) ↦ inr (inl (stays_told number past next is told))
+        | inr (inl stated) ↦ inr (inl (stays_reported number past next is stated))
         | inr (inr (first, goes, watches)) ↦ goes_more number past next at is first goes watches
       ]
     ],
@@ -429,17 +429,17 @@ module _ (plain : Settings) (log : List Line) (t : Timing) (timed : plain.plan.t
   inside_there number l = inside_log plain log number l.at.past (ShortLine l.at.line) l.at.line_is
 
   -- behind the last line, once all pauses have ended
-  pub told_at_end : (end : AuditPast) → AuditsLines plain nothing_read log end → IsTold s w (all_pauses_ended s end.by_load)
-  told_at_end end read =
+  pub yielded_at_end : (end : AuditPast) → AuditsLines plain nothing_read log end → IsStated s w (all_pauses_ended s end.by_load)
+  yielded_at_end end read =
       let first = inside_there long.first long.message.line in
       let there = long.still long.flow.sender (inl refl) in
       let behind = there.behind in
       let begin : Holds 0 nothing_read = (refl, inl (starts behind)) in
       elim (at_end plain log Holds more end begin read).1 [
         | inl before ↦ absurd (omega (arith, first, before))
-        | inr (inl told) ↦ told_on s w end.by_load (all_pauses_ended s end.by_load) (all_keep s end.by_load) told
+        | inr (inl stated) ↦ reported_on s w end.by_load (all_pauses_ended s end.by_load) (all_keep s end.by_load) stated
         | inr (inr (_, _, is)) ↦
-            all_told s w end.by_load is.opened (λ u its. is.shown u its (inside_there (long.still u its).number (long.still u its).line))
+            all_stated s w end.by_load is.opened (λ u its. is.shown u its (inside_there (long.still u its).number (long.still u its).line))
       ]
     where
       starts : long.first < (long.still long.flow.sender (inl refl)).number → 0 < long.first

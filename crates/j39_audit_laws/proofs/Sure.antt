@@ -1,4 +1,4 @@
--- Who sent the frames of a log can be told by who the sure senders are, and of the frames of a run each unit keeps its part then.
+-- Who sent the frames of a log can be reported by who the sure senders are, and of the frames of a run each unit keeps its part then.
 use Rattle.std.proofs.Common.{◌≡◌, ◌≢◌, ◌⊎◌, ℕ, ◌+◌, ◌≤◌, ◌==◌, ◌++◌, ◌∷◌, [], List, true, false, length, if◌then◌else◌}
 use Rattle.std.proofs.Common.{inl, inr, refl, sym, ap, ◌∙◌, subst, arith, append_assoc, Option, Some, None}
 use Rattle.std.proofs.lemmas.Bool.{cases_Bool, cases_eq, cond-false, cond-true, eq-eqb, ne_eqb}
@@ -11,6 +11,7 @@ use Rattle.j39_id.specs.FrameMeaning.{name_in}
 use Rattle.j39_id.specs.Lines.{Line, Short as ShortLine, Long}
 use Rattle.j39_id.specs.Services.{address_claimed, connection_management}
 use Rattle.j39_id.specs.declared.frame.Frame.{Frame}
+use Rattle.j39_follow.proofs.OneText.{one_interface, one_part, one_time}
 use Rattle.j39_follow.specs.LogLines.{IsElsewhere, IsReadPart, IsTimeText, NamesInterface}
 use Rattle.j39_follow.specs.Who.{unit_of_name}
 use Rattle.j39_tp.specs.declared.packet.Packet.{Packet}
@@ -25,8 +26,8 @@ use Rattle.j39_audit.proofs.Hearing.{line_more}
 use Rattle.j39_audit_laws.specs.AuditedRuns.{AreReadAs}
 use Rattle.j39_audit_laws.specs.FoundLines.{IsFrameAt, IsLineOf}
 use Rattle.j39_audit_laws.specs.OwnPart.{AlwaysCan, AreItsOwn, ClaimsAddresses, ClaimsItsOwn, EachKeepsItsPart, IsItsAddress, LooksAsPlanned, SentBy}
-use Rattle.j39_audit_laws.proofs.Lines.{same_cut}
-use Rattle.j39_audit_laws.proofs.OneReading.{one_interface, one_log_read, one_part, one_time}
+use Rattle.j39_audit_laws.proofs.Lines.{frame_at, same_cut}
+use Rattle.j39_audit_laws.proofs.OneReading.{one_log_read}
 use Rattle.j39_audit_laws.proofs.Own.{claim_number}
 use Rattle.j39_audit_laws.proofs.RunAudits.{AreSound, its_claim, its_frame, its_sender}
 use Rattle.j39_audit_laws.proofs.RunMessages.{other_none}
@@ -36,10 +37,10 @@ unit_in (OfUnit u) = Some u
 unit_in Nobody = None
 unit_in Unknown = None
 
-unit_told : (sure : SureSender) (u : ℕ) → unit_in sure ≡ Some u → sure ≡ OfUnit u
-unit_told (OfUnit v) u e = ap OfUnit (same_Some v u e)
-unit_told Nobody u e = absurd (none-some u e)
-unit_told Unknown u e = absurd (none-some u e)
+unit_stated : (sure : SureSender) (u : ℕ) → unit_in sure ≡ Some u → sure ≡ OfUnit u
+unit_stated (OfUnit v) u e = ap OfUnit (same_Some v u e)
+unit_stated Nobody u e = absurd (none-some u e)
+unit_stated Unknown u e = absurd (none-some u e)
 
 -- the unit of a claim's NAME, or the sure sender
 abbrev sure_unit : Settings → HeardClaims → Frame → Option ℕ
@@ -101,19 +102,8 @@ module _ (s : Settings) (log : List Line) where
         claims_before s (with_next_number past) (line_time s.plan time),
         f,
         packet,
-        record {
-          past = with_next_number past;
-          line = l;
-          line_is = is;
-          part = part;
-          named = named;
-          reads = record { part_is = part_is; named_is = named_is; here = here };
-          time = time;
-          spelled = spelled;
-          time_is = text;
-          packet_is = packet_is;
-          claims_are = refl;
-        },
+        frame_at s log n (with_next_number past) l part named f time packet is (record { part_is = part_is; named_is = named_is; here = here }) spelled text
+            packet_is,
       )
   line_kind n past (ShortLine l) next (part, named, part_is, named_is, inr (here, inr (fault, has, e))) is = inr (λ found.
       let at = found.3 in
@@ -122,7 +112,7 @@ module _ (s : Settings) (log : List Line) where
       let same : at.part ≡ part = one_part l at.part part (subst (λ (x : List ℕ). IsReadPart x at.part) line at.reads.part_is) part_is in
       not_both part found.1 fault (subst (λ (x : List ℕ). Spells x found.1) same at.spelled) has)
 
-  -- those of the first lines are told
+  -- those of the first lines are reported
   record SureSoFar (before : List Line) : Type 0 where
     sent : SentBy
     right : (n : ℕ) (c : HeardClaims) (f : Frame) (p : Option Packet) → IsFrameAt s log n c f p → n ≤ length before → sent n ≡ sure_unit s c f
@@ -136,38 +126,38 @@ module _ (s : Settings) (log : List Line) where
 
   one_more : (before : List Line) (past : AuditPast) (line : Line) (behind : List Line) (next : AuditPast) → log ≡ before ++ line ∷ behind
       → AuditsLines s nothing_read before past → AuditsLine s past line next → SureSoFar before → SureSoFar (before ++ line ∷ [])
-  one_more before past line behind next row read takes told =
+  one_more before past line behind next row read takes stated =
       let n : ℕ = length before + 1 in
       let is : IsLineOf s log n (with_next_number past) line =
       record { before = before; behind = behind; row = row; number_is = refl; just = past; read = read; past_is = refl } in
       let long = length-append before (line ∷ []) in
       elim (line_kind n past line next takes is) [
         | inr none ↦ record {
-          sent = told.sent;
+          sent = stated.sent;
           right = λ k c f p at less. elim (cases_eq k n) [
             | inl same ↦ absurd (none (c, f, p, subst (λ (i : ℕ). IsFrameAt s log i c f p) same at))
-            | inr other ↦ told.right k c f p at (omega (arith, less, long, other))
+            | inr other ↦ stated.right k c f p at (omega (arith, less, long, other))
           ];
         }
         | inl (d, g, q, there) ↦ record {
-          sent = λ k. if k == n then sure_unit s d g else told.sent k;
+          sent = λ k. if k == n then sure_unit s d g else stated.sent k;
           right = λ k c f p at less. elim (cases_eq k n) [
             | inl same ↦
-                cond-true (k == n) (sure_unit s d g) (told.sent k) (eq-eqb k n same)
+                cond-true (k == n) (sure_unit s d g) (stated.sent k) (eq-eqb k n same)
                 ∙ one_frame_at n d c g f q p there (subst (λ (i : ℕ). IsFrameAt s log i c f p) same at)
             | inr other ↦
-                cond-false (k == n) (sure_unit s d g) (told.sent k) (ne_eqb k n other)
-                ∙ told.right k c f p at (omega (arith, less, long, other))
+                cond-false (k == n) (sure_unit s d g) (stated.sent k) (ne_eqb k n other)
+                ∙ stated.right k c f p at (omega (arith, less, long, other))
           ];
         }
       ]
 
   all_sure : (before rest : List Line) (past end : AuditPast) → log ≡ before ++ rest → AuditsLines s nothing_read before past → SureSoFar before
       → AuditsLines s past rest end → SureSoFar log
-  all_sure before [] past end row read told e = subst SureSoFar (sym (row ∙ append-nil before)) told
-  all_sure before (line ∷ rest) past end row read told (next, takes, more) =
+  all_sure before [] past end row read stated e = subst SureSoFar (sym (row ∙ append-nil before)) stated
+  all_sure before (line ∷ rest) past end row read stated (next, takes, more) =
       all_sure (before ++ line ∷ []) rest next end (row ∙ sym (append_assoc before (line ∷ []) rest))
-      (line_more s before line nothing_read past next read takes) (one_more before past line rest next row read takes told) more
+      (line_more s before line nothing_read past next read takes) (one_more before past line rest next row read takes stated) more
 
   sure : (end : AuditPast) → AuditsLines s nothing_read log end → SureSoFar log
   sure end read = all_sure [] log nothing_read end refl refl (record {
@@ -177,41 +167,41 @@ module _ (s : Settings) (log : List Line) where
 
   -- ---- each unit
 
-  module _ (told : SureSoFar log) where
-    sent_so : (n : ℕ) (c : HeardClaims) (f : Frame) (p : Option Packet) → IsFrameAt s log n c f p → told.sent n ≡ sure_unit s c f
-    sent_so n c f p at = told.right n c f p at (number_of n c f p at).1
+  module _ (stated : SureSoFar log) where
+    sent_so : (n : ℕ) (c : HeardClaims) (f : Frame) (p : Option Packet) → IsFrameAt s log n c f p → stated.sent n ≡ sure_unit s c f
+    sent_so n c f p at = stated.right n c f p at (number_of n c f p at).1
 
     of_claim : (n : ℕ) (c : HeardClaims) (f : Frame) (p : Option Packet) → IsFrameAt s log n c f p → is_claim f ≡ true
-        → told.sent n ≡ unit_of_name s.plan (name_in f)
+        → stated.sent n ≡ unit_of_name s.plan (name_in f)
     of_claim n c f p at claim = sent_so n c f p at ∙ cond-true (is_claim f) _ _ claim
 
     of_other : (n : ℕ) (c : HeardClaims) (f : Frame) (p : Option Packet) → IsFrameAt s log n c f p → is_claim f ≡ false → is_address f.ident.sa ≡ true
-        → told.sent n ≡ unit_in (sender_at s (knowledge s c) f.ident.sa)
+        → stated.sent n ≡ unit_in (sender_at s (knowledge s c) f.ident.sa)
     of_other n c f p at other address =
         sent_so n c f p at ∙ cond-false (is_claim f) _ _ other ∙ cond-true (is_address f.ident.sa) _ _ address
 
     of_none : (n : ℕ) (c : HeardClaims) (f : Frame) (p : Option Packet) → IsFrameAt s log n c f p → is_claim f ≡ false → is_address f.ident.sa ≡ false
-        → told.sent n ≡ None
+        → stated.sent n ≡ None
     of_none n c f p at other outside =
         sent_so n c f p at ∙ cond-false (is_claim f) _ _ other ∙ cond-false (is_address f.ident.sa) _ _ outside
 
-    own : (u : ℕ) → AreItsOwn s log told.sent u
+    own : (u : ℕ) → AreItsOwn s log stated.sent u
     own u = record {
       frames = λ n c f p at other address is. of_other n c f p at other address ∙ ap unit_in is;
       claims = λ n c f p at claim is. of_claim n c f p at claim ∙ is;
     }
 
     module _ (moving : AreMoving s.plan s.moving) (frames : List Frame) (reads : AreReadAs None log frames) (sound : AreSound s frames) (u : ℕ) where
-      can : AlwaysCan s log told.sent u
+      can : AlwaysCan s log stated.sent u
       can n c f p at its claim = (its_claim s moving log frames reads sound n c f p at claim).some
 
-      claims : ClaimsItsOwn s log told.sent u
+      claims : ClaimsItsOwn s log stated.sent u
       claims n c f p at its claim some =
           let is = its_claim s moving log frames reads sound n c f p at claim in
           let same : is.unit ≡ u = same_Some is.unit u (sym is.unit_is ∙ sym (of_claim n c f p at claim) ∙ its) in
           (subst (ClaimsAddresses s.plan) same is.claims, subst (λ (v : ℕ). IsItsAddress s.plan v f.ident.sa) same is.own)
 
-      looks : LooksAsPlanned s log told.sent u
+      looks : LooksAsPlanned s log stated.sent u
       looks n c f p at its m message number = elim (cases_Bool (is_claim f)) [
         | inl claim ↦
             let number_is = claim_number f claim in
@@ -220,7 +210,7 @@ module _ (s : Settings) (log : List Line) where
           | inr outside ↦ absurd (none-some u (sym (of_none n c f p at other outside) ∙ its))
           | inl address ↦
               let theirs = its_frame s moving log frames reads sound n c f p at other address in
-              let is = unit_told (sender_at s (knowledge s c) f.ident.sa) u (sym (of_other n c f p at other address) ∙ its) in
+              let is = unit_stated (sender_at s (knowledge s c) f.ident.sa) u (sym (of_other n c f p at other address) ∙ its) in
               let same = its_sender s moving c theirs.unit f.ident.sa theirs.inside theirs.own theirs.last u is in
               let sent : message_sent theirs.is.unit f p ≡ Some m =
               subst (λ (v : ℕ). message_sent v f p ≡ Some m) (sym (theirs.unit_is ∙ same)) message in
@@ -234,12 +224,12 @@ module _ (s : Settings) (log : List Line) where
 pub each_keeps : (s : Settings) (log : List Line) (frames : List Frame) (end : AuditPast) → AreMoving s.plan s.moving → AreReadAs None log frames
     → AreSound s frames → AuditsLines s nothing_read log end → EachKeepsItsPart s log
 each_keeps s log frames end moving reads sound read =
-    let told = sure s log end read in (
-      told.sent,
+    let stated = sure s log end read in (
+      stated.sent,
       λ u. (
-        own s log told u,
-        can s log told moving frames reads sound u,
-        claims s log told moving frames reads sound u,
-        looks s log told moving frames reads sound u,
+        own s log stated u,
+        can s log stated moving frames reads sound u,
+        claims s log stated moving frames reads sound u,
+        looks s log stated moving frames reads sound u,
       ),
     )

@@ -3,7 +3,7 @@ use Rattle.std.proofs.Common.{◌≡◌, ℕ, ◌+◌, ◌==◌, ◌++◌, ◌�
 use Rattle.std.specs.Prelude.{count_by, nat_lt}
 use Rattle.std.specs.List.{slice_get}
 use Rattle.std.specs.Option.{option_map_or}
-use Rattle.std.proofs.lemmas.Bool.{cond_both, true≢false}
+use Rattle.std.proofs.lemmas.Bool.{cond_both}
 use Rattle.j39_id.specs.Addresses.{is_address, null_address}
 use Rattle.j39_id.specs.FrameMeaning.{name_in, requests_group}
 use Rattle.j39_id.specs.Lines.{Line}
@@ -13,19 +13,19 @@ use Rattle.j39_tp.specs.declared.packet.Packet.{Packet}
 use Rattle.j39_audit.specs.AuditText.{AuditPast, AuditsLines, claims_before, look_at, mark_at, noted_newly, nothing_read, past_with_frame}
 use Rattle.j39_audit.specs.Breaks.{breaks, line_time}
 use Rattle.j39_audit.specs.Claiming.{HeardClaims, Knowledge, knowledge, sender_at}
-use Rattle.j39_audit.specs.Counting.{Noted, told_at, told_of}
+use Rattle.j39_audit.specs.Counting.{Noted, reported_at, occurrences_of}
 use Rattle.j39_audit.specs.Looking.{break_noted, claim_noted, claim_place, counted, frame_noted, is_above_unplanned, is_claim, is_urgent, mark_noted, message_noted, message_sent, noted_if, noted_with, request_noted, requested, sent_noted}
 use Rattle.j39_audit.specs.SentMessages.{SentMessage, all_marked, deviation, flows_noted, is_nearest_flow, is_nearest_request, marked, noted_at, requests_noted}
 use Rattle.j39_audit.specs.Settings.{AreMoving, Settings}
 use Rattle.j39_audit.specs.declared.mark.Mark.{Mark}
 use Rattle.j39_audit.specs.declared.mark.Word.{Word}
-use Rattle.j39_audit.specs.declared.mark.Word.TheVariants.{Short, Stranger, Nobody as NobodyThere, Address, Cannot, Layout, NoFlow, Priority, Urgent, Seen, Unclear, Asked, Counted, Unsure, Break, NearFlow, NearRequest, SilentFlow, Deaf, NearPackets, SilentPackets, NearOrLate, SilentOrLate}
+use Rattle.j39_audit.specs.declared.mark.Word.TheVariants.{Short, Stranger, Address, Cannot, Urgent, Seen, Unclear, Asked, Counted, Unsure, Break}
 use Rattle.j39_audit.specs.declared.senders.SureSender.{SureSender}
 use Rattle.j39_audit.specs.declared.senders.SureSender.TheVariants.{Unit as OfUnit, Nobody, Unknown}
 use Rattle.j39_audit_laws.specs.FoundForSure.{ClaimsArePlanned, HasFixedUnits, UnsureIsNone}
 use Rattle.j39_audit_laws.proofs.FixedUnits.{is_sure, own_there}
 use Rattle.j39_audit_laws.proofs.Hits.{HaveWords, no_hits, words_below, words_both, words_if}
-use Rattle.j39_audit_laws.proofs.Marking.{IsDeviation, differs_so, is_of_message}
+use Rattle.j39_audit_laws.proofs.Marking.{IsDeviation, by_words, differs_so, is_of_message}
 use Rattle.j39_audit_laws.proofs.Walk.{IsNext, at_end}
 
 abbrev is_sure_word : Word → Bool
@@ -33,29 +33,7 @@ is_sure_word Unsure = false
 is_sure_word _ = true
 
 sure_message : (w : Word) → is_of_message w ≡ true → is_sure_word w ≡ true
-sure_message Unsure is = absurd (true≢false (sym is))
-sure_message Layout is = refl
-sure_message NoFlow is = refl
-sure_message Priority is = refl
-sure_message Short is = refl
-sure_message Stranger is = refl
-sure_message NobodyThere is = refl
-sure_message Address is = refl
-sure_message Cannot is = refl
-sure_message Urgent is = refl
-sure_message Seen is = refl
-sure_message Unclear is = refl
-sure_message Asked is = refl
-sure_message Counted is = refl
-sure_message Break is = refl
-sure_message NearFlow is = refl
-sure_message NearRequest is = refl
-sure_message SilentFlow is = refl
-sure_message Deaf is = refl
-sure_message NearPackets is = refl
-sure_message SilentPackets is = refl
-sure_message NearOrLate is = refl
-sure_message SilentOrLate is = refl
+sure_message = by_words is_of_message is_sure_word refl
 
 abbrev AreSure : List Noted → Type 0
 AreSure xs = HaveWords is_sure_word xs
@@ -157,10 +135,10 @@ module _ (s : Settings) (log : List Line) (moving : AreMoving s.plan s.moving) (
       subst AreSure (sym (ap (λ (p : AuditPast). p.noted) one.next_is ∙ frame_notes q t one.at.named one.f one.packet))
       (words_both is_sure_word q.noted (noted_newly s q t one.f one.packet) (subst (λ (p : AuditPast). AreSure p.noted) (sym one.past_is) sure) fresh)
 
-  pub none_told : (end : AuditPast) → AuditsLines s nothing_read log end → (look_at end (mark_at Unsure 0 0)).times ≡ 0
-  unfolding told_at
-  none_told end read =
-      ap (λ (l : List Noted). (told_of l).times) (no_hits (mark_at Unsure 0 0) is_sure_word refl end.noted (at_end s log Holds more end tt read))
+  pub none_stated : (end : AuditPast) → AuditsLines s nothing_read log end → (look_at end (mark_at Unsure 0 0)).times ≡ 0
+  unfolding reported_at
+  none_stated end read =
+      ap (λ (l : List Noted). (occurrences_of l).times) (no_hits (mark_at Unsure 0 0) is_sure_word refl end.noted (at_end s log Holds more end tt read))
 
 pub unsure_is_none : UnsureIsNone
-unsure_is_none s log end moving fixed planned read = none_told s log moving fixed planned end read
+unsure_is_none s log end moving fixed planned read = none_stated s log moving fixed planned end read

@@ -9,6 +9,7 @@ use Rattle.j39_id.specs.Lines.{Line, Short as ShortLine, Long}
 use Rattle.j39_id.specs.declared.frame.Frame.{Frame}
 use Rattle.j39_id.specs.declared.line_error.LineError.{LineError}
 use Rattle.j39_id.specs.declared.line_error.LineError.TheVariants.{Empty, NoHash, ShortIdent, BadIdent, TooLong, BadData}
+use Rattle.j39_follow.proofs.OneText.{one_interface, one_part, one_time}
 use Rattle.j39_follow.specs.LogLines.{IsElsewhere, IsReadPart, IsTimeText, NamesInterface}
 use Rattle.j39_tp.specs.declared.packet.Packet.{Packet}
 use Rattle.j39_audit.specs.AuditText.{AuditPast, AuditsLine, AuditsLines, bad_line, broadcasts_there, claims_before, counted_for, moments_with_frame, nothing_read, passed_by, past_with_frame, with_next_number}
@@ -23,10 +24,10 @@ use Rattle.j39_audit.specs.declared.mark.Word.TheVariants.{Short as ShortWord}
 use Rattle.j39_audit.proofs.Hearing.{as_many_lines, frame_number, line_more}
 use Rattle.j39_audit_laws.specs.FoundLines.{IsFrameAt, IsLineOf, IsReadHere}
 use Rattle.j39_audit_laws.specs.PauseLines.{IsBadAt, IsPassedOver}
-use Rattle.j39_audit_laws.proofs.Lines.{same_cut}
-use Rattle.j39_audit_laws.proofs.OneReading.{one_interface, one_log_read, one_packet_of, one_part, one_time}
+use Rattle.j39_audit_laws.proofs.Lines.{frame_at, same_cut}
+use Rattle.j39_audit_laws.proofs.OneReading.{one_log_read, one_packet_of}
 
--- what the times tell by load behind a frame
+-- what the times report by load behind a frame
 pub load_with : (s : Settings) (past : AuditPast) (time : Option ℕ) (named : Option (List ℕ)) (f : Frame) (packet : Option Packet)
     → (past_with_frame s past time named f packet).by_load ≡ moments_with_frame (by_load s) s past time f packet past.by_load
 unfolding past_with_frame
@@ -239,6 +240,7 @@ module _ (s : Settings) (log : List Line) where
     a_fault l part named BadData same reads fault is = a_bad_one l part named BadData same reads fault (λ e. cc e) (λ e. cc e) is
 
     one_next : (x : Line) → line ≡ x → AuditsLine s past x next → IsNext counted past next
+    unfolding frame_at
     one_next Long same is = (
       ap (λ (p : AuditPast). p.number) is,
       inr (inr (inl (record { bad = inl (begun, subst (IsLineOf s log counted begun) same is_line); next_is = is }))),
@@ -262,19 +264,8 @@ module _ (s : Settings) (log : List Line) where
         claims = claims_before s begun (line_time s.plan time);
         f = f;
         packet = packet;
-        at = record {
-          past = begun;
-          line = l;
-          line_is = short_line l same;
-          part = part;
-          named = named;
-          reads = record { part_is = part_is; named_is = named_is; here = here };
-          time = time;
-          spelled = spelled;
-          time_is = text;
-          packet_is = packet_is;
-          claims_are = refl;
-        };
+        at = frame_at s log counted begun l part named f time packet (short_line l same) (record { part_is = part_is; named_is = named_is; here = here })
+            spelled text packet_is;
         past_is = refl;
         next_is = e;
       }))),

@@ -16,7 +16,7 @@ use Rattle.j39_load.specs.KeepsPlan.{IsSingleFlow, KeepsToPlan}
 use Rattle.j39_load.specs.LoadFindings.{AsksOfBus}
 use Rattle.j39_load.specs.SentFrames.{Announcing, Asking, Broadcasts, Carrying, First, FrameSources, HasPeriodMs, Held, InSession, IsFrameOf, IsSentEvery, Single, Source}
 use Rattle.j39_load.specs.declared.waits.delay.Delay.{Delay}
-use Rattle.j39_audit.specs.AuditText.{Look, line_of_mark, line_told, log_ended, look_at, mark_at, subject_lines, told_mark}
+use Rattle.j39_audit.specs.AuditText.{Look, line_of_mark, line_reported, log_ended, look_at, mark_at, subject_lines, reported_mark}
 use Rattle.j39_audit.specs.Below.{each_below}
 use Rattle.j39_audit.specs.Moments.{damaged_at_once}
 use Rattle.j39_audit.specs.Responses.{response}
@@ -35,11 +35,11 @@ use Rattle.j39_audit_laws.proofs.NearMarks.{periods_not_near}
 
 no_line : (s : Settings) (look : Look) (n : ℕ) → (look (mark_at NearFlow n 0)).times ≡ 0 → (look (mark_at NearOrLate n 0)).times ≡ 0
     → subject_lines s look NearFlow n ≡ []
-unfolding subject_lines line_told line_of_mark each_below
+unfolding subject_lines line_reported line_of_mark each_below
 no_line s look n by_bus late =
-    let told : told_mark look NearFlow n 0 ≡ mark_at NearOrLate n 0 =
+    let stated : reported_mark look NearFlow n 0 ≡ mark_at NearOrLate n 0 =
     cond-true ((look (mark_at NearFlow n 0)).times == 0) (mark_at NearOrLate n 0) (mark_at NearFlow n 0) (eq-eqb (look (mark_at NearFlow n 0)).times 0 by_bus) in
-    ap (λ (m : Mark). line_of_mark s.plan m (look m)) told
+    ap (λ (m : Mark). line_of_mark s.plan m (look m)) stated
     ∙ cond-true ((look (mark_at NearOrLate n 0)).times == 0) [] _ (eq-eqb (look (mark_at NearOrLate n 0)).times 0 late)
 
 -- ---- a bus without damage
@@ -107,11 +107,11 @@ module _ (s : Settings) (timing : Timing) (timed : s.plan.timing ≡ Some timing
   }
 
   near_nowhere : IsNearNowhere s timing delays bus planned sent
-  near_nowhere log clock place n bits ms is_message end ticks is_log whole told single period of_flow seen read =
+  near_nowhere log clock place n bits ms is_message end ticks is_log whole stated single period of_flow seen read =
       no_line s (look_at (log_ended s end)) n
       (periods_not_near s log timing bus no_damage held sent.release clock place n ms is_message end timed by_bus none ticks legal short
       (few_of_none (damaged_at_once timing)) (its_part n ms is_message single period of_flow) is_log whole seen read)
-      (late log clock place n bits ms is_message end ticks is_log told period of_flow seen read)
+      (late log clock place n bits ms is_message end ticks is_log stated period of_flow seen read)
 
 pub whole_logs_not_near : (s : Settings) (timing : Timing) (stays : UnitPlan → Bool) (delays : List (Option Delay)) → Clean s.plan
     → AsksOfBus s.plan timing stays delays → s.plan.timing ≡ Some timing → timing.drift ≡ 0 → s.responses ≡ map (response timing) delays → s.bound ≡ Bus

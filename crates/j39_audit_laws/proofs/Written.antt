@@ -1,4 +1,4 @@
--- What is told of a mark has its line in the text.
+-- What is reported of a mark has its line in the text.
 use Rattle.std.proofs.Common.{◌≡◌, ◌≢◌, ℕ, zero, suc, ◌<◌, ◌≤◌, ◌==◌, ◌++◌, [], List}
 use Rattle.std.proofs.Common.{inl, inr, refl, sym, ap, ◌∙◌, subst, arith, append_assoc}
 use Rattle.std.proofs.lemmas.Bool.{cases_lt, cond-false, ne_eqb}
@@ -6,18 +6,18 @@ use Rattle.std.proofs.lemmas.List.{append-nil}
 use Rattle.j39_id.specs.Lines.{Line, lines}
 use Rattle.j39_stream.specs.declared.verdict.Verdict.{Verdict}
 use Rattle.j39_stream.specs.declared.verdict.Verdict.TheVariants.{Done, Findings}
-use Rattle.j39_audit.specs.AuditText.{AuditPast, IsAuditedLog, Look, accusation_count, accusations, accusing_at, accusing_line, counts_of, groups_named, line_of_mark, line_told, lines_told, log_ended, look_at, subject_count, subject_lines, subjects, text_by, told_mark, word_count, word_lines}
+use Rattle.j39_audit.specs.AuditText.{AuditPast, IsAuditedLog, Look, accusation_count, accusations, accusing_at, accusing_line, counts_of, groups_named, line_of_mark, line_reported, lines_reported, log_ended, look_at, subject_count, subject_lines, subjects, text_by, reported_mark, word_count, word_lines}
 use Rattle.j39_audit.specs.Below.{each_below, sum_below}
 use Rattle.j39_audit.specs.Settings.{Settings}
 use Rattle.j39_audit.specs.declared.mark.Mark.{Mark}
 use Rattle.j39_audit.specs.declared.mark.Word.{Word}
 use Rattle.j39_audit.specs.declared.mark.Word.TheVariants.{Short, Stranger, Nobody as NobodyThere, Address, Cannot, Layout, NoFlow, Priority, Urgent, Seen, Unclear, Asked, Counted, Unsure, Break, NearFlow, NearRequest, SilentFlow, Deaf, NearPackets, SilentPackets, NearOrLate, SilentOrLate}
-use Rattle.j39_audit.specs.declared.tally.Told.{Told}
+use Rattle.j39_audit.specs.declared.tally.Occurrences.{Occurrences}
 use Rattle.j39_audit_laws.specs.FoundForSure.{FoundAreWritten, IsWrittenIn}
-use Rattle.j39_audit_laws.specs.FoundLines.{IsAccusing, IsFoundAt, IsToldAt}
+use Rattle.j39_audit_laws.specs.FoundLines.{IsAccusing, IsFoundAt, IsReportedAt}
 use Rattle.j39_audit_laws.proofs.Listed.{found_listed}
-use Rattle.j39_audit_laws.proofs.Own.{told_itself}
-use Rattle.j39_audit_laws.proofs.Told.{lines_are_of_log, looked}
+use Rattle.j39_audit_laws.proofs.Own.{stated_itself}
+use Rattle.j39_audit_laws.proofs.Occurrences.{lines_are_of_log, looked}
 
 -- ---- parts of lists, and of sums
 
@@ -66,25 +66,25 @@ some_below number k (suc n) less = elim (cases_lt k n) [
 
 -- ---- a line
 
--- what the text says of a mark that was told
+-- what the text says of a mark that was reported
 pub record Says (s : Settings) (look : Look) (m : Mark) : Type 0 where
   pub line : IsIn (accusing_line s.plan m (look m)) (accusations s look)
   pub counted : 1 ≤ accusation_count s look
 
 pub says : (s : Settings) (look : Look) (w : Word) (u g n : ℕ) (m : Mark) → n < 15 → accusing_at n ≡ w → u < subjects s w → g < groups_named s w
-    → told_mark look w u g ≡ m → (look m).times ≢ 0 → Says s look m
-unfolding accusations word_lines subject_lines line_told line_of_mark accusation_count word_count subject_count lines_told
-says s look w u g n m place word subject group told some =
+    → reported_mark look w u g ≡ m → (look m).times ≢ 0 → Says s look m
+unfolding accusations word_lines subject_lines line_reported line_of_mark accusation_count word_count subject_count lines_reported
+says s look w u g n m place word subject group stated some =
     let part : List ℕ = accusing_line s.plan m (look m) in
     let test = ne_eqb (look m).times 0 some in
-    let line : line_told s.plan look (told_mark look w u g) ≡ part =
-    ap (line_told s.plan look) told ∙ cond-false ((look m).times == 0) [] part test in
+    let line : line_reported s.plan look (reported_mark look w u g) ≡ part =
+    ap (line_reported s.plan look) stated ∙ cond-false ((look m).times == 0) [] part test in
     let of_word : IsIn part (word_lines s look w) =
     in_below part (subject_lines s look w) u (subjects s w) subject
-    (in_below part (λ i. line_told s.plan look (told_mark look w u i)) g (groups_named s w) group (in_itself part _ line)) in
-    let one : lines_told (look (told_mark look w u g)) ≡ 1 =
-    ap (λ (x : Mark). lines_told (look x)) told ∙ cond-false ((look m).times == 0) 0 1 test in
-    let by_group = some_below (λ i. lines_told (look (told_mark look w u i))) g (groups_named s w) group in
+    (in_below part (λ i. line_reported s.plan look (reported_mark look w u i)) g (groups_named s w) group (in_itself part _ line)) in
+    let one : lines_reported (look (reported_mark look w u g)) ≡ 1 =
+    ap (λ (x : Mark). lines_reported (look x)) stated ∙ cond-false ((look m).times == 0) 0 1 test in
+    let by_group = some_below (λ i. lines_reported (look (reported_mark look w u i))) g (groups_named s w) group in
     let by_subject = some_below (subject_count s look w) u (subjects s w) subject in
     let by_word = some_below (λ i. word_count s look (accusing_at i)) n 15 place in
     let same : word_count s look (accusing_at n) ≡ word_count s look w = ap (word_count s look) word in
@@ -147,22 +147,22 @@ place_of SilentPackets is = absurd is
 place_of NearOrLate is = absurd is
 place_of SilentOrLate is = absurd is
 
--- what is told at some line is told at least once
-told_once : (s : Settings) (log : List Line) (m : Mark) (t : Told) (number : ℕ) → IsToldAt s log m t → IsFoundAt s log number m → t.times ≢ 0
-told_once s log m t number tells found none =
-    let (k, inside, is) = (tells.exact number).1 found in
-    let times = tells.times in
+-- what is reported at some line is reported at least once
+stated_once : (s : Settings) (log : List Line) (m : Mark) (t : Occurrences) (number : ℕ) → IsReportedAt s log m t → IsFoundAt s log number m → t.times ≢ 0
+stated_once s log m t number states found none =
+    let (k, inside, is) = (states.exact number).1 found in
+    let times = states.times in
     absurd (omega (arith, inside, times, none))
 
 pub found_are_written : FoundAreWritten
 found_are_written s log text verdict a number m accuses found =
     let end : AuditPast = log_ended s a.past in
     let look : Look = look_at end in
-    let tells : IsToldAt s (lines log) m (look m) =
-    subst (IsToldAt s (lines log) m) (sym (looked a.past m accuses) ∙ looked end m accuses) (lines_are_of_log s (lines log) a.past a.read m accuses) in
+    let states : IsReportedAt s (lines log) m (look m) =
+    subst (IsReportedAt s (lines log) m) (sym (looked a.past m accuses) ∙ looked end m accuses) (lines_are_of_log s (lines log) a.past a.read m accuses) in
     let listed = found_listed s (lines log) number m found in
     let at = place_of m.word accuses in
     let is = said s log text verdict a m
-    (says s look m.word m.subject m.group at.place m at.inside at.is listed.0 listed.1 (told_itself look m.word m.subject m.group accuses)
-    (told_once s (lines log) m (look m) number tells found)) in
-    (is.findings, (look m, tells, is.written))
+    (says s look m.word m.subject m.group at.place m at.inside at.is listed.0 listed.1 (stated_itself look m.word m.subject m.group accuses)
+    (stated_once s (lines log) m (look m) number states found)) in
+    (is.findings, (look m, states, is.written))

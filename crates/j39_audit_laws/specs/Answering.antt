@@ -1,4 +1,4 @@
--- What the lines of a log tell of a unit that is asked for claims.
+-- What the lines of a log report of a unit that is asked for claims.
 use Rattle.std.specs.Prelude.{◌≡◌, ℕ, zero, suc, ◌+◌, ◌*◌, ◌<◌, ◌≤◌, ◌⊎◌, ◌||◌, ◌&&◌, ◌++◌, Bool, true, false, if◌then◌else◌, List, [], ◌∷◌, Option, Some, None}
 use Rattle.std.specs.Option.{option_or}
 use Rattle.j39_id.specs.declared.frame.Frame.{Frame}
@@ -78,18 +78,18 @@ request_before t l (suc n) = request_kept t (request_next (l.forgets n) (l.asks 
 abbrev pub request_at : Timing → UnitLines → ℕ → Option ClaimRequest
 request_at t l n = request_next (l.forgets n) (l.asks n) (request_before t l n)
 
--- the unit is told as deaf at line n
-abbrev pub is_told_deaf : Timing → UnitLines → ℕ → Bool
-is_told_deaf t l n = is_late t (request_at t l n) (l.signs n)
+-- the unit is reported as deaf at line n
+abbrev pub is_reported_deaf : Timing → UnitLines → ℕ → Bool
+is_reported_deaf t l n = is_late t (request_at t l n) (l.signs n)
 
--- the request is the first one behind what was answered, forgotten or told before, and nothing of this came since
+-- the request is the first one behind what was answered, forgotten or reported before, and nothing of this came since
 pub record IsStillAsked (t : Timing) (l : UnitLines) (n : ℕ) (request : ClaimRequest) : Type 0 where
   pub first : ℕ
   pub before : first ≤ n
   pub asks : l.asks first ≡ Some request
   pub new : (l.forgets first ≡ true) ⊎ (request_before t l first ≡ None)
   pub kept : (m : ℕ) → first < m → m ≤ n → l.forgets m ≡ false
-  pub untold : (m : ℕ) → first ≤ m → m < n → is_told_deaf t l m ≡ false
+  pub unstated : (m : ℕ) → first ≤ m → m < n → is_reported_deaf t l m ≡ false
 
 -- and the bus was idle at line n, which is of the unit, when its claim had to be ready
 pub record IsDeafAt (t : Timing) (l : UnitLines) (n : ℕ) : Type 0 where
@@ -116,9 +116,9 @@ pub record IsAnswerWithin (s : Schedule) (us ms g p : ℕ) : Type 0 where
 abbrev pub EndsBetween : Schedule → ℕ → ℕ → ℕ → Type 0
 EndsBetween s g p of = (frame_end s g < frame_end s p) × (frame_end s p < frame_end s of)
 
--- the first lines up to n of a log tell of a unit what its bus carried: line k that of frame k of these
+-- the first lines up to n of a log report of a unit what its bus carried: line k that of frame k of these
 pub record AreLinesOfUnit (s : Schedule) (log : Lines) (l : UnitLines) (n : ℕ) (is_claim : ℕ → Bool) (frame : ℕ → ℕ) : Type 0 where
-  -- by when a request ended is told by its line
+  -- by when a request ended is reported by its line
   pub request : (k : ℕ) (r : ClaimRequest) → k ≤ n → l.asks k ≡ Some r → IsTimedBound s log (frame k) r.moment
   -- that the bus was idle by two lines that show it, no later than line n
   pub mark : (idle : ℕ) → l.signs n ≡ Some (Some idle) → IsMarkedBound s log 0 (frame n) idle

@@ -8,7 +8,7 @@ use Rattle.j39_id.specs.declared.line_error.LineError.TheVariants.{ShortIdent}
 use Rattle.j39_network.specs.declared.plan.Plan.{Plan}
 use Rattle.j39_world.specs.World.{World}
 use Rattle.j39_follow.specs.LogLines.{IsElsewhere, IsReadPart, NamesInterface, interface_behind}
-use Rattle.j39_log_laws.specs.Telling.{IsLogOf}
+use Rattle.j39_log_laws.specs.HolderReports.{IsLogOf}
 use Rattle.j39_audit.specs.AuditText.{AuditPast, AuditsLines, look_at, nothing_read, word_lines}
 use Rattle.j39_audit.specs.Settings.{AreMoving, Settings}
 use Rattle.j39_audit.specs.declared.mark.Word.{Word}
@@ -47,7 +47,7 @@ IsNotWrittenOf word plan w = (s : Settings) (log : List Line) (frames : List Fra
 
 -- ---- that all can be kept
 
--- who sent the frames of the world can be told so that each unit keeps its part
+-- who sent the frames of the world can be reported so that each unit keeps its part
 abbrev pub ArePartsKept : Plan → World → Type 0
 ArePartsKept plan w = (s : Settings) (log : List Line) (frames : List Frame) (end : AuditPast) → s.plan ≡ plan → AreMoving s.plan s.moving
     → AreReadAs None log frames → AreFramesOf s w frames → AuditsLines s nothing_read log end → EachKeepsItsPart s log

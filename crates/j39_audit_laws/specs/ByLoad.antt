@@ -1,4 +1,4 @@
--- What a log tells by load of a bus that keeps to its plan.
+-- What a log reports by load of a bus that keeps to its plan.
 use Rattle.std.specs.Prelude.{◌≡◌, ℕ, ◌*◌, ◌<◌, ◌≤◌, Bool, true, false, List, Option, Some}
 use Rattle.j39_network.specs.declared.plan.Plan.{Plan}
 use Rattle.j39_network.specs.declared.plan.timing.Timing.{Timing}
@@ -7,7 +7,7 @@ use Rattle.j39_timing.specs.Messages.{frame_end}
 use Rattle.j39_timing.specs.TimedFrames.{Schedule, IsLegal}
 use Rattle.j39_load.specs.Clocks.{IsTrueTime, bit_time}
 use Rattle.j39_load.specs.KeepsPlan.{IsSingleFlow, KeepsAllOrder, KeepsQueues, KeepsToPlan}
-use Rattle.j39_load.specs.KeptTimes.{IsTold}
+use Rattle.j39_load.specs.KeptTimes.{IsReportedBound}
 use Rattle.j39_load.specs.Loads.{us_of_bits}
 use Rattle.j39_load.specs.SentFrames.{FrameSources, HasPeriodMs, Held, Single}
 use Rattle.j39_load.specs.ValuesInTime.{KeepsPause}
@@ -25,10 +25,10 @@ use Rattle.j39_audit_laws.specs.StreamRecords.{AreAllBefore, AreLines}
 abbrev pub AreOfFlow : (ℕ → Bool) → FrameSources → ℕ → (ℕ → Bool) → Type 0
 AreOfFlow planned sent f is_message = (p : ℕ) → is_message p ≡ true → (planned p ≡ true) × (sent.source p ≡ Single f)
 
--- by the response time that is told of it no flow is told as too near, whatever lines of its messages a log has
+-- by the response time that is reported of it no flow is reported as too near, whatever lines of its messages a log has
 abbrev pub IsNoneNear : Plan → Timing → List (Option Delay) → Schedule → (ℕ → Bool) → FrameSources → Type 0
 IsNoneNear plan timing delays s planned sent = (f bits ms n : ℕ) (is_message : ℕ → Bool) (frame : ℕ → ℕ) (log : Lines) (windows : ℕ → Window)
-    → IsTold delays f bits → HasPeriodMs plan f ms → AreOfFlow planned sent f is_message
+    → IsReportedBound delays f bits → HasPeriodMs plan f ms → AreOfFlow planned sent f is_message
     → log.us ≡ bit_time timing.bitrate → KeepsTime log.us log.clock
     → AreLines s is_message n frame → AreOfLoad s log (us_at_logger (us_of_bits timing bits)) n frame windows
     → (j : ℕ) → j < n → is_too_near (shortest_us timing ms) windows j ≡ false
@@ -38,11 +38,11 @@ abbrev pub AreAllOfFlow : (ℕ → Bool) → FrameSources → ℕ → (ℕ → B
 AreAllOfFlow planned sent f is_message = AreOfFlow planned sent f is_message
     × ((p : ℕ) → planned p ≡ true → sent.source p ≡ Single f → is_message p ≡ true)
 
--- nor is one told as silent while it keeps its pause, where a log has all its messages behind its first line up to the place, be this of a message or of
+-- nor is one reported as silent while it keeps its pause, where a log has all its messages behind its first line up to the place, be this of a message or of
 -- a frame at which another one should have come
 abbrev pub IsNoneSilent : Plan → Timing → List (Option Delay) → Schedule → (ℕ → Bool) → FrameSources → Type 0
 IsNoneSilent plan timing delays s planned sent = (f bits pause from to n : ℕ) (is_message : ℕ → Bool) (frame : ℕ → ℕ) (log : Lines)
-    (windows : ℕ → Window) (time : ℕ → ℕ) → IsTold delays f bits → IsSingleFlow plan f → AreAllOfFlow planned sent f is_message
+    (windows : ℕ → Window) (time : ℕ → ℕ) → IsReportedBound delays f bits → IsSingleFlow plan f → AreAllOfFlow planned sent f is_message
     → log.us ≡ bit_time timing.bitrate → KeepsTime log.us log.clock → IsTrueTime timing time
     → KeepsPause plan timing time s planned sent f pause from to → from ≤ to
     → AreLines s is_message n frame → AreOfLoad s log (us_at_logger (us_of_bits timing bits)) n frame windows → from ≤ frame_end s (frame 0)

@@ -21,13 +21,13 @@ use Rattle.j39_audit.specs.Settings.{AreMoving, Settings}
 use Rattle.j39_audit.specs.declared.mark.Mark.{Mark}
 use Rattle.j39_audit.specs.declared.mark.Word.TheVariants.{Nobody as NobodyThere, Unsure}
 use Rattle.j39_audit.specs.declared.senders.SureSender.TheVariants.{Unit as OfUnit}
-use Rattle.j39_audit.specs.declared.tally.Told.{Told}
-use Rattle.j39_audit_laws.specs.FoundLines.{IsAccusing, IsFoundAt, IsFrameAt, IsSentFrom, IsToldAt}
+use Rattle.j39_audit.specs.declared.tally.Occurrences.{Occurrences}
+use Rattle.j39_audit_laws.specs.FoundLines.{IsAccusing, IsFoundAt, IsFrameAt, IsSentFrom, IsReportedAt}
 
 -- ---- what is found is written
 
--- the text has the line of a mark of which this is told
-pub record IsWrittenIn (plan : Plan) (text : List ℕ) (m : Mark) (t : Told) : Type 0 where
+-- the text has the line of a mark of which this is reported
+pub record IsWrittenIn (plan : Plan) (text : List ℕ) (m : Mark) (t : Occurrences) : Type 0 where
   pub front : List ℕ
   pub behind : List ℕ
   pub row : text ≡ front ++ (accusing_line plan m t ++ behind)
@@ -37,7 +37,7 @@ pub record IsWrittenIn (plan : Plan) (text : List ℕ) (m : Mark) (t : Told) : T
 abbrev pub FoundAreWritten : Type 0
 FoundAreWritten = (s : Settings) (log text : List ℕ) (verdict : Verdict) → IsAuditedLog s log text verdict
     → (number : ℕ) (m : Mark) → IsAccusing m.word → IsFoundAt s (lines log) number m
-    → (verdict ≡ Findings) × ((t : Told) × IsToldAt s (lines log) m t × IsWrittenIn s.plan text m t)
+    → (verdict ≡ Findings) × ((t : Occurrences) × IsReportedAt s (lines log) m t × IsWrittenIn s.plan text m t)
 
 -- ---- where no unit moves
 
@@ -71,7 +71,7 @@ NoneIsUnsure = (s : Settings) (log : List Line) → AreMoving s.plan s.moving �
     → (number : ℕ) (claims : HeardClaims) (f : Frame) (packet : Option Packet) → IsFrameAt s log number claims f packet
     → is_claim f ≡ false → is_address f.ident.sa ≡ true → IsCountedOrNobodys s log number claims f
 
--- and so none is told as unsure
+-- and so none is reported as unsure
 abbrev pub UnsureIsNone : Type 0
 UnsureIsNone = (s : Settings) (log : List Line) (end : AuditPast) → AreMoving s.plan s.moving → HasFixedUnits s.plan → ClaimsArePlanned s log
     → AuditsLines s nothing_read log end → (look_at end (mark_at Unsure 0 0)).times ≡ 0

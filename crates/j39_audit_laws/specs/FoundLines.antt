@@ -22,7 +22,7 @@ use Rattle.j39_audit.specs.declared.mark.Word.{Word}
 use Rattle.j39_audit.specs.declared.mark.Word.TheVariants.{Short, Stranger, Nobody as NobodyThere, Address, Cannot, Layout, NoFlow, Priority, Urgent}
 use Rattle.j39_audit.specs.declared.senders.SureSender.{SureSender}
 use Rattle.j39_audit.specs.declared.senders.SureSender.TheVariants.{Unit as OfUnit, Nobody}
-use Rattle.j39_audit.specs.declared.tally.Told.{Told}
+use Rattle.j39_audit.specs.declared.tally.Occurrences.{Occurrences}
 
 -- ---- lines
 
@@ -116,8 +116,8 @@ IsFoundAt s log number m =
 
 -- ---- counts
 
--- this is told of a mark: it was found at so many lines, each counted once, and at this one first
-pub record IsToldAt (s : Settings) (log : List Line) (m : Mark) (t : Told) : Type 0 where
+-- this is reported of a mark: it was found at so many lines, each counted once, and at this one first
+pub record IsReportedAt (s : Settings) (log : List Line) (m : Mark) (t : Occurrences) : Type 0 where
   pub lines : List ℕ
   pub rising : AllPairs (λ (a b : ℕ). a < b) lines
   pub exact : (number : ℕ) → Contains lines number ↔ IsFoundAt s log number m
@@ -139,7 +139,7 @@ IsAccusing _ = ⊥
 
 abbrev pub LinesAreOfLog : Type 0
 LinesAreOfLog = (s : Settings) (log : List Line) (end : AuditPast) → AuditsLines s nothing_read log end → (m : Mark) → IsAccusing m.word
-    → IsToldAt s log m (look_at end m)
+    → IsReportedAt s log m (look_at end m)
 
 -- the line of a mark is one of those that are written where they were found
 abbrev pub IsListed : Settings → Mark → Type 0

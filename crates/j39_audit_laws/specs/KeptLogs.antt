@@ -1,4 +1,4 @@
--- What a whole log tells of a bus that keeps to its plan, by load.
+-- What a whole log reports of a bus that keeps to its plan, by load.
 use Rattle.std.specs.Prelude.{◌≡◌, ◌≢◌, ◌⊎◌, ℕ, ◌+◌, ◌*◌, ◌<◌, ◌≤◌, Bool, true, List, length, Option, Some}
 use Rattle.std.specs.List.{slice_get}
 use Rattle.j39_id.specs.Lines.{Line}
@@ -11,7 +11,7 @@ use Rattle.j39_timing.specs.Messages.{frame_end}
 use Rattle.j39_timing.specs.TimedFrames.{IsLegal, Schedule}
 use Rattle.j39_load.specs.Clocks.{bit_time}
 use Rattle.j39_load.specs.KeepsPlan.{KeepsAllOrder, KeepsQueues, KeepsToPlan}
-use Rattle.j39_load.specs.KeptTimes.{IsTold}
+use Rattle.j39_load.specs.KeptTimes.{IsReportedBound}
 use Rattle.j39_load.specs.SentFrames.{FrameSources, HasPeriodMs, Held, IsMsBehind, IsSessionFrame, IsSingleFrame, RequestToSend}
 use Rattle.j39_load.specs.declared.waits.delay.Delay.{Delay}
 use Rattle.j39_audit.specs.AuditText.{AuditPast, AuditsLines, log_ended, look_at, mark_at, nothing_read}
@@ -36,10 +36,10 @@ pub record IsLogOfBus (s : Settings) (log : List Line) (bus : Schedule) (clock :
 abbrev pub AreSeenAs : (s : Settings) → List Line → (ℕ → ℕ) → ℕ → (ℕ → Bool) → Type 0
 AreSeenAs s log place n is_message = (number : ℕ) (l : FrameLine s log number) → IsSeenOf l n → is_message (place number) ≡ true
 
--- so in no log of the bus a flow of which a response time is told, each message of which goes in one frame, is told by load as too near
+-- so in no log of the bus a flow of which a response time is reported, each message of which goes in one frame, is reported by load as too near
 abbrev pub IsNoneNearInLogs : Settings → Timing → List (Option Delay) → Schedule → (ℕ → Bool) → FrameSources → Type 0
 IsNoneNearInLogs s timing delays bus planned sent = (log : List Line) (clock place : ℕ → ℕ) (n bits ms : ℕ) (is_message : ℕ → Bool) (end : AuditPast)
-    → KeepsTime (bit_time timing.bitrate) clock → IsLogOfBus s log bus clock place → IsTold delays n bits → HasPeriodMs s.plan n ms
+    → KeepsTime (bit_time timing.bitrate) clock → IsLogOfBus s log bus clock place → IsReportedBound delays n bits → HasPeriodMs s.plan n ms
     → AreOfFlow planned sent n is_message → AreSeenAs s log place n is_message → AuditsLines s nothing_read log end
     → (look_at (log_ended s end) (mark_at NearOrLate n 0)).times ≡ 0
 
@@ -75,7 +75,7 @@ pub record KeepsItsPeriod (plan : Plan) (timing : Timing) (bus : Schedule) (held
   pub apart : (p q : ℕ) → p < bus.count → q < bus.count → p ≢ q → is_message p ≡ true → is_message q ≡ true
       → IsMsBehind timing ms (release p) (release q) ⊎ IsMsBehind timing ms (release q) (release p)
 
--- whatever others do, on a bus with no more damage than the plan tells, in a whole log no such flow is told as too near
+-- whatever others do, on a bus with no more damage than the plan reports, in a whole log no such flow is reported as too near
 abbrev pub PeriodsAreNotNear : Type 0
 PeriodsAreNotNear = (s : Settings) (log : List Line) (timing : Timing) (bus : Schedule) (damaged : Damaged) (held : Held) (release clock place : ℕ → ℕ) (n ms : ℕ)
     (is_message : ℕ → Bool) (end : AuditPast) → s.plan.timing ≡ Some timing → s.bound ≡ Bus → timing.drift ≡ 0

@@ -1,5 +1,5 @@
 -- What a unit keeps of the plan on a bus, whatever others do: its planned frames are those of the plan's flows and requests, in the words of the bus's
--- schedule, and carry what these bring, and what it sends besides keeps to what the plan tells of it.
+-- schedule, and carry what these bring, and what it sends besides keeps to what the plan reports of it.
 use Rattle.std.specs.Prelude.{◌≡◌, ◌≢◌, ℕ, ◌*◌, ◌^◌, ◌<◌, ◌≤◌, Bool, true, false, List, length, slice_index, Option, Some}
 use Rattle.std.specs.List.{slice_get}
 use Rattle.j39_id.specs.Addresses.{null_address}
@@ -17,7 +17,7 @@ use Rattle.j39_timing.specs.TimedFrames.{Schedule}
 use Rattle.j39_load.specs.KeepsBroadcasts.{IsMessageToAll}
 use Rattle.j39_load.specs.KeepsPlan.{KeepsToPlan}
 use Rattle.j39_load.specs.SentFrames.{Announcing, Asking, Broadcasts, Carrying, ClearToSend, EndAcknowledged, First, FrameSources, Held, InSession, IsFrameOf, IsSentByUnit, Packet as CarriedPacket, RequestToSend, Single, Source}
-use Rattle.j39_log_laws.specs.Telling.{HaveOwnNumbers}
+use Rattle.j39_log_laws.specs.HolderReports.{HaveOwnNumbers}
 use Rattle.j39_audit.specs.Claiming.{HeardClaims, Knowledge}
 use Rattle.j39_audit.specs.Looking.{IsPacketOf, is_claim, message_sent}
 use Rattle.j39_audit.specs.SentMessages.{SentMessage}
@@ -124,7 +124,7 @@ KeepersAreNotAccused = (s : Settings) (log : List Line) (timing : Timing) (bus :
 
 -- ---- a bus that keeps to its plan
 
--- what its schedule doesn't tell: each frame of a unit is on the wire as there, and where it is planned it is one that the unit sends; each that is
+-- what its schedule doesn't report: each frame of a unit is on the wire as there, and where it is planned it is one that the unit sends; each that is
 -- planned carries what its flow brings; each unit holds one of its addresses; and what isn't planned looks so
 pub record CarriesPlan (plan : Plan) (bus : Schedule) (wire : WireFrames) (planned : ℕ → Bool) (sent : FrameSources) (held : Held) : Type 0 where
   pub ident : (p u : ℕ) → p < bus.count → wire.unit p ≡ Some u → bits (wire.frame p).ident ≡ bus.ident p

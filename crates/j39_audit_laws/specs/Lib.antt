@@ -7,6 +7,7 @@ pub mod FoundLines
 pub mod InTurn
 pub mod KeptLogs
 pub mod KeptParts
+pub mod KeptStreams
 pub mod LogBounds
 pub mod MarkRecords
 pub mod OneAudit

@@ -1,4 +1,4 @@
--- What a log tells of a bus: times of the ends of frames by a clock that may run a thousandth too fast or too slow, and a bit at which nothing waited.
+-- What a log reports of a bus: times of the ends of frames by a clock that may run a thousandth too fast or too slow, and a bit at which nothing waited.
 use Rattle.std.specs.Prelude.{ℕ, suc, ◌+◌, ◌-◌, ◌*◌, ◌<◌, ◌≤◌, ◌&&◌, cond, nat_lt, nat_le}
 use Rattle.j39_timing.specs.Errors.{Damaged}
 use Rattle.j39_timing.specs.Messages.{frame_end}

@@ -35,7 +35,7 @@ silence_noted n line None = []
 silence_noted n line (Some by) = record { mark = stream_mark SilentFlow n; line = line; detail = by } ∷ []
 
 -- by a lower bound of the moment of message j, or of the one that is missing there: by how much the flow is silent, at the line of the message
--- before, if it is told as such
+-- before, if it is reported as such
 abbrev pub silent_there : ℕ → ℕ → (ℕ → Window) → (ℕ → ℕ) → ℕ → Option ℕ → List Noted
 silent_there pause n windows lines j lower =
     if is_silent pause windows j lower then silence_noted n (lines (j - 1)) (lag pause (latest pause windows j) lower) else []

@@ -15,7 +15,7 @@ use Rattle.j39_audit.specs.Settings.{Settings, by_load as judged_by_load, logger
 use Rattle.j39_audit.specs.declared.mark.Mark.{Mark}
 use Rattle.j39_audit.specs.declared.mark.Word.TheVariants.{SilentFlow, SilentOrLate}
 use Rattle.j39_audit.specs.declared.streams.FlowPause.{FlowPause}
-use Rattle.j39_audit.specs.declared.tally.Told.{Told}
+use Rattle.j39_audit.specs.declared.tally.Occurrences.{Occurrences}
 use Rattle.j39_audit_laws.specs.FoundForSure.{IsWrittenIn}
 use Rattle.j39_audit_laws.specs.MarkRecords.{IsTimeOf, KeepsTime}
 use Rattle.j39_audit_laws.specs.PauseLines.{CountsFor, EndsPauseAt, EndsQuietSecond, FrameLine, IsMessageAt, IsSeenOf, time_there}
@@ -69,4 +69,4 @@ SilentAreFound = (s : Settings) (log text : List ℕ) (verdict : Verdict) → Is
     → (t : Timing) → s.plan.timing ≡ Some t → (us : ℕ) (clock : ℕ → ℕ) (bus : Schedule) (frame : ℕ → ℕ) → KeepsTime us clock
     → AreFramesOnBus s (lines log) bus clock frame → (n : ℕ) → IsLongSilent s t (lines log) us bus frame n
     → (verdict ≡ Findings)
-    × ((m : Mark) × (told : Told) × ((m ≡ mark_at SilentFlow n 0) ⊎ (m ≡ mark_at SilentOrLate n 0)) × IsWrittenIn s.plan text m told)
+    × ((m : Mark) × (stated : Occurrences) × ((m ≡ mark_at SilentFlow n 0) ⊎ (m ≡ mark_at SilentOrLate n 0)) × IsWrittenIn s.plan text m stated)

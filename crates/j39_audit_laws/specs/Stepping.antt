@@ -25,7 +25,7 @@ unfoldable pub with_messages : MessageStream → (ℕ → Window) → (ℕ → �
 with_messages stream windows lines zero m = m
 with_messages stream windows lines (suc n) m = with_message stream (windows n) (lines n) (with_messages stream windows lines n m)
 
--- of message j: by how much it is too near, at its line, if it is told as such
+-- of message j: by how much it is too near, at its line, if it is reported as such
 abbrev pub near_at : MessageStream → (ℕ → Window) → (ℕ → ℕ) → ℕ → List Noted
 near_at stream windows lines j =
     if is_too_near stream.step windows j

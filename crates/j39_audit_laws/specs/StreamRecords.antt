@@ -1,4 +1,4 @@
--- A stream's messages on a bus, as a log of the bus tells them.
+-- A stream's messages on a bus, as a log of the bus reports them.
 use Rattle.std.specs.Prelude.{◌≡◌, ◌≢◌, ℕ, ◌+◌, ◌*◌, ◌<◌, ◌≤◌, ◌⊎◌, Bool, true, Some}
 use Rattle.j39_audit.specs.declared.window.Window.{Window}
 use Rattle.j39_timing.specs.Messages.{frame_end}
@@ -10,7 +10,7 @@ pub record IsOneAtATime (s : Schedule) : Type 0 where
   pub queued_first : (p : ℕ) → p < s.count → s.queued p ≤ s.start p
   pub alone : (p q t : ℕ) → p < s.count → q < s.count → t < s.now → IsOnBusAt s p t → IsOnBusAt s q t → p ≡ q
 
--- frame k of the first n is that of the k-th line that is told of the stream
+-- frame k of the first n is that of the k-th line that is reported of the stream
 pub record AreLines (s : Schedule) (is_message : ℕ → Bool) (n : ℕ) (frame : ℕ → ℕ) : Type 0 where
   pub message : (k : ℕ) → k < n → is_message (frame k) ≡ true
   pub known : (k : ℕ) → k < n → frame k < s.count
@@ -53,7 +53,7 @@ abbrev pub AreAllBefore : Schedule → (ℕ → Bool) → (ℕ → ℕ) → ℕ 
 AreAllBefore s is_message frame j f = (p : ℕ) → p < s.count → is_message p ≡ true → frame_end s (frame 0) < frame_end s p → frame_end s p < frame_end s f
     → (k : ℕ) × (k < j) × (p ≡ frame k)
 
--- a bound at place j, by a frame before which all messages are told
+-- a bound at place j, by a frame before which all messages are reported
 pub record IsBoundByFrame (s : Schedule) (clock : ℕ → ℕ) (is_message : ℕ → Bool) (release : ℕ → ℕ) (frame : ℕ → ℕ) (to j bound : ℕ) : Type 0 where
   pub of : ℕ
   pub is : IsBoundFrom s clock is_message release of bound

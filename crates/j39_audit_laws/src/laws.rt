@@ -1,5 +1,6 @@
 //! Laws of the lines by which the audit command accuses.
-ghost use Rattle.std.specs.Prelude.{map, ◌≡◌, ◌↔◌, ◌+◌, ◌-◌, ◌*◌, ◌<◌, ◌≤◌, ℕ, Bool, true, false, List, Option, Some, None};
+ghost use Rattle.std.specs.Prelude.{map, ◌≡◌, ◌↔◌, ◌∷◌, [], ◌+◌, ◌-◌, ◌*◌, ◌<◌, ◌≤◌, ℕ, Bool, true, false, List, Option, Some, None};
+ghost use Rattle.std.specs.List.{AllByRecursion};
 ghost use Rattle.j39_audit.specs.Near.{IsTooNear, is_too_near};
 ghost use Rattle.j39_audit.specs.Silence.{IsTooFar, is_silent};
 ghost use Rattle.j39_audit.specs.Asking.{longest_answer_ms};
@@ -7,10 +8,11 @@ ghost use Rattle.j39_audit.specs.BegunBroadcasts.{late_by};
 ghost use Rattle.j39_audit.specs.Settings.{AreMoving, Settings};
 ghost use Rattle.j39_audit.specs.declared.broadcasts.BegunBroadcast.{BegunBroadcast as ABroadcast};
 ghost use Rattle.j39_audit.specs.declared.window.Window.{Window as AWindow};
+ghost use Rattle.j39_audit.specs.declared.mark.Word.{Word as AWord};
 ghost use Rattle.j39_audit.specs.declared.mark.Word.TheVariants.{Address, Cannot, Layout, NoFlow, Priority, Urgent};
 ghost use Rattle.j39_audit.specs.declared.mark.Word.TheVariants.{Nobody, Short, Stranger};
 ghost use Rattle.j39_audit_laws.specs.Answering.{AnswersRequests, AreLinesOfUnit, IsDeafAt, KeepsRequests, NotesTheDeaf, UnitLines};
-ghost use Rattle.j39_audit_laws.specs.Answering.{is_told_deaf};
+ghost use Rattle.j39_audit_laws.specs.Answering.{is_reported_deaf};
 ghost use Rattle.j39_audit_laws.specs.AuditedRuns.{ArePartsKept, IsNotWrittenOf};
 ghost use Rattle.j39_audit_laws.specs.ByLoad.{IsNoneNearByLoad, IsNoneSilentByLoad};
 ghost use Rattle.j39_audit_laws.specs.ExactClocks.{ExactClocks};
@@ -19,18 +21,18 @@ ghost use Rattle.j39_audit_laws.specs.FoundLines.{FoundAreListed, LinesAreOfLog}
 ghost use Rattle.j39_audit_laws.specs.InTurn.{IsInTurn, NotesTheLate};
 ghost use Rattle.j39_audit_laws.specs.KeptLogs.{AreLogsNotNear, PeriodsAreNotNear};
 ghost use Rattle.j39_audit_laws.specs.KeptParts.{KeepersAreNotAccused, KeptPlansAreNotAccused};
-ghost use Rattle.j39_audit_laws.specs.LogBounds.{AreOfLoad, AreOfLog, IsEndBound, IsMarkedBound, IsTimedBound, Lines};
+ghost use Rattle.j39_audit_laws.specs.KeptStreams.{SentInTimeAreNotNear, SentInTimeAreNotSilent, StreamsAreNotNear, StreamsAreNotSilent};
+ghost use Rattle.j39_audit_laws.specs.LogBounds.{IsMarkedBound, IsTimedBound, Lines};
 ghost use Rattle.j39_audit_laws.specs.OneAudit.{AuditHasOneText};
 ghost use Rattle.j39_audit_laws.specs.OwnPart.{AlwaysCan, AreItsOwn, ClaimsItsOwn, IsNotNamed, LooksAsPlanned, SentBy};
 ghost use Rattle.j39_audit_laws.specs.OwnPart.{WaitsForPlanned};
 ghost use Rattle.j39_audit_laws.specs.MarkRecords.{AreFew, IsMarkOf, KeepsTime, ShowsIdle, longest_reach};
-ghost use Rattle.j39_audit_laws.specs.StreamRecords.{AreAllBefore, AreLines, AreMsApart, AreReleasedFirst, AreMessagesInTime, HaveJitter, IsOneAtATime, KeepsMs};
 ghost use Rattle.j39_audit_laws.specs.Pausing.{ComesInTime, IsBoundAt, NotesTheSilent, NotesTheSilentEnd};
 ghost use Rattle.j39_audit_laws.specs.SilentFlows.{SilentAreFound};
 ghost use Rattle.j39_audit_laws.specs.Stepping.{AreMomentsWithin, AreStepsApart, NotesTheNear};
 ghost use Rattle.j39_audit_laws.specs.WholeLogs.{AreWholeLogsNotNear};
 ghost use Rattle.j39_audit.specs.declared.by_load.Bound.TheVariants.{Bus};
-ghost use Rattle.j39_audit.specs.Responses.{response, us_at_logger};
+ghost use Rattle.j39_audit.specs.Responses.{response};
 ghost use Rattle.j39_findings.specs.Findings.{Clean};
 ghost use Rattle.j39_load.specs.LoadFindings.{AsksOfBus};
 ghost use Rattle.j39_load.specs.declared.waits.delay.Delay.{Delay as Delays};
@@ -40,7 +42,6 @@ ghost use Rattle.j39_network.specs.declared.plan.timing.Timing.{Timing as Timing
 ghost use Rattle.j39_network.specs.declared.plan.unit_plan.UnitPlan.{UnitPlan as PlannedUnits};
 ghost use Rattle.j39_network.specs.declared.steps.Step.{Step as Steps};
 ghost use Rattle.j39_timing.specs.Errors.{Damaged, IsBusWithErrors};
-ghost use Rattle.j39_timing.specs.Messages.{frame_end};
 ghost use Rattle.j39_timing.specs.TimedFrames.{Schedule};
 ghost use Rattle.j39_world.specs.Run.{Run};
 ghost use Rattle.j39_world.specs.World.{World, all_off};
@@ -50,7 +51,7 @@ pub fn an_audit_has_one_text()
     ensures { AuditHasOneText }
 {}
 
-/// A word that accuses is told with as many lines of the log as have what it is for, each counted once, and with the
+/// A word that accuses is reported with as many lines of the log as have what it is for, each counted once, and with the
 /// first of them (`exact`), and has its line in the text if there is one (`listed`): so this is written exactly where
 /// such a line is in the log.
 pub fn lines_are_of_the_log()
@@ -113,49 +114,36 @@ pub fn kept_plans_are_not_accused()
 /// or in a part of a log with any of them missing, with any times or none, no line `short`, `stranger`, `nobody`,
 /// `address`, `cannot`, `layout`, `no_flow` or `priority` is written.
 pub fn runs_are_not_accused()
-    ensures short { (plan : Plans) (steps : List Steps) (w : World) → Clean plan → Run plan all_off steps w
-        → IsNotWrittenOf Short plan w }
-    ensures stranger { (plan : Plans) (steps : List Steps) (w : World) → Clean plan → Run plan all_off steps w
-        → IsNotWrittenOf Stranger plan w }
-    ensures nobody { (plan : Plans) (steps : List Steps) (w : World) → Clean plan → Run plan all_off steps w
-        → IsNotWrittenOf Nobody plan w }
-    ensures address { (plan : Plans) (steps : List Steps) (w : World) → Clean plan → Run plan all_off steps w
-        → IsNotWrittenOf Address plan w }
-    ensures cannot { (plan : Plans) (steps : List Steps) (w : World) → Clean plan → Run plan all_off steps w
-        → IsNotWrittenOf Cannot plan w }
-    ensures layout { (plan : Plans) (steps : List Steps) (w : World) → Clean plan → Run plan all_off steps w
-        → IsNotWrittenOf Layout plan w }
-    ensures no_flow { (plan : Plans) (steps : List Steps) (w : World) → Clean plan → Run plan all_off steps w
-        → IsNotWrittenOf NoFlow plan w }
-    ensures priority { (plan : Plans) (steps : List Steps) (w : World) → Clean plan → Run plan all_off steps w
-        → IsNotWrittenOf Priority plan w }
+    ensures { (plan : Plans) (steps : List Steps) (w : World) → Clean plan → Run plan all_off steps w
+        → AllByRecursion (λ (word : AWord). IsNotWrittenOf word plan w)
+        (Short ∷ Stranger ∷ Nobody ∷ Address ∷ Cannot ∷ Layout ∷ NoFlow ∷ Priority ∷ []) }
 {}
 
-/// Who sent the frames of such a log can be told so that what the laws above ask of each unit, but `WaitsForPlanned`, is
+/// Who sent the frames of such a log can be reported so that what the laws above ask of each unit, but `WaitsForPlanned`, is
 /// kept.
 pub fn runs_keep_all_parts()
     ensures { (plan : Plans) (steps : List Steps) (w : World) → Clean plan → Run plan all_off steps w
         → ArePartsKept plan w }
 {}
 
-/// A message is told as too near where there is no room for a step between each two of some messages in a row up to it,
-/// and only there: one that is told has such messages before it (`told`), the first one that has is told (`first`), and
-/// so one is told of the first so many messages exactly where there is one that has (`some`).
+/// A message is reported as too near where there is no room for a step between each two of some messages in a row up to it,
+/// and only there: one that is reported has such messages before it (`reported`), the first one that has is reported (`first`), and
+/// so one is reported of the first so many messages exactly where there is one that has (`some`).
 pub fn near_is_exact()
-    ensures told { (step : ℕ) (windows : ℕ → AWindow) (j : ℕ) → is_too_near step windows j ≡ true → IsTooNear step windows j }
+    ensures stated { (step : ℕ) (windows : ℕ → AWindow) (j : ℕ) → is_too_near step windows j ≡ true → IsTooNear step windows j }
     ensures first { (step : ℕ) (windows : ℕ → AWindow) (j : ℕ) → ((k : ℕ) → k < j → is_too_near step windows k ≡ false)
         → (is_too_near step windows j ≡ true) ↔ IsTooNear step windows j }
     ensures some { (step : ℕ) (windows : ℕ → AWindow) (n : ℕ)
         → ((j : ℕ) × (j < n) × (is_too_near step windows j ≡ true)) ↔ ((j : ℕ) × (j < n) × IsTooNear step windows j) }
 {}
 
-/// Of the messages of a stream behind one another those are noted that are told as too near, each by how much and at its
+/// Of the messages of a stream behind one another those are noted that are reported as too near, each by how much and at its
 /// line.
 pub fn the_near_are_noted()
     ensures { NotesTheNear }
 {}
 
-/// Of moments that are a step apart, in whatever order the messages come on the log, none is told as too near: whatever
+/// Of moments that are a step apart, in whatever order the messages come on the log, none is reported as too near: whatever
 /// the bounds are, if no message from one on had its moment before the lower bound of this one, and none up to it after
 /// its upper bound.
 pub fn who_keeps_a_step_is_not_near()
@@ -163,11 +151,11 @@ pub fn who_keeps_a_step_is_not_near()
         → (j : ℕ) → j < n → is_too_near step windows j ≡ false }
 {}
 
-/// A flow is told as silent where from the upper bound of a message no pause between each two leads up to a later lower
+/// A flow is reported as silent where from the upper bound of a message no pause between each two leads up to a later lower
 /// bound, and only there, likewise. What comes last may be no message, but the moment at which another one should have
 /// come.
 pub fn silent_is_exact()
-    ensures told { (pause : ℕ) (windows : ℕ → AWindow) (j : ℕ) (lower : Option ℕ) → is_silent pause windows j lower ≡ true
+    ensures stated { (pause : ℕ) (windows : ℕ → AWindow) (j : ℕ) (lower : Option ℕ) → is_silent pause windows j lower ≡ true
         → IsTooFar pause windows j lower }
     ensures first { (pause : ℕ) (windows : ℕ → AWindow) (j : ℕ)
         → ((k : ℕ) → k < j → is_silent pause windows k (windows k).lower ≡ false)
@@ -177,7 +165,7 @@ pub fn silent_is_exact()
         ↔ ((j : ℕ) × (j < n) × IsTooFar pause windows j (windows j).lower) }
 {}
 
-/// Of the messages of a flow with a pause that doesn't end between them those are noted at which it is told as silent
+/// Of the messages of a flow with a pause that doesn't end between them those are noted at which it is reported as silent
 /// (`messages`), and where the pause ends, by the last frame of its ends, so is the last of them (`end`), each by how
 /// much and at the line of the message before.
 pub fn the_silent_are_noted()
@@ -185,7 +173,7 @@ pub fn the_silent_are_noted()
     ensures end { NotesTheSilentEnd }
 {}
 
-/// Of a flow of which at each moment a message had its own within the last pause, none is told as silent, in whatever
+/// Of a flow of which at each moment a message had its own within the last pause, none is reported as silent, in whatever
 /// order its messages come on the log: neither at a message nor at a moment at which another one should have come.
 pub fn who_keeps_a_pause_is_not_silent()
     ensures { (is_message : ℕ → Bool) (pause from to : ℕ) (frame moment : ℕ → ℕ) (windows : ℕ → AWindow)
@@ -195,11 +183,11 @@ pub fn who_keeps_a_pause_is_not_silent()
         → is_silent pause windows j lower ≡ false }
 {}
 
-/// In a log of a bus a flow with a pause is told as silent, by the bus or by load alone, if behind a message of it none came
+/// In a log of a bus a flow with a pause is reported as silent, by the bus or by load alone, if behind a message of it none came
 /// for longer than its pause, the response time that is counted on and what clocks and times of lines may differ, and
 /// frames of its ends show that these were there. No end of its pause may come in that time, and no quiet second may end it
 /// later.
-pub fn who_is_long_silent_is_told()
+pub fn who_is_long_silent_is_reported()
     ensures { SilentAreFound }
 {}
 
@@ -216,28 +204,12 @@ pub fn idle_marks_are_right()
     ensures exact { ExactClocks }
 {}
 
-/// Who keeps its own stream's period and jitter is never told as too near by the idle bits that a log shows, and who keeps
+/// Who keeps its own stream's period and jitter is never reported as too near by the idle bits that a log shows, and who keeps
 /// its pause and jitter never as silent, however long its frames wait for others: on each such bus, whatever others do,
 /// by exact clocks of the unit and the bus, and one of the logger that may differ by a thousandth.
-pub fn no_stream_is_told_wrongly()
-    ensures near { (s : Schedule) (d : Damaged) (log : Lines) (period jitter n : ℕ) (is_message : ℕ → Bool) (release frame : ℕ → ℕ)
-        (windows : ℕ → AWindow)
-        → log.us ≤ 8 → KeepsTime log.us log.clock
-        → IsBusWithErrors s d → ((p : ℕ) → p < s.count → s.bits p ≤ 160) → AreFew d log.few
-        → AreReleasedFirst s is_message release → HaveJitter s log.us jitter is_message release
-        → AreMsApart s log.us period is_message release
-        → AreLines s is_message n frame → AreOfLog s log jitter n frame windows
-        → (j : ℕ) → j < n → is_too_near (999 * period) windows j ≡ false }
-    ensures silent { (s : Schedule) (d : Damaged) (log : Lines) (bits_of_ms pause jitter from to n : ℕ) (is_message : ℕ → Bool)
-        (release frame : ℕ → ℕ) (windows : ℕ → AWindow)
-        → log.us ≤ 8 → log.us * bits_of_ms ≡ 1000 → KeepsTime log.us log.clock
-        → IsBusWithErrors s d → ((p : ℕ) → p < s.count → s.bits p ≤ 160) → AreFew d log.few
-        → AreReleasedFirst s is_message release → HaveJitter s log.us jitter is_message release
-        → KeepsMs s log.us pause is_message release from to → from ≤ to
-        → AreLines s is_message n frame → AreOfLog s log jitter n frame windows → from ≤ frame_end s (frame 0)
-        → (j : ℕ) → j ≤ n → (lower : Option ℕ) → (of : ℕ) → AreAllBefore s is_message frame j of
-        → ((x : ℕ) → lower ≡ Some x → IsMarkedBound s log jitter of x × (1000 * x ≤ log.clock to))
-        → is_silent (1001 * pause) windows j lower ≡ false }
+pub fn no_stream_is_reported_wrongly()
+    ensures near { StreamsAreNotNear }
+    ensures silent { StreamsAreNotSilent }
 {}
 
 /// So in a whole log of such a bus no flow is accused by `near`, in the plan's own words, the messages of which keep its
@@ -246,33 +218,23 @@ pub fn whole_logs_of_kept_periods_are_not_near()
     ensures { PeriodsAreNotNear }
 {}
 
-/// Nor is one told by load that keeps its period, and its pause, and each message of which has been sent within the
+/// Nor is one reported by load that keeps its period, and its pause, and each message of which has been sent within the
 /// response time that is counted on, where units and the bus have exact clocks, and the logger's may differ by a
 /// thousandth: neither as too near nor as silent, whatever lines of it a log lacks before.
-pub fn who_is_sent_in_time_is_not_told()
-    ensures near { (s : Schedule) (log : Lines) (period bits n : ℕ) (is_message : ℕ → Bool) (release frame : ℕ → ℕ) (windows : ℕ → AWindow)
-        → KeepsTime log.us log.clock → IsOneAtATime s → AreReleasedFirst s is_message release → AreMessagesInTime s bits is_message release
-        → AreMsApart s log.us period is_message release → AreLines s is_message n frame
-        → AreOfLoad s log (us_at_logger (bits * log.us)) n frame windows
-        → (j : ℕ) → j < n → is_too_near (999 * period) windows j ≡ false }
-    ensures silent { (s : Schedule) (log : Lines) (bits_of_ms pause bits from to n : ℕ) (is_message : ℕ → Bool) (release frame : ℕ → ℕ)
-        (windows : ℕ → AWindow) → log.us * bits_of_ms ≡ 1000 → KeepsTime log.us log.clock → IsOneAtATime s → AreReleasedFirst s is_message release
-        → AreMessagesInTime s bits is_message release → KeepsMs s log.us pause is_message release from to → from ≤ to
-        → AreLines s is_message n frame → AreOfLoad s log (us_at_logger (bits * log.us)) n frame windows → from ≤ frame_end s (frame 0)
-        → (j : ℕ) → j ≤ n → (lower : Option ℕ) → (of : ℕ) → AreAllBefore s is_message frame j of
-        → ((x : ℕ) → lower ≡ Some x → IsEndBound s log (us_at_logger (bits * log.us)) of x × (1000 * x ≤ log.clock to))
-        → is_silent (1001 * pause) windows j lower ≡ false }
+pub fn who_is_sent_in_time_is_not_reported()
+    ensures near { SentInTimeAreNotNear }
+    ensures silent { SentInTimeAreNotSilent }
 {}
 
 /// On each bus that keeps to a clean plan in the plan's own words, where clocks of units and the bus don't drift, no flow
-/// each message of which goes in one frame is told as too near by the response time that `load` answers, whether units
+/// each message of which goes in one frame is reported as too near by the response time that `load` answers, whether units
 /// keep order or not, and whatever its other messages are that a log lacks.
 pub fn kept_plans_are_not_near_by_load()
     ensures { (plan : Plans) (timing : Timings) (stays : PlannedUnits → Bool) (delays : List (Option Delays)) → Clean plan
         → AsksOfBus plan timing stays delays → timing.drift ≡ 0 → IsNoneNearByLoad plan timing delays }
 {}
 
-/// So an audit of a log of such a bus tells nothing of such a flow by load: no line `near_or_late` is written of it, whatever
+/// So an audit of a log of such a bus reports nothing of such a flow by load: no line `near_or_late` is written of it, whatever
 /// frames are missing in the log, and however it was cut.
 pub fn logs_of_kept_plans_are_not_near_by_load()
     ensures { (s : Settings) (timing : Timings) (stays : PlannedUnits → Bool) (delays : List (Option Delays)) → Clean s.plan
@@ -287,13 +249,13 @@ pub fn whole_logs_of_kept_plans_are_not_near()
         → s.bound ≡ Bus → AreWholeLogsNotNear s timing delays }
 {}
 
-/// Nor is one told as silent by load, while it keeps its pause, where a log has all its messages up to a line.
+/// Nor is one reported as silent by load, while it keeps its pause, where a log has all its messages up to a line.
 pub fn kept_pauses_are_not_silent_by_load()
     ensures { (plan : Plans) (timing : Timings) (stays : PlannedUnits → Bool) (delays : List (Option Delays)) → Clean plan
         → AsksOfBus plan timing stays delays → timing.drift ≡ 0 → IsNoneSilentByLoad plan timing delays }
 {}
 
-/// Of each unit the request for claims behind a frame that is kept is told by the one before it (`kept`), and where a frame
+/// Of each unit the request for claims behind a frame that is kept is reported by the one before it (`kept`), and where a frame
 /// counts for a unit whose request is overdue by then, that is noted at the line of the request, and nothing else is
 /// (`noted`).
 pub fn the_deaf_are_noted()
@@ -301,13 +263,13 @@ pub fn the_deaf_are_noted()
     ensures noted { NotesTheDeaf }
 {}
 
-/// A unit is told as deaf at one of its frames exactly where there was a request to it, the first one behind what it
+/// A unit is reported as deaf at one of its frames exactly where there was a request to it, the first one behind what it
 /// answered, it claimed nothing since and the log has no gap since, and the bus was idle when its claim had to be ready.
 pub fn deaf_is_exact()
-    ensures { (t : Timings) (l : UnitLines) (n : ℕ) → (is_told_deaf t l n ≡ true) ↔ IsDeafAt t l n }
+    ensures { (t : Timings) (l : UnitLines) (n : ℕ) → (is_reported_deaf t l n ≡ true) ↔ IsDeafAt t l n }
 {}
 
-/// Who claims within 250 ms when it is asked, or, where it was off, before it sends again, is never told as deaf, whatever
+/// Who claims within 250 ms when it is asked, or, where it was off, before it sends again, is never reported as deaf, whatever
 /// others do and however long its claims wait for them: on each such bus, by exact clocks of the unit and the bus, and one
 /// of the logger that may differ by a thousandth.
 pub fn who_answers_is_not_deaf()
@@ -315,7 +277,7 @@ pub fn who_answers_is_not_deaf()
         → log.us ≤ 8 → KeepsTime log.us log.clock
         → IsBusWithErrors s d → ((p : ℕ) → p < s.count → s.bits p ≤ 160) → AreFew d log.few
         → AreLinesOfUnit s log l n is_claim frame → AnswersRequests s log.us longest_answer_ms l n is_claim frame
-        → is_told_deaf t l n ≡ false }
+        → is_reported_deaf t l n ≡ false }
 {}
 
 /// Of a planned broadcast each frame but the last is noted behind which the next packet comes too late, by how much and at
@@ -325,7 +287,7 @@ pub fn the_late_are_noted()
 {}
 
 /// Who queues each packet of a broadcast within the plan's `broadcast_gap_most` behind the end of the frame of it before is
-/// never told as late with it, however long its frames wait for others: on each such bus, whatever others do, by exact
+/// never reported as late with it, however long its frames wait for others: on each such bus, whatever others do, by exact
 /// clocks of the unit and the bus, and one of the logger that may differ by a thousandth.
 pub fn who_sends_in_turn_is_not_silent()
     ensures { (s : Schedule) (d : Damaged) (log : Lines) (t : Timings) (one : ABroadcast) (g p : ℕ) (idle : Option ℕ)

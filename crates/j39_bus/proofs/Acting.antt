@@ -4,8 +4,7 @@ use Rattle.j39_network.specs.declared.steps.Step.{Step}
 use Rattle.j39_bus.specs.declared.network.Network.{Network}
 use Rattle.j39_bus.specs.BusState.{nowhere}
 use Rattle.j39_bus.specs.inside.Network.{Finds, IsAllowed, IsRefusal, Steps, world_in}
-use Rattle.j39_bus.proofs.BeginRefused.{flow_inside}
-use Rattle.j39_bus.proofs.SendRefused as sending
+use Rattle.j39_bus.proofs.FlowRefused.{refused_begun, flow_inside, refused_alone}
 use Rattle.j39_bus.proofs.Refused.{none_refuses, pair_inside, unit_inside}
 use Rattle.j39_world.proofs.Refusals.{NoneHold}
 use Rattle.std.proofs.lemmas.Bool.{ltb-true, not-false}
@@ -27,8 +26,8 @@ module _ (net : Network) where
   finds (Down u) none = unit_inside _ _ _ (none.is nowhere)
   finds (Give u v) none = (pair_inside _ _ _ _ (none.is nowhere), ltb-true 0 _ (not-false _ (last (Give u v) none).1.1.0))
   finds (Ask u) none = unit_inside _ _ _ (none.is nowhere)
-  finds (Begin f bytes) none = flow_inside net.live (length net.claimers.items) (world_in nowhere net) net.flows.items f bytes.items (none.is nowhere)
-  finds (Send f bytes) none = sending.flow_inside net.live (length net.claimers.items) (world_in nowhere net) net.flows.items f bytes.items (none.is nowhere)
+  finds (Begin f bytes) none = flow_inside (refused_begun net bytes.items nowhere) (λ is. cc is) net.flows.items f (none.is nowhere)
+  finds (Send f bytes) none = flow_inside (refused_alone net bytes.items nowhere) (λ is. cc is) net.flows.items f (none.is nowhere)
   finds (Emit u) none = (unit_inside _ _ _ (none.is nowhere), not-false _ (last (Emit u) none).1.1.0)
   finds (Take u v) none = (pair_inside _ _ _ _ (none.is nowhere), ltb-true 0 _ (not-false _ (last (Take u v) none).1.1.0))
   finds (Lose u v) none = (pair_inside _ _ _ _ (none.is nowhere), ltb-true 0 _ (not-false _ (last (Lose u v) none).1.1.0))

@@ -4,7 +4,7 @@ use Rattle.std.proofs.Math.Seq.{set-get_or}
 use Rattle.std.specs.Bool.{MatchBool}
 use Rattle.j39_claim.specs.declared.item.Say.{Say}
 use Rattle.j39_claim.specs.declared.item.Item.{Item}
-use Rattle.j39_claim.specs.declared.item.Item.TheVariants.{Told, Request}
+use Rattle.j39_claim.specs.declared.item.Item.TheVariants.{AddressClaimed, Request}
 use Rattle.j39_claim.specs.ClaimRule.{ClaimState, PlannedUnit, Reacts, said_by, say_of, claim_of}
 use Rattle.j39_claim.specs.ClaimerValue.{ClaimerValue}
 use Rattle.j39_network.specs.PlannedUnits.{unit_at}
@@ -12,18 +12,18 @@ use Rattle.j39_bus.specs.Stations.{absent_unit, station_at}
 use Rattle.j39_bus.specs.inside.Network.{HasAnswered, planned_units}
 use Rattle.j39_bus.proofs.Worlds.{any_default, unit_at-planned_units}
 
--- by what the unit itself does at what it is told
-pub told : (cs : List ClaimerValue) (v : ℕ) → v < length cs → (old new : ClaimerValue) → old ≡ get_or cs v old → (after : ClaimState)
+-- by what the unit itself does at what it hears
+pub stated : (cs : List ClaimerValue) (v : ℕ) → v < length cs → (old new : ClaimerValue) → old ≡ get_or cs v old → (after : ClaimState)
     → new ≡ record old { state = after }
-    → (name : ℕ) (item : Item) (say : Say) (number : ℕ) (says : Option Say) → item ≡ Told say → say_of number ≡ say
-    → Reacts old.planned old.state name (Told (say_of number)) says new.state → HasAnswered cs v name item says (set cs v new)
-told cs v inside old new at after left name item say number says is same rule =
+    → (name : ℕ) (item : Item) (say : Say) (number : ℕ) (says : Option Say) → item ≡ AddressClaimed say → say_of number ≡ say
+    → Reacts old.planned old.state name (AddressClaimed (say_of number)) says new.state → HasAnswered cs v name item says (set cs v new)
+stated cs v inside old new at after left name item say number says is same rule =
     let old_is : old ≡ get_or cs v absent_unit = at ∙ any_default cs v old absent_unit inside in (
       new.state,
       (λ i. set cs v (record { planned = (left i).planned; state = new.state })) ∙ (λ i. set cs v (record (old_is i) { state = new.state })),
       subst (λ (it : Item). Reacts (get_or cs v absent_unit).planned (station_at cs v) name it says new.state) (sym is)
-          (subst (λ (c : ClaimerValue). Reacts c.planned c.state name (Told say) says new.state) old_is
-          (subst (λ (s : Say). Reacts old.planned old.state name (Told s) says new.state) same rule)),
+          (subst (λ (c : ClaimerValue). Reacts c.planned c.state name (AddressClaimed say) says new.state) old_is
+          (subst (λ (s : Say). Reacts old.planned old.state name (AddressClaimed s) says new.state) same rule)),
     )
 
 -- at a request, a unit that claims says what it holds

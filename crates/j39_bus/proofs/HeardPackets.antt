@@ -3,7 +3,7 @@ use Rattle.std.proofs.Common.{◌≡◌, ℕ, ◌≤◌, true, false, eqb, List,
 use Rattle.std.proofs.lemmas.Bool.{cond_both, eqb-true, true≢false}
 use Rattle.std.specs.Prelude.{IfSome}
 use Rattle.j39_tp.specs.Gathered.{Gathers}
-use Rattle.j39_tp.specs.Receiver.{is_complete, size_told}
+use Rattle.j39_tp.specs.Receiver.{is_complete, size_announced}
 use Rattle.j39_tp.specs.declared.receiving.heard.Heard.{Heard}
 use Rattle.j39_tp.specs.declared.receiving.heard.Heard.TheVariants as heards
 use Rattle.j39_tp.specs.declared.packet.Packet.{Packet}
@@ -29,7 +29,7 @@ left_gathers h (Complete pgn) bytes is = tt
 -- ---- a message is complete
 
 -- the room that was made is enough
-pub room_enough : (x : Heard) (bytes : List ℕ) (capacity : ℕ) → is_complete x ≡ true → IfSome (size_told x bytes) (λ n. n ≤ capacity)
+pub room_enough : (x : Heard) (bytes : List ℕ) (capacity : ℕ) → is_complete x ≡ true → IfSome (size_announced x bytes) (λ n. n ≤ capacity)
     → length bytes ≤ capacity
 room_enough heards.Nothing bytes capacity is room = absurd (true≢false (sym is))
 room_enough (heards.Reply q) bytes capacity is room = absurd (true≢false (sym is))

@@ -1,5 +1,5 @@
 -- What is left where a unit is off.
-use Rattle.std.proofs.Common.{◌≡◌, ℕ, ◌+◌, ◌≤◌, Bool, true, false, ◌||◌, cond, ltb, List, length, refl, ap, ◌∙◌, arith, inl, inr, Option, None}
+use Rattle.std.proofs.Common.{◌≡◌, ℕ, ◌+◌, ◌≤◌, cond, ltb, List, length, refl, ap, ◌∙◌, arith, inl, inr, Option, None}
 use Rattle.std.proofs.lemmas.List.{get_or_past}
 use Rattle.std.proofs.lemmas.Bool.{cases_eq, cases_lt, eq-eqb, ne_eqb, lt-ltb, le-ltb}
 use Rattle.j39_queues.proofs.Columns.{next_place}
@@ -7,11 +7,6 @@ use Rattle.j39_bus.specs.BusState.{session_at}
 use Rattle.j39_world.specs.SwitchingOff.{session_without, sessions_without}
 use Rattle.j39_world.specs.Transfers.{Outgoing, Sessions}
 use Rattle.j39_world.specs.World.{changed}
-
--- a row and a column of a table are gone, one after the other
-pub either_gone : {X : Type 0} (a b : Bool) (none x : X) → cond a none (cond b none x) ≡ cond (a || b) none x
-either_gone true b none x = refl
-either_gone false b none x = refl
 
 -- the messages of the units below a place go to u no more
 abbrev pub AreLeftOut : ℕ → Sessions → ℕ → Sessions → Type 0

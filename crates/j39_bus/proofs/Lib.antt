@@ -1,6 +1,5 @@
 pub mod Acting
-pub mod BeginRefused
-pub mod SendRefused
+pub mod FlowRefused
 pub mod ChangedSessions
 pub mod LeftOut
 pub mod Delivered
@@ -16,6 +15,7 @@ pub mod Room
 pub mod Running
 pub mod Settled
 pub mod Standing
+pub mod Staged
 pub mod Steady
 pub mod SwitchedOff
 pub mod SwitchedOn

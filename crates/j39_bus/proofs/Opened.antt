@@ -1,6 +1,6 @@
 -- A new bus stands for the first world.
 use Rattle.std.proofs.Common.{◌≡◌, ℕ, zero, suc, ◌+◌, ◌<◌, ◌≤◌, List, [], ◌∷◌, ◌++◌, length, map, take, get_or, replicate, refl, sym}
-use Rattle.std.proofs.Common.{ap, ◌∙◌, subst, arith, Bool, true, false, Option, Some, None}
+use Rattle.std.proofs.Common.{ap, ◌∙◌, subst, arith, true, false, Option, Some, None}
 use Rattle.std.proofs.lemmas.Bool.{false≢true, true≢false}
 use Rattle.std.proofs.lemmas.Option.{same_Some}
 use Rattle.std.proofs.lemmas.List.{length-replicate, map_more}
@@ -16,7 +16,7 @@ use Rattle.j39_network.specs.declared.plan.Plan.{Plan}
 use Rattle.j39_network.specs.declared.plan.unit_plan.UnitPlan.{UnitPlan}
 use Rattle.j39_network.proofs.Served.{Decides-may_be_one}
 use Rattle.j39_claim.specs.declared.item.Item.{Item}
-use Rattle.j39_network.specs.PlannedUnits.{planned_unit, unit_at}
+use Rattle.j39_network.specs.PlannedUnits.{planned_unit}
 use Rattle.j39_world.specs.Transfers.{Outgoing}
 use Rattle.j39_bus.specs.BusState.{session_at}
 use Rattle.j39_bus.specs.Stations.{unstarted, station_at}

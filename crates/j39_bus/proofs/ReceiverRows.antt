@@ -13,6 +13,7 @@ use Rattle.j39_world.specs.Flows.{window_at}
 use Rattle.j39_world.specs.World.{changed_pair}
 use Rattle.j39_bus.specs.BusState.{Holding, ReceiverTable, closed, holding_at}
 use Rattle.j39_bus.specs.inside.Receivers.{IsAnswering, IsReceivers, ReceiverRow, ReceiverSlot, holding_of, holdings_of, slot_at}
+use Rattle.j39_bus.proofs.Worlds.{any_default}
 
 abbrev pub slots : ReceiverRow → List ReceiverSlot
 slots r = r.items
@@ -35,8 +36,11 @@ module _ (windows : List ℕ) (rows : List ReceiverRow) (was : ReceiverTable) (i
   count : length rows ≡ length windows
   count = sym (length-holdings rows) ∙ well.table.rows
 
-  pub in_windows : v < length windows
+  in_windows : v < length windows
   in_windows = omega (arith, below_v, ap length windows_are)
+
+  pub window_is : (window : ℕ) → window ≡ get_or windows v window → window ≡ window_at windows v
+  window_is window at = at ∙ any_default windows v window 1 in_windows
 
   pub in_v : v < length rows
   in_v = omega (arith, in_windows, count)

@@ -12,7 +12,7 @@ use Rattle.std.specs.FinMap.{nat_cmp-IsAntisymmetric}
 use Rattle.j39_claim.specs.declared.item.Say.{Say}
 use Rattle.j39_claim.specs.declared.item.Say.TheVariants.{Claim, Cannot}
 use Rattle.j39_claim.specs.declared.item.Item.{Item}
-use Rattle.j39_claim.specs.declared.item.Item.TheVariants.{Told, Request}
+use Rattle.j39_claim.specs.declared.item.Item.TheVariants.{AddressClaimed, Request}
 use Rattle.j39_claim.specs.ClaimRule.{PlannedUnit, ClaimState, Answers, Reacts, holds_address, Moves, GivesUp}
 use Rattle.j39_claim.specs.ClaimerValue.{ClaimerValue, can_note}
 use Rattle.j39_bus.specs.Stations.{absent_unit, station_at}
@@ -94,7 +94,7 @@ can_note_all cs ls u v well inside =
 -- who hears an item under a NAME notes no other NAME
 noted_by_answer : (c : PlannedUnit) (s : ClaimState) (n : ℕ) (item : Item) (says : Option Say) (new : ClaimState) → Answers c s n item says new
     → (k : ℕ) → is_some (get new.notes k) ≡ true → (k ≡ n) ⊎ (is_some (get s.notes k) ≡ true)
-noted_by_answer c s n (Told (Claim a)) says new answers k h =
+noted_by_answer c s n (AddressClaimed (Claim a)) says new answers k h =
     noted_with s.notes n a k (sym (ap (λ m. is_some (get m k)) (notes_are (holds_address s.address a) (ltb n c.name) answers)) ∙ h)
   where
     notes_are : (b d : Bool) → MatchBool b
@@ -105,7 +105,7 @@ noted_by_answer c s n (Told (Claim a)) says new answers k h =
     notes_are true true (inr (none, said, is)) = ap (λ (t : ClaimState). t.notes) is
     notes_are true false (said, is) = ap (λ (t : ClaimState). t.notes) is
     notes_are false d (said, is) = ap (λ (t : ClaimState). t.notes) is
-noted_by_answer c s n (Told Cannot) says new answers k h =
+noted_by_answer c s n (AddressClaimed Cannot) says new answers k h =
     inr (noted_without s.notes n k (sym (ap (λ (t : ClaimState). is_some (get t.notes k)) answers.1) ∙ h))
 noted_by_answer c s n Request says new answers k h = inr (sym (ap (λ (t : ClaimState). is_some (get t.notes k)) answers.1) ∙ h)
 

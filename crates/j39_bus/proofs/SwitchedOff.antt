@@ -8,7 +8,6 @@ use Rattle.j39_claim.specs.ClaimerValue.{ClaimerValue}
 use Rattle.j39_tp.specs.Gathered.{Gathers}
 use Rattle.j39_tp.specs.declared.packet.Packet.{Packet}
 use Rattle.j39_tp.specs.declared.receiving.progress.Progress.TheVariants.{Closed}
-use Rattle.j39_queues.specs.Queued.{without_column, without_row}
 use Rattle.j39_world.specs.ClaimSteps.{without_lists_to}
 use Rattle.j39_world.specs.Sent.{Sent}
 use Rattle.j39_world.specs.SwitchingOff.{is_either, session_without, sessions_without, switched_off, without_lists_of, without_receivers_of, without_target}
@@ -21,7 +20,6 @@ use Rattle.j39_bus.specs.inside.KeptMessages.{AreSessions, AreUnits, IsSession}
 use Rattle.j39_bus.specs.inside.Network.{planned_units}
 use Rattle.j39_bus.specs.inside.Receivers.{without_holdings_of}
 use Rattle.j39_bus.proofs.ChangedSessions.{none_some}
-use Rattle.j39_bus.proofs.LeftOut.{either_gone}
 use Rattle.j39_bus.proofs.Worlds.{any_default, planned_units-set, world, world_set}
 
 -- ---- what each unit is
@@ -43,11 +41,6 @@ module _ (cs : List ClaimerValue) (u : ℕ) (inside : u < length cs) (old new : 
       (λ i. world b (set cs u new) (left_is i) fs) ∙ world_set b cs (without_lists_to u claims) fs u new inside
       ∙ (λ i. record b { stations = changed (station_at cs) u (stops i).state; claims = without_lists_to u claims; frames = fs }) in
       λ i. record (before i) { sessions = sessions_are i; wire = wire_is i; receivers = receivers_are i }
-
--- ---- what lies between it and others
-
-pub lists_gone : {X : Type 0} (u : ℕ) (old mid after : ℕ → ℕ → List X) → mid ≡ without_column u old → after ≡ without_row u mid → after ≡ without_lists_of u old
-lists_gone u old mid after column row = row ∙ (λ i s t. cond (eqb s u) [] (column i s t)) ∙ (λ i s t. either_gone (eqb s u) (eqb t u) [] (old s t) i)
 
 -- ---- the messages of others
 

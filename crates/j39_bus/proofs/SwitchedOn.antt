@@ -8,7 +8,7 @@ use Rattle.j39_network.specs.PlannedUnits.{unit_at}
 use Rattle.j39_world.specs.Sent.{Sent}
 use Rattle.j39_world.specs.Transfers.{Wire}
 use Rattle.j39_world.specs.World.{World, Undelivered, changed}
-use Rattle.j39_world.specs.ClaimSteps.{answer_items, tell, switched_on, without_lists_to}
+use Rattle.j39_world.specs.ClaimSteps.{answer_items, send_to_others, switched_on, without_lists_to}
 use Rattle.j39_bus.specs.Stations.{absent_unit, station_at}
 use Rattle.j39_bus.specs.inside.Network.{planned_units}
 use Rattle.j39_bus.proofs.Worlds.{any_default, planned_units-set, unit_at-planned_units, world, world_set}
@@ -26,7 +26,7 @@ module _ (cs : List ClaimerValue) (u : ℕ) (inside : u < length cs) (old new : 
 
   pub switched : (b : World) (claims left : Undelivered) (fs : List Sent) → left ≡ without_lists_to u claims → (wire : Wire)
       → wire ≡ without_lists_to u b.wire → (says : Option Say) → says ≡ said_by old.planned (Claim old.planned.preferred)
-      → (after : World) → after ≡ tell (planned_units (set cs u new)) (record (world b (set cs u new) left fs) { wire = wire }) u (answer_items says)
+      → (after : World) → after ≡ send_to_others (planned_units (set cs u new)) (record (world b (set cs u new) left fs) { wire = wire }) u (answer_items says)
       → after ≡ switched_on (planned_units cs) (world b cs claims fs) u
   switched b claims left fs left_is wire wire_is says said after after_is =
       let planned : old.planned ≡ unit_at (planned_units cs) u = ap (λ (c : ClaimerValue). c.planned) (at ∙ any_default cs u old absent_unit inside)
@@ -38,4 +38,4 @@ module _ (cs : List ClaimerValue) (u : ℕ) (inside : u < length cs) (old new : 
       { stations = changed (station_at cs) u (started (unit_at (planned_units cs) u)); claims = without_lists_to u claims; frames = fs } =
       (λ i. world b (set cs u new) (left_is i) fs) ∙ world_set b cs (without_lists_to u claims) fs u new inside
       ∙ (λ i. record b { stations = changed (station_at cs) u (state i); claims = without_lists_to u claims; frames = fs }) in
-      after_is ∙ (λ i. tell (planned_units_on i) (record (before i) { wire = wire_is i }) u (answer_items (says_is i)))
+      after_is ∙ (λ i. send_to_others (planned_units_on i) (record (before i) { wire = wire_is i }) u (answer_items (says_is i)))

@@ -36,10 +36,10 @@ well_set cs lists well v inside c same notes left table = record {
           ∙ h)
     ]
 
--- a unit tells the others
-pub well_told : (cs : List ClaimerValue) (lists : List (List (List Item))) → IsWellFormed cs lists
+-- a unit sends to the others
+pub well_stated : (cs : List ClaimerValue) (lists : List (List (List Item))) → IsWellFormed cs lists
     → (same : List ClaimerValue) (more : List (List (List Item))) → same ≡ cs → IsTable (length cs) more → IsWellFormed same more
-well_told cs lists well same more same_is table =
+well_stated cs lists well same more same_is table =
     subst (λ (l : List ClaimerValue). IsWellFormed l more) (sym same_is) (record { few = well.few; table = table; notes = well.notes })
 
 -- a unit is switched on

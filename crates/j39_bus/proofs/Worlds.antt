@@ -8,7 +8,7 @@ use Rattle.j39_claim.specs.ClaimerValue.{ClaimerValue}
 use Rattle.j39_network.specs.PlannedUnits.{unit_at}
 use Rattle.j39_world.specs.Sent.{Sent, frame_of}
 use Rattle.j39_world.specs.World.{World, Undelivered, changed}
-use Rattle.j39_world.specs.ClaimSteps.{tell}
+use Rattle.j39_world.specs.ClaimSteps.{send_to_others}
 use Rattle.j39_bus.specs.Stations.{absent_unit, station_at}
 use Rattle.j39_bus.specs.inside.Network.{planned_units}
 
@@ -57,9 +57,9 @@ pub world_set : (b : World) (cs : List ClaimerValue) (claims : Undelivered) (fs 
     → world b (set cs u c) claims fs ≡ record b { stations = changed (station_at cs) u c.state; claims = claims; frames = fs }
 world_set b cs claims fs u c inside = λ i. record b { stations = λ x. station_set cs u c x inside i; claims = claims; frames = fs }
 
--- to tell nothing changes nothing
-pub told_nothing : (units : List PlannedUnit) (w : World) (u : ℕ) → tell units w u [] ≡ w
-told_nothing units w u = λ i. record w {
+-- to send nothing changes nothing
+pub stated_nothing : (units : List PlannedUnit) (w : World) (u : ℕ) → send_to_others units w u [] ≡ w
+stated_nothing units w u = λ i. record w {
   claims = λ s t. either (eqb s u && ((w.stations t).on && not (eqb t u))) (w.claims s t) i;
   frames = append_nil w.frames i;
 }
@@ -68,9 +68,9 @@ told_nothing units w u = λ i. record w {
     either true xs = append_nil xs
     either false xs = refl
 
--- to tell two items is to tell one after the other
-pub told_twice : (units : List PlannedUnit) (w : World) (u : ℕ) (x y : Item) → tell units (tell units w u (x ∷ [])) u (y ∷ []) ≡ tell units w u (x ∷ y ∷ [])
-told_twice units w u x y = λ i. record w {
+-- to send two items is to send one after the other
+pub stated_twice : (units : List PlannedUnit) (w : World) (u : ℕ) (x y : Item) → send_to_others units (send_to_others units w u (x ∷ [])) u (y ∷ []) ≡ send_to_others units w u (x ∷ y ∷ [])
+stated_twice units w u x y = λ i. record w {
   claims = λ s t. both (eqb s u && ((w.stations t).on && not (eqb t u))) (w.claims s t) i;
   frames = appended w.frames (frame_of (unit_at units u).name (w.stations u).address x) (frame_of (unit_at units u).name (w.stations u).address y) i;
 }

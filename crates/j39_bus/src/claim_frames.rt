@@ -1,4 +1,4 @@
-//! The frames that tell of addresses.
+//! The frames about addresses.
 ghost use Rattle.std.specs.Prelude.{◌≡◌, ◌≤◌, length};
 ghost use Rattle.j39_id.specs.Ident.{bits};
 ghost use Rattle.j39_claim.specs.ClaimRule.{say_of};
@@ -46,12 +46,12 @@ pub(crate) fn payload_of(bytes: &[u8]) -> ArrayVec<u8, 8>
     payload
 }
 
-/// The frame by which a unit of this NAME that holds this address tells an item.
+/// The frame by which a unit of this NAME that holds this address sends an item.
 pub(crate) fn frame_of(name: Name, held: Option<Address>, item: &Item) -> Frame
     ensures { sent_of result ≡ frame_of name held item.now }
 {
     match item {
-        Item::Told(say) => Frame {
+        Item::AddressClaimed(say) => Frame {
             ident: to_all(ADDRESS_CLAIMED, number_of(say)),
             payload: payload_of(&name.to_bytes()),
         },

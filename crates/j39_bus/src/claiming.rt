@@ -78,7 +78,7 @@ impl Network {
         self.wire.clear_to(unit);
         let first = self.claimers[unit].start();
         match first {
-            Some(say) => self.tell(unit, Item::Told(say)),
+            Some(say) => self.send_to_others(unit, Item::AddressClaimed(say)),
             None => {}
         }
     }
@@ -105,7 +105,7 @@ impl Network {
         };
         let answer = hear(&mut self.claimers, choosers, to, name, &item);
         match answer {
-            Some(say) => self.tell(to, Item::Told(say)),
+            Some(say) => self.send_to_others(to, Item::AddressClaimed(say)),
             None => {}
         }
     }
@@ -125,8 +125,8 @@ impl Network {
         let answer = self.claimers[unit].hear_request();
         match answer {
             Some(say) => {
-                self.tell(unit, Item::Request);
-                self.tell(unit, Item::Told(say));
+                self.send_to_others(unit, Item::Request);
+                self.send_to_others(unit, Item::AddressClaimed(say));
             }
             None => {}
         }

@@ -2,7 +2,7 @@
 ghost use Rattle.std.specs.Prelude.{◌≡◌, ◌+◌, ◌<◌, ℕ, ◌≤◌, [], ◌∷◌, ◌++◌, length, OnOk};
 ghost use Rattle.std.specs.List.{list_all, range_with_len};
 ghost use Rattle.j39_queues.specs.Queued.{IsTable, changed_in, one_at, pair_in, room_at};
-ghost use Rattle.j39_world.specs.ClaimSteps.{told_to_others};
+ghost use Rattle.j39_world.specs.ClaimSteps.{sent_to_others};
 ghost use Rattle.j39_bus.specs.Stations.{station_at};
 ghost use Rattle.j39_bus.specs.inside.Claims.{HasRoomForOthers, are_requests};
 
@@ -42,7 +42,7 @@ fn post_to(claims: &mut Queues<Item>, from: usize, to: usize, item: &Item)
     ensures room { (s t : ℕ) → room_at claims.old s t ≤ room_at claims.new s t + one_at from to s t }
 {
     match item {
-        Item::Told(say) => claims.post(from, to, Item::Told(*say)),
+        Item::AddressClaimed(say) => claims.post(from, to, Item::AddressClaimed(*say)),
         Item::Request => claims.post(from, to, Item::Request),
     }
 }
@@ -60,7 +60,7 @@ pub(crate) fn post_to_others(
     requires room { HasRoomForOthers claims.old claimers.now from 1 }
     ensures table { IsTable (length claims.old.lists) claims.new.lists }
     ensures lists { pair_in claims.new.lists
-        ≡ told_to_others (station_at claimers.now) (pair_in claims.old.lists) from (item.now ∷ []) }
+        ≡ sent_to_others (station_at claimers.now) (pair_in claims.old.lists) from (item.now ∷ []) }
     ensures room { (more : ℕ) → HasRoomForOthers claims.old claimers.now from (1 + more)
         → HasRoomForOthers claims.new claimers.now from more }
 {

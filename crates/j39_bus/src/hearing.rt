@@ -22,7 +22,9 @@ pub(crate) fn hear(
     ensures rule { HasAnswered claimers.old.items unit name item.now result claimers.new.items }
 {
     match item {
-        Item::Told(say) => { claimers[unit].hear_claim(name, number_of(say), &*choosers[unit]) }
+        Item::AddressClaimed(say) => {
+            claimers[unit].hear_claim(name, number_of(say), &*choosers[unit])
+        }
         Item::Request => claimers[unit].hear_request(),
     }
 }

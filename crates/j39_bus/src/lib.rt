@@ -12,7 +12,6 @@ mod opening;
 mod places;
 mod receivers;
 mod refusing;
-mod refusing_sends;
 mod report;
 mod session;
 mod sessions;

@@ -1,7 +1,7 @@
 //! What the units are, what they send one another, and the frames that they sent.
 ghost use Rattle.std.specs.Prelude.{◌≡◌, ℕ, ◌<◌, ◌≤◌, ◌+◌, [], ◌∷◌, length, vec_len, vec_capacity, OnOk};
 ghost use Rattle.j39_queues.specs.Queued.{IsTable};
-ghost use Rattle.j39_world.specs.ClaimSteps.{tell};
+ghost use Rattle.j39_world.specs.ClaimSteps.{send_to_others};
 ghost use Rattle.j39_bus.specs.inside.Claims.{HasRoomForOthers};
 
 use crate::claim_frames::frame_of;
@@ -47,8 +47,8 @@ impl Network {
         self.frames.reserve(items)
     }
 
-    /// A unit tells all others.
-    pub(crate) fn tell(&mut self, from: usize, item: Item)
+    /// A unit sends an item to all others.
+    pub(crate) fn send_to_others(&mut self, from: usize, item: Item)
         requires from { from < length self.old.claimers.items }
         requires table { IsTable (length self.old.claimers.items) self.old.claims.lists }
         requires room { HasRoomForOthers self.old.claims self.old.claimers.items from 1 }
@@ -57,7 +57,7 @@ impl Network {
         ensures rest { self.new ≡ record self.old { claims = self.new.claims; frames = self.new.frames } }
         ensures world { (h : Histories)
             → world_in h self.new
-            ≡ tell (planned_units self.old.claimers.items) (world_in h self.old) from (item ∷ []) }
+            ≡ send_to_others (planned_units self.old.claimers.items) (world_in h self.old) from (item ∷ []) }
         ensures table { IsTable (length self.old.claimers.items) self.new.claims.lists }
         ensures room { (more : ℕ) → HasRoomForOthers self.old.claims self.old.claimers.items from (1 + more)
             → HasRoomForOthers self.new.claims self.old.claimers.items from more }

@@ -1,5 +1,5 @@
 //! A receiver of each unit for what each other sends.
-ghost use Rattle.std.specs.Prelude.{◌≡◌, ℕ, ◌<◌, ◌≤◌, true, cond, nat_eq, [], length, map, vec_capacity, OnOk, OnErr};
+ghost use Rattle.std.specs.Prelude.{◌≡◌, ℕ, ◌<◌, ◌≤◌, true, [], length, map, vec_capacity, OnOk, OnErr};
 ghost use Rattle.std.specs.Prelude.{IfOk};
 ghost use Rattle.j39_tp.specs.declared.receiving.manner.Manner.TheVariants.{Answering};
 ghost use Rattle.j39_world.specs.Flows.{window_at};
@@ -59,7 +59,7 @@ fn fill(
 }
 
 // What a receiver does with a packet; where there is none, nothing.
-fn tell(slot: &mut Option<Box<Receiver>>, packet: &Packet) -> Heard
+fn send_to_others(slot: &mut Option<Box<Receiver>>, packet: &Packet) -> Heard
     requires ready { IsReady packet.now slot.old }
     ensures heard { (window : ℕ) → IsAnswering window slot.old
         → result ≡ (hears (Answering window) (holding_of slot.old).progress packet.now).1 }
@@ -143,7 +143,7 @@ fn hear_in(
 {
     let mut bytes = room_for(alloc, slot, packet)?;
     fill(alloc, slot, window, packet)?;
-    let heard = tell(slot, packet);
+    let heard = send_to_others(slot, packet);
     if heard.is_complete() {
         collect(slot, &mut bytes);
     }
@@ -243,38 +243,16 @@ impl Receivers {
         *slot = None;
     }
 
-    // Gives up the receivers of a unit.
-    fn close_for(&mut self, unit: usize)
-        requires { unit < length self.old.windows }
-        ensures windows { self.new.windows ≡ self.old.windows }
-        ensures after { holding_at self.new.holdings
-            ≡ (λ v s. cond (nat_eq v unit) closed (holding_at self.old.holdings v s)) }
-    {
-        for from in 0..self.windows.len() {
-            self.close(from, unit);
-        }
-    }
-
-    // Gives up the receivers of others for what a unit sends.
-    fn close_to(&mut self, unit: usize)
-        requires { unit < length self.old.windows }
-        ensures windows { self.new.windows ≡ self.old.windows }
-        ensures after { holding_at self.new.holdings
-            ≡ (λ v s. cond (nat_eq s unit) closed (holding_at self.old.holdings v s)) }
-    {
-        for to in 0..self.windows.len() {
-            self.close(unit, to);
-        }
-    }
-
     /// A unit is off: its receivers are given up, and those of others for what it sends.
     pub(crate) fn switch_off(&mut self, unit: usize)
         requires { unit < length self.old.windows }
         ensures windows { self.new.windows ≡ self.old.windows }
         ensures after { holding_at self.new.holdings ≡ without_holdings_of unit (holding_at self.old.holdings) }
     {
-        self.close_to(unit);
-        self.close_for(unit);
+        for other in 0..self.windows.len() {
+            self.close(other, unit);
+            self.close(unit, other);
+        }
     }
 
     /// Whether the receiver of a unit for what another sends is open.

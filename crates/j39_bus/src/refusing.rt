@@ -2,13 +2,13 @@
 ghost use Rattle.std.specs.Prelude.{◌≡◌, ◌&&◌, ◌||◌, not, Some, length};
 ghost use Rattle.j39_network.specs.declared.steps.Step.TheVariants.{Up, Give, Ask, Emit, Take, LateSender};
 ghost use Rattle.j39_network.specs.declared.steps.Step.TheVariants.{LateReceiver, Rest};
-ghost use Rattle.j39_world.specs.Flows.{can_be_sent, has_length};
+ghost use Rattle.j39_world.specs.Flows.{can_be_sent, has_length, is_short};
 ghost use Rattle.j39_bus.specs.Stations.{station_at};
 ghost use Rattle.j39_bus.specs.BusState.{Histories, nowhere};
-ghost use Rattle.j39_bus.specs.inside.Network.{IsNetwork, IsRefusal, world_in};
+ghost use Rattle.j39_bus.specs.inside.Network.{IsNetwork, IsRefusal, flow_refusals, world_in};
 ghost use Rattle.j39_id.specs.FirstFault.{first_fault};
 ghost use Rattle.j39_world.specs.Run.{at_ends, begin_refusal, has_address, is_a_transfer_open, is_nothing_undelivered};
-ghost use Rattle.j39_world.specs.Run.{is_on, pair_refusals, unit_refusals};
+ghost use Rattle.j39_world.specs.Run.{is_on, pair_refusals, send_refusal, unit_refusals};
 ghost use Rattle.j39_bus.specs.inside.KeptMessages.{IsFlow};
 ghost use Rattle.j39_queues.specs.Queued.{pair_in};
 
@@ -19,8 +19,8 @@ use j39_network::{Step, To};
 use j39_signal::is_selected;
 use j39_world::Flow;
 
-/// Whether a flow to one unit goes to another one, and its group can be sent to one.
-pub(crate) fn can_be_sent(flow: &Flow) -> bool
+// Whether a flow to one unit goes to another one, and its group can be sent to one.
+fn can_be_sent(flow: &Flow) -> bool
     ensures { result ≡ can_be_sent flow.now }
 {
     match flow.to {
@@ -30,11 +30,18 @@ pub(crate) fn can_be_sent(flow: &Flow) -> bool
     }
 }
 
-/// Whether a flow has messages of so many bytes.
-pub(crate) fn fits(flow: &Flow, bytes: &[u8]) -> bool
+// Whether a flow has messages of so many bytes.
+fn fits(flow: &Flow, bytes: &[u8]) -> bool
     ensures { result ≡ has_length flow.now (length bytes.now) }
 {
     usize::from(flow.length) <= bytes.len() && bytes.len() <= usize::from(flow.most)
+}
+
+// Whether a flow has messages of so many bytes, and one frame has room for them.
+fn fits_one_frame(flow: &Flow, bytes: &[u8]) -> bool
+    ensures { result ≡ (has_length flow.now (length bytes.now) && is_short (length bytes.now)) }
+{
+    fits(flow, bytes) && bytes.len() <= FRAME_BYTES
 }
 
 fn is_either(one: bool, other: bool) -> bool
@@ -56,10 +63,13 @@ impl Network {
             Step::Give(from, to) => self.refusal_of_give(*from, *to),
             Step::Ask(unit) => self.refusal_of_ask(*unit),
             Step::Begin(place, bytes) => match self.flows.get(*place) {
-                Some(flow) => self.refusal_of_flow(flow, bytes.as_slice()),
+                Some(flow) => self.refusal_of_message(flow, bytes.as_slice()),
                 None => Some(StepError::NoSuchFlow),
             },
-            Step::Send(place, bytes) => self.refusal_of_send(*place, bytes),
+            Step::Send(place, bytes) => match self.flows.get(*place) {
+                Some(flow) => self.refusal_of_frame(flow, bytes.as_slice()),
+                None => Some(StepError::NoSuchFlow),
+            },
             Step::Emit(unit) => self.refusal_of_emit(*unit),
             Step::Take(from, to) => self.refusal_of_take(*from, *to),
             Step::Lose(from, to) => self.refusal_of_take(*from, *to),
@@ -145,12 +155,40 @@ impl Network {
         None
     }
 
-    // Of these bytes by a planned flow.
-    fn refusal_of_flow(&self, flow: &Flow, bytes: &[u8]) -> Option<StepError>
+    // Of these bytes by a planned flow, in a message that is begun.
+    fn refusal_of_message(&self, flow: &Flow, bytes: &[u8]) -> Option<StepError>
         requires network { IsNetwork self.now }
         requires flow { IsFlow (length self.now.claimers.items) flow.now }
         ensures { (h : Histories)
             → result ≡ begin_refusal self.now.live (length self.now.claimers.items) (world_in h self.now) (Some flow.now) bytes.now }
+    {
+        let is_busy = sessions::is_open(self.sessions.as_slice(), flow.sender);
+        self.refusal_of_flow(flow, bytes, is_busy, fits(flow, bytes))
+    }
+
+    // Of these bytes by a planned flow, in a frame that is sent alone: its group's messages stay in their order.
+    fn refusal_of_frame(&self, flow: &Flow, bytes: &[u8]) -> Option<StepError>
+        requires network { IsNetwork self.now }
+        requires flow { IsFlow (length self.now.claimers.items) flow.now }
+        ensures { (h : Histories)
+            → result ≡ send_refusal self.now.live (length self.now.claimers.items) (world_in h self.now) (Some flow.now) bytes.now }
+    {
+        let is_busy = sessions::is_of_group(self.sessions.as_slice(), flow.sender, flow.pgn);
+        self.refusal_of_flow(flow, bytes, is_busy, fits_one_frame(flow, bytes))
+    }
+
+    // Of these bytes by a planned flow, whose sender may be busy, and which may have such bytes or not.
+    fn refusal_of_flow(
+        &self,
+        flow: &Flow,
+        bytes: &[u8],
+        is_busy: bool,
+        fits: bool,
+    ) -> Option<StepError>
+        requires network { IsNetwork self.now }
+        requires flow { IsFlow (length self.now.claimers.items) flow.now }
+        ensures { (h : Histories) → result ≡ first_fault
+            (flow_refusals self.now.live (length self.now.claimers.items) (world_in h self.now) flow.now bytes.now is_busy fits) }
     {
         if !can_be_sent(flow) {
             return Some(StepError::NoSuchFlow);
@@ -164,10 +202,10 @@ impl Network {
         if !self.have_addresses(flow) {
             return Some(StepError::NoAddress);
         }
-        if sessions::is_open(self.sessions.as_slice(), flow.sender) {
+        if is_busy {
             return Some(StepError::Busy);
         }
-        if !fits(flow, bytes) {
+        if !fits {
             return Some(StepError::WrongLength);
         }
         if !is_selected(flow.when, bytes) {
@@ -261,8 +299,8 @@ impl Network {
         !self.live && self.is_transfer_open()
     }
 
-    /// Whether no unit can send yet: a claim or a request is undelivered, and the bus isn't live.
-    pub(crate) fn waits_for_claims(&self) -> bool
+    // Whether no unit can send yet: a claim or a request is undelivered, and the bus isn't live.
+    fn waits_for_claims(&self) -> bool
         requires { IsNetwork self.now }
         ensures { result
             ≡ (not self.now.live
@@ -279,8 +317,8 @@ impl Network {
         self.claims.is_empty()
     }
 
-    /// Whether the sender of a flow is on, and its one receiver.
-    pub(crate) fn are_started(&self, flow: &Flow) -> bool
+    // Whether the sender of a flow is on, and its one receiver.
+    fn are_started(&self, flow: &Flow) -> bool
         requires { IsFlow (length self.now.claimers.items) flow.now }
         ensures { result ≡ at_ends (is_on (station_at self.now.claimers.items)) flow.now.sender flow.now.to }
     {
@@ -291,8 +329,8 @@ impl Network {
             }
     }
 
-    /// Whether the sender of a flow holds an address, and its one receiver.
-    pub(crate) fn have_addresses(&self, flow: &Flow) -> bool
+    // Whether the sender of a flow holds an address, and its one receiver.
+    fn have_addresses(&self, flow: &Flow) -> bool
         requires { IsFlow (length self.now.claimers.items) flow.now }
         ensures { result ≡ at_ends (has_address (station_at self.now.claimers.items)) flow.now.sender flow.now.to }
     {

@@ -7,7 +7,7 @@ use crate::sessions;
 
 impl Network {
     /// The unit is switched off. What was sent to it is gone, and its message with all that it sent of messages; of
-    /// what it told of addresses others still hear. Others send it nothing more: a message to it alone is given up.
+    /// what it sent of addresses others still hear. Others send it nothing more: a message to it alone is given up.
     pub(crate) fn down(&mut self, unit: usize)
         requires network { IsNetwork self.old }
         requires allowed { IsAllowed self.old (Down unit) }
@@ -16,8 +16,7 @@ impl Network {
         ensures steps { Steps self.old (Down unit) self.new }
     {
         self.claims.clear_to(unit);
-        self.wire.clear_to(unit);
-        self.wire.clear_from(unit);
+        self.wire.clear_of(unit);
         sessions::switch_off(&mut self.sessions, unit);
         self.receivers.switch_off(unit);
         self.claimers[unit].stop();

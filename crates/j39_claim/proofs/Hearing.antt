@@ -11,7 +11,7 @@ use Rattle.std.specs.FinSet as set
 use Rattle.std.specs.FinSet.{FinSet}
 use Rattle.j39_claim.specs.declared.item.Say.{Say}
 use Rattle.j39_claim.specs.declared.item.Say.TheVariants.{Claim, Cannot}
-use Rattle.j39_claim.specs.declared.item.Item.TheVariants.{Told}
+use Rattle.j39_claim.specs.declared.item.Item.TheVariants.{AddressClaimed}
 use Rattle.j39_id.specs.Name.{is_arbitrary}
 use Rattle.j39_claim.specs.AddressSets.{IsFreeIn, free_count}
 use Rattle.j39_claim.specs.ClaimRule.{PlannedUnit, ClaimState, IsFree, Moves, GivesUp, Hears, Reacts, claim_of, holds_address, say_of}
@@ -100,7 +100,7 @@ follows pick c s n a lawful = held (holds_address s.address a) refl (ltb n c.nam
 pub heard : (pick : Pick) (c : PlannedUnit) (s : ClaimState) (n a : ℕ) (says : Option Say) (new : ClaimState) → a < 254 → c.claims ≡ true
     → says ≡ said_after pick c s n (say_of a) → new ≡ state_after pick c s n (say_of a)
     → (n < c.name → IsFreeMove pick c.name a (taken_for c (insert s.notes n a)))
-    → Reacts c s n (Told (say_of a)) says new
+    → Reacts c s n (AddressClaimed (say_of a)) says new
 heard pick c s n a says new inside claims said left lawful =
     let hears : Hears c s n (say_of a) says new = rw (said, left, lt-ltb a 254 inside) (follows pick c s n a lawful) in
     subst (λ b. MatchBool b (Hears c s n (say_of a) says new) ((says ≡ None) × (new ≡ s))) (sym claims) hears

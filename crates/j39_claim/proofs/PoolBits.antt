@@ -18,7 +18,7 @@ use Rattle.j39_id.specs.Addresses.{pool}
 use Rattle.j39_claim.specs.AddressSets.{is_free, free_count, lowest_free, free_above}
 use Rattle.j39_claim.specs.inside.AddressWords.{HasBits, ArePassing, is_above, count_in_pool, least_in_pool}
 
--- a digit tells its test
+-- a digit has its test
 digit-true : (b : Bool) → from_bool b ≡ 1 → b ≡ true
 digit-true true e = refl
 digit-true false e = absurd (omega arith)

@@ -7,7 +7,7 @@ use Rattle.std.specs.FinSet.{FinSet, contains}
 use Rattle.j39_claim.specs.declared.item.Say.{Say}
 use Rattle.j39_claim.specs.declared.item.Say.TheVariants.{Claim, Cannot}
 use Rattle.j39_claim.specs.declared.item.Item.{Item}
-use Rattle.j39_claim.specs.declared.item.Item.TheVariants.{Told, Request}
+use Rattle.j39_claim.specs.declared.item.Item.TheVariants.{AddressClaimed, Request}
 use Rattle.j39_id.specs.Name.{is_arbitrary}
 use Rattle.j39_id.specs.Addresses.{is_address, in_pool}
 
@@ -70,7 +70,7 @@ Hears c s n Cannot says new = (says ≡ None) × (new ≡ record s { notes = rem
 
 -- the same of each item that it may hear, of a unit that claims: a request is answered by what it holds
 abbrev pub Answers : PlannedUnit → ClaimState → ℕ → Item → Option Say → ClaimState → Type 0
-Answers c s n (Told say) says new = Hears c s n say says new
+Answers c s n (AddressClaimed say) says new = Hears c s n say says new
 Answers c s n Request says new = (says ≡ Some (claim_of s.address)) × (new ≡ s)
 
 -- what any unit does at such an item: one that doesn't claim says nothing, and is what it was

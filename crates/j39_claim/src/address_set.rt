@@ -36,7 +36,7 @@ impl AddressSet {
         AddressSet { words: [0; 4] }
     }
 
-    /// The same set again.
+    /// A second set of the same addresses.
     pub fn copy(&self) -> Self
         ensures { result ≡ self.now }
     {

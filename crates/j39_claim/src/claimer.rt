@@ -2,7 +2,7 @@
 ghost use Rattle.std.specs.Prelude.{◌≡◌, true, false, None};
 ghost use Rattle.std.specs.FinSet as set;
 ghost use Rattle.j39_claim.specs.ClaimRule.{Reacts, started, off, claim_of, said_by, say_of};
-ghost use Rattle.j39_claim.specs.declared.item.Item.TheVariants.{Told};
+ghost use Rattle.j39_claim.specs.declared.item.Item.TheVariants.{AddressClaimed};
 ghost use Rattle.j39_claim.specs.ClaimerValue.{can_note};
 ghost use Rattle.j39_claim.specs.ExactAnswer.{said_exactly, left_exactly, moved_to, IsFreeMove};
 
@@ -145,7 +145,7 @@ impl Claimer {
         ensures said { result ≡ said_exactly (pick chooser.now) self.old.planned self.old.state name (say_of address) }
         ensures left { self.new
             ≡ record self.old { state = left_exactly (pick chooser.now) self.old.planned self.old.state name (say_of address) } }
-        ensures rule { Reacts self.old.planned self.old.state name (Told (say_of address)) result self.new.state }
+        ensures rule { Reacts self.old.planned self.old.state name (AddressClaimed (say_of address)) result self.new.state }
     {
         if !self.claims {
             return None;

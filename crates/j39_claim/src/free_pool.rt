@@ -38,7 +38,7 @@ impl FreePool {
         }
     }
 
-    /// Those above an address.
+    /// The free addresses above an address.
     pub fn above(self, address: u8) -> Self
         ensures { (p : ℕ → Bool) → ArePassing p self.low self.high
             → ArePassing (is_above address p) result.low result.high }

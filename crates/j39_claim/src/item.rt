@@ -1,4 +1,4 @@
-//! What units tell one another about addresses.
+//! What units send one another about addresses.
 use j39_id::Address;
 
 /// What a unit says of itself (SAE J1939-81, Address Claimed and Cannot Claim).
@@ -8,9 +8,9 @@ pub enum Say {
     Cannot,
 }
 
-/// What a unit tells the others: of itself, or that it asks them for their addresses.
+/// What a unit sends to the others: its claim, or that it asks them for their addresses.
 #[derive(Clone, Copy, PartialEq, Eq)]
 pub enum Item {
-    Told(Say),
+    AddressClaimed(Say),
     Request,
 }

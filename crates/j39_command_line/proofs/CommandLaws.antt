@@ -35,17 +35,17 @@ known (Ok p) (Ok c) a sub is adds = adds ∙ ap (λ (b : App). with_subcommand b
 known (Err e) (Ok c) a sub is adds = absurd adds
 known program (Err e) a sub is adds = tt
 
--- what is told of words is a fault of theirs, or want of memory
+-- what is reported of words is a fault of theirs, or want of memory
 pub has_fault : (a : App) (words : List Text) (e : Error) → a ≡ commands → HasKind (fault_of a words) e → HasKind (faults_of_words words) e
 unfolding faults_of_words
 has_fault a words e is has = subst (λ (b : App). HasKind (fault_of b words) e) is has
 
--- a request that is told is one of the words
+-- a request that is reported is one of the words
 pub asks : (words : List Text) (k : ErrorKind) → (k ≡ OutOfMemory) ⊎ IsAmong k (faults_of_words words) → asks_for_text k ≡ true → AsksHelp words
 asks words k (inl memory) is = absurd (true≢false (sym is ∙ ap asks_for_text memory))
 asks words k (inr among) is = (k, among, is)
 
--- another fault that is told is one of the words, unless memory was wanted
+-- another fault that is reported is one of the words, unless memory was wanted
 pub refuses : (words : List Text) (k : ErrorKind) → (k ≡ OutOfMemory) ⊎ IsAmong k (faults_of_words words) → asks_for_text k ≡ false
     → (k ≡ OutOfMemory → ⊥) → AreRefused words
 refuses words k (inl memory) is other = absurd (other memory)

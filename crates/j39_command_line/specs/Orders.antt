@@ -30,7 +30,7 @@ HasFlag met name flag given =
 abbrev pub are_stamps : Text → Bool
 are_stamps text = nat_lt 0 (length text) && (list_all is_ascii_digit text && nat_le (digits_value 10 text) 1000000)
 
--- all frames of a log are told, also those of groups that aren't planned
+-- all frames of a log are reported, also those of groups that aren't planned
 abbrev pub are_all : Frames → Bool
 are_all All = true
 are_all Planned = false
@@ -91,13 +91,13 @@ IsOrdered (word ∷ words) order = Orders (subcommand_of commands (word ∷ word
 abbrev pub OrdersNothing : Option (Text × List Row) → Type 0
 OrdersNothing met = (order : Order) → Orders met order → IsHelp order
 
--- a call for the help or the version, which clap tells as it tells a fault
+-- a call for the help or the version, which clap reports as it reports a fault
 abbrev pub asks_for_text : ErrorKind → Bool
 asks_for_text kind.DisplayHelp = true
 asks_for_text kind.DisplayVersion = true
 asks_for_text _ = false
 
--- the faults of the words, of which one is told
+-- the faults of the words, of which one is reported
 unfoldable pub faults_of_words : List Text → Kinds
 faults_of_words words = fault_of commands words
 

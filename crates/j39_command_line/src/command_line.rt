@@ -62,7 +62,7 @@ fn is_given(values: &ArgMatches, flag: &str) -> bool
     values.get_flag(flag)
 }
 
-// Which frames are told: all, where it is asked for.
+// Which frames are reported: all, where it is asked for.
 fn frames(values: &ArgMatches) -> Frames
     ensures given { one_of (codes "all") (rows_of (found_of values.now)) ≡ Some (codes "true") → are_all result ≡ true }
     ensures not_given { one_of (codes "all") (rows_of (found_of values.now)) ≡ Some (codes "false") → are_all result ≡ false }

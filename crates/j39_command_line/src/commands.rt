@@ -193,26 +193,6 @@ fn with_one<'a>(
     with(program, one_value(alloc, name, about, first, help))
 }
 
-// Adds one that takes two values.
-fn with_two<'a>(
-    program: Result<Command<'a>, AllocError>,
-    alloc: Global,
-    name: &'a str,
-    about: &'a str,
-    first: &'a str,
-    first_help: &'a str,
-    second: &'a str,
-    second_help: &'a str,
-) -> Result<Command<'a>, AllocError>
-    ensures { IfOk result (λ c. IsOkAnd program.entry (λ p.
-        app_of c ≡ with_subcommand (app_of p) (two_values name.entry.now first.entry.now second.entry.now).top)) }
-{
-    with(
-        program,
-        two_values(alloc, name, about, first, first_help, second, second_help),
-    )
-}
-
 /// The commands.
 pub(super) fn commands<'a>(alloc: Global) -> Result<Command<'a>, AllocError>
     ensures { IfOk result (λ c. app_of c ≡ commands) }
@@ -261,26 +241,30 @@ pub(super) fn commands<'a>(alloc: Global) -> Result<Command<'a>, AllocError>
         in its controller, of a flow with jitter from its message's moment. It is a bound on each bus that meets the \
         assumptions listed in j39plan(1), ASSUMPTIONS",
     );
-    let runs = with_two(
+    let runs = with(
         loads,
-        alloc,
-        "run",
-        "Shows what happens on the bus of the plan by the schedule",
-        "PLAN",
-        "The name of a plan file",
-        "SCHEDULE",
-        "The name of a schedule file",
+        two_values(
+            alloc,
+            "run",
+            "Shows what happens on the bus of the plan by the schedule",
+            "PLAN",
+            "The name of a plan file",
+            "SCHEDULE",
+            "The name of a schedule file",
+        ),
     );
-    let reads = with_two(
+    let reads = with(
         runs,
-        alloc,
-        "read",
-        "Shows what the log says of the plan's groups",
-        "PLAN",
-        "The name of a plan file",
-        "LOG",
-        "The name of a file as candump -L writes it. If the last line counts bad lines, words behind the data, as R or T, \
-        are the usual cause: sed -E 's/ [RT]\\r?$//' LOG takes them away",
+        two_values(
+            alloc,
+            "read",
+            "Shows what the log says of the plan's groups",
+            "PLAN",
+            "The name of a plan file",
+            "LOG",
+            "The name of a file as candump -L writes it. If the last line counts bad lines, words behind the data, as R or T, \
+            are the usual cause: sed -E 's/ [RT]\\r?$//' LOG takes them away",
+        ),
     );
     let follows = with(reads, follow(alloc));
     let audits = with(follows, audit(alloc));

@@ -6,17 +6,17 @@ ghost use Rattle.j39_command_line.specs.declared.orders.WordsFault.TheVariants.{
 use std::alloc::AllocError;
 use thiserror::Error;
 
-/// Which frames of a log are told.
+/// Which frames of a log are reported.
 #[derive(Clone, Copy, PartialEq, Eq)]
 pub enum Frames {
-    /// Those of planned groups.
+    /// The frames of planned groups.
     Planned,
-    /// All.
+    /// All frames.
     All,
 }
 
 impl Frames {
-    /// Whether all frames are told.
+    /// Whether all frames are reported.
     pub fn are_all(self) -> bool
         ensures { result ≡ are_all self }
     {

@@ -187,7 +187,7 @@ unreached plan u silent none = record {
 
 pub parts_of : (plan : Plan) → Clean plan → CleanParts plan
 parts_of plan clean = record {
-  told_apart = no_pair_at MayBeOne plan.units.items (λ i j. clean (SameName i j));
+  are_apart = no_pair_at MayBeOne plan.units.items (λ i j. clean (SameName i j));
   names = λ i j d below less. names_apart (get_or plan.units.items i d) (get_or plan.units.items j d)
       (no_pair_at MayBeOne plan.units.items (λ k l. clean (SameName k l)) i j d below less);
   fixed_addresses = λ i j d below less first second one other same.

@@ -44,10 +44,10 @@ run_of : (plan : Plan) (i j : ℕ) (u v : UnitPlan) (steps : List Step) → slic
     → HaveSameFixedAddress u v × (¬ MayBeOne u v) → steps_between i j u v ≡ steps → IsConflictRun plan (SameFixedAddress i j) steps
 run_of plan i j u v steps first second below apart is =
     let both : AreInConflict plan i j = record { first = u; second = v; below = below; first_is = first; second_is = second; related = apart } in
-    let tells : IsOfConflict plan (SameFixedAddress i j) = (i, j, refl, both) in
+    let states : IsOfConflict plan (SameFixedAddress i j) = (i, j, refl, both) in
     elim (larger_of i j u v (names_apart u v apart.1)) [
       | inl (above, e) ↦ record {
-        tells = tells;
+        states = states;
         larger = i;
         smaller = j;
         both = inl refl;
@@ -55,7 +55,7 @@ run_of plan i j u v steps first second below apart is =
         steps_are = sym is ∙ e;
       }
       | inr (above, e) ↦ record {
-        tells = tells;
+        states = states;
         larger = j;
         smaller = i;
         both = inr refl;

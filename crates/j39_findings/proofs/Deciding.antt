@@ -1,10 +1,9 @@
 -- Each test decides its statement.
-use Rattle.std.proofs.Common.{◌≡◌, ℕ, zero, suc, ◌+◌, ◌*◌, ◌<◌, ◌≤◌, ◌==◌, ◌⊎◌, List, [], ◌∷◌, Bool, true, false, cond, not, ◌&&◌, nat_le, nat_lt, Option, Some}
+use Rattle.std.proofs.Common.{◌≡◌, ℕ, zero, suc, ◌+◌, ◌*◌, ◌<◌, ◌≤◌, ◌==◌, ◌⊎◌, List, [], ◌∷◌, Bool, true, false, not, ◌&&◌, nat_lt, Option, Some}
 use Rattle.std.proofs.Common.{None, Contains, Decides, refl, sym, ◌∙◌, inl, inr, subst, ◌%◌, arith}
-use Rattle.std.specs.List.{count_by, slice_get, list_any}
+use Rattle.std.specs.List.{slice_get, list_any}
 use Rattle.std.specs.FinSet.{contains, FinSet}
-use Rattle.std.proofs.lemmas.List.Sums.{sum_by-cons}
-use Rattle.std.proofs.lemmas.Bool.{false≢true, leb-true, le-leb, cases_Bool, cases_lt}
+use Rattle.std.proofs.lemmas.Bool.{false≢true, cases_lt}
 use Rattle.std.proofs.lemmas.Bool.Decides.{Decides-eqb, Decides-and, Decides-or, Decides-not, Decides-like, Decides-ltb}
 use Rattle.std.proofs.lemmas.Option.{none-some, same_Some}
 use Rattle.std.proofs.lemmas.Slice.Eq.{bytes_eq-Decides}
@@ -18,7 +17,7 @@ use Rattle.j39_id.specs.Services.{service_groups}
 use Rattle.j39_signal.specs.Parts.{SignalParts}
 use Rattle.j39_signal.specs.Places.{WidthFits, IsInside, SharesBit, shares_bit}
 use Rattle.j39_signal.proofs.Sharing.{shared_by_test}
-use Rattle.j39_search.specs.ListPlaces.{SomeMeets, SoManyMeet, ValueAt}
+use Rattle.j39_search.specs.ListPlaces.{SomeMeets, ValueAt}
 use Rattle.j39_network.specs.declared.plan.unit_plan.UnitPlan.{UnitPlan}
 use Rattle.j39_network.specs.declared.plan.group_plan.GroupPlan.{GroupPlan}
 use Rattle.j39_network.specs.declared.plan.flow_plan.FlowPlan.{FlowPlan}
@@ -37,12 +36,11 @@ use Rattle.j39_findings.specs.Found.{have_silent_address, is_silent_in_pool, hav
 use Rattle.j39_findings.specs.Found.{is_wrongly_private, is_selector_outside, has_bad_pgn, sends, do_receivers_meet, sends_beside, are_sent_together}
 use Rattle.j39_findings.specs.Found.{have_same_pgn, is_private_unsent, has_other_width, ends_outside, is_one_frame_to_all, may_be_one_frame_to_all, is_group_of}
 use Rattle.j39_findings.specs.Found.{cannot_go_to_one, goes_to_its_sender, are_one_flow, lies_outside, is_unmet, is_served_to_one}
-use Rattle.j39_network.specs.Serving.{have_same_receiver}
 use Rattle.j39_findings.specs.Found.{is_served_to_all, goes_unanswered, goes_unheard, may_name_receiver, is_one_astray, is_all_astray, is_answered_astray}
 use Rattle.j39_findings.specs.Found.{ask_for_one_number, ask_the_same}
 use Rattle.j39_network.specs.UnitAddresses.{NeedsPoolAddress}
 use Rattle.j39_network.specs.PlannedFlows.{Sends, IsOneFrameToAll, MayBeOneFrameToAll, IsToOne}
-use Rattle.j39_network.specs.Serving.{Serves, IsServed, IsServedToOne, IsServedToAll, AsksOne, AsksAll, MayNameReceiver, meets}
+use Rattle.j39_network.specs.Serving.{Serves, IsServed, IsServedToOne, IsServedToAll, AsksOne, AsksAll, MayNameReceiver}
 use Rattle.j39_network.specs.SignalPlaces.{room_of_signal}
 use Rattle.j39_signal.specs.Selectors.{DifferInValue, differ_in_value, selector_end}
 use Rattle.j39_signal.specs.declared.selector.Selector.{Selector}

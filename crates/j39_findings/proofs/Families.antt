@@ -1,11 +1,10 @@
 -- What each part of the list of findings has: what holds, in order.
-use Rattle.std.proofs.Common.{◌≡◌, ℕ, ◌<◌, ◌≤◌, nat_lt, List, [], ◌∷◌, ◌++◌, Bool, true, false, if◌then◌else◌, Option, None, Some, Contains, Decides, refl, sym}
-use Rattle.std.proofs.Common.{◌∙◌, ap, subst, inl, inr, arith}
-use Rattle.std.specs.List.{slice_get, count_by}
+use Rattle.std.proofs.Common.{◌≡◌, ℕ, nat_lt, List, [], ◌∷◌, Bool, true, false, if◌then◌else◌, Option, None, Some, Contains, refl, sym}
+use Rattle.std.proofs.Common.{subst, inl, inr, arith}
+use Rattle.std.specs.List.{count_by}
 use Rattle.std.specs.Option.{option_map_or}
 use Rattle.j39_signal.specs.Parts.{SignalParts}
 use Rattle.std.proofs.lemmas.Bool.Decides.{Decides-ltb}
-use Rattle.std.proofs.lemmas.List.Elements.{Contains-append_cases}
 use Rattle.j39_signal.specs.Places.{WidthFits, SharesBit, shares_bit}
 use Rattle.j39_network.specs.declared.plan.Plan.{Plan}
 use Rattle.j39_network.specs.declared.plan.group_plan.GroupPlan.{GroupPlan}
@@ -15,7 +14,7 @@ use Rattle.j39_findings.specs.declared.checking.finding.Finding.TheVariants.{Sig
 use Rattle.j39_findings.specs.declared.checking.finding.Finding.TheVariants.{PrivateUnsent, RecordOverlap, TextOutside, NeedUnmet, RequestUnanswered}
 use Rattle.j39_findings.specs.declared.checking.finding.Finding.TheVariants.{RequestUnheard, AnswerAstray, WhenOutside, RequestRepeated, SilentAddress}
 use Rattle.j39_findings.specs.declared.checking.finding.Finding.TheVariants.{SilentInPool, FlowContested}
-use Rattle.j39_search.specs.ListPlaces.{found_if, in_each, each, pairs, ValueAt, PairAt}
+use Rattle.j39_search.specs.ListPlaces.{found_if, in_each}
 use Rattle.j39_claim.specs.AddressSets.{free_count}
 use Rattle.j39_network.specs.Kinds.{MayBeOne}
 use Rattle.j39_findings.specs.Findings.{HaveSameFixedAddress, HasBadPgn, HaveSamePgn, CannotGoToOne, EndsOutside, GoesToItsSender, Holds}
@@ -31,8 +30,8 @@ use Rattle.j39_findings.specs.Found.{need_findings, request_findings}
 use Rattle.j39_findings.proofs.Meeting.{of_signal_made, of_group_overlaps}
 use Rattle.j39_search.proofs.Families.{Covers as CoversPart, Covers-append, Names, Order, before, each_family, each_inside, family, inside_family, made}
 use Rattle.j39_search.proofs.Families.{of_first, pairs_family}
-use Rattle.j39_search.proofs.Members.{of_in_each, of_found_if, of_each, of_pairs}
-use Rattle.j39_search.proofs.Rising.{Rises, Rises-append, Rises-found_if, Rises-in_each, Rises-each, Rises-pairs}
+use Rattle.j39_search.proofs.Members.{of_found_if, of_pairs}
+use Rattle.j39_search.proofs.Rising.{Rises, Rises-found_if, Rises-in_each, Rises-pairs}
 use Rattle.j39_network.proofs.Served.{Decides-may_be_one}
 use Rattle.j39_findings.proofs.Deciding.{Decides-have_same_fixed_address, Decides-needs_pool_address, Decides-has_bad_pgn}
 use Rattle.j39_search.proofs.Deciding.{passing_meet}

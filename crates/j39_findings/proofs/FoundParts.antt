@@ -1,7 +1,8 @@
 -- Where a part of the list of findings has some, the whole list has; and the parts together are the list.
-use Rattle.std.proofs.Common.{◌≡◌, ◌≢◌, List, [], ◌++◌, Result, Ok, Err, IsErrAnd, OnErr, IsOk, append_assoc, refl}
+use Rattle.std.proofs.Common.{◌≡◌, ◌≢◌, List, [], ◌++◌, Result, Ok, Err, IsErrAnd, OnErr, IsOk, refl}
 use Rattle.std.specs.declared.alloc.AllocError.{AllocError}
-use Rattle.j39_search.proofs.AddingLemmas.{some_left, some_right}
+use Rattle.j39_search.specs.Adding.{Adds}
+use Rattle.j39_search.proofs.AddingLemmas.{adds_behind, some_left, some_right}
 use Rattle.j39_search.proofs.WantedMemory.{on_err}
 use Rattle.j39_findings.specs.Found.{unit_findings, group_findings, signal_findings, flow_findings, kept_findings, unsent_findings, record_findings}
 use Rattle.j39_findings.specs.Found.{text_findings, need_findings, request_findings, found, silent_findings, contested_findings}
@@ -10,7 +11,7 @@ use Rattle.j39_findings.specs.declared.checking.finding.Finding.{Finding}
 use Rattle.j39_network.specs.declared.plan.Plan.{Plan}
 use Rattle.j39_findings.proofs.FoundLaws.{none_from_clean, rest}
 
--- want of memory tells that something is wrong
+-- want of memory says that something is wrong
 answers_clean : {A : Type 0} (plan : Plan) (r : Result A AllocError) → OnErr r (found plan ≢ []) → Clean plan → IsOk r
 answers_clean plan (Ok done) refused clean = refl
 answers_clean plan (Err e) refused clean = absurd (refused (none_from_clean plan clean))
@@ -101,8 +102,8 @@ contested_some plan some =
     (some_right (silent_findings plan.keep_free plan.strangers plan.units.items) _ some))))))))
 
 -- the parts one after another, each added behind those before it, are the whole list
-pub whole_list : (plan : Plan) (units groups signals flows kept unsent records texts needs requests silent contested : List Finding)
-    → units ≡ unit_findings plan.keep_free plan.strangers plan.units.items
+pub whole_list : {A : Type 0} (plan : Plan) (r : Result A AllocError) (old units groups signals flows kept unsent records texts needs requests silent new : List Finding)
+    → units ≡ old ++ unit_findings plan.keep_free plan.strangers plan.units.items
     → groups ≡ units ++ group_findings plan.groups.items plan.flows.items
     → signals ≡ groups ++ signal_findings plan.groups.items
     → flows ≡ signals ++ flow_findings plan.groups.items plan.flows.items
@@ -113,8 +114,10 @@ pub whole_list : (plan : Plan) (units groups signals flows kept unsent records t
     → needs ≡ texts ++ need_findings plan.requests.items plan.flows.items plan.needs.items
     → requests ≡ needs ++ request_findings plan.groups.items plan.flows.items plan.requests.items
     → silent ≡ requests ++ silent_findings plan.keep_free plan.strangers plan.units.items
-    → contested ≡ silent ++ contested_findings plan.live plan.keep_free plan.strangers plan.units.items plan.flows.items
-    → contested ≡ found plan
+    → Adds r silent new (contested_findings plan.live plan.keep_free plan.strangers plan.units.items plan.flows.items)
+    → Adds r old new (found plan)
 unfolding found
-whole_list plan units groups signals flows kept unsent records texts needs requests silent contested a b c d e f g h i j k l =
-    rw (l, k, j, i, h, g, f, e, d, c, b, a) (simp append_assoc)
+whole_list plan r old units groups signals flows kept unsent records texts needs requests silent new a b c d e f g h i j k l =
+    adds_behind _ _ _ _ _ _ a (adds_behind _ _ _ _ _ _ b (adds_behind _ _ _ _ _ _ c (adds_behind _ _ _ _ _ _ d (adds_behind _ _ _ _ _ _ e
+    (adds_behind _ _ _ _ _ _ f (adds_behind _ _ _ _ _ _ g (adds_behind _ _ _ _ _ _ h (adds_behind _ _ _ _ _ _ i (adds_behind _ _ _ _ _ _ j
+    (adds_behind _ _ _ _ _ _ k l))))))))))

@@ -5,9 +5,9 @@ use Rattle.j39_signal.specs.Bits.{number_at}
 use Rattle.j39_signal.specs.Selectors.{DifferInValue, is_selected}
 use Rattle.j39_signal.specs.declared.selector.Selector.{Selector}
 use Rattle.std.proofs.lemmas.Bool.{false≢true, and_parts, cases_lt, eqb-true}
-use Rattle.j39_search.specs.ListPlaces.{ValueAt, SomeMeets}
+use Rattle.j39_search.specs.ListPlaces.{SomeMeets}
 use Rattle.j39_findings.specs.Findings.{IsForNoPlan, IsProprietary, HasBadPgn, AreSentTogether, DoReceiversMeet, Clean}
-use Rattle.j39_network.specs.PrivateGroups.{Fits, CanBe, OneGroupFits, HasNoPrivate}
+use Rattle.j39_network.specs.PrivateGroups.{Fits, OneGroupFits, HasNoPrivate}
 use Rattle.j39_findings.specs.WithoutPrivate.{IsFoundAsBefore}
 use Rattle.j39_network.specs.declared.plan.Plan.{Plan}
 use Rattle.j39_network.specs.declared.plan.group_plan.GroupPlan.{GroupPlan}

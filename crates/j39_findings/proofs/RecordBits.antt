@@ -39,33 +39,28 @@ given g (Some n) is i s at repeated = (n, is)
 abbrev distance : GroupPlan → ℕ
 distance g = unwrap_or g.every 0
 
--- of one record
-one_record : (g : GroupPlan) → IsApart g → (i j k bit : ℕ) → HasBit g i k bit → HasBit g j k bit → i ≡ j
-one_record g apart i j k bit v w =
+-- of one record, the one before the other
+none_of_both : (g : GroupPlan) → IsApart g → (i j k bit : ℕ) → HasBit g i k bit → HasBit g j k bit → i < j → ⊥
+none_of_both g apart i j k bit v w less =
     let n : ℕ = distance g * k in
-    elim (cases_lt i j) [
-      | inl less ↦ absurd (apart.singles i j (record {
-        first = v.value;
-        second = w.value;
-        below = less;
-        first_is = v.value_is;
-        second_is = w.value_is;
-        related =
-            (bit - 8 * n, (omega (arith, v.meets.0.0), omega (arith, v.meets.0.0, v.meets.0.1)), (omega (arith, w.meets.0.0), omega (arith, w.meets.0.0, w.meets.0.1)));
-      }))
-      | inr least ↦ elim (cases_lt j i) [
-        | inl more ↦ absurd (apart.singles j i (record {
-          first = w.value;
-          second = v.value;
-          below = more;
-          first_is = w.value_is;
-          second_is = v.value_is;
-          related =
-              (bit - 8 * n, (omega (arith, w.meets.0.0), omega (arith, w.meets.0.0, w.meets.0.1)), (omega (arith, v.meets.0.0), omega (arith, v.meets.0.0, v.meets.0.1)));
-        }))
-        | inr most ↦ omega arith
-      ]
-    ]
+    apart.singles i j (record {
+      first = v.value;
+      second = w.value;
+      below = less;
+      first_is = v.value_is;
+      second_is = w.value_is;
+      related =
+          (bit - 8 * n, (omega (arith, v.meets.0.0), omega (arith, v.meets.0.0, v.meets.0.1)), (omega (arith, w.meets.0.0), omega (arith, w.meets.0.0, w.meets.0.1)));
+    })
+
+one_record : (g : GroupPlan) → IsApart g → (i j k bit : ℕ) → HasBit g i k bit → HasBit g j k bit → i ≡ j
+one_record g apart i j k bit v w = elim (cases_lt i j) [
+  | inl less ↦ absurd (none_of_both g apart i j k bit v w less)
+  | inr least ↦ elim (cases_lt j i) [
+    | inl more ↦ absurd (none_of_both g apart j i k bit w v more)
+    | inr most ↦ omega arith
+  ]
+]
 
 -- a record behind another has no bit of the one before it
 onto : (g : GroupPlan) (every i j k l bit : ℕ) → g.every ≡ Some every → k < l → l < record_count g g.most → (v : HasBit g i k bit) → (w : HasBit g j l bit)

@@ -1,4 +1,4 @@
--- Plans without groups that are told by their data.
+-- Plans without groups that are distinguished by their data.
 use Rattle.std.proofs.Common.{◌≡◌, None, sym, subst, ◌∙◌}
 use Rattle.std.proofs.lemmas.Option.{none-some}
 use Rattle.j39_signal.specs.Selectors.{DifferInValue}

@@ -1,4 +1,4 @@
--- At which addresses more than one unit is planned: as the arrays of a search tell it, and as it is counted on the list of units.
+-- At which addresses more than one unit is planned: as the arrays of a search report it, and as it is counted on the list of units.
 use Rattle.std.proofs.Common.{◌≡◌, ◌≢◌, ℕ, zero, suc, [], ◌∷◌, ◌+◌, ◌<◌, arith, Bool, true, false, cond, ◌||◌, ◌==◌, List, length, get_or, set, replicate, refl}
 use Rattle.std.proofs.Common.{sym, ap, ◌∙◌, subst, inl, inr, Some}
 use Rattle.std.proofs.lemmas.Bool.{cases_Bool, cases_eq, true≢false}
@@ -12,7 +12,7 @@ use Rattle.j39_network.specs.declared.plan.unit_plan.UnitPlan.{UnitPlan}
 use Rattle.j39_findings.specs.Found.{is_shared}
 use Rattle.j39_search.specs.ListPlaces.{SomeMeets}
 use Rattle.j39_findings.specs.Standing.{DecidesAtEach, AreTwoThere, IsPlannedThere}
-use Rattle.j39_findings.proofs.WhoStays.{told_by}
+use Rattle.j39_findings.proofs.WhoStays.{stated_by}
 
 -- ---- what is planned at an address, of the first so many units
 
@@ -127,17 +127,17 @@ shared_by_one_more units count planned shared taken old unit at =
       | inr differ ↦ none (fewer unit.address two differ)
     ]
 
-none_told : (There : ℕ → Type 0) → ((a : ℕ) → ¬ There a) → DecidesAtEach There (replicate 256 false)
-none_told There none = record {
+none_stated : (There : ℕ → Type 0) → ((a : ℕ) → ¬ There a) → DecidesAtEach There (replicate 256 false)
+none_stated There none = record {
   size = length-replicate {A = Bool} 256 false;
   each = λ a inside. subst (λ b. MatchBool b (There a) (¬ There a)) (sym (get_or-replicate 256 a false false inside)) (none a);
 }
 
 pub none_taken : (units : List UnitPlan) → DecidesAtEach (IsPlannedThere units 0) (replicate 256 false)
-none_taken units = none_told (IsPlannedThere units 0) (λ a (u, x, below, at_u, there). absurd (omega (arith, below)))
+none_taken units = none_stated (IsPlannedThere units 0) (λ a (u, x, below, at_u, there). absurd (omega (arith, below)))
 
 pub none_shared : (units : List UnitPlan) → DecidesAtEach (AreTwoThere units 0) (replicate 256 false)
-none_shared units = none_told (AreTwoThere units 0) (λ a two. let below = two.inside in absurd (omega (arith, below)))
+none_shared units = none_stated (AreTwoThere units 0) (λ a two. let below = two.inside in absurd (omega (arith, below)))
 
 -- ---- counted on the list
 
@@ -217,10 +217,10 @@ counted_two a (z ∷ zs) (suc i) (suc j) x y below first second one other =
     let rest = counted_two a zs i j x y (omega (arith, below)) first second one other in
     omega (arith, counted, rest)
 
-pub shared_told : (units : List UnitPlan) (a : ℕ)
+pub shared_stated : (units : List UnitPlan) (a : ℕ)
     → MatchBool (is_shared units a) (AreTwoThere units (length units) a) (¬ AreTwoThere units (length units) a)
-shared_told units a =
+shared_stated units a =
     let decides = Decides-ltb 1 (count_by (λ (x : UnitPlan). x.address == a) units) in
-    told_by (is_shared units a) _ _ (λ is. two_counted a units (decides.0 is))
+    stated_by (is_shared units a) _ _ (λ is. two_counted a units (decides.0 is))
     (λ isnt two. true≢false (sym (decides.1 (counted_two a units two.first two.second two.one two.other two.apart two.one_is two.other_is
     two.one_there two.other_there)) ∙ isnt))

@@ -1,4 +1,4 @@
--- Which units are alone at their addresses: it is told by the arrays of a search as by the test on the list of units.
+-- Which units are alone at their addresses: it is reported by the arrays of a search as by the test on the list of units.
 use Rattle.std.proofs.Common.{◌≡◌, ◌≢◌, ◌⊎◌, ℕ, [], ◌<◌, arith, Bool, true, false, not, ◌&&◌, ◌||◌, ◌==◌, nat_lt, List, length, get_or, refl, sym, ap, ◌∙◌}
 use Rattle.std.proofs.Common.{subst, inl, inr, Option, Some, None, is_none, is_some, if◌then◌else◌, Decides}
 use Rattle.std.proofs.lemmas.Bool.{cases_Bool, cases_eq, cases_lt, true≢false, false≢true, and_from, not-true}
@@ -26,8 +26,8 @@ use Rattle.j39_network.specs.Staying.{EachOther, IsFirstThere, Stays}
 use Rattle.j39_findings.specs.Standing.{AreFirsts, DecidesAtEach, AreTwoThere, IsMover, DecidesWhoIsAlone, is_alone_by, is_first_by, is_mover_by}
 use Rattle.j39_network.proofs.Served.{some_decides}
 use Rattle.j39_search.proofs.PlaceLemmas.{each_same}
-use Rattle.j39_findings.proofs.WhoStays.{first_told, not_first_told, placed, planned_at, some_come, told_by}
-use Rattle.j39_findings.proofs.SharedAddresses.{shared_told}
+use Rattle.j39_findings.proofs.WhoStays.{first_stated, not_first_stated, placed, planned_at, some_come, stated_by}
+use Rattle.j39_findings.proofs.SharedAddresses.{shared_stated}
 
 -- ---- who is alone
 
@@ -127,30 +127,30 @@ module _ (plan : Plan) where
         → (kept : Bool) → contains plan.keep_free (unit_at us u).preferred ≡ kept
         → (moving : Bool) → MatchBool moving (SomeMoves plan) (¬ SomeMoves plan)
         → MatchBool (not pool || (not coming && (kept || not moving))) (IsAloneInPlan plan u) (¬ IsAloneInPlan plan u)
-    reached u unit at one false outside coming come_told kept kept_is moving move_told =
+    reached u unit at one false outside coming come_stated kept kept_is moving move_stated =
         let (inside, _) = planned_at plan.keep_free plan.units.items u unit at in (
           record { inside = inside; planned = only_there u unit at one; unreached = inl outside },
           inr outside,
         )
-    reached u unit at one true pool true come_told kept kept_is moving move_told = λ alone. elim alone.1 [
-      | inl none ↦ absurd (let more : 0 < plan.strangers = come_told in omega (arith, none, more))
+    reached u unit at one true pool true come_stated kept kept_is moving move_stated = λ alone. elim alone.1 [
+      | inl none ↦ absurd (let more : 0 < plan.strangers = come_stated in omega (arith, none, more))
       | inr outside ↦ true≢false (sym pool ∙ outside)
     ]
-    reached u unit at one true pool false none true kept_is moving move_told =
+    reached u unit at one true pool false none true kept_is moving move_stated =
         let (inside, _) = planned_at plan.keep_free plan.units.items u unit at in (
           record { inside = inside; planned = only_there u unit at one; unreached = inr (inl kept_is) },
           inl none,
         )
-    reached u unit at one true pool false none false kept_is true move_told = λ alone. moved_to u alone move_told pool kept_is
-    reached u unit at one true pool false none false kept_is false move_told =
+    reached u unit at one true pool false none false kept_is true move_stated = λ alone. moved_to u alone move_stated pool kept_is
+    reached u unit at one true pool false none false kept_is false move_stated =
         let (inside, _) = planned_at plan.keep_free plan.units.items u unit at in (
-          record { inside = inside; planned = only_there u unit at one; unreached = inr (inr (λ v in_v differ. none_moves move_told v in_v)) },
+          record { inside = inside; planned = only_there u unit at one; unreached = inr (inr (λ v in_v differ. none_moves move_stated v in_v)) },
           inl none,
         )
 
-    pub alone_told : DecidesWhoIsAlone plan
+    pub alone_stated : DecidesWhoIsAlone plan
         (λ unit. not (shared unit.address) && (not (in_pool unit.address) || (not come && (contains plan.keep_free unit.address || not moves))))
-    alone_told u unit at =
+    alone_stated u unit at =
         let (_, is_u) = planned_at plan.keep_free plan.units.items u unit at in
         let address = ap (λ (c : PlannedUnit). c.preferred) is_u in
         go (shared unit.address) (are_shared unit.address (omega (arith, unit.address_range)))
@@ -172,11 +172,11 @@ pub alone_by_arrays : (plan : Plan) (firsts : List (Option ℕ)) (mover : Option
     → DecidesAtEach (AreTwoThere plan.units.items (length plan.units.items)) shared
     → DecidesWhoIsAlone plan (is_alone_by shared mover (nat_lt 0 plan.strangers) plan.keep_free)
 alone_by_arrays plan firsts mover shared are_firsts is_mover are_shared =
-    let told = alone_told plan (λ a. get_or shared a false) are_shared.each (is_some mover) (move_told mover refl)
+    let stated = alone_stated plan (λ a. get_or shared a false) are_shared.each (is_some mover) (move_stated mover refl)
     (nat_lt 0 plan.strangers) (some_come plan.strangers) in
     λ u unit at. subst (λ b. MatchBool (not (get_or shared unit.address false)
     && (not (in_pool unit.address) || (not (nat_lt 0 plan.strangers) && (contains plan.keep_free unit.address || b)))) (IsAloneInPlan plan u) (¬ IsAloneInPlan plan u))
-    (none_is mover) (told u unit at)
+    (none_is mover) (stated u unit at)
   where
     none_is : (o : Option ℕ) → not (is_some o) ≡ is_none o
     none_is None = refl
@@ -185,23 +185,23 @@ alone_by_arrays plan firsts mover shared are_firsts is_mover are_shared =
     units : List UnitPlan
     units = plan.units.items
 
-    move_told : (o : Option ℕ) → mover ≡ o → MatchBool (is_some o) (SomeMoves plan) (¬ SomeMoves plan)
-    move_told (Some n) is =
+    move_stated : (o : Option ℕ) → mover ≡ o → MatchBool (is_some o) (SomeMoves plan) (¬ SomeMoves plan)
+    move_stated (Some n) is =
         let (v, p, inside, at_v, moves, name) = is_mover.one n is in
         let (in_v, is_v) = planned_at plan.keep_free plan.units.items v p at_v in
         let parts = mover_parts p moves in
-        (v, in_v, ap (λ (c : PlannedUnit). is_arbitrary c.name) is_v ∙ parts.0, not_first_told plan firsts mover are_firsts is_mover v p at_v parts.1)
+        (v, in_v, ap (λ (c : PlannedUnit). is_arbitrary c.name) is_v ∙ parts.0, not_first_stated plan firsts mover are_firsts is_mover v p at_v parts.1)
       where
         mover_parts : (p : UnitPlan) → is_mover_by firsts p ≡ true → (is_arbitrary p.name ≡ true) × (is_first_by firsts p ≡ false)
         mover_parts p moves = elim (cases_Bool (is_arbitrary p.name)) [
           | inr fixed ↦ absurd (false≢true (sym (ap (λ b. b && not (is_first_by firsts p)) fixed) ∙ moves))
           | inl chooses ↦ (chooses, not-true (is_first_by firsts p) (sym (ap (λ b. b && not (is_first_by firsts p)) chooses) ∙ moves))
         ]
-    move_told None is = λ (v, in_v, arbitrary, moves).
+    move_stated None is = λ (v, in_v, arbitrary, moves).
         let (p, at_v, is_v) = placed plan.keep_free plan.units.items v in_v in
         let chooses = sym (ap (λ (c : PlannedUnit). is_arbitrary c.name) is_v) ∙ arbitrary in
         elim (cases_Bool (is_first_by firsts p)) [
-          | inl first ↦ moves (first_told plan firsts mover are_firsts is_mover v p at_v first)
+          | inl first ↦ moves (first_stated plan firsts mover are_firsts is_mover v p at_v first)
           | inr second ↦
               let moving : is_mover_by firsts p ≡ true = and_from (is_arbitrary p.name) (not (is_first_by firsts p)) chooses (ap not second) in
               let (n, has, _) = is_mover.below v p (slice_get_within plan.units.items v p at_v) at_v moving in
@@ -219,8 +219,8 @@ Moves units unit = (is_arbitrary unit.name ≡ true) × SomeMeets (IsSmaller uni
 
 pub alone_by_list : (plan : Plan) → DecidesWhoIsAlone plan (is_unit_alone plan.keep_free plan.strangers plan.units.items)
 alone_by_list plan =
-    alone_told plan (is_shared plan.units.items) (λ a inside. shared_told plan.units.items a) (list_any (has_to_move plan.units.items) plan.units.items)
-    (told_by (list_any (has_to_move plan.units.items) plan.units.items) _ _ (λ is. one_moves (decided.0 is))
+    alone_stated plan (is_shared plan.units.items) (λ a inside. shared_stated plan.units.items a) (list_any (has_to_move plan.units.items) plan.units.items)
+    (stated_by (list_any (has_to_move plan.units.items) plan.units.items) _ _ (λ is. one_moves (decided.0 is))
     (λ isnt some. true≢false (sym (decided.1 (moving some)) ∙ isnt)))
     (nat_lt 0 plan.strangers) (some_come plan.strangers)
   where
@@ -278,16 +278,16 @@ Decides-both false false P Q p q over back = refl
 abbrev not_alone : (UnitPlan → Bool) → Option UnitPlan → Bool
 not_alone alone unit = option_map_or (λ unit. not (alone unit)) unit true
 
-module _ (plan : Plan) (alone : UnitPlan → Bool) (tells : DecidesWhoIsAlone plan alone) where
+module _ (plan : Plan) (alone : UnitPlan → Bool) (states : DecidesWhoIsAlone plan alone) where
   Decides-end : (u : ℕ) → Decides (is_end_contested alone plan.units.items u) (¬ IsAloneInPlan plan u)
   Decides-end u = go (slice_get plan.units.items u) refl where
-    told : (b : Bool) → MatchBool b (IsAloneInPlan plan u) (¬ IsAloneInPlan plan u) → Decides (not b) (¬ IsAloneInPlan plan u)
-    told true is = (λ e. absurd (false≢true e), λ none. absurd (none is))
-    told false isnt = (λ e. isnt, λ none. refl)
+    stated : (b : Bool) → MatchBool b (IsAloneInPlan plan u) (¬ IsAloneInPlan plan u) → Decides (not b) (¬ IsAloneInPlan plan u)
+    stated true is = (λ e. absurd (false≢true e), λ none. absurd (none is))
+    stated false isnt = (λ e. isnt, λ none. refl)
 
     go : (o : Option UnitPlan) → slice_get plan.units.items u ≡ o → Decides (is_end_contested alone plan.units.items u) (¬ IsAloneInPlan plan u)
     go (Some unit) is =
-        subst (λ o. Decides (not_alone alone o) (¬ IsAloneInPlan plan u)) (sym is) (told (alone unit) (tells u unit is))
+        subst (λ o. Decides (not_alone alone o) (¬ IsAloneInPlan plan u)) (sym is) (stated (alone unit) (states u unit is))
     go None is =
         let nowhere : ¬ IsAloneInPlan plan u = λ there.
         let (p, at, _) = placed plan.keep_free plan.units.items u there.0.inside in
@@ -314,15 +314,15 @@ contested_alike plan alone other one two live flow =
     Decides-both _ _ (IsFlowContested plan flow) (IsFlowContested plan flow) (Decides-contested plan alone one live flow)
     (Decides-contested plan other two live flow) (λ is. is) (λ is. is)
 
--- the findings by any test that tells who is alone are those of the list
+-- the findings by any test that reports who is alone are those of the list
 pub contested_by : (plan : Plan) (alone : UnitPlan → Bool) → DecidesWhoIsAlone plan alone → plan.live ≡ true
     → each (is_contested alone plan.units.items) FlowContested 0 plan.flows.items
     ≡ contested_findings plan.live plan.keep_free plan.strangers plan.units.items plan.flows.items
 unfolding contested_findings
-contested_by plan alone tells live =
+contested_by plan alone states live =
     let by_list : UnitPlan → Bool = is_unit_alone plan.keep_free plan.strangers plan.units.items in
     each_same (is_contested by_list plan.units.items) (is_contested alone plan.units.items)
-    (contested_alike plan alone by_list tells (alone_by_list plan) live) FlowContested 0 plan.flows.items
+    (contested_alike plan alone by_list states (alone_by_list plan) live) FlowContested 0 plan.flows.items
     ∙ ap (λ b. if b then each (is_contested by_list plan.units.items) FlowContested 0 plan.flows.items else []) (sym live)
 
 pub not_live : (live : Bool) (kept : FinSet nat_cmp) (strangers : ℕ) (units : List UnitPlan) (flows : List FlowPlan) → live ≡ false

@@ -1,4 +1,4 @@
--- Which units stay is told by the least NAME at each address, and the least of those that may have to move.
+-- Which units stay is reported by the least NAME at each address, and the least of those that may have to move.
 use Rattle.std.proofs.Common.{◌≡◌, ◌⊎◌, ℕ, zero, suc, [], ◌∷◌, ◌+◌, ◌<◌, ◌≤◌, arith, Bool, true, false, not, cond, ◌&&◌, ◌||◌, ltb, map, List, length, get_or}
 use Rattle.std.proofs.Common.{set, replicate, refl, sym, ap, ◌∙◌, subst, inl, inr, Option, Some, None}
 use Rattle.std.proofs.lemmas.Bool.{cases_Bool, cases_eq, leb-true, leb-false, ltb-true, ltb-false, not-true, and_from, and_parts, true≢false}
@@ -103,7 +103,7 @@ none_entered units = record {
   each = λ a inside. subst (IsLeastName units 0 (λ x. x.address ≡ a)) (sym (get_or-replicate 256 a None None inside)) (none_least units (λ x. x.address ≡ a));
 }
 
--- ---- what they tell
+-- ---- what they report
 
 least-true : (least : Option ℕ) (name n : ℕ) → is_least least name ≡ true → least ≡ Some n → name ≤ n
 least-true None name n is e = absurd (cc)
@@ -113,18 +113,18 @@ least-false : (least : Option ℕ) (name : ℕ) → is_least least name ≡ fals
 least-false None name is = absurd (true≢false is)
 least-false (Some m) name is = (m, refl, leb-false name m is)
 
-pub told_by : (b : Bool) (P Q : Type 0) → (b ≡ true → P) → (b ≡ false → Q) → MatchBool b P Q
-told_by true P Q is isnt = is refl
-told_by false P Q is isnt = isnt refl
+pub stated_by : (b : Bool) (P Q : Type 0) → (b ≡ true → P) → (b ≡ false → Q) → MatchBool b P Q
+stated_by true P Q is isnt = is refl
+stated_by false P Q is isnt = isnt refl
 
-both_told : (a b : Bool) (P Q : Type 0) → MatchBool a P (¬ P) → MatchBool b Q (¬ Q) → MatchBool (a && b) (P × Q) (¬ (P × Q))
-both_told true true P Q p q = (p, q)
-both_told true false P Q p q = λ both. q both.1
-both_told false b P Q p q = λ both. p both.0
+both_stated : (a b : Bool) (P Q : Type 0) → MatchBool a P (¬ P) → MatchBool b Q (¬ Q) → MatchBool (a && b) (P × Q) (¬ (P × Q))
+both_stated true true P Q p q = (p, q)
+both_stated true false P Q p q = λ both. q both.1
+both_stated false b P Q p q = λ both. p both.0
 
 pub some_come : (strangers : ℕ) → MatchBool (ltb 0 strangers) (0 < strangers) (strangers ≡ 0)
 some_come strangers =
-    told_by (ltb 0 strangers) _ _ (λ is. ltb-true 0 strangers is) (λ isnt. let most = ltb-false 0 strangers isnt in omega arith)
+    stated_by (ltb 0 strangers) _ _ (λ is. ltb-true 0 strangers is) (λ isnt. let most = ltb-false 0 strangers isnt in omega arith)
 
 -- a place of a unit has its plan
 pub placed : (kept : FinSet nat_cmp) (ps : List UnitPlan) (i : ℕ) → i < length (map (planned_unit kept) ps)
@@ -150,8 +150,8 @@ module _ (plan : Plan) (firsts : List (Option ℕ)) (mover : Option ℕ) (are_fi
       → IsLeastName plan.units.items (length plan.units.items) (λ x. x.address ≡ unit.address) (get_or firsts unit.address None)
   by_address unit = are_firsts.each unit.address (omega (arith, unit.address_range))
 
-  pub first_told : (u : ℕ) (unit : UnitPlan) → IsAt u unit → is_first_by firsts unit ≡ true → IsFirstThere (units_of plan) u
-  first_told u unit at is v in_v smaller same =
+  pub first_stated : (u : ℕ) (unit : UnitPlan) → IsAt u unit → is_first_by firsts unit ≡ true → IsFirstThere (units_of plan) u
+  first_stated u unit at is v in_v smaller same =
       let (_, is_u) = planned_at plan.keep_free plan.units.items u unit at in
       let (p, at_v, is_v) = placed plan.keep_free plan.units.items v in_v in
       let one : p.address ≡ unit.address = sym (ap (λ (c : PlannedUnit). c.preferred) is_v) ∙ same ∙ ap (λ (c : PlannedUnit). c.preferred) is_u in
@@ -161,8 +161,8 @@ module _ (plan : Plan) (firsts : List (Option ℕ)) (mover : Option ℕ) (are_fi
       let name_v = ap (λ (c : PlannedUnit). c.name) is_v in
       omega (arith, at_most, below, smaller, name_u, name_v)
 
-  pub not_first_told : (u : ℕ) (unit : UnitPlan) → IsAt u unit → is_first_by firsts unit ≡ false → ¬ IsFirstThere (units_of plan) u
-  not_first_told u unit at isnt first =
+  pub not_first_stated : (u : ℕ) (unit : UnitPlan) → IsAt u unit → is_first_by firsts unit ≡ false → ¬ IsFirstThere (units_of plan) u
+  not_first_stated u unit at isnt first =
       let (_, is_u) = planned_at plan.keep_free plan.units.items u unit at in
       let (n, least, below) = least-false (get_or firsts unit.address None) unit.name isnt in
       let (v, p, inside, at_v, one, name) = (by_address unit).one n least in
@@ -172,13 +172,13 @@ module _ (plan : Plan) (firsts : List (Option ℕ)) (mover : Option ℕ) (are_fi
       first v in_v (omega (arith, below, name, name_u, name_v))
       (ap (λ (c : PlannedUnit). c.preferred) is_v ∙ one ∙ sym (ap (λ (c : PlannedUnit). c.preferred) is_u))
 
-  none_moves_told : (u : ℕ) (unit : UnitPlan) → IsAt u unit → is_least mover unit.name ≡ true
+  none_moves_stated : (u : ℕ) (unit : UnitPlan) → IsAt u unit → is_least mover unit.name ≡ true
       → EachSmaller (units_of plan) u (λ v. is_arbitrary (unit_at (units_of plan) v).name ≡ true → IsFirstThere (units_of plan) v)
-  none_moves_told u unit at is v in_v smaller arbitrary =
+  none_moves_stated u unit at is v in_v smaller arbitrary =
       let (_, is_u) = planned_at plan.keep_free plan.units.items u unit at in
       let (p, at_v, is_v) = placed plan.keep_free plan.units.items v in_v in
       elim (cases_Bool (is_first_by firsts p)) [
-        | inl first ↦ first_told v p at_v first
+        | inl first ↦ first_stated v p at_v first
         | inr second ↦
             let moves : is_mover_by firsts p ≡ true =
             and_from (is_arbitrary p.name) (not (is_first_by firsts p)) (sym (ap (λ (c : PlannedUnit). is_arbitrary c.name) is_v) ∙ arbitrary) (ap not second) in
@@ -189,9 +189,9 @@ module _ (plan : Plan) (firsts : List (Option ℕ)) (mover : Option ℕ) (are_fi
             absurd (omega (arith, at_most, below, smaller, name_u, name_v))
       ]
 
-  one_moves_told : (u : ℕ) (unit : UnitPlan) → IsAt u unit → is_least mover unit.name ≡ false
+  one_moves_stated : (u : ℕ) (unit : UnitPlan) → IsAt u unit → is_least mover unit.name ≡ false
       → ¬ EachSmaller (units_of plan) u (λ v. is_arbitrary (unit_at (units_of plan) v).name ≡ true → IsFirstThere (units_of plan) v)
-  one_moves_told u unit at isnt none =
+  one_moves_stated u unit at isnt none =
       let (_, is_u) = planned_at plan.keep_free plan.units.items u unit at in
       let (n, least, below) = least-false mover unit.name isnt in
       let (v, p, inside, at_v, moves, name) = is_mover.one n least in
@@ -199,57 +199,57 @@ module _ (plan : Plan) (firsts : List (Option ℕ)) (mover : Option ℕ) (are_fi
       let parts = and_parts (is_arbitrary p.name) (not (is_first_by firsts p)) moves in
       let name_u = ap (λ (c : PlannedUnit). c.name) is_u in
       let name_v = ap (λ (c : PlannedUnit). c.name) is_v in
-      not_first_told v p at_v (not-true (is_first_by firsts p) parts.1)
+      not_first_stated v p at_v (not-true (is_first_by firsts p) parts.1)
       (none v in_v (omega (arith, below, name, name_u, name_v)) (ap (λ (c : PlannedUnit). is_arbitrary c.name) is_v ∙ parts.0))
 
   -- the address is outside, or none moves
-  unmoved_told : (u : ℕ) (unit : UnitPlan) → IsAt u unit → (pool : Bool) → in_pool (unit_at (units_of plan) u).preferred ≡ pool
+  unmoved_stated : (u : ℕ) (unit : UnitPlan) → IsAt u unit → (pool : Bool) → in_pool (unit_at (units_of plan) u).preferred ≡ pool
       → (not pool || is_least mover unit.name) ≡ true
       → IsOutsidePool (units_of plan) u
       ⊎ EachSmaller (units_of plan) u (λ v. is_arbitrary (unit_at (units_of plan) v).name ≡ true → IsFirstThere (units_of plan) v)
-  unmoved_told u unit at false outside told = inl outside
-  unmoved_told u unit at true inside told = inr (none_moves_told u unit at told)
+  unmoved_stated u unit at false outside stated = inl outside
+  unmoved_stated u unit at true inside stated = inr (none_moves_stated u unit at stated)
 
-  moved_told : (u : ℕ) (unit : UnitPlan) → IsAt u unit → (pool : Bool) → in_pool (unit_at (units_of plan) u).preferred ≡ pool
+  moved_stated : (u : ℕ) (unit : UnitPlan) → IsAt u unit → (pool : Bool) → in_pool (unit_at (units_of plan) u).preferred ≡ pool
       → (not pool || is_least mover unit.name) ≡ false → ¬ Stays (units_of plan) u
-  moved_told u unit at false outside told stays = true≢false told
-  moved_told u unit at true inside told stays = elim (stays.unmoved) [
+  moved_stated u unit at false outside stated stays = true≢false stated
+  moved_stated u unit at true inside stated stays = elim (stays.unmoved) [
     | inl outside ↦ true≢false (sym inside ∙ outside)
-    | inr none ↦ one_moves_told u unit at told none
+    | inr none ↦ one_moves_stated u unit at stated none
   ]
 
-  stays_told : (u : ℕ) (unit : UnitPlan) → IsAt u unit → MatchBool (stays_by firsts mover unit) (Stays (units_of plan) u) (¬ Stays (units_of plan) u)
-  stays_told u unit at =
+  stays_reported : (u : ℕ) (unit : UnitPlan) → IsAt u unit → MatchBool (stays_by firsts mover unit) (Stays (units_of plan) u) (¬ Stays (units_of plan) u)
+  stays_reported u unit at =
       let (_, is_u) = planned_at plan.keep_free plan.units.items u unit at in
       let pool : in_pool (unit_at (units_of plan) u).preferred ≡ in_pool unit.address = ap (λ (c : PlannedUnit). in_pool c.preferred) is_u in
-      told_by (stays_by firsts mover unit) _ _
+      stated_by (stays_by firsts mover unit) _ _
       (λ is. let parts = and_parts (is_first_by firsts unit) (not (in_pool unit.address) || is_least mover unit.name) is in
       record {
-        first = first_told u unit at parts.0;
-        unmoved = unmoved_told u unit at (in_pool unit.address) pool parts.1;
+        first = first_stated u unit at parts.0;
+        unmoved = unmoved_stated u unit at (in_pool unit.address) pool parts.1;
       })
       (λ isnt stays. elim (cases_Bool (is_first_by firsts unit)) [
-        | inr second ↦ not_first_told u unit at second stays.first
-        | inl one ↦ moved_told u unit at (in_pool unit.address) pool
+        | inr second ↦ not_first_stated u unit at second stays.first
+        | inl one ↦ moved_stated u unit at (in_pool unit.address) pool
             (sym (ap (λ b. b && (not (in_pool unit.address) || is_least mover unit.name)) one) ∙ isnt) stays
       ])
 
   -- none comes, or it may not choose
-  settled_told : (strangers : Bool) → MatchBool strangers (0 < plan.strangers) (plan.strangers ≡ 0) → (u : ℕ) (unit : UnitPlan) → IsAt u unit
+  settled_stated : (strangers : Bool) → MatchBool strangers (0 < plan.strangers) (plan.strangers ≡ 0) → (u : ℕ) (unit : UnitPlan) → IsAt u unit
       → MatchBool (is_settled strangers unit) ((plan.strangers ≡ 0) ⊎ (is_arbitrary (unit_at (units_of plan) u).name ≡ false))
       (¬ ((plan.strangers ≡ 0) ⊎ (is_arbitrary (unit_at (units_of plan) u).name ≡ false)))
-  settled_told false none u unit at = inl none
-  settled_told true some u unit at =
+  settled_stated false none u unit at = inl none
+  settled_stated true some u unit at =
       let (_, is_u) = planned_at plan.keep_free plan.units.items u unit at in
       let name : is_arbitrary (unit_at (units_of plan) u).name ≡ is_arbitrary unit.name = ap (λ (c : PlannedUnit). is_arbitrary c.name) is_u in
-      told_by (not (is_arbitrary unit.name)) _ _
+      stated_by (not (is_arbitrary unit.name)) _ _
       (λ fixed. inr (name ∙ not-true (is_arbitrary unit.name) fixed))
       (λ chooses either. elim either [
         | inl none ↦ absurd (let more : 0 < plan.strangers = some in omega arith)
         | inr fixed ↦ true≢false (sym (ap not (sym name ∙ fixed)) ∙ chooses)
       ])
 
-  pub told : (strangers : Bool) → MatchBool strangers (0 < plan.strangers) (plan.strangers ≡ 0)
+  pub stated : (strangers : Bool) → MatchBool strangers (0 < plan.strangers) (plan.strangers ≡ 0)
       → DecidesWhoStays plan (λ unit. stays_by firsts mover unit && is_settled strangers unit)
-  told strangers come u unit at =
-      both_told (stays_by firsts mover unit) (is_settled strangers unit) _ _ (stays_told u unit at) (settled_told strangers come u unit at)
+  stated strangers come u unit at =
+      both_stated (stays_by firsts mover unit) (is_settled strangers unit) _ _ (stays_reported u unit at) (settled_stated strangers come u unit at)

@@ -1,5 +1,5 @@
 -- Plans without repeated parts.
-use Rattle.std.proofs.Common.{◌≡◌, ◌-◌, get_or, None, sym, ◌∙◌}
+use Rattle.std.proofs.Common.{◌≡◌, get_or, None, sym, ◌∙◌}
 use Rattle.std.proofs.lemmas.Option.{none-some}
 use Rattle.j39_network.specs.declared.plan.Plan.{Plan}
 use Rattle.j39_network.specs.Records.{HasNoRecords}

@@ -67,7 +67,7 @@ pub record LiesInside (g : GroupPlan) (t : TextPlan) : Type 0 where
   pub ends : last_byte t ≤ g.most
 
 pub record CleanParts (plan : Plan) : Type 0 where
-  pub told_apart : AllPairs (λ u v. ¬ MayBeOne u v) plan.units.items
+  pub are_apart : AllPairs (λ u v. ¬ MayBeOne u v) plan.units.items
   pub names : AllPairs (λ u v. u.name ≢ v.name) plan.units.items
   pub fixed_addresses : AllPairs HoldApart plan.units.items
   pub addresses : (n : ℕ) → AreNeeded plan n → n ≤ free_count plan.keep_free

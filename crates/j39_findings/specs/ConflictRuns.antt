@@ -23,7 +23,7 @@ conflict_steps larger smaller = Up larger ∷ Up smaller ∷ Give smaller larger
 abbrev pub AreInConflict : Plan → ℕ → ℕ → Type 0
 AreInConflict plan = PairAt (λ u v. HaveSameFixedAddress u v × (¬ MayBeOne u v)) plan.units.items
 
--- the finding tells of two units that are in conflict
+-- the finding reports of two units that are in conflict
 abbrev pub IsOfConflict : Plan → Finding → Type 0
 IsOfConflict plan finding = (i : ℕ) × (j : ℕ) × (finding ≡ SameFixedAddress i j) × AreInConflict plan i j
 
@@ -35,9 +35,9 @@ pub record HasLargerName (plan : Plan) (larger smaller : ℕ) : Type 0 where
   pub other_is : slice_get plan.units.items smaller ≡ Some other
   pub above : other.name < one.name
 
--- the steps show the conflict of which the finding tells
+-- the steps show the conflict of which the finding reports
 pub record IsConflictRun (plan : Plan) (finding : Finding) (steps : List Step) : Type 0 where
-  pub tells : IsOfConflict plan finding
+  pub states : IsOfConflict plan finding
   pub larger : ℕ
   pub smaller : ℕ
   pub both : (finding ≡ SameFixedAddress larger smaller) ⊎ (finding ≡ SameFixedAddress smaller larger)
@@ -63,14 +63,14 @@ unfoldable pub run_of_places : Plan → ℕ → ℕ → Option (List Step)
 run_of_places plan i j =
     if nat_lt i j then run_of_units i j (slice_get plan.units.items i) (slice_get plan.units.items j) else None
 
--- the run that shows what the finding tells, where it tells of a conflict
+-- the run that shows what the finding reports, where it reports of a conflict
 unfoldable pub conflict_run : Plan → Finding → Option (List Step)
 conflict_run plan (SameFixedAddress i j) = run_of_places plan i j
 conflict_run plan _ = None
 
 -- ---- the law
 
--- the test gives a run exactly where the finding tells of a conflict, and then the one that shows it
+-- the test gives a run exactly where the finding reports of a conflict, and then the one that shows it
 pub record RunsAreExact (plan : Plan) (finding : Finding) : Type 0 where
   pub sound : (steps : List Step) → conflict_run plan finding ≡ Some steps → IsConflictRun plan finding steps
   pub complete : IsOfConflict plan finding → conflict_run plan finding ≢ None

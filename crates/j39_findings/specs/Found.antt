@@ -291,7 +291,7 @@ is_unit_alone kept strangers units unit =
     not (is_shared units unit.address)
     && (not (in_pool unit.address) || (not (nat_lt 0 strangers) && (contains kept unit.address || not (list_any (has_to_move units) units))))
 
--- whether an end of a flow isn't, where this tells who is
+-- whether an end of a flow isn't, where this says who is
 abbrev pub is_end_contested : (UnitPlan → Bool) → List UnitPlan → ℕ → Bool
 is_end_contested alone units u = option_map_or (λ unit. not (alone unit)) (slice_get units u) true
 

@@ -1,4 +1,4 @@
--- Which units of a plan stay, which are alone at their addresses, and how that is told: by the least NAME that is planned at each address,
+-- Which units of a plan stay, which are alone at their addresses, and how that is reported: by the least NAME that is planned at each address,
 -- whether another unit is planned there, the least NAME of those that may have to move, and whether strangers come.
 use Rattle.std.specs.Prelude.{◌≡◌, ℕ, ◌<◌, ◌≤◌, Bool, true, MatchBool, not, false, is_none, ◌&&◌, ◌||◌, cond, nat_le, nat_lt, List, length, slice_index_or}
 use Rattle.std.specs.Prelude.{Option, Some, None}
@@ -14,7 +14,7 @@ use Rattle.j39_findings.specs.Findings.{IsAloneInPlan}
 use Rattle.j39_network.specs.PlannedUnits.{units_of}
 use Rattle.j39_network.specs.Staying.{StaysBeside}
 
--- of the unit at each place this tells whether it stays
+-- of the unit at each place this says whether it stays
 abbrev pub DecidesWhoStays : Plan → (UnitPlan → Bool) → Type 0
 DecidesWhoStays plan stays = (u : ℕ) (unit : UnitPlan) → slice_get plan.units.items u ≡ Some unit
     → MatchBool (stays unit) (StaysBeside plan.strangers (units_of plan) u) (¬ StaysBeside plan.strangers (units_of plan) u)
@@ -50,7 +50,7 @@ stays_by firsts mover unit = is_first_by firsts unit && (not (in_pool unit.addre
 abbrev pub is_settled : Bool → UnitPlan → Bool
 is_settled strangers unit = not strangers || not (is_arbitrary unit.name)
 
--- whether a unit stays, as a call tells it
+-- whether a unit stays, as a call answers it
 abbrev pub stays_of : Standing → UnitPlan → Bool
 stays_of standing unit = stays_by standing.firsts standing.mover unit && is_settled standing.strangers unit
 
@@ -86,10 +86,10 @@ pub record AreTwoThere (units : List UnitPlan) (count address : ℕ) : Type 0 wh
   pub other_is : slice_get units second ≡ Some other
   pub other_there : other.address ≡ address
 
--- at each address this tells whether it is so
-pub record DecidesAtEach (There : ℕ → Type 0) (told : List Bool) : Type 0 where
-  pub size : length told ≡ 256
-  pub each : (a : ℕ) → a < 256 → MatchBool (slice_index_or told a false) (There a) (¬ There a)
+-- at each address this says whether it is so
+pub record DecidesAtEach (There : ℕ → Type 0) (stated : List Bool) : Type 0 where
+  pub size : length stated ≡ 256
+  pub each : (a : ℕ) → a < 256 → MatchBool (slice_index_or stated a false) (There a) (¬ There a)
 
 -- it is the only one that is planned at its address, and none moves there
 abbrev pub is_alone_by : List Bool → Option ℕ → Bool → FinSet nat_cmp → UnitPlan → Bool
@@ -97,6 +97,6 @@ is_alone_by shared mover strangers kept unit =
     not (slice_index_or shared unit.address false)
     && (not (in_pool unit.address) || (not strangers && (contains kept unit.address || is_none mover)))
 
--- whether a unit is alone, as a call tells it
+-- whether a unit is alone, as a call answers it
 abbrev pub alone_of : Standing → FinSet nat_cmp → UnitPlan → Bool
 alone_of standing kept unit = is_alone_by standing.shared standing.mover standing.strangers kept unit

@@ -1,4 +1,4 @@
--- What is found in plans without groups that are told by their data.
+-- What is found in plans without groups that are distinguished by their data.
 use Rattle.std.specs.Prelude.{◌≡◌, ◌↔◌, ◌⊎◌, ℕ, false}
 use Rattle.j39_search.specs.ListPlaces.{PairAt}
 use Rattle.j39_findings.specs.Findings.{AreSentTogether, Holds}

@@ -1,5 +1,6 @@
 //! Everything that is wrong with a plan.
 ghost use Rattle.std.specs.Prelude.{◌≡◌, ◌≢◌, [], IfOk, IsOk, OnErr};
+ghost use Rattle.j39_search.specs.Adding.{Adds};
 ghost use Rattle.j39_findings.specs.Findings.{AreFindings, Clean};
 ghost use Rattle.j39_findings.specs.Found.{found};
 
@@ -37,6 +38,24 @@ use std::alloc::{AllocError, Global};
 use texts::find_in_texts;
 use units::find_in_units;
 
+// Adds all that is wrong with the plan, by the findings' numbers and then by their places in rising order.
+fn find_all(findings: &mut Vec<Finding>, plan: &Plan) -> Result<(), AllocError>
+    ensures { Adds result findings.old.items findings.new.items (found plan.now) }
+{
+    find_in_units(findings, &plan.keep_free, plan.strangers, &plan.units)?;
+    find_in_groups(findings, &plan.groups, &plan.flows)?;
+    find_in_signals(findings, &plan.groups)?;
+    find_in_flows(findings, &plan.groups, &plan.flows)?;
+    find_kept(findings, &plan.keep_free, &plan.units)?;
+    find_unsent(findings, &plan.groups, &plan.flows)?;
+    find_in_records(findings, &plan.groups)?;
+    find_in_texts(findings, &plan.groups)?;
+    find_in_needs(findings, &plan.requests, &plan.flows, &plan.needs)?;
+    find_in_requests(findings, &plan.groups, &plan.flows, &plan.requests)?;
+    find_silent(findings, &plan.keep_free, plan.strangers, &plan.units)?;
+    find_contested(findings, plan)
+}
+
 /// All that is wrong with the plan, and nothing else, by the findings' numbers and then by their places in rising
 /// order. A plan in which nothing is wrong takes no memory.
 pub fn check(alloc: Global, plan: &Plan) -> Result<Findings, AllocError>
@@ -46,17 +65,6 @@ pub fn check(alloc: Global, plan: &Plan) -> Result<Findings, AllocError>
     ensures clean { Clean plan.now → IsOk result }
 {
     let mut findings = Vec::new(alloc);
-    find_in_units(&mut findings, &plan.keep_free, plan.strangers, &plan.units)?;
-    find_in_groups(&mut findings, &plan.groups, &plan.flows)?;
-    find_in_signals(&mut findings, &plan.groups)?;
-    find_in_flows(&mut findings, &plan.groups, &plan.flows)?;
-    find_kept(&mut findings, &plan.keep_free, &plan.units)?;
-    find_unsent(&mut findings, &plan.groups, &plan.flows)?;
-    find_in_records(&mut findings, &plan.groups)?;
-    find_in_texts(&mut findings, &plan.groups)?;
-    find_in_needs(&mut findings, &plan.requests, &plan.flows, &plan.needs)?;
-    find_in_requests(&mut findings, &plan.groups, &plan.flows, &plan.requests)?;
-    find_silent(&mut findings, &plan.keep_free, plan.strangers, &plan.units)?;
-    find_contested(&mut findings, plan)?;
+    find_all(&mut findings, plan)?;
     Ok(findings)
 }

@@ -4,6 +4,7 @@
 mod checking;
 mod conflict_run;
 mod laws;
+pub mod sending;
 mod standing;
 
 pub use checking::{CheckedPlan, Finding, Findings, Refused, RefusedCause, check, checked};

@@ -111,7 +111,7 @@ fn is_settled(strangers: bool, unit: &UnitPlan) -> bool
     !strangers || !unit.name.is_arbitrary()
 }
 
-/// What tells which units of a plan stay, and which are alone at their addresses.
+/// What reports which units of a plan stay, and which are alone at their addresses.
 #[derive(Drop)]
 pub struct Standing {
     /// The smallest NAME that is planned at each address.

@@ -1,5 +1,5 @@
 -- What a frame is, and what is written at it.
-use Rattle.std.proofs.Common.{◌≡◌, ◌++◌, ◌==◌, ◌&&◌, ℕ, Bool, true, false, if◌then◌else◌, List, [], length, Option, Some, None, inl, inr, refl, sym, ap, ◌∙◌}
+use Rattle.std.proofs.Common.{◌≡◌, ◌++◌, ◌==◌, ◌&&◌, ℕ, Bool, true, false, if◌then◌else◌, List, [], length, Option, Some, None, inl, inr, refl, sym, ap, subst, ◌∙◌}
 use Rattle.std.proofs.Common.{append_assoc, arith, eq-eqb, eqb-true}
 use Rattle.std.proofs.lemmas.Bool.{cases_Bool, eqb-false, ne_eqb, false≢true}
 use Rattle.std.proofs.lemmas.List.{length-append}
@@ -7,12 +7,14 @@ use Rattle.j39_id.specs.declared.frame.Frame.{Frame}
 use Rattle.j39_network.specs.declared.plan.Plan.{Plan}
 use Rattle.j39_follow.specs.Contests.{Timed}
 use Rattle.j39_follow.specs.Fits.{IsSentGroup}
-use Rattle.j39_follow.specs.FollowReports.{IsGroupOfMessage, IsGrouped, IsSendingOf, Message, bare_text}
+use Rattle.j39_follow.specs.FollowReports.{IsBareText, IsGroupOfMessage, IsGrouped, IsMessageReport, IsNotice, IsSendingOf, Message, bare_text, in_frame}
 use Rattle.j39_follow.specs.declared.message.Sort.{Sort}
 use Rattle.j39_follow.specs.declared.pair.heard_pairs.HeardPairs.{HeardPairs}
 use Rattle.j39_follow.specs.declared.request.exchanges.Exchanges.{Exchanges}
 use Rattle.j39_follow.specs.declared.flow.sending.Sending.{Sending}
-use Rattle.j39_follow.specs.inside.FrameWriting.{WritesFrame}
+use Rattle.j39_follow.specs.declared.address.known_parties.Parties.{Parties}
+use Rattle.j39_follow.specs.inside.Contesting.{ShowsParties}
+use Rattle.j39_follow.specs.inside.FrameWriting.{IsItselfWritten, WritesFrame}
 use Rattle.j39_follow.specs.inside.Reporting.{is_grouped}
 
 -- what counts as of a group is one
@@ -80,6 +82,30 @@ pub has_none : (all_frames : Bool) (written line : List ℕ) → all_frames ≡ 
 has_none all_frames written line unasked = sym (ap (λ (b : Bool). if b && length written == 0 then line else []) unasked)
 
 -- ---- what is written at a frame
+
+-- what a frame reports, what it is and a line of its own, one after another
+pub itself_written : (plan : Plan) (all_frames : Bool) (log : List Timed) (front : List ℕ) (f : Frame) (sort : Sort)
+    (old first second new notice report bare : List ℕ) → IsNotice plan log front f notice → first ≡ old ++ notice
+    → IsMessageReport plan log front (in_frame f) sort report → second ≡ first ++ report
+    → IsBareText plan all_frames log front f (notice ++ report) bare → new ≡ second ++ bare
+    → IsItselfWritten plan all_frames log front f sort old new
+itself_written plan all_frames log front f sort old first second new notice report bare is stated reports second_is itself last = record {
+  notice = notice;
+  report = report;
+  bare = bare;
+  notice_is = is;
+  report_is = reports;
+  bare_is = itself;
+  text_is = three_texts old notice report bare first second new stated second_is last;
+}
+
+-- what is written of the message in a frame
+pub framed_report : (plan : Plan) (parties : Parties) (log : List Timed) (front : List ℕ) (f : Frame) (m : Message) (sort : Sort) (old new : List ℕ)
+    → m ≡ in_frame f → ((l : List Timed) → ShowsParties plan parties l m.ident → (piece : List ℕ) × IsMessageReport plan l front m sort piece × (new ≡ old ++ piece))
+    → ShowsParties plan parties log f.ident → (piece : List ℕ) × IsMessageReport plan log front (in_frame f) sort piece × (new ≡ old ++ piece)
+framed_report plan parties log front f m sort old new same stated shows =
+    subst (λ (x : Message). ShowsParties plan parties log x.ident → (piece : List ℕ) × IsMessageReport plan log front x sort piece × (new ≡ old ++ piece))
+    same (stated log) shows
 
 -- by logs that are so in other words
 pub written_so : {IsSo IsOther : List Timed → Type 0} {plan : Plan} {all_frames : Bool} {front : List ℕ} {f : Frame} {sorts : Sort × Option Sort}

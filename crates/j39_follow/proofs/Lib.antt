@@ -3,6 +3,7 @@ pub mod Alike
 pub mod CountedOnce
 pub mod Flows
 pub mod FrameTexts
+pub mod GroupFrames
 pub mod GroupLines
 pub mod Lines
 pub mod LinesRead

@@ -1,5 +1,5 @@
 -- A log that is followed line after line.
-use Rattle.std.proofs.Common.{◌≡◌, ◌+◌, ℕ, Bool, true, false, List, [], ◌∷◌, ◌++◌, length, Bor, Option, Some, None, refl, sym, ap, subst, ◌∙◌}
+use Rattle.std.proofs.Common.{◌≡◌, ◌+◌, ℕ, Bool, true, false, List, [], ◌∷◌, ◌++◌, length, Bor, Option, Some, None, inr, refl, sym, ap, subst, ◌∙◌}
 use Rattle.std.specs.Prelude.{IfNone, IfSome}
 use Rattle.std.specs.Option.{option_copied}
 use Rattle.std.proofs.lemmas.Bool.{false≢true}
@@ -10,11 +10,11 @@ use Rattle.j39_id.specs.declared.line_error.LineError.TheVariants.{BadData, BadI
 use Rattle.j39_network.specs.declared.plan.Plan.{Plan}
 use Rattle.j39_log.specs.LineCounting.{counted_over, no_lines}
 use Rattle.j39_log.specs.declared.line_counts.LineCounts.{LineCounts}
-use Rattle.j39_follow.specs.FollowText.{AreUnitLines, FollowedPast, FollowsLines, FollowsShort, IsFollowedLog, frames_seen, line_passed_over}
-use Rattle.j39_follow.specs.FollowText.{nothing_followed, one_line_more}
-use Rattle.j39_follow.specs.LogLines.{IsElsewhere, IsInterface, NamesInterface}
+use Rattle.j39_follow.specs.FollowText.{AreUnitLines, FollowedPast, FollowsLines, FollowsPart, FollowsShort, IsFollowedLog, frames_seen, line_passed_over}
+use Rattle.j39_follow.specs.FollowText.{nothing_followed, one_line_more, behind_reports}
+use Rattle.j39_follow.specs.LogLines.{IsElsewhere, IsInterface, IsReadPart, NamesInterface}
 use Rattle.j39_follow.specs.declared.unit_report.UnitReport.{UnitReport}
-use Rattle.j39_follow.specs.inside.FollowedSoFar.{HasFollowedLines, LeadsToPast, RecallsPast, behind_reports}
+use Rattle.j39_follow.specs.inside.FollowedSoFar.{HasFollowedLines, LeadsToPast, RecallsPast}
 use Rattle.j39_follow.specs.inside.LinesFollowed.{line_more}
 use Rattle.j39_follow.proofs.Addresses.Standing.{unit_lines}
 
@@ -23,8 +23,8 @@ use Rattle.j39_follow.proofs.Addresses.Standing.{unit_lines}
 -- one of which the test says that it isn't is none
 pub not_elsewhere : (test : Bool) (kept known : Option (List ℕ)) (part : List ℕ) (named : Option (List ℕ)) → test ≡ false
     → (IsElsewhere kept part named → test ≡ true) → kept ≡ known → IsElsewhere known part named → ⊥
-not_elsewhere test kept known part named isnt told same there =
-    false≢true (sym isnt ∙ told (subst (λ (i : Option (List ℕ)). IsElsewhere i part named) (sym same) there))
+not_elsewhere test kept known part named isnt stated same there =
+    false≢true (sym isnt ∙ stated (subst (λ (i : Option (List ℕ)). IsElsewhere i part named) (sym same) there))
 
 -- ---- a line that spells no frame
 
@@ -68,6 +68,14 @@ pub names_it : (part : List ℕ) (found : Option (Bor (List ℕ))) → IfSome fo
     → IfNone found ((i : List ℕ) → ¬ IsInterface part i) → NamesInterface part (option_copied found)
 names_it part None some none = none
 names_it part (Some i) some none = some
+
+-- a line of which the test says that it isn't elsewhere is read by its part
+pub read_here : (plan : Plan) (all_frames : Bool) (past next : FollowedPast) (line part text : List ℕ) (found : Option (Bor (List ℕ))) (test : Bool)
+    (kept : Option (List ℕ)) → IsReadPart line part → NamesInterface part (option_copied found) → test ≡ false
+    → (IsElsewhere kept part (option_copied found) → test ≡ true) → kept ≡ past.interface
+    → FollowsPart plan all_frames past line part (option_copied found) next text → FollowsShort plan all_frames past line next text
+read_here plan all_frames past next line part text found test kept read names isnt stated same follows =
+    (part, option_copied found, read, names, inr (not_elsewhere test kept past.interface part (option_copied found) isnt stated same, follows))
 
 -- ---- lines after lines
 

@@ -64,7 +64,7 @@ one_sending plan log m s t a b =
     (a.aim_is ∙ ap (λ (w : Who). if is_to_all m.ident then aims.All else aim_at (unit_of w)) receiver ∙ sym b.aim_is)
     (a.unaddressed_is ∙ sym b.unaddressed_is)
 
--- ---- what is told first
+-- ---- what is reported first
 
 one_answer_way : (plan : Plan) (log : List Timed) (f : Frame) (t u : List ℕ) → IsAnswerWay plan log f t → IsAnswerWay plan log f u → t ≡ u
 one_answer_way plan log f t u a b =
@@ -99,10 +99,10 @@ pub one_bare : (plan : Plan) (all_frames : Bool) (log : List Timed) (front : Lis
 one_bare plan all_frames log front f written t u a b =
     a.2 ∙ ap (λ (w : List ℕ). bare_text all_frames written (frame_line front w f)) (one_way plan log f.ident a.0 b.0 a.1 b.1) ∙ sym b.2
 
--- what a frame tells of requests is one list
-pub one_told : (plan : Plan) (log : List Timed) (f : Frame) (sorts : List Sort) (a b : List Event)
+-- what a frame reports of requests is one list
+pub one_stated : (plan : Plan) (log : List Timed) (f : Frame) (sorts : List Sort) (a b : List Event)
     → AreEventsOf plan log f sorts a → AreEventsOf plan log f sorts b → a ≡ b
-one_told plan log f sorts a b x y =
+one_stated plan log f sorts a b x y =
     let sent = one_sending plan log (in_frame f) x.sent y.sent x.sent_is y.sent_is in
     let asker = one_taken plan log (asker_or_source plan f) x.asker y.asker x.asker_is y.asker_is in
     let ended = one_sending plan log (ended_message f) x.ended y.ended x.ended_is y.ended_is in

@@ -14,19 +14,18 @@ use Rattle.j39_tp.specs.declared.packet.Packet.{Packet}
 use Rattle.j39_follow.specs.Contests.{Timed}
 use Rattle.j39_follow.specs.FollowReports.{AreEventsOf, IsBareText, in_frame, stamp}
 use Rattle.j39_follow.specs.FollowText.{AreUnitLines, IsFollowText, IsFollowedLog, IsPacketReport, FollowedPast, FollowsFrame, FollowsLine, FollowsLines}
-use Rattle.j39_follow.specs.FollowText.{FollowsPart, FollowsShort, frames_seen, lines_with, nothing_followed, one_line_more, line_passed_over}
+use Rattle.j39_follow.specs.FollowText.{FollowsPart, FollowsShort, frames_seen, lines_with, nothing_followed, one_line_more, line_passed_over, behind_reports}
 use Rattle.j39_follow.specs.LogLines.{IsElsewhere, IsReadPart, IsTimeText, NamesInterface, interface_behind}
 use Rattle.j39_follow.specs.declared.request.event.Event.{Event}
 use Rattle.j39_follow.specs.declared.message.Sort.{Sort}
-use Rattle.j39_follow.specs.inside.FollowedSoFar.{behind_reports}
 use Rattle.j39_follow.proofs.Lines.FirstWords.{one_first_word}
-use Rattle.j39_follow.proofs.OneFrame.{one_bare, one_heard_as, one_message_report, one_notice, one_packet_report, one_told}
+use Rattle.j39_follow.proofs.OneFrame.{one_bare, one_heard_as, one_message_report, one_notice, one_packet_report, one_stated}
 use Rattle.j39_follow.proofs.Lines.Splitting.{one_split}
 use Rattle.j39_follow.proofs.Addresses.Standing.{one_unit_lines}
 
 -- ---- a line
 
-one_part : (line p q : List ℕ) → IsReadPart line p → IsReadPart line q → p ≡ q
+pub one_part : (line p q : List ℕ) → IsReadPart line p → IsReadPart line q → p ≡ q
 one_part line p q (inl a) (inl b) =
     let same = one_split line a.last.front a.word b.last.front b.word (a.last, refl) (b.last, refl) in
     sym a.front_is ∙ same.0 ∙ b.front_is
@@ -34,7 +33,7 @@ one_part line p q (inl a) (inr b) = absurd (b.0 p a)
 one_part line p q (inr a) (inl b) = absurd (a.0 q b)
 one_part line p q (inr a) (inr b) = a.1 ∙ sym b.1
 
-one_interface : (part : List ℕ) (a b : Option (List ℕ)) → NamesInterface part a → NamesInterface part b → a ≡ b
+pub one_interface : (part : List ℕ) (a b : Option (List ℕ)) → NamesInterface part a → NamesInterface part b → a ≡ b
 one_interface part (Some i) (Some j) a b =
     let same = one_split part a.last.front a.word b.last.front b.word (a.last, refl) (b.last, refl) in
     let before = subst (λ (f : List ℕ). IsLastWord f i) same.0 a.before in
@@ -43,7 +42,7 @@ one_interface part (Some i) None a b = absurd (b i a)
 one_interface part None (Some j) a b = absurd (a j b)
 one_interface part None None a b = refl
 
-one_time : (line t u : List ℕ) → IsTimeText line t → IsTimeText line u → t ≡ u
+pub one_time : (line t u : List ℕ) → IsTimeText line t → IsTimeText line u → t ≡ u
 one_time line t u (inl a) (inl b) = one_first_word line t u a.0 b.0
 one_time line t u (inl a) (inr b) = absurd (b.0 t a)
 one_time line t u (inr a) (inl b) = absurd (a.0 u b)
@@ -67,19 +66,19 @@ one_frame_read plan all_frames past time named f next other t u a b =
     let packet = one_heard_as plan log f a.packet b.packet a.heard_as b.heard_as in
     let notice = one_notice plan log front f a.notice b.notice a.notice_is b.notice_is in
     let report = one_message_report plan log front (in_frame f) a.sort b.sort a.report b.report a.report_is b.report_is in
-    let told_alike = ap (λ (t : List ℕ). t ++ a.report) notice ∙ ap (λ (t : List ℕ). b.notice ++ t) report.1 in
+    let reported_alike = ap (λ (t : List ℕ). t ++ a.report) notice ∙ ap (λ (t : List ℕ). b.notice ++ t) report.1 in
     let bare = one_bare plan all_frames log front f (b.notice ++ b.report) a.bare b.bare
-    (subst (λ (t : List ℕ). IsBareText plan all_frames log front f t a.bare) told_alike a.bare_is) b.bare_is in
+    (subst (λ (t : List ℕ). IsBareText plan all_frames log front f t a.bare) reported_alike a.bare_is) b.bare_is in
     let there = subst (λ (p : Option Packet). IsPacketReport plan past.seen log front f p a.sorts a.carried) packet a.carried_is in
     let carried = one_packet_report plan past.seen log front f b.packet a.sorts b.sorts a.carried b.carried there b.carried_is in
-    let told = one_told plan log f (b.sort ∷ b.sorts) a.events b.events
+    let stated = one_stated plan log f (b.sort ∷ b.sorts) a.events b.events
     (subst (λ (s : List Sort). AreEventsOf plan log f (b.sort ∷ s) a.events) carried.0
     (subst (λ (s : Sort). AreEventsOf plan log f (s ∷ a.sorts) a.events) report.0 a.events_are)) b.events_are in (
       a.next_is
           ∙ ap (λ (p : Option Packet). with_frame past time named f p a.sort a.sorts a.events) packet
           ∙ ap (λ (s : Sort). with_frame past time named f b.packet s a.sorts a.events) report.0
           ∙ ap (λ (s : List Sort). with_frame past time named f b.packet b.sort s a.events) carried.0
-          ∙ ap (λ (e : List Event). with_frame past time named f b.packet b.sort b.sorts e) told
+          ∙ ap (λ (e : List Event). with_frame past time named f b.packet b.sort b.sorts e) stated
           ∙ sym b.next_is,
       a.text_is
           ∙ ap (λ (x : List ℕ). x ++ (a.report ++ (a.bare ++ a.carried))) notice

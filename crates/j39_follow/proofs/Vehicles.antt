@@ -1,4 +1,4 @@
--- What two plans that tell a NAME as one unit make of one log.
+-- What two plans that report a NAME as one unit make of one log.
 pub mod Ends
 pub mod Lines
 pub mod Parties

@@ -14,10 +14,10 @@ pub record MaySendInContest (c : Contest) (now : ℕ) : Type 0 where
   pub waited : (since : ℕ) → c.taken ≡ Some since → since + 250000 ≤ now
 
 -- so long who defends the address is taken to be behind it, and else who stands there
-pub record IsToldWithin (plan : Plan) (log : List Timed) (address : ℕ) (c : Contest) (now : ℕ) (who : Who) : Type 0 where
+pub record IsReportedWithin (plan : Plan) (log : List Timed) (address : ℕ) (c : Contest) (now : ℕ) (who : Who) : Type 0 where
   pub within : MaySendInContest c now → who ≡ c.defender
   pub else_stands : ¬ MaySendInContest c now → IsWho plan (frames_of log) address who
 
 abbrev pub ContestsLastAWait : Type 0
 ContestsLastAWait = (plan : Plan) (log : List Timed) (address : ℕ) (g : Contention) (c : Contest) (now : ℕ) (who : Who) → IsContention plan log address g
-    → g.contest ≡ Some c → IsNow log (Some now) → IsTaken plan log address who → IsToldWithin plan log address c now who
+    → g.contest ≡ Some c → IsNow log (Some now) → IsTaken plan log address who → IsReportedWithin plan log address c now who

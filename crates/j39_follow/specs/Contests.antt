@@ -26,13 +26,13 @@ frames_of log = map (λ (x : Timed). x.frame) log
 abbrev pub claim_wait : ℕ
 claim_wait = 250000
 
--- who a NAME is told to be in a contest: its unit, or itself
+-- who a NAME is reported to be in a contest: its unit, or itself
 abbrev pub likely_named : Plan → ℕ → Who
 likely_named plan name = option_map_or Likely (unit_of_name plan name) (LikelyStranger name)
 
 -- ---- claims
 
--- what was told of the NAME last is a claim of this address, whoever claimed it since
+-- what was reported of the NAME last is a claim of this address, whoever claimed it since
 pub record ClaimedLast (frames : List Frame) (name address : ℕ) : Type 0 where
   pub before : List Frame
   pub claim : Frame
@@ -94,7 +94,7 @@ pub record Begins (plan : Plan) (before : List Timed) (old : Contention) (x : Ti
 abbrev pub BeginsNone : Plan → List Timed → Contention → Timed → ℕ → Type 0
 BeginsNone plan before old x address = (c : Contest) → ¬ Begins plan before old x address c
 
--- a frame ends it: it tells anything of the NAME that defends the address, or of another one of its unit
+-- a frame ends it: it reports anything of the NAME that defends the address, or of another one of its unit
 abbrev pub EndsContest : Plan → Frame → Contest → Type 0
 EndsContest plan f c = (name : ℕ) × ClaimsOrCannot f name × IsSameParty (likely_named plan name) c.defender
 
@@ -160,7 +160,7 @@ pub record IsContested (plan : Plan) (log : List Timed) (address : ℕ) (c : Con
   pub runs : Runs contention.contest time c
   pub heard : IsHeard c.taken runs.now
 
--- who is told to be behind an address at the last of these lines: within a contest who defends it, else who stands there
+-- who is reported to be behind an address at the last of these lines: within a contest who defends it, else who stands there
 abbrev pub IsTaken : Plan → List Timed → ℕ → Who → Type 0
 IsTaken plan log address who =
     ((c : Contest) × IsContested plan log address c × (who ≡ c.defender))

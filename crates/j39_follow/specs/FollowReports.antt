@@ -1,4 +1,4 @@
--- The lines that report what a frame tells, and what was sent.
+-- The lines that report what a frame reports, and what was sent.
 use Rattle.std.specs.Prelude.{◌≡◌, ℕ, ◌==◌, ◌||◌, ◌&&◌, ◌%◌, ◌^◌, Bool, if◌then◌else◌, List, []}
 use Rattle.std.specs.Prelude.{◌∷◌, ◌++◌, codes, decimal, length, map, is_some, option_map, slice_index, Option, Some, None}
 use Rattle.std.specs.Option.{option_map_or, option_to_list}
@@ -64,7 +64,7 @@ cannot_line plan front f = cannot_text plan front (name_in f)
 abbrev pub is_to_all : Ident → Bool
 is_to_all i = is_pdu2 (pgn_of i) || i.ps == global_address
 
--- from whom to whom, by what these lines tell at the last of them
+-- from whom to whom, by what these lines report at the last of them
 pub record IsWay (plan : Plan) (log : List Timed) (i : Ident) (text : List ℕ) : Type 0 where
   pub sender : Who
   pub receiver : Who
@@ -86,7 +86,7 @@ abbrev pub aim_at : Option ℕ → Aim
 aim_at (Some u) = aims.One u
 aim_at None = aims.Neither
 
--- who sent it to whom, by what these lines tell at the last of them
+-- who sent it to whom, by what these lines report at the last of them
 pub record IsSendingOf (plan : Plan) (log : List Timed) (m : Message) (sent : Sending) : Type 0 where
   pub sender : Who
   pub receiver : Who
@@ -131,7 +131,7 @@ answer_text front word f way = front ++ (field word (acknowledged_group f) ++ (w
 abbrev pub answer_line : List ℕ → Frame → List ℕ → List ℕ
 answer_line front f way = option_map_or (λ (word : List ℕ). answer_text front word f way) (control_word (control_of f)) []
 
--- what is written first at a frame: what it tells of addresses, what it asks for, or what it answers beside a group
+-- what is written first at a frame: what it reports of addresses, what it asks for, or what it answers beside a group
 abbrev pub notice_text : Plan → List ℕ → Frame → List ℕ → Option ℕ → List ℕ → List ℕ
 notice_text plan front f way asked back =
     if claims_address f then claim_line plan front f
@@ -180,17 +180,17 @@ abbrev pub frame_events : Plan → Frame → Sending → Sending → Who → Lis
 frame_events plan f sent ended asker sorts = notice_events plan f sent asker ++ message_events plan sent ended sorts
 
 -- by the frame the receiver of a message says that it has it whole (SAE J1939-21, end of message acknowledgement)
-abbrev pub tells_receipt : Frame → Bool
-tells_receipt f = pgn_of f.ident == connection_management && slice_index f.payload.items 0 == end_control
+abbrev pub reports_receipt : Frame → Bool
+reports_receipt f = pgn_of f.ident == connection_management && slice_index f.payload.items 0 == end_control
 
 -- the message that a frame ends goes the way of the frame, or the other way round where its receiver says so
 abbrev pub ended_ident : Frame → Ident
-ended_ident f = if tells_receipt f then turned f.ident else f.ident
+ended_ident f = if reports_receipt f then turned f.ident else f.ident
 
 abbrev pub ended_message : Frame → Message
 ended_message f = record { pgn = pgn_of f.ident; bytes = []; ident = ended_ident f; framed = None }
 
--- what a frame tells of requests: what it asks or refuses, and then the messages that it is and ends
+-- what a frame reports of requests: what it asks or refuses, and then the messages that it is and ends
 pub record AreEventsOf (plan : Plan) (log : List Timed) (f : Frame) (sorts : List Sort) (events : List Event) : Type 0 where
   pub sent : Sending
   pub ended : Sending
@@ -226,7 +226,7 @@ IsGrouped plan log front m sent (Some g) sort text =
     plan.groups.items g
 IsGrouped plan log front m sent None sort text = (sort ≡ Other m.pgn) × (text ≡ [])
 
--- the group of a message, as what was sent tells it
+-- the group of a message, as what was sent reports it
 abbrev pub IsGroupOfMessage : Plan → List Timed → Message → Option ℕ → Type 0
 IsGroupOfMessage plan log m group =
     (sent : Sending) × IsSendingOf plan log m sent × IsSentGroup plan m.pgn m.bytes sent group
@@ -246,7 +246,7 @@ priority_and_bytes f = field (codes " priority ") f.ident.priority ++ (codes " b
 unfoldable pub frame_line : List ℕ → List ℕ → Frame → List ℕ
 frame_line front way f = front ++ (field (codes "frame ") (pgn_of f.ident) ++ (way ++ priority_and_bytes f))
 
--- where all frames are told, one of which nothing else is written has a line of its own
+-- where all frames are reported, one of which nothing else is written has a line of its own
 abbrev pub bare_text : Bool → List ℕ → List ℕ → List ℕ
 bare_text all_frames written line = if all_frames && length written == 0 then line else []
 

@@ -18,6 +18,7 @@ use Rattle.j39_network.specs.declared.plan.request_plan.RequestPlan.{RequestPlan
 use Rattle.j39_network.specs.declared.plan.to.To.{To}
 use Rattle.j39_network.specs.declared.plan.to.To.TheVariants.{All as ToAll, One as ToOne}
 use Rattle.j39_network.specs.declared.plan.unit_plan.UnitPlan.{UnitPlan}
+use Rattle.j39_search.specs.ListPlaces.{in_each}
 use Rattle.j39_log.specs.LogFrames.{IsPacket}
 use Rattle.j39_log.specs.LogPairs.{Seen, heard}
 use Rattle.j39_log.specs.ReadText.{CarriesNone, refused_plan_line}
@@ -104,7 +105,7 @@ IsPacketReport plan before log front f (Some p) sorts text = IsInOrderReport pla
 -- ---- a log
 
 -- what came so far: how many lines, the frames with what is heard of them and with their times, the interface of the log, what was sent, what
--- was told of requests, and how many lines were passed over
+-- was reported of requests, and how many lines were passed over
 pub record FollowedPast : Type 0 where
   pub number : ℕ
   pub seen : List Seen
@@ -132,8 +133,8 @@ line_passed_over _ past = with_bad_line past
 abbrev pub lines_with : FollowedPast → Frame → List ℕ → List Timed
 lines_with past f time = past.timed ++ record { frame = f; time = moment_of time } ∷ []
 
--- from what came so far a frame leads to this, and this is written at it: what it tells, what it is, the frame itself where all frames are told
--- and it neither tells nor is anything, and what it ends
+-- from what came so far a frame leads to this, and this is written at it: what it reports, what it is, the frame itself where all frames are reported
+-- and it neither reports nor is anything, and what it ends
 pub record FollowsFrame (plan : Plan) (all_frames : Bool) (past : FollowedPast) (time : List ℕ) (named : Option (List ℕ)) (f : Frame)
     (next : FollowedPast) (text : List ℕ) : Type 0 where
   pub packet : Option Packet
@@ -205,21 +206,22 @@ unfoldable pub to_text : Plan → To → List ℕ
 to_text plan ToAll = codes "all"
 to_text plan (ToOne u) = unit_label plan u
 
-unfoldable pub ends_text : Plan → FlowPlan → List ℕ
-ends_text plan flow = codes " from " ++ (unit_label plan flow.sender ++ (codes " to " ++ to_text plan flow.to))
+-- which group goes from whom to whom
+unfoldable pub route_text : Plan → ℕ → ℕ → To → List ℕ
+route_text plan group sender to =
+    codes " " ++ (group_label plan group ++ (codes " from " ++ (unit_label plan sender ++ (codes " to " ++ to_text plan to))))
 
 -- a flow that was sent so often
 unfoldable pub flow_sent_line : Plan → ℕ → FlowPlan → ℕ → List ℕ
 flow_sent_line plan n flow times =
-    place_field (codes "flow ") n ++ (codes " " ++ (group_label plan flow.group ++ (ends_text plan flow ++ (field (codes " sent ") times ++ 10 ∷ []))))
+    place_field (codes "flow ") n ++ (route_text plan flow.group flow.sender flow.to ++ (field (codes " sent ") times ++ 10 ∷ []))
 
 -- of each flow how often it was sent
 abbrev pub flow_end : Plan → List Sort → ℕ → FlowPlan → List ℕ
 flow_end plan sent n flow = flow_sent_line plan n flow (count_by (is_of_flow n) sent)
 
-unfoldable pub flow_ends : Plan → List Sort → ℕ → List FlowPlan → List ℕ
-flow_ends plan sent n [] = []
-flow_ends plan sent n (flow ∷ flows) = flow_end plan sent n flow ++ flow_ends plan sent (n + 1) flows
+abbrev pub flow_ends : Plan → List Sort → List ℕ
+flow_ends plan sent = in_each (flow_end plan sent) 0 plan.flows.items
 
 -- the group at this place is the first of its number
 abbrev pub is_first_of : Plan → ℕ → GroupPlan → Bool
@@ -230,7 +232,7 @@ unfoldable pub rest_line : GroupPlan → ℕ → ℕ → List ℕ
 rest_line group unplanned others =
     codes "group " ++ (group.label.bytes ++ (field (codes " no_flow ") unplanned ++ (field (codes " other ") others ++ 10 ∷ [])))
 
--- what else there was of the number of a group, told at the first group that has it
+-- what else there was of the number of a group, reported at the first group that has it
 abbrev pub others_of_number : Plan → List Sort → ℕ → GroupPlan → ℕ
 others_of_number plan sent g group = if is_first_of plan g group then count_by (is_other group.pgn) sent else 0
 
@@ -238,9 +240,8 @@ others_of_number plan sent g group = if is_first_of plan g group then count_by (
 abbrev pub group_end : Plan → List Sort → ℕ → GroupPlan → List ℕ
 group_end plan sent g group = rest_line group (count_by (is_without_flow g) sent) (others_of_number plan sent g group)
 
-unfoldable pub group_ends : Plan → List Sort → ℕ → List GroupPlan → List ℕ
-group_ends plan sent g [] = []
-group_ends plan sent g (group ∷ groups) = group_end plan sent g group ++ group_ends plan sent (g + 1) groups
+abbrev pub group_ends : Plan → List Sort → List ℕ
+group_ends plan sent = in_each (group_end plan sent) 0 plan.groups.items
 
 unfoldable pub unit_end_line : UnitPlan → List ℕ → List ℕ
 unit_end_line unit words = codes "unit " ++ (unit.label.bytes ++ (words ++ 10 ∷ []))
@@ -256,7 +257,7 @@ pub record StandsAt (plan : Plan) (frames : List Frame) (u : ℕ) (unit : UnitPl
   pub there : HoldsForUnit plan frames u unit address
   pub last : (other : ℕ) (h : HoldsForUnit plan frames u unit other) → length h.holds.before ≤ length there.holds.before
 
--- where a unit stands: at the address that its NAMEs claimed last of those that they hold, at none, or nothing was told of them
+-- where a unit stands: at the address that its NAMEs claimed last of those that they hold, at none, or nothing was reported of them
 abbrev pub IsUnitLine : Plan → List Frame → ℕ → UnitPlan → List ℕ → Type 0
 IsUnitLine plan frames u unit text =
     ((address : ℕ) × StandsAt plan frames u unit address × (text ≡ unit_end_line unit (field (codes " address ") address)))
@@ -269,10 +270,6 @@ AreUnitLines plan frames u [] text = text ≡ []
 AreUnitLines plan frames u (unit ∷ units) text =
     (front : List ℕ) × (back : List ℕ) × IsUnitLine plan frames u unit front × AreUnitLines plan frames (u + 1) units back × (text ≡ front ++ back)
 
--- from whom to whom a request goes
-unfoldable pub asked_ends_text : Plan → RequestPlan → List ℕ
-asked_ends_text plan r = codes " from " ++ (unit_label plan r.sender ++ (codes " to " ++ to_text plan r.to))
-
 -- what was asked, answered and refused so often
 unfoldable pub exchange_text : ℕ → ℕ → ℕ → List ℕ
 exchange_text asked answered refused =
@@ -281,17 +278,15 @@ exchange_text asked answered refused =
 -- a request that was
 unfoldable pub request_end_line : Plan → ℕ → RequestPlan → ℕ → ℕ → ℕ → List ℕ
 request_end_line plan n r asked answered refused =
-    place_field (codes "request ") n ++ (codes " " ++ (group_label plan r.group ++ (asked_ends_text plan r
-    ++ exchange_text asked answered refused)))
+    place_field (codes "request ") n ++ (route_text plan r.group r.sender r.to ++ exchange_text asked answered refused)
 
 -- of each request how often it was asked, answered and refused
 abbrev pub request_end : Plan → List Event → ℕ → RequestPlan → List ℕ
 request_end plan events n r =
     request_end_line plan n r (times_asked n events) (times_answered plan n r events) (times_refused plan n r events)
 
-unfoldable pub request_ends : Plan → List Event → ℕ → List RequestPlan → List ℕ
-request_ends plan events n [] = []
-request_ends plan events n (r ∷ requests) = request_end plan events n r ++ request_ends plan events (n + 1) requests
+abbrev pub request_ends : Plan → List Event → List ℕ
+request_ends plan events = in_each (request_end plan events) 0 plan.requests.items
 
 -- how often the flow at a place was sent, where it meets the need of a plan with these requests
 abbrev pub met_by : List RequestPlan → List Sort → NeedPlan → ℕ → FlowPlan → ℕ
@@ -310,28 +305,31 @@ need_met_line plan n need times = need_text plan n need ++ (field (codes " met "
 abbrev pub need_end : Plan → List Sort → ℕ → NeedPlan → List ℕ
 need_end plan sent n need = need_met_line plan n need (times_met plan.requests.items sent need 0 plan.flows.items)
 
-unfoldable pub need_ends : Plan → List Sort → ℕ → List NeedPlan → List ℕ
-need_ends plan sent n [] = []
-need_ends plan sent n (need ∷ needs) = need_end plan sent n need ++ need_ends plan sent (n + 1) needs
+abbrev pub need_ends : Plan → List Sort → List ℕ
+need_ends plan sent = in_each (need_end plan sent) 0 plan.needs.items
 
 unfoldable pub follow_counts_line : ℕ → ℕ → ℕ → ℕ → List ℕ
 follow_counts_line frames skipped bad elsewhere =
     field (codes "frames ") frames ++ (field (codes " skipped ") skipped ++ (field (codes " bad ") bad
     ++ (field (codes " elsewhere ") elsewhere ++ 10 ∷ [])))
 
--- what is written of a log: what its lines report, then what was sent of each flow and group, where each unit stands, what was asked
--- and answered of each request, what met each need, and the counts
+-- what is written behind the reports: what was sent of each flow and group, where each unit stands, what was asked and answered of
+-- each request, what met each need, and the counts
+abbrev pub behind_reports : Plan → FollowedPast → List ℕ → List ℕ
+behind_reports plan past units =
+    flow_ends plan past.sent ++ (group_ends plan past.sent ++ (units ++ (request_ends plan past.events ++ (need_ends plan past.sent
+    ++ follow_counts_line (length past.seen) past.skipped past.bad past.elsewhere))))
+
+-- what is written of a log: what its lines report, and what stands behind
 pub record IsFollowedLog (plan : Plan) (all_frames : Bool) (log text : List ℕ) : Type 0 where
   pub past : FollowedPast
   pub reports : List ℕ
   pub units : List ℕ
   pub read : FollowsLines plan all_frames nothing_followed (lines log) past reports
   pub units_are : AreUnitLines plan (frames_seen past.seen) 0 plan.units.items units
-  pub text_is : text ≡ reports ++ (flow_ends plan past.sent 0 plan.flows.items ++ (group_ends plan past.sent 0 plan.groups.items
-      ++ (units ++ (request_ends plan past.events 0 plan.requests.items ++ (need_ends plan past.sent 0 plan.needs.items
-      ++ follow_counts_line (length past.seen) past.skipped past.bad past.elsewhere)))))
+  pub text_is : text ≡ reports ++ behind_reports plan past units
 
--- what is written for a plan and a log, with the verdict, where all frames are told or those of planned groups alone; of the log of a refused plan nothing is read
+-- what is written for a plan and a log, with the verdict, where all frames are reported or those of planned groups alone; of the log of a refused plan nothing is read
 abbrev pub IsFollowText : Plan → Bool → List ℕ → List ℕ → Verdict → Type 0
 IsFollowText plan all_frames log text Done = All IsSendable plan.groups.items × IsFollowedLog plan all_frames log text
 IsFollowText plan all_frames log text Refused = (g : ℕ) × IsFirstRefused plan.groups.items g × (text ≡ refused_plan_line plan g) × (log ≡ [])
@@ -340,7 +338,7 @@ IsFollowText plan all_frames log text Unreadable = ⊥
 
 -- ---- a law
 
--- for a plan and a log there is one text, and one verdict, whichever frames are told
+-- for a plan and a log there is one text, and one verdict, whichever frames are reported
 abbrev pub LogHasOneFollowText : Type 0
 LogHasOneFollowText = (plan : Plan) (all_frames : Bool) (log text other : List ℕ) (verdict outcome : Verdict)
     → IsFollowText plan all_frames log text verdict → IsFollowText plan all_frames log other outcome → (text ≡ other) × (verdict ≡ outcome)

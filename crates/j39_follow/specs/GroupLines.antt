@@ -1,6 +1,6 @@
 -- What `follow` and `read` write of the groups of one log.
 use Rattle.std.specs.Prelude.{◌≡◌, ◌⊎◌, ℕ, Bool, List, [], ◌∷◌, ◌++◌, Option, Some}
-use Rattle.std.specs.List.{All, slice_get}
+use Rattle.std.specs.List.{All, flat_map, slice_get}
 use Rattle.j39_id.specs.Lines.{lines}
 use Rattle.j39_id.specs.declared.frame.Frame.{Frame}
 use Rattle.j39_network.specs.PrivateGroups.{HasNoPrivate}
@@ -16,8 +16,8 @@ use Rattle.j39_follow.specs.Received.{IsReceived}
 use Rattle.j39_follow.specs.Who.{ChangesHands}
 use Rattle.j39_tp.specs.declared.packet.Packet.{Packet}
 
--- one message of one group of the plan: `follow` tells it by who sent it to whom and by which flow, `read` by its addresses
-pub record TellOneMessage (plan : Plan) (followed read : List ℕ) : Type 0 where
+-- one message of one group of the plan: `follow` reports it by who sent it to whom and by which flow, `read` by its addresses
+pub record ReportOneMessage (plan : Plan) (followed read : List ℕ) : Type 0 where
   pub place : ℕ
   pub group : GroupPlan
   pub front : List ℕ
@@ -28,8 +28,8 @@ pub record TellOneMessage (plan : Plan) (followed read : List ℕ) : Type 0 wher
   pub followed_is : followed ≡ message_line group front way flow message ++ named_reading_lines plan group message.bytes
   pub read_is : read ≡ named_report plan group message.ident message.bytes
 
--- one message of one group of the plan that `follow` alone tells: its receiver says that it has it whole, and its packets didn't come in order
-pub record TellsReceived (plan : Plan) (followed read : List ℕ) : Type 0 where
+-- one message of one group of the plan that `follow` alone reports: its receiver says that it has it whole, and its packets didn't come in order
+pub record ReportsReceived (plan : Plan) (followed read : List ℕ) : Type 0 where
   pub place : ℕ
   pub group : GroupPlan
   pub front : List ℕ
@@ -43,21 +43,19 @@ pub record TellsReceived (plan : Plan) (followed read : List ℕ) : Type 0 where
   pub followed_is : followed ≡ message_line group front way flow message ++ named_reading_lines plan group message.bytes
   pub read_is : read ≡ []
 
--- what is written at one line: by `follow` what the frame tells of addresses and requests, or of itself, and then of a group; by `read` of a group
+-- what is written at one line: by `follow` what the frame reports of addresses and requests, or of itself, and then of a group; by `read` of a group
 pub record LineTexts : Type 0 where
   pub notice : List ℕ
   pub followed : List ℕ
   pub read : List ℕ
 
 unfoldable pub all_followed : List LineTexts → List ℕ
-all_followed [] = []
-all_followed (line ∷ rest) = (line.notice ++ line.followed) ++ all_followed rest
+all_followed = flat_map (λ line. line.notice ++ line.followed)
 
 unfoldable pub all_read : List LineTexts → List ℕ
-all_read [] = []
-all_read (line ∷ rest) = line.read ++ all_read rest
+all_read = flat_map (λ line. line.read)
 
--- a notice is what some frame tells, or a frame itself
+-- a notice is what some frame reports, or a frame itself
 abbrev pub IsNoticed : Plan → LineTexts → Type 0
 IsNoticed plan line =
     (line.notice ≡ [])
@@ -67,20 +65,20 @@ IsNoticed plan line =
 -- `follow` writes of no group, or of the message that `read` writes of, or of one that was received out of order, and `read` of none
 abbrev pub IsThinned : Plan → LineTexts → Type 0
 IsThinned plan line =
-    (line.followed ≡ []) ⊎ TellOneMessage plan line.followed line.read ⊎ TellsReceived plan line.followed line.read
+    (line.followed ≡ []) ⊎ ReportOneMessage plan line.followed line.read ⊎ ReportsReceived plan line.followed line.read
 
 -- both write of no group, or of one message, or `follow` alone of one that was received out of order
 abbrev pub IsWhole : Plan → LineTexts → Type 0
 IsWhole plan line =
-    ((line.followed ≡ []) × (line.read ≡ [])) ⊎ TellOneMessage plan line.followed line.read ⊎ TellsReceived plan line.followed line.read
+    ((line.followed ≡ []) × (line.read ≡ [])) ⊎ ReportOneMessage plan line.followed line.read ⊎ ReportsReceived plan line.followed line.read
 
 -- at none of these frames an address changes hands
 abbrev pub StayInHands : Plan → List Frame → Type 0
 StayInHands plan frames =
     (before : List Frame) (f : Frame) (behind : List Frame) → frames ≡ before ++ f ∷ behind → (address : ℕ) → ¬ ChangesHands plan before f address
 
--- line after line, the messages that `follow` tells are told by `read`, but those received out of order, and all that `read` tells where no address changes hands at these frames
-pub record AreToldAlike (plan : Plan) (frames : List Frame) (reports texts : List ℕ) : Type 0 where
+-- line after line, the messages that `follow` reports are reported by `read`, but those received out of order, and all that `read` reports where no address changes hands at these frames
+pub record ReportAlike (plan : Plan) (frames : List Frame) (reports texts : List ℕ) : Type 0 where
   pub rows : List LineTexts
   pub reports_are : reports ≡ all_followed rows
   pub texts_are : texts ≡ all_read rows
@@ -91,8 +89,8 @@ pub record AreToldAlike (plan : Plan) (frames : List Frame) (reports texts : Lis
 -- ---- a law
 
 -- of a plan without private groups, and a log in which no line ends in a direction and none is elsewhere
-abbrev pub GroupsAreToldAlike : Type 0
-GroupsAreToldAlike = (plan : Plan) (all_frames : Bool) (log : List ℕ) (followed : FollowedPast) (read : Past) (reports texts : List ℕ)
+abbrev pub GroupsAreReportedAlike : Type 0
+GroupsAreReportedAlike = (plan : Plan) (all_frames : Bool) (log : List ℕ) (followed : FollowedPast) (read : Past) (reports texts : List ℕ)
     → HasNoPrivate plan → All IsUndirected (lines log) → FollowsLines plan all_frames nothing_followed (lines log) followed reports
     → followed.elsewhere ≡ 0 → ReadsLines plan nothing_yet (lines log) read texts
-    → AreToldAlike plan (frames_seen followed.seen) reports texts
+    → ReportAlike plan (frames_seen followed.seen) reports texts

@@ -1,4 +1,4 @@
--- Which NAME holds which address, as the frames of a log tell (SAE J1939-81, address claimed and cannot claim address).
+-- Which NAME holds which address, as the frames of a log report (SAE J1939-81, address claimed and cannot claim address).
 use Rattle.std.specs.Prelude.{◌≡◌, ◌⊎◌, ℕ, ◌||◌, true, List, ◌∷◌, ◌++◌, Option, Some, None}
 use Rattle.std.specs.List.{All}
 use Rattle.j39_id.specs.declared.frame.Frame.{Frame}
@@ -10,12 +10,12 @@ pub record Claims (f : Frame) (name address : ℕ) : Type 0 where
   pub name_is : name_in f ≡ name
   pub source_is : f.ident.sa ≡ address
 
--- the unit of this NAME claims an address or can't; a frame from the global address tells nothing
+-- the unit of this NAME claims an address or can't; a frame from the global address reports nothing
 pub record ClaimsOrCannot (f : Frame) (name : ℕ) : Type 0 where
   pub either : (claims_address f || cannot_claim f) ≡ true
   pub name_is : name_in f ≡ name
 
--- the frame takes the address from the NAME: the unit itself tells something else, or another claims it
+-- the frame takes the address from the NAME: the unit itself reports something else, or another claims it
 abbrev pub TakesFrom : ℕ → ℕ → Frame → Type 0
 TakesFrom name address f = ClaimsOrCannot f name ⊎ ((other : ℕ) × Claims f other address)
 

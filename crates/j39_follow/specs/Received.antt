@@ -65,7 +65,7 @@ abbrev pub last_bytes : List Packet → ℕ → List ℕ
 last_bytes since k = unwrap_or (last_chunk k since) []
 
 -- behind these packets the receiver of a message of this size and PGN says that it has it whole. It was announced, and each of its packets
--- came since, though not in order (of one whose packets come in order the last one tells); of each packet the bytes count that came last
+-- came since, though not in order (of one whose packets come in order the last one reports); of each packet the bytes count that came last
 pub record IsReceived (h : List Packet) (size pgn : ℕ) (message : List ℕ) : Type 0 where
   pub since : List Packet
   pub announced : IsAnnounced h size pgn since

@@ -42,7 +42,7 @@ pub record IsUnitHeard (plan : Plan) (frames : List Frame) (u : ℕ) (unit : Uni
   pub name_of : is_name_of plan u unit name ≡ true
   pub heard : IsNameHeard frames name
 
--- a unit that prefers the address and of which nothing was told
+-- a unit that prefers the address and of which nothing was reported
 pub record MayHold (plan : Plan) (frames : List Frame) (address u : ℕ) (unit : UnitPlan) : Type 0 where
   pub prefers : unit.address ≡ address
   pub unheard : ¬ IsUnitHeard plan frames u unit
@@ -58,7 +58,7 @@ pub record IsLikeliest (plan : Plan) (frames : List Frame) (address u : ℕ) : T
       → v < u → unit.name < other.name
 
 -- who stands behind an address after these frames;
--- before anything is told of it the unit that would claim it first (a log may begin in mid-drive)
+-- before anything is reported of it the unit that would claim it first (a log may begin in mid-drive)
 abbrev pub IsWho : Plan → List Frame → ℕ → Who → Type 0
 IsWho plan frames address (Holder u) = (name : ℕ) × HoldsByFrames frames name address × (unit_of_name plan name ≡ Some u)
 IsWho plan frames address (Stranger name) = HoldsByFrames frames name address × (unit_of_name plan name ≡ None)

@@ -1,18 +1,17 @@
-//! What is written at a frame: what it tells, what it is, or a line of its own, and the message that it ends.
+//! What is written at a frame: what it reports, what it is, or a line of its own, and the message that it ends.
 ghost use Rattle.std.specs.Prelude.{◌≡◌, ◌++◌, ℕ, List, Some, IfOk, OnOk};
 ghost use Rattle.std.specs.Option.{option_to_list};
 ghost use Rattle.j39_log.specs.LogPairs.{Seen};
-ghost use Rattle.j39_log.specs.inside.Listening.{AreAllInRange};
+ghost use Rattle.j39_log.specs.PairListeners.{AreAllInRange};
 ghost use Rattle.j39_tp.specs.Packets.{InRange};
 ghost use Rattle.j39_follow.specs.Contests.{Timed};
-ghost use Rattle.j39_follow.specs.FollowReports.{IsMessageReport};
-ghost use Rattle.j39_follow.specs.FollowText.{IsInOrderReport, IsPacketReport};
+ghost use Rattle.j39_follow.specs.FollowText.{IsPacketReport};
 ghost use Rattle.j39_tp.specs.declared.packet.Packet.TheVariants.{EndAck as AnEnd};
 ghost use Rattle.j39_follow.specs.inside.Collecting.{receipt_in as receipt_of};
 ghost use Rattle.j39_follow.specs.inside.FrameWriting.{IsFrameWritten, IsItselfWritten, WritesFrame};
 ghost use Rattle.j39_follow.specs.inside.Hearing.{HaveHeardOneMore, HaveHeardSince};
 ghost use Rattle.j39_follow.specs.inside.Contesting.{ShowsAsker, ShowsParties};
-ghost use Rattle.j39_follow.specs.inside.Reporting.{front_of, arrived_message};
+ghost use Rattle.j39_follow.specs.inside.Reporting.{front_of};
 
 use crate::address::known_parties::Parties;
 use crate::bare_frame::write_bare;
@@ -28,41 +27,6 @@ use j39_log::{Groups, transport_packet};
 use j39_text::TextBuffer;
 use j39_tp::{Packet, Size, listener_completes_what_is_carried};
 use std::alloc::AllocError;
-
-// What is written at a transport packet that completes a message in order, or none, and what the message counts as.
-fn write_carried(
-    text: &mut TextBuffer,
-    pairs: &mut HeardPairs,
-    groups: &Groups<'_>,
-    parties: &Parties,
-    stamp: Stamp<'_>,
-    frame: &Frame,
-    packet: &Packet,
-) -> Result<Option<Sort>, AllocError>
-    requires { InRange packet.now }
-    ensures heard { OnOk result ((seen : List Seen) → HaveHeardSince groups.now pairs.old seen
-        → HaveHeardOneMore groups.now pairs.new seen (record { frame = frame.now; packet = Some packet.now })) }
-    ensures carried { IfOk result (λ ended. (seen : List Seen) (log : List Timed)
-        → ShowsParties groups.now parties.now log frame.now.ident
-        → HaveHeardSince groups.now pairs.old seen → AreAllInRange seen
-        → (piece : List ℕ)
-        × IsInOrderReport groups.now seen log (front_of stamp.entry) frame.now packet.now (option_to_list ended) piece
-        × (text.new ≡ text.old ++ piece)) }
-{
-    listener_completes_what_is_carried();
-    let ident = frame.ident;
-    let Some(pgn) = pairs.hear(ident, packet)? else {
-        return Ok(None);
-    };
-    let message = Arrival {
-        pgn: pgn.number(),
-        bytes: pairs.listeners.bytes(ident.sa, ident.ps),
-        ident,
-        framed: None,
-    };
-    let sort = write_message(text, groups, parties, stamp, message)?;
-    Ok(Some(sort))
-}
 
 // What is written where the receiver of a message says that it has it whole, and what the message counts as.
 fn write_received(
@@ -110,7 +74,8 @@ fn receipt_in(packet: &Packet) -> Option<(Size, Pgn)>
     }
 }
 
-// What is written at a transport packet, and what the message counts as that it ends.
+// What is written at a transport packet that completes a message in order, or by which a receiver says that it has one
+// whole, and what the message counts as.
 fn write_packet(
     text: &mut TextBuffer,
     pairs: &mut HeardPairs,
@@ -130,12 +95,24 @@ fn write_packet(
         × IsPacketReport groups.now seen log (front_of stamp.entry) frame.now (Some packet.now) (option_to_list ended) piece
         × (text.new ≡ text.old ++ piece)) }
 {
-    let Some(receipt) = receipt_in(packet) else {
-        return write_carried(text, pairs, groups, parties, stamp, frame, packet);
+    if let Some(receipt) = receipt_in(packet) {
+        return write_received(
+            text, pairs, groups, parties, stamp, frame, receipt.0, receipt.1,
+        );
+    }
+    listener_completes_what_is_carried();
+    let ident = frame.ident;
+    let Some(pgn) = pairs.hear(ident, packet)? else {
+        return Ok(None);
     };
-    write_received(
-        text, pairs, groups, parties, stamp, frame, receipt.0, receipt.1,
-    )
+    let message = Arrival {
+        pgn: pgn.number(),
+        bytes: pairs.listeners.bytes(ident.sa, ident.ps),
+        ident,
+        framed: None,
+    };
+    let sort = write_message(text, groups, parties, stamp, message)?;
+    Ok(Some(sort))
 }
 
 // What is written of a frame itself, and what it counts as.
@@ -190,7 +167,7 @@ fn write_frame(
 }
 
 /// What is written at a frame whose claim was noted, what it counts as, and what the message counts as that it ends;
-/// what it tells of requests is noted, where the plan has any.
+/// what it reports of requests is noted, where the plan has any.
 #[inline(always)]
 pub(crate) fn report_frame(
     all_frames: bool,

@@ -1,14 +1,14 @@
-//! Laws of what frames tell of addresses, and of the text of a log.
+//! Laws of what frames report of addresses, and of the text of a log.
 ghost use Rattle.j39_follow.specs.Alike.{FollowAndReadSeeAlike};
 ghost use Rattle.j39_follow.specs.ContestOrigins.{ContestsAreShort};
 ghost use Rattle.j39_follow.specs.ContestTimes.{ContestsLastAWait};
 ghost use Rattle.j39_follow.specs.CountedOnce.{NeedsAreMetOnce, RequestsAreAnsweredOnce};
 ghost use Rattle.j39_follow.specs.FollowText.{LogHasOneFollowText};
-ghost use Rattle.j39_follow.specs.GroupLines.{GroupsAreToldAlike};
+ghost use Rattle.j39_follow.specs.GroupLines.{GroupsAreReportedAlike};
 ghost use Rattle.j39_follow.specs.Holders.{HasOneHolder, HoldsOneAddress};
 ghost use Rattle.j39_follow.specs.ReceivedAsSent.{ReceivesItsMessage, ReceivesOneMessage};
 ghost use Rattle.j39_follow.specs.UnitsOfNames.{NamesAreOfTheirUnits};
-ghost use Rattle.j39_follow.specs.VehicleLogs.{TypesTellVehicles};
+ghost use Rattle.j39_follow.specs.VehicleLogs.{TypesStandForVehicles};
 
 /// After any frames an address has one holder or none, and a NAME holds one address at most.
 pub fn holders_are_one_to_one()
@@ -34,17 +34,17 @@ pub fn follow_and_read_see_alike()
 {}
 
 /// Of a plan without private groups, and a log in which no line ends in a direction and none is of another interface,
-/// the messages that `follow` tells of groups are told by `read` too, line after line, but for those whose packets came
-/// out of order and of which the receiver says that it has them whole; and all that `read` tells are, where no address
+/// the messages that `follow` reports of groups are reported by `read` too, line after line, but for those whose packets came
+/// out of order and of which the receiver says that it has them whole; and all that `read` reports are, where no address
 /// changes hands.
-pub fn groups_are_told_alike()
-    ensures { GroupsAreToldAlike }
+pub fn groups_are_reported_alike()
+    ensures { GroupsAreReportedAlike }
 {}
 
 /// Where no two units of a plan may be one, `follow` by this plan writes of the log of a vehicle what it writes by the
 /// plan of this vehicle, with the serial numbers of boxes behind their claims and Cannots.
-pub fn types_tell_vehicles()
-    ensures { TypesTellVehicles }
+pub fn types_stand_for_vehicles()
+    ensures { TypesStandForVehicles }
 {}
 
 /// Whoever `follow` takes to be behind an address stands there, or less than 250 ms ago another NAME claimed the
@@ -69,7 +69,7 @@ pub fn messages_count_once()
     ensures needs { NeedsAreMetOnce }
 {}
 
-/// Where a receiver says that it has a message whole, whose packets came out of order, one message at most is told
+/// Where a receiver says that it has a message whole, whose packets came out of order, one message at most is reported
 /// (`one`); and of a sender that keeps to the message that it announced last, this one, byte for byte (`as_sent`).
 pub fn received_messages_are_as_sent()
     ensures one { ReceivesOneMessage }

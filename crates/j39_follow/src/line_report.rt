@@ -2,10 +2,10 @@
 ghost use Rattle.std.specs.Prelude.{◌≡◌, ◌^◌, ◌++◌, ℕ, List, IfOk, OnOk};
 ghost use Rattle.std.specs.Option.{option_copied};
 ghost use Rattle.j39_log.specs.LineCounting.{AreWithin, IsLineMore};
-ghost use Rattle.j39_follow.specs.FollowText.{AreUnitLines, FollowedPast, FollowsFrame, FollowsShort};
-ghost use Rattle.j39_follow.specs.FollowText.{follow_counts_line, frames_seen};
+ghost use Rattle.j39_follow.specs.FollowText.{AreUnitLines, FollowedPast, FollowsFrame};
+ghost use Rattle.j39_follow.specs.FollowText.{behind_reports, follow_counts_line, frames_seen};
 ghost use Rattle.j39_follow.specs.LogLines.{interface_behind};
-ghost use Rattle.j39_follow.specs.inside.FollowedSoFar.{LeadsToPast, RecallsPast, behind_reports, interface_of};
+ghost use Rattle.j39_follow.specs.inside.FollowedSoFar.{LeadsToPast, RecallsPast, interface_of};
 
 use crate::flow::endings::write_endings;
 use crate::flow::needs::write_needs;
@@ -93,42 +93,6 @@ impl UnitReport {
         Ok(())
     }
 
-    // Reads the line of this number.
-    fn follow_line(
-        &mut self,
-        groups: &Groups<'_>,
-        number: u64,
-        line: &[u8],
-        counts: &mut LineCounts,
-        text: &mut TextBuffer,
-    ) -> Result<(), AllocError>
-        requires { AreWithin counts.old (2 ^ 62) }
-        ensures line { OnOk result ((past : FollowedPast) → RecallsPast groups.now self.old counts.old past
-            → number ≡ past.number
-            → LeadsToPast (FollowsShort groups.now self.old.all_frames past line.now) groups.now self.new counts.new
-            past.number text.old text.new) }
-        ensures counted { OnOk result (IsLineMore counts.old counts.new) }
-        ensures all_frames { self.new.all_frames ≡ self.old.all_frames }
-    {
-        let part = read_part(line);
-        let read = read_frame(part);
-        let named = interface(part, &read);
-        if is_elsewhere(kept_interface(&self.interface), part, &read, named) {
-            counts.elsewhere += 1;
-            return Ok(());
-        }
-        match read {
-            Ok(frame) => {
-                let time = time_text(line);
-                self.follow_frame(groups, Stamp { number, time }, named, &frame, counts, text)
-            }
-            Err(error) => {
-                counts.pass_over(error);
-                Ok(())
-            }
-        }
-    }
-
     // Writes what was sent, where each unit stands, how often each request was asked and answered, what met each need,
     // and how many lines there are of each sort.
     fn finish(
@@ -165,7 +129,23 @@ impl LogReport for UnitReport {
         counts: &mut LineCounts,
         text: &mut TextBuffer,
     ) -> Result<(), AllocError> {
-        self.follow_line(groups, number, line, counts, text)
+        let part = read_part(line);
+        let read = read_frame(part);
+        let named = interface(part, &read);
+        if is_elsewhere(kept_interface(&self.interface), part, &read, named) {
+            counts.elsewhere += 1;
+            return Ok(());
+        }
+        match read {
+            Ok(frame) => {
+                let time = time_text(line);
+                self.follow_frame(groups, Stamp { number, time }, named, &frame, counts, text)
+            }
+            Err(error) => {
+                counts.pass_over(error);
+                Ok(())
+            }
+        }
     }
 
     fn write_end(

@@ -20,6 +20,7 @@ use std::alloc::Global;
 /// word before the frame is its interface: lines of another interface than the log's first are counted and passed over.
 /// Of a plan with a group that has no layout, or whose number is no group's, the first such group is named, and the log
 /// isn't read.
+#[inline(never)]
 pub fn follow_text<S: Source, W: Sink>(
     alloc: Global,
     plan: &Plan,

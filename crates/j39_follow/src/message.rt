@@ -1,7 +1,7 @@
 //! A message of a log, and what it counts as.
 ghost use Rattle.std.specs.Prelude.{◌≡◌};
 ghost use Rattle.j39_follow.specs.FollowReports.{ended_ident as ident_of_ended, ended_message as message_ended, in_frame as message_in_frame};
-ghost use Rattle.j39_follow.specs.FollowReports.{tells_receipt as is_receipt};
+ghost use Rattle.j39_follow.specs.FollowReports.{reports_receipt as is_receipt};
 ghost use Rattle.j39_follow.specs.Received.{turned as turned_ident};
 ghost use Rattle.j39_follow.specs.inside.Reporting.{arrived_message};
 
@@ -48,7 +48,7 @@ pub(crate) fn turned(ident: Ident) -> Ident
 const RECEIPT: u8 = 19;
 
 // Whether a receiver says by a frame that it has a message whole.
-fn tells_receipt(frame: &Frame) -> bool
+fn reports_receipt(frame: &Frame) -> bool
     ensures { result ≡ is_receipt frame.now }
 {
     frame.ident.pgn() == CONNECTION_MANAGEMENT && frame.payload.as_slice().first() == Some(&RECEIPT)
@@ -58,7 +58,7 @@ fn tells_receipt(frame: &Frame) -> bool
 fn ended_ident(frame: &Frame) -> Ident
     ensures { result ≡ ident_of_ended frame.now }
 {
-    if tells_receipt(frame) {
+    if reports_receipt(frame) {
         turned(frame.ident)
     } else {
         frame.ident

@@ -1,4 +1,4 @@
-//! What is written first at a frame: what it tells of addresses, or what it asks for.
+//! What is written first at a frame: what it reports of addresses, or what it asks for.
 ghost use Rattle.std.specs.Prelude.{◌≡◌, ◌++◌, ℕ, List, Option, length, OnOk};
 ghost use Rattle.j39_follow.specs.Contests.{Timed};
 ghost use Rattle.j39_follow.specs.FollowReports.{IsAsked, IsNotice, IsWay, cannot_text, claim_text};
@@ -76,7 +76,7 @@ fn write_request(
     text.end_line()
 }
 
-/// Writes what a frame tells of addresses, or what it asks for.
+/// Writes what a frame reports of addresses, or what it asks for.
 pub(crate) fn write_notice(
     text: &mut TextBuffer,
     plan: &Plan,

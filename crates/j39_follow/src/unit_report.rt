@@ -1,17 +1,16 @@
 //! What the follow command keeps of a log, and what it reports of a frame.
-ghost use Rattle.std.specs.Prelude.{◌≡◌, ◌+◌, ◌||◌, true, false, ◌^◌, ◌<◌, ◌≤◌, length, IfOk, OnOk};
-ghost use Rattle.j39_log.specs.inside.Listening.{AreAllInRange};
+ghost use Rattle.std.specs.Prelude.{◌≡◌, ◌+◌, ◌||◌, true, ◌^◌, ◌<◌, ◌≤◌, length, IfOk, OnOk};
+ghost use Rattle.j39_log.specs.PairListeners.{AreAllInRange};
 ghost use Rattle.j39_log.specs.LineCounting.{no_lines};
 ghost use Rattle.j39_id.specs.FrameMeaning.{cannot_claim, claims_address};
 ghost use Rattle.j39_follow.specs.Contests.{frames_of};
 ghost use Rattle.j39_follow.specs.FollowText.{FollowedPast, lines_with, nothing_followed};
 ghost use Rattle.j39_follow.specs.LogLines.{moment_of};
-ghost use Rattle.j39_follow.specs.LoggedRequests.{acknowledges};
 ghost use Rattle.j39_follow.specs.inside.Contesting.{AreContests};
 ghost use Rattle.j39_follow.specs.inside.Exchanging.{AreExchanges};
 ghost use Rattle.j39_follow.specs.inside.FrameWriting.{WritesFrame};
 ghost use Rattle.j39_follow.specs.inside.Hearing.{HaveHeardSince};
-ghost use Rattle.j39_follow.specs.inside.FollowedSoFar.{IsCalm, IsFollowed, IsKnownSoFar, IsReported, IsSameButWritten};
+ghost use Rattle.j39_follow.specs.inside.FollowedSoFar.{IsFollowed, IsKnownSoFar, IsReported, IsSameButWritten};
 ghost use Rattle.j39_follow.specs.inside.FollowedSoFar.{IsSameLog, RecallsPast, Remembers};
 ghost use Rattle.j39_follow.specs.inside.Recounting.{Knows};
 ghost use Rattle.j39_follow.specs.inside.Reporting.{front_of};
@@ -41,7 +40,7 @@ pub(crate) struct UnitReport {
     pub alloc: Global,
     // Whether frames of which nothing else is written have a line of their own.
     pub all_frames: bool,
-    // That of the first line that names one.
+    // The interface of the first line that names one: the log's.
     pub interface: Option<Vec<u8>>,
     // 8 KB, so it isn't kept on the stack.
     pub tally: Box<Tally>,
@@ -102,57 +101,6 @@ impl UnitReport {
         )
     }
 
-    // Writes a frame by who stands behind its addresses, none of which is contested.
-    #[inline(always)]
-    fn write_plain(
-        &mut self,
-        groups: &Groups<'_>,
-        stamp: Stamp<'_>,
-        frame: &Frame,
-        text: &mut TextBuffer,
-    ) -> Result<(Sort, Option<Sort>), AllocError>
-        requires { acknowledges groups.now frame.now ≡ false }
-        ensures stays { IsSameButWritten self.old self.new }
-        ensures written { IfOk result (λ sorts. WritesFrame (IsCalm groups.now self.old.directory frame.now.ident)
-            groups.now self.old.all_frames (front_of stamp.entry) frame.now
-            sorts self.old.pairs self.new.pairs self.old.exchanges self.new.exchanges text.old text.new) }
-    {
-        report_frame(
-            self.all_frames,
-            text,
-            &mut self.pairs,
-            &mut self.exchanges,
-            groups,
-            self.directory.parties(),
-            stamp,
-            frame,
-        )
-    }
-
-    // Writes a frame whose claim was noted.
-    fn write(
-        &mut self,
-        groups: &Groups<'_>,
-        stamp: Stamp<'_>,
-        frame: &Frame,
-        text: &mut TextBuffer,
-    ) -> Result<(Sort, Option<Sort>), AllocError>
-        ensures stays { IsSameButWritten self.old self.new }
-        ensures written { IfOk result (λ sorts. WritesFrame
-            (IsKnownSoFar groups.now self.old.directory self.old.contests (moment_of stamp.entry.time.now)) groups.now
-            self.old.all_frames (front_of stamp.entry) frame.now
-            sorts self.old.pairs self.new.pairs self.old.exchanges self.new.exchanges text.old text.new) }
-    {
-        if acknowledges(groups.plan(), frame) {
-            return self.write_taken(groups, stamp, frame, text);
-        }
-        if self.contests.are_calm(frame.ident, stamp.time) {
-            self.write_plain(groups, stamp, frame, text)
-        } else {
-            self.write_taken(groups, stamp, frame, text)
-        }
-    }
-
     // Writes and counts a frame whose claim was noted.
     fn report(
         &mut self,
@@ -173,12 +121,26 @@ impl UnitReport {
             → length past.events + 3 < 2 ^ 64
             → IsReported groups.now self.old self.new past stamp.entry frame.now text.old text.new) }
     {
-        let (sort, ended) = self.write(groups, stamp, frame, text)?;
+        if acknowledges(groups.plan(), frame) || !self.contests.are_calm(frame.ident, stamp.time) {
+            let (sort, ended) = self.write_taken(groups, stamp, frame, text)?;
+            self.tally.count_frame(groups, sort, ended);
+            return Ok(());
+        }
+        let (sort, ended) = report_frame(
+            self.all_frames,
+            text,
+            &mut self.pairs,
+            &mut self.exchanges,
+            groups,
+            self.directory.parties(),
+            stamp,
+            frame,
+        )?;
         self.tally.count_frame(groups, sort, ended);
         Ok(())
     }
 
-    // Reports a frame that tells of an address: it may begin and end contests, and the pairs of which an address
+    // Reports a frame that reports of an address: it may begin and end contests, and the pairs of which an address
     // changes hands begin anew.
     fn follow_claim(
         &mut self,

@@ -6,7 +6,7 @@ use Rattle.j39_load.specs.declared.waits.delay.Delay.{Delay}
 use Rattle.j39_load.specs.declared.waits.delay.Delay.TheVariants.{Beyond, Late, Long, Whole, Within}
 use Rattle.j39_load.specs.declared.waits.whole_time.WholeTime.{WholeTime}
 use Rattle.j39_part_laws.specs.PartDelays.{IsNoLater, IsWholeNoLater}
-use Rattle.j39_line_bounds.specs.LineTimes.{badness_known, delay_badness, flow_badness, is_less_bad, of_degree, time_told}
+use Rattle.j39_line_bounds.specs.LineTimes.{badness_known, delay_badness, flow_badness, is_less_bad, of_degree, time_reported}
 use Rattle.j39_line_bounds.specs.declared.times.FlowTime.TheVariants as flow
 
 -- ---- the order
@@ -79,8 +79,8 @@ known_no_worse a (Some n) less =
     not_less_bad 1 n (badness_known a).degree (badness_known a).time
     (subst (λ o. IsAsBad 1 n (badness_known o).degree (badness_known o).time) (sym is_m) (inr (refl, fewer)))
 
-told_known : (v w : WholeTime) → IsWholeNoLater v w → (n : ℕ) → time_told w ≡ Some n → (m : ℕ) × (time_told v ≡ Some m) × (m ≤ n)
-told_known v w no_later n told = go (is_some w.limit) refl told
+reported_known : (v w : WholeTime) → IsWholeNoLater v w → (n : ℕ) → time_reported w ≡ Some n → (m : ℕ) × (time_reported v ≡ Some m) × (m ≤ n)
+reported_known v w no_later n reported = go (is_some w.limit) refl reported
   where
     each : (b : Bool) → w.each ≡ b → (if b then w.bits else None) ≡ Some n → (m : ℕ) × (time_of_each v ≡ Some m) × (m ≤ n)
     each true is_b known =
@@ -91,7 +91,7 @@ told_known v w no_later n told = go (is_some w.limit) refl told
     limit : is_some v.limit ≡ is_some w.limit
     limit = ap is_some no_later.limit
 
-    go : (b : Bool) → is_some w.limit ≡ b → (if b then time_of_each w else w.bits) ≡ Some n → (m : ℕ) × (time_told v ≡ Some m) × (m ≤ n)
+    go : (b : Bool) → is_some w.limit ≡ b → (if b then time_of_each w else w.bits) ≡ Some n → (m : ℕ) × (time_reported v ≡ Some m) × (m ≤ n)
     go true is_b known =
         let (m, is_m, less) = each w.each refl known in
         (m, ap (λ b. if b then time_of_each v else v.bits) (limit ∙ is_b) ∙ is_m, less)
@@ -106,16 +106,16 @@ late_worst Late = inr (refl, omega arith)
 late_worst (Within n) = inl (omega arith)
 late_worst (Beyond n) = inl (omega arith)
 late_worst (Long n) = inl (omega arith)
-late_worst (Whole w) = go (time_told w)
+late_worst (Whole w) = go (time_reported w)
   where
     go : (o : Option ℕ) → IsAsBad 3 0 (badness_known o).degree (badness_known o).time
     go None = inr (refl, omega arith)
     go (Some n) = inl (omega arith)
 
 abbrev IsFlowAsBad : ℕ → ℕ → Option Delay → Type 0
-IsFlowAsBad x m o = IsAsBad x m (flow_badness (flow.Told o)).degree (flow_badness (flow.Told o)).time
+IsFlowAsBad x m o = IsAsBad x m (flow_badness (flow.Reported o)).degree (flow_badness (flow.Reported o)).time
 
-as_flow_bad : (d e : Option Delay) → IsNoLater d e → IsFlowAsBad (flow_badness (flow.Told e)).degree (flow_badness (flow.Told e)).time d
+as_flow_bad : (d e : Option Delay) → IsNoLater d e → IsFlowAsBad (flow_badness (flow.Reported e)).degree (flow_badness (flow.Reported e)).time d
 as_flow_bad d None is = subst (IsFlowAsBad 1 0) (sym is) (inr (refl, omega arith))
 as_flow_bad d (Some Late) (x, is) = subst (IsFlowAsBad 3 0) (sym is) (late_worst x)
 as_flow_bad d (Some (Within b)) (a, is, less) = subst (IsFlowAsBad 1 b) (sym is) (inr (refl, less))
@@ -123,11 +123,11 @@ as_flow_bad d (Some (Beyond b)) (a, inl is, less) = subst (IsFlowAsBad 2 b) (sym
 as_flow_bad d (Some (Beyond b)) (a, inr is, less) = subst (IsFlowAsBad 2 b) (sym is) (inr (refl, less))
 as_flow_bad d (Some (Long n)) is = subst (IsFlowAsBad 1 n) (sym is) (inr (refl, omega arith))
 as_flow_bad d (Some (Whole w)) (v, is, no_later) =
-    subst (IsFlowAsBad (badness_known (time_told w)).degree (badness_known (time_told w)).time) (sym is)
-    (as_bad (badness_known (time_told w)).degree (badness_known (time_told w)).time (badness_known (time_told v)).degree (badness_known (time_told v)).time
-    (known_no_worse (time_told v) (time_told w) (told_known v w no_later)))
+    subst (IsFlowAsBad (badness_known (time_reported w)).degree (badness_known (time_reported w)).time) (sym is)
+    (as_bad (badness_known (time_reported w)).degree (badness_known (time_reported w)).time (badness_known (time_reported v)).degree (badness_known (time_reported v)).time
+    (known_no_worse (time_reported v) (time_reported w) (reported_known v w no_later)))
 
-pub flow_no_worse : (d e : Option Delay) → IsNoLater d e → is_less_bad (flow_badness (flow.Told e)) (flow_badness (flow.Told d)) ≡ false
+pub flow_no_worse : (d e : Option Delay) → IsNoLater d e → is_less_bad (flow_badness (flow.Reported e)) (flow_badness (flow.Reported d)) ≡ false
 flow_no_worse d e is =
-    not_less_bad (flow_badness (flow.Told e)).degree (flow_badness (flow.Told e)).time (flow_badness (flow.Told d)).degree (flow_badness (flow.Told d)).time
+    not_less_bad (flow_badness (flow.Reported e)).degree (flow_badness (flow.Reported e)).time (flow_badness (flow.Reported d)).degree (flow_badness (flow.Reported d)).time
     (as_flow_bad d e is)

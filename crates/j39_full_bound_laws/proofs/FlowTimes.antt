@@ -30,8 +30,8 @@ use Rattle.j39_full_variant_laws.proofs.Origins.{one_place_each}
 use Rattle.j39_full_bound_laws.proofs.Badness.{flow_no_worse, nothing_less}
 use Rattle.j39_full_bound_laws.proofs.FilePlaces.{found_at, is_found_at, made_at}
 
-module _ (line : ProductLine) (v w : List ℕ) (covered : IsCoveredBy line v w) (times told : LineTimes) (are : AreVariantTimes line v times)
-    (also : AreVariantTimes line w told) (good : HasGoodNumbers also.plan) where
+module _ (line : ProductLine) (v w : List ℕ) (covered : IsCoveredBy line v w) (times reported : LineTimes) (are : AreVariantTimes line v times)
+    (also : AreVariantTimes line w reported) (good : HasGoodNumbers also.plan) where
   abbrev part : Plan
   part = are.plan
 
@@ -77,13 +77,13 @@ module _ (line : ProductLine) (v w : List ℕ) (covered : IsCoveredBy line v w) 
 
   -- ---- the load
 
-  pub load_no_more : times.load ≤ told.load
+  pub load_no_more : times.load ≤ reported.load
   load_no_more =
       let more = (ask_no_more p part whole is_part good here_timing also.stays are.stays asks_there.standing asks_here.standing (unplanned_of whole bus.timing)
       (few_unplanned whole bus.timing) (unplanned_there p part whole is_part bus.timing)).load in
       let here = are.load ∙ ap (λ t. total_load t (asked_of t part are.stays)) bus.here_is in
       let there = also.load ∙ ap (λ t. total_load t (asked_of t whole also.stays)) bus.there_is in
-      subst (λ n. n ≤ told.load) (sym here) (subst (λ n. total_load here_timing (asked_of here_timing part are.stays) ≤ n) (sym there) more)
+      subst (λ n. n ≤ reported.load) (sym here) (subst (λ n. total_load here_timing (asked_of here_timing part are.stays) ≤ n) (sym there) more)
 
   -- ---- flows
 
@@ -102,9 +102,9 @@ module _ (line : ProductLine) (v w : List ℕ) (covered : IsCoveredBy line v w) 
   there_places : also.there.flows.items ≡ picked there_flags (range_with_len 0 n)
   there_places = also.is_there.has_flows ∙ flows_flagged line v w covered part are.is_plan are.there also.there are.is_there also.is_there w
 
-  told_here : (f i : ℕ) → place_in_variant are.there.flows.items f ≡ Some i
+  reported_here : (f i : ℕ) → place_in_variant are.there.flows.items f ≡ Some i
       → is_less_bad (flow_badness (flow_time also.there.flows.items also.delays f)) (flow_badness (flow_time are.there.flows.items are.delays f)) ≡ false
-  told_here f i is_i =
+  reported_here f i is_i =
       let place = ap (λ l. slice_get l i) (sym here_places) ∙ found_at are.there.flows.items i f is_i in
       let (y, made) = made_at (moved_flow (unit_places line v) (group_places line v)) (flags v line.lists.flows.items) line.plan.flows.items (range_with_len 0 n)
       (sym (length-range 0 n)) i f place in
@@ -119,16 +119,16 @@ module _ (line : ProductLine) (v w : List ℕ) (covered : IsCoveredBy line v w) 
       let there_at : slice_get (picked there_flags (range_with_len 0 n)) (p.flow i) ≡ Some f = stands.value_is ∙ ap Some (sym stands.meets) in
       let (j, is_j, at_j) = is_found_at also.there.flows.items (p.flow i) f (ap (λ l. slice_get l (p.flow i)) there_places ∙ there_at) in
       let same : j ≡ p.flow i = one_place_each there_flags 0 n j (p.flow i) f (ap (λ l. slice_get l j) (sym there_places) ∙ at_j) there_at in
-      let time_here : flow_time are.there.flows.items are.delays f ≡ flow.Told d =
-      ap (λ o. option_map_or (λ k. flow.Told (slice_index_or are.delays k None)) o flow.NoVariant) is_i
-      ∙ ap flow.Told (get_or_from_slice_get are.delays i d None at_d) in
-      let time_there : flow_time also.there.flows.items also.delays f ≡ flow.Told e =
-      ap (λ o. option_map_or (λ k. flow.Told (slice_index_or also.delays k None)) o flow.NoVariant) (is_j ∙ ap Some same)
-      ∙ ap flow.Told (get_or_from_slice_get also.delays (p.flow i) e None at_e) in
+      let time_here : flow_time are.there.flows.items are.delays f ≡ flow.Reported d =
+      ap (λ o. option_map_or (λ k. flow.Reported (slice_index_or are.delays k None)) o flow.NoVariant) is_i
+      ∙ ap flow.Reported (get_or_from_slice_get are.delays i d None at_d) in
+      let time_there : flow_time also.there.flows.items also.delays f ≡ flow.Reported e =
+      ap (λ o. option_map_or (λ k. flow.Reported (slice_index_or also.delays k None)) o flow.NoVariant) (is_j ∙ ap Some same)
+      ∙ ap flow.Reported (get_or_from_slice_get also.delays (p.flow i) e None at_e) in
       ap (λ t. is_less_bad (flow_badness t) (flow_badness (flow_time are.there.flows.items are.delays f))) time_there
-      ∙ ap (λ t. is_less_bad (flow_badness (flow.Told e)) (flow_badness t)) time_here ∙ flow_no_worse d e no_later
+      ∙ ap (λ t. is_less_bad (flow_badness (flow.Reported e)) (flow_badness t)) time_here ∙ flow_no_worse d e no_later
 
-  pub flow_as_bad : (f : ℕ) → f < n → is_less_bad (flow_badness (time_of_flow told f)) (flow_badness (time_of_flow times f)) ≡ false
+  pub flow_as_bad : (f : ℕ) → f < n → is_less_bad (flow_badness (time_of_flow reported f)) (flow_badness (time_of_flow times f)) ≡ false
   flow_as_bad f below =
       ap (λ t. is_less_bad (flow_badness t) (flow_badness (time_of_flow times f))) (also.flows f below)
       ∙ ap (λ t. is_less_bad (flow_badness (flow_time also.there.flows.items also.delays f)) (flow_badness t)) (are.flows f below)
@@ -138,6 +138,6 @@ module _ (line : ProductLine) (v w : List ℕ) (covered : IsCoveredBy line v w) 
           → is_less_bad (flow_badness (flow_time also.there.flows.items also.delays f)) (flow_badness (flow_time are.there.flows.items are.delays f)) ≡ false
       go None is_o =
           ap (λ o. is_less_bad (flow_badness (flow_time also.there.flows.items also.delays f))
-          (flow_badness (option_map_or (λ k. flow.Told (slice_index_or are.delays k None)) o flow.NoVariant))) is_o
+          (flow_badness (option_map_or (λ k. flow.Reported (slice_index_or are.delays k None)) o flow.NoVariant))) is_o
           ∙ nothing_less (flow_badness (flow_time also.there.flows.items also.delays f)).degree (flow_badness (flow_time also.there.flows.items also.delays f)).time
-      go (Some i) is_o = told_here f i is_o
+      go (Some i) is_o = reported_here f i is_o

@@ -1,4 +1,4 @@
--- What is told of a need is no worse in a variant than in one that is full for it and covers it.
+-- What is reported of a need is no worse in a variant than in one that is full for it and covers it.
 use Rattle.std.proofs.Common.{◌≡◌, ℕ, ◌<◌, ◌≤◌, Bool, true, false, not, ◌&&◌, ◌==◌, if◌then◌else◌, List, length, Option, Some, None, refl, sym, ◌∙◌, ap, inl, inr}
 use Rattle.std.specs.List.{slice_get}
 use Rattle.std.specs.Option.{option_and_then, option_map_or}
@@ -17,7 +17,7 @@ use Rattle.j39_line_findings.specs.There.{is_need_there, is_receiver_there}
 use Rattle.j39_part_laws.specs.PartLoads.{HasGoodNumbers}
 use Rattle.j39_part_laws.proofs.LoadFindings.{unplanned_there}
 use Rattle.j39_line_part_laws.specs.Covering.{IsCoveredBy, IsCoveredFor}
-use Rattle.j39_line_part_laws.proofs.Boxes.{any_at}
+use Rattle.j39_line_findings.proofs.Tests.{any_at}
 use Rattle.j39_line_bounds.specs.LineTimes.{age_here, AreVariantTimes, badness_known, is_less_bad, need_badness, need_time, of_degree, place_in_variant, time_of_need, youngest_here}
 use Rattle.j39_line_bounds.specs.declared.times.LineTimes.{LineTimes}
 use Rattle.j39_line_bounds.specs.declared.times.NeedTime.{NeedTime}
@@ -64,7 +64,7 @@ module _ (line : ProductLine) (v : List ℕ) (times : LineTimes) (are : AreVaria
           let there = passes_test (is_need_there line v) _ k d stands in
           absurd (true≢false (sym (and_parts (is_need_asked_for line v d) (is_source_there line v d) there).1 ∙ none))
 
-  -- or its age is told by the need in the plan
+  -- or its age is reported by the need in the plan
   pub with_source : is_need_asked_for line v d ≡ true → (x : NeedPlan) (its : IsNeedInPlan line v are.there are.is_there are.plan are.is_plan d x)
       → of_need ≡ age_of_need its.value
   with_source asked x its =
@@ -97,7 +97,7 @@ source_of line v d x at_d f its =
 
 module _ (line : ProductLine) (v w : List ℕ) (is_v : IsVariant line.choices.items v) (is_w : IsVariant line.choices.items w) (d : ℕ)
     (covered : IsCoveredFor line (Some d) v w) (asked_there : is_need_asked_for line w d ≡ true) (x : NeedPlan) (at_d : slice_get line.plan.needs.items d ≡ Some x)
-    (times told : LineTimes) (are : AreVariantTimes line v times) (also : AreVariantTimes line w told) (good : HasGoodNumbers also.plan)
+    (times reported : LineTimes) (are : AreVariantTimes line v times) (also : AreVariantTimes line w reported) (good : HasGoodNumbers also.plan)
     (asked : is_need_asked_for line v d ≡ true) where
   abbrev by : IsCoveredBy line v w
   by = covered_by line d v w covered
@@ -123,10 +123,10 @@ module _ (line : ProductLine) (v w : List ℕ) (is_v : IsVariant line.choices.it
   -- what the need is for isn't there in the one: no flow meets it in the other
   without : is_source_there line v d ≡ false → there ≡ need.Unmet
   without none = elim (cases_Bool (is_source_there line w d)) [
-    | inr none_there ↦ without_source line w told also d asked_there none_there
+    | inr none_there ↦ without_source line w reported also d asked_there none_there
     | inl source ↦
         let its = need_in_plan line w also.there also.is_there also.plan also.is_plan d x at_d asked_there source in
-        with_source line w told also d asked_there x its ∙ go its.value its.made (is_unmet also.plan.requests.items also.plan.flows.items its.value) refl
+        with_source line w reported also d asked_there x its ∙ go its.value its.made (is_unmet also.plan.requests.items also.plan.flows.items its.value) refl
   ]
     where
       go : (f : NeedPlan) → move_need line w x ≡ Some f → (b : Bool) → is_unmet also.plan.requests.items also.plan.flows.items f ≡ b
@@ -169,11 +169,11 @@ module _ (line : ProductLine) (v w : List ℕ) (is_v : IsVariant line.choices.it
     its_age : (n : ℕ) → least_age also.timing also.plan.requests.items also.plan.flows.items also.delays f ≡ Some n
         → (m : ℕ) × (least_age are.timing are.plan.requests.items are.plan.flows.items are.delays e ≡ Some m) × (m ≤ n)
     its_age n is_n =
-        let known = bus line v w by times told are also good in
-        let part_of = is_part line v w by times told are also good in
-        let (m, is_m, less) = younger (p line v w by times told are also good) are.plan also.plan part_of good _ (unplanned_of also.plan known.timing)
-        (few_unplanned also.plan known.timing) (unplanned_there (p line v w by times told are also good) are.plan also.plan part_of known.timing) are.stays also.stays
-        are.delays also.delays (asks_here line v w by times told are also good) (asks_there line v w by times told are also good) e f
+        let known = bus line v w by times reported are also good in
+        let part_of = is_part line v w by times reported are also good in
+        let (m, is_m, less) = younger (p line v w by times reported are also good) are.plan also.plan part_of good _ (unplanned_of also.plan known.timing)
+        (few_unplanned also.plan known.timing) (unplanned_there (p line v w by times reported are also good) are.plan also.plan part_of known.timing) are.stays also.stays
+        are.delays also.delays (asks_here line v w by times reported are also good) (asks_there line v w by times reported are also good) e f
         (come line v w is_v is_w d covered asked_there are.there also.there are.is_there also.is_there are.plan also.plan are.is_plan also.is_plan x at_d e f made made_there)
         n (ap (λ t. least_age t also.plan.requests.items also.plan.flows.items also.delays f) (sym known.there_is) ∙ is_n) in
         (m, ap (λ t. least_age t are.plan.requests.items are.plan.flows.items are.delays e) known.here_is ∙ is_m, less)
@@ -203,13 +203,13 @@ module _ (line : ProductLine) (v w : List ℕ) (is_v : IsVariant line.choices.it
     | inl source ↦
         let its = need_in_plan line v are.there are.is_there are.plan are.is_plan d x at_d asked source in
         let those = need_in_plan line w also.there also.is_there also.plan also.is_plan d x at_d asked_there (source_too line v w by d source) in
-        ap (λ t. is_less_bad (need_badness t) (need_badness here)) (with_source line w told also d asked_there x those)
+        ap (λ t. is_less_bad (need_badness t) (need_badness here)) (with_source line w reported also d asked_there x those)
         ∙ ap (λ t. is_less_bad (need_badness (age_here also.there.flows.items also.plan also.timing also.delays those.value)) (need_badness t))
         (with_source line v times are d asked x its)
         ∙ age_no_worse its.value those.value its.made those.made (is_unmet are.plan.requests.items are.plan.flows.items its.value) refl
   ]
 
-  pub need_as_bad : d < length line.plan.needs.items → is_less_bad (need_badness (time_of_need told d)) (need_badness (time_of_need times d)) ≡ false
+  pub need_as_bad : d < length line.plan.needs.items → is_less_bad (need_badness (time_of_need reported d)) (need_badness (time_of_need times d)) ≡ false
   need_as_bad below =
       ap (λ t. is_less_bad (need_badness t) (need_badness (time_of_need times d))) (also.needs d below)
       ∙ ap (λ t. is_less_bad (need_badness there) (need_badness t)) (are.needs d below) ∙ no_worse_here

@@ -17,7 +17,7 @@ use Rattle.j39_part_laws.proofs.Staying.{stay_there}
 use Rattle.j39_line_part_laws.specs.Covering.{IsCoveredBy}
 use Rattle.j39_line_part_laws.proofs.Parts.{at, is_part_at, unit_place, units_there}
 use Rattle.j39_full_variant_laws.specs.FoundOfFull.{IsPossibleFull}
-use Rattle.j39_full_bound_laws.specs.StayingOfFull.{FullVariantsTellOfUnits, FullVariantsTellWhoStays, HavePlans}
+use Rattle.j39_full_bound_laws.specs.StayingOfFull.{FullVariantsReportOfUnits, FullVariantsReportWhoStays, HavePlans}
 use Rattle.j39_full_variant_laws.proofs.FoundOfFull.{full_cover}
 use Rattle.j39_full_variant_laws.proofs.WithoutNevers.{plan_back, plan_to, possible_to}
 
@@ -60,8 +60,8 @@ module _ (line : ProductLine) (plans : HavePlans line) where
         standing_too u unit at_u (slice_index_or standings u NoVariant) (are.each u below);
   }
 
-pub tell_who_stays : (line : ProductLine) → FullVariantsTellWhoStays line
-tell_who_stays line plans standings are = standings_too line plans standings are
+pub report_who_stays : (line : ProductLine) → FullVariantsReportWhoStays line
+report_who_stays line plans standings are = standings_too line plans standings are
 
 -- ---- with or without what isn't built
 
@@ -71,8 +71,8 @@ stay_to line nevers v u stays plan place is = stays plan place (plan_back line n
 stay_back : (line : ProductLine) (nevers : LineNevers) (v : List ℕ) (u : ℕ) → StaysIn (line_with nevers line) v u → StaysIn line v u
 stay_back line nevers v u stays plan place is = stays plan place (plan_to line nevers v plan is)
 
-pub tell_of_units : (line : ProductLine) (nevers : LineNevers) → FullVariantsTellOfUnits line nevers
-tell_of_units line nevers u below =
+pub report_of_units : (line : ProductLine) (nevers : LineNevers) → FullVariantsReportOfUnits line nevers
+report_of_units line nevers u below =
     let bare = line_with nevers line in
     let (unit, at_u) = value_at line.plan.units.items u below in
     record {

@@ -36,7 +36,7 @@ times_to line nevers v times are = record {
 
 pub flows_bound_all : (line : ProductLine) (nevers : LineNevers) → FlowsOfFullBoundAll line nevers
 unfolding times_to
-flows_bound_all line nevers told each v possible times are =
+flows_bound_all line nevers reported each v possible times are =
     let bare = line_with nevers line in
     let (w, full, covered) = full_cover bare v (possible_to line nevers v possible) in
     let its = each w full in
@@ -46,7 +46,7 @@ flows_bound_all line nevers told each v possible times are =
     let more = its.no_worse.load in
     record {
       flows = λ f below.
-          no_worse_through (flow_badness (time_of_flow told f)).degree (flow_badness (time_of_flow told f)).time
+          no_worse_through (flow_badness (time_of_flow reported f)).degree (flow_badness (time_of_flow reported f)).time
           (flow_badness (time_of_flow its.times f)).degree (flow_badness (time_of_flow its.times f)).time
           (flow_badness (time_of_flow times f)).degree (flow_badness (time_of_flow times f)).time (its.no_worse.flows f below)
           (flow_as_bad bare v w covered times its.times here there its.good f below);
@@ -55,17 +55,17 @@ flows_bound_all line nevers told each v possible times are =
 
 pub needs_bound_all : (line : ProductLine) (nevers : LineNevers) → NeedsOfFullBoundAll line nevers
 unfolding times_to
-needs_bound_all line nevers told d below each v possible times are = elim (cases_Bool (is_need_asked_for line v d)) [
+needs_bound_all line nevers reported d below each v possible times are = elim (cases_Bool (is_need_asked_for line v d)) [
   | inr none ↦
-      ap (λ t. is_less_bad (need_badness (time_of_need told d)) (need_badness t)) (are.needs d below ∙ not_asked line v times are d none)
-      ∙ nothing_less (need_badness (time_of_need told d)).degree (need_badness (time_of_need told d)).time
+      ap (λ t. is_less_bad (need_badness (time_of_need reported d)) (need_badness t)) (are.needs d below ∙ not_asked line v times are d none)
+      ∙ nothing_less (need_badness (time_of_need reported d)).degree (need_badness (time_of_need reported d)).time
   | inl asked ↦
       let bare = line_with nevers line in
       let also = possible_to line nevers v possible in
       let full = has_full_for_need bare v also d asked in
       let its = each full.variant full.full in
       let (x, at_d) = value_at line.plan.needs.items d below in
-      no_worse_through (need_badness (time_of_need told d)).degree (need_badness (time_of_need told d)).time
+      no_worse_through (need_badness (time_of_need reported d)).degree (need_badness (time_of_need reported d)).time
       (need_badness (time_of_need its.times d)).degree (need_badness (time_of_need its.times d)).time
       (need_badness (time_of_need times d)).degree (need_badness (time_of_need times d)).time its.no_worse
       (need_as_bad bare v full.variant also.is_variant full.full.possible.is_variant d full.covered full.full.asked x at_d times its.times

@@ -14,9 +14,9 @@ use Rattle.j39_full_variant_laws.specs.FoundOfFull.{IsPossibleFull}
 abbrev pub HavePlans : ProductLine → Type 0
 HavePlans line = (w : List ℕ) → IsPossibleFull line w → (plan : Plan) × IsVariantPlan line w plan
 
--- what is told of each unit in the possible full variants is what is told of it in all possible ones
-abbrev pub FullVariantsTellWhoStays : ProductLine → Type 0
-FullVariantsTellWhoStays line = HavePlans line → (standings : List LineStanding) → AreStandingsAmong (IsPossibleFull line) line standings
+-- what is reported of each unit in the possible full variants is what is reported of it in all possible ones
+abbrev pub FullVariantsReportWhoStays : ProductLine → Type 0
+FullVariantsReportWhoStays line = HavePlans line → (standings : List LineStanding) → AreStandingsAmong (IsPossibleFull line) line standings
     → AreLineStandings line standings
 
 -- ---- with or without what isn't built
@@ -28,9 +28,9 @@ pub record StaysOrLacks (line : ProductLine) (variant : List ℕ) (u : ℕ) : Ty
   pub stays : StaysIn line variant u
 
 -- a unit that stays in each full variant that has it stays in each possible one that has it; and one that none of those has is in none of these
-pub record FullVariantsTellOf (line : ProductLine) (nevers : LineNevers) (u : ℕ) : Type 0 where
+pub record FullVariantsReportOf (line : ProductLine) (nevers : LineNevers) (u : ℕ) : Type 0 where
   pub stays : ((w : List ℕ) → IsPossibleFull (line_with nevers line) w → StaysOrLacks line w u) → (v : List ℕ) → IsPossible line v → StaysIn line v u
   pub lacks : ((w : List ℕ) → IsPossibleFull (line_with nevers line) w → LacksUnit line w u) → (v : List ℕ) → IsPossible line v → LacksUnit line v u
 
-abbrev pub FullVariantsTellOfUnits : ProductLine → LineNevers → Type 0
-FullVariantsTellOfUnits line nevers = (u : ℕ) → u < length line.plan.units.items → FullVariantsTellOf line nevers u
+abbrev pub FullVariantsReportOfUnits : ProductLine → LineNevers → Type 0
+FullVariantsReportOfUnits line nevers = (u : ℕ) → u < length line.plan.units.items → FullVariantsReportOf line nevers u

@@ -4,6 +4,6 @@
 mod laws;
 
 pub use laws::{
-    flows_of_full_variants_bound_all, full_variants_tell_of_units, full_variants_tell_who_stays,
-    needs_of_full_variants_bound_all,
+    flows_of_full_variants_bound_all, full_variants_report_of_units,
+    full_variants_report_who_stays, needs_of_full_variants_bound_all,
 };

@@ -23,7 +23,7 @@ use Rattle.j39_load.specs.declared.waits.delay.Delay.TheVariants.{Beyond, Late, 
 use Rattle.j39_part_laws.specs.PartDelays.{IsNoLater}
 use Rattle.j39_part_laws.specs.PartLoads.{counting, HasGoodNumbers}
 use Rattle.j39_part_laws.specs.PlanParts.{IsPartAt, Places}
-use Rattle.j39_part_laws.proofs.LoadFindings.{delay_there, line_told, none_of, one_of, told_at}
+use Rattle.j39_part_laws.proofs.LoadFindings.{delay_there, line_reported, none_of, one_of, reported_at}
 use Rattle.j39_part_laws.proofs.Places.{value_at}
 use Rattle.j39_part_laws.proofs.Shares.{ceil-mono}
 
@@ -40,17 +40,17 @@ least_some (x ∷ xs) n (suc k, below, is) =
     let (m, is_m, less) = least_some xs n (k, omega (arith, below), is) in
     (min x m, ap (smaller_known (Some x)) is_m, omega (arith, less))
 
-pub least_told : (xs : List ℕ) (m : ℕ) → least xs ≡ Some m → Contains xs m
-least_told [] m none = cc
-least_told (x ∷ xs) m is = by (least xs) is (λ n told. least_told xs n told)
+pub least_reported : (xs : List ℕ) (m : ℕ) → least xs ≡ Some m → Contains xs m
+least_reported [] m none = cc
+least_reported (x ∷ xs) m is = by (least xs) is (λ n reported. least_reported xs n reported)
   where
     later : (n : ℕ) → Contains xs n → Contains (x ∷ xs) n
     later n (k, below, its) = (suc k, omega (arith, below), its)
 
     by : (o : Option ℕ) → smaller_known (Some x) o ≡ Some m → ((n : ℕ) → o ≡ Some n → Contains xs n) → Contains (x ∷ xs) m
-    by None told rest = (0, omega arith, same_Some x m told)
-    by (Some b) told rest =
-        let is_m = same_Some (min x b) m told in
+    by None reported rest = (0, omega arith, same_Some x m reported)
+    by (Some b) reported rest =
+        let is_m = same_Some (min x b) m reported in
         elim (cases_lt b x) [
           | inl less ↦ subst (Contains (x ∷ xs)) (let e : b ≡ m = omega (arith, less, is_m) in e) (later b (rest b refl))
           | inr from ↦ (0, omega arith, omega (arith, from, is_m))
@@ -67,12 +67,12 @@ pub record IsAgeOf (timing : Timing) (flow : FlowPlan) (delay : Option Delay) (a
   pub sum : us_of_unit_ms timing pause + us_of_bits timing bits ≡ age
 
 age_of : (timing : Timing) (flow : FlowPlan) (delay : Option Delay) (age : ℕ) → Contains (ages_of timing flow delay) age → IsAgeOf timing flow delay age
-age_of timing flow None age told = absurd (none_of age told)
-age_of timing flow (Some Late) age told = absurd (none_of age told)
-age_of timing flow (Some (Beyond n)) age told = absurd (none_of age told)
-age_of timing flow (Some (Long n)) age told = absurd (none_of age told)
-age_of timing flow (Some (Whole w)) age told = absurd (none_of age told)
-age_of timing flow (Some (Within bits)) age told = go flow.on_request flow.pause refl refl told
+age_of timing flow None age reported = absurd (none_of age reported)
+age_of timing flow (Some Late) age reported = absurd (none_of age reported)
+age_of timing flow (Some (Beyond n)) age reported = absurd (none_of age reported)
+age_of timing flow (Some (Long n)) age reported = absurd (none_of age reported)
+age_of timing flow (Some (Whole w)) age reported = absurd (none_of age reported)
+age_of timing flow (Some (Within bits)) age reported = go flow.on_request flow.pause refl refl reported
   where
     go : (b : Bool) (o : Option ℕ) → flow.on_request ≡ b → flow.pause ≡ o
         → Contains (if b then [] else option_map_or (λ pause. (us_of_unit_ms timing pause + us_of_bits timing bits) ∷ []) o []) age
@@ -108,7 +108,7 @@ ComeFromPart at part whole need need_there = (j : ℕ) (y : FlowPlan) → slice_
     → (i : ℕ) × (x : FlowPlan) × (slice_get part.flows.items i ≡ Some x) × (meets part.requests.items need x ≡ true) × (at.flow i ≡ j)
 
 module _ (at : Places) (part whole : Plan) (is : IsPartAt at part whole) (good : HasGoodNumbers whole) (timing : Timing) (unplanned : ℕ) (range : unplanned ≤ 1000)
-    (busier : timing.unplanned ≤ unplanned) (told stays : UnitPlan → Bool) (ds es : List (Option Delay)) (here : AsksOfBus part timing told ds)
+    (busier : timing.unplanned ≤ unplanned) (reported stays : UnitPlan → Bool) (ds es : List (Option Delay)) (here : AsksOfBus part timing reported ds)
     (there : AsksOfBus whole (counting timing unplanned range) stays es) (need need_there : NeedPlan) where
   abbrev busy : Timing
   busy = counting timing unplanned range
@@ -127,9 +127,9 @@ module _ (at : Places) (part whole : Plan) (is : IsPartAt at part whole) (good :
             let (i, x, at_x, met_x, same) = come j y at_j met in
             let below = slice_get_within part.flows.items i x at_x in
             let count = here.waits.count in
-            let flows = length-map part.flows.items (load_of_flow timing part told) in
+            let flows = length-map part.flows.items (load_of_flow timing part reported) in
             let (d, at_d) = value_at ds i (omega (arith, below, count, flows)) in
-            let (e, at_e, no_later, inside) = delay_there at part whole is good timing unplanned range busier told stays ds es here there i d at_d in
+            let (e, at_e, no_later, inside) = delay_there at part whole is good timing unplanned range busier reported stays ds es here there i d at_d in
             let is_e : slice_index_or es j None ≡ e =
             get_or_from_slice_get es j e None (ap (slice_get es) (sym same) ∙ at_e) in
             let (a, is_a, less) : IsNoLater d (Some (Within its.bits)) = subst (IsNoLater d) (sym is_e ∙ its.within) no_later in
@@ -142,12 +142,12 @@ module _ (at : Places) (part whole : Plan) (is : IsPartAt at part whole) (good :
             let sum : us_of_unit_ms timing its.pause + us_of_bits timing its.bits ≡ n = its.sum in
             let delay_is : slice_index_or ds (0 + i) None ≡ d =
             ap (λ k. slice_index_or ds k None) (let e : 0 + i ≡ i = omega arith in e) ∙ get_or_from_slice_get ds i d None at_d in
-            let told_age : Contains (ages_of timing x (slice_index_or ds (0 + i) None)) age =
+            let reported_age : Contains (ages_of timing x (slice_index_or ds (0 + i) None)) age =
             subst (λ o. Contains (ages_of timing x o) age) (sym delay_is)
             (age_is timing x d age (record { bits = a; within = is_a; by_itself = by_itself; pause = its.pause; paused = pause; sum = refl })) in (
               age,
-              line_told (ages_for timing part.requests.items ds need) 0 part.flows.items i x age at_x
-                  (subst (λ b. Contains (if b then ages_of timing x (slice_index_or ds (0 + i) None) else []) age) (sym met_x) told_age),
+              line_reported (ages_for timing part.requests.items ds need) 0 part.flows.items i x age at_x
+                  (subst (λ b. Contains (if b then ages_of timing x (slice_index_or ds (0 + i) None) else []) age) (sym met_x) reported_age),
               omega (arith, fewer, sum),
             )
 
@@ -155,10 +155,10 @@ module _ (at : Places) (part whole : Plan) (is : IsPartAt at part whole) (good :
     pub younger : (n : ℕ) → least_age busy whole.requests.items whole.flows.items es need_there ≡ Some n
         → (m : ℕ) × (least_age timing part.requests.items part.flows.items ds need ≡ Some m) × (m ≤ n)
     younger n is_n =
-        let its = told_at (ages_for busy whole.requests.items es need_there) 0 whole.flows.items n
-        (least_told (lines_of_each (ages_for busy whole.requests.items es need_there) 0 whole.flows.items) n is_n) in
-        let told_j = subst (λ k. Contains (ages_for busy whole.requests.items es need_there k its.value) n) (let e : 0 + its.k ≡ its.k = omega arith in e) its.told in
-        let (age, among, less) = age_here its.k its.value its.value_is n told_j in
+        let its = reported_at (ages_for busy whole.requests.items es need_there) 0 whole.flows.items n
+        (least_reported (lines_of_each (ages_for busy whole.requests.items es need_there) 0 whole.flows.items) n is_n) in
+        let reported_j = subst (λ k. Contains (ages_for busy whole.requests.items es need_there k its.value) n) (let e : 0 + its.k ≡ its.k = omega arith in e) its.reported in
+        let (age, among, less) = age_here its.k its.value its.value_is n reported_j in
         let (m, is_m, fewer) = least_some (lines_of_each (ages_for timing part.requests.items ds need) 0 part.flows.items) age among in
         (m, is_m, omega (arith, less, fewer))
 

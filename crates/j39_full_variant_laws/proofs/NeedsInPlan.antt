@@ -1,32 +1,22 @@
 -- The needs of a variant's plan, and their places in the file.
-use Rattle.std.proofs.Common.{◌≡◌, ℕ, ◌+◌, Bool, true, false, ◌&&◌, List, length, Option, Some, None, is_some, option_map, unwrap_or, refl, sym, ◌∙◌, ap, arith}
+use Rattle.std.proofs.Common.{◌≡◌, ℕ, ◌+◌, Bool, true, List, length, Option, Some, None, is_some, unwrap_or, refl, sym, ◌∙◌, ap, arith}
 use Rattle.std.specs.List.{range_with_len, slice_get}
-use Rattle.std.specs.Option.{option_map_or}
 use Rattle.std.proofs.lemmas.Bool.{and_from, and_parts}
 use Rattle.std.proofs.lemmas.List.{length-map}
 use Rattle.j39_network.specs.declared.plan.Plan.{Plan}
 use Rattle.j39_network.specs.declared.plan.need_plan.NeedPlan.{NeedPlan}
 use Rattle.j39_variants.specs.declared.line.ProductLine.{ProductLine}
-use Rattle.j39_variants.specs.VariantPlans.{flag_at, flags, group_places, IsVariantPlan, moved_from, moved_need, need_between, picked, place_at, unit_places}
+use Rattle.j39_variants.specs.VariantPlans.{flag_at, flags, group_places, IsVariantPlan, moved_need, picked, unit_places}
 use Rattle.j39_variants.specs.Variants.{is_in}
-use Rattle.j39_line_findings.specs.MissedNeeds.{is_group_there, is_in_at, is_need_asked_for, is_sender_there, is_source_there, is_unit_there}
+use Rattle.j39_line_findings.specs.MissedNeeds.{is_need_asked_for, is_source_there}
 use Rattle.j39_line_findings.specs.There.{is_need_there, IsWhatIsThere, place_in_file, places_of_those}
 use Rattle.j39_line_findings.specs.declared.there.WhatIsThere.{WhatIsThere}
 use Rattle.j39_part_laws.proofs.Places.{value_at}
-use Rattle.j39_line_part_laws.proofs.Filtering.{kept_at, length-kept, some_place, test_in}
+use Rattle.j39_line_part_laws.proofs.Filtering.{kept_at, length-kept}
+use Rattle.j39_line_part_laws.proofs.NeedsThere.{need_test}
 use Rattle.j39_line_part_laws.proofs.Picking.{kept}
 use Rattle.j39_line_part_laws.proofs.PlacesInFile.{flagged}
 use Rattle.j39_full_variant_laws.proofs.Origins.{comes_from, one_place_each, stands_at}
-
-together : (a b c d : Bool) → ((a && b) && (c && d)) ≡ (a && (b && (c && d)))
-together false b c d = refl
-together true b c d = refl
-
-some_need : (d : NeedPlan) (u g : Option ℕ) (s : Option (Option ℕ)) → is_some (need_between d u g s) ≡ (is_some u && (is_some g && is_some s))
-some_need d None g s = refl
-some_need d (Some u) None s = refl
-some_need d (Some u) (Some g) None = refl
-some_need d (Some u) (Some g) (Some s) = refl
 
 module _ (line : ProductLine) (v : List ℕ) where
   abbrev pub move_need : NeedPlan → Option NeedPlan
@@ -35,29 +25,6 @@ module _ (line : ProductLine) (v : List ℕ) where
   abbrev need_flags : List Bool
   need_flags = kept move_need (flags v line.lists.needs.items) line.plan.needs.items
 
-  some_sender : (o : Option ℕ) → is_some (moved_from (unit_places line v) o) ≡ is_sender_there line v o
-  some_sender None = refl
-  some_sender (Some u) = mapped (place_at (unit_places line v) u) ∙ some_place v line.lists.units.items 0 u
-    where
-      mapped : (o : Option ℕ) → is_some (option_map Some o) ≡ is_some o
-      mapped None = refl
-      mapped (Some p) = refl
-
-  need_test : (k : ℕ) (need : NeedPlan) → slice_get line.plan.needs.items k ≡ Some need
-      → is_need_there line v k ≡ (flag_at (flags v line.lists.needs.items) k && is_some (move_need need))
-  need_test k need at =
-      let all : is_some (move_need need) ≡ (is_unit_there line v need.unit && (is_group_there line v need.group && is_sender_there line v need.from)) =
-      some_need need (place_at (unit_places line v) need.unit) (place_at (group_places line v) need.group) (moved_from (unit_places line v) need.from)
-      ∙ ap (λ b. b && (is_some (place_at (group_places line v) need.group) && is_some (moved_from (unit_places line v) need.from)))
-      (some_place v line.lists.units.items 0 need.unit)
-      ∙ ap (λ b. is_unit_there line v need.unit && (b && is_some (moved_from (unit_places line v) need.from))) (some_place v line.lists.groups.items 0 need.group)
-      ∙ ap (λ b. is_unit_there line v need.unit && (is_group_there line v need.group && b)) (some_sender need.from) in
-      ap (λ o. option_map_or (λ (x : NeedPlan). is_in_at v line.lists.needs.items k && is_unit_there line v x.unit) o false
-      && option_map_or (λ (x : NeedPlan). is_group_there line v x.group && is_sender_there line v x.from) o false) at
-      ∙ together (is_in_at v line.lists.needs.items k) (is_unit_there line v need.unit) (is_group_there line v need.group) (is_sender_there line v need.from)
-      ∙ ap (λ b. is_in_at v line.lists.needs.items k && b) (sym all)
-      ∙ ap (λ b. b && is_some (move_need need)) (test_in v line.lists.needs.items k)
-
   need_count : length (flags v line.lists.needs.items) ≡ length line.plan.needs.items
   need_count = length-map line.lists.needs.items (λ list. is_in v list.items) ∙ line.need_lists
 
@@ -65,7 +32,7 @@ module _ (line : ProductLine) (v : List ℕ) where
   needs_flagged = flagged (is_need_there line v) need_flags (length line.plan.needs.items)
       (length-kept move_need (flags v line.lists.needs.items) line.plan.needs.items need_count)
       (λ k below. let (d, at_d) = value_at line.plan.needs.items k below in
-      need_test k d at_d ∙ sym (kept_at move_need (flags v line.lists.needs.items) line.plan.needs.items k d need_count at_d))
+      need_test line v k d at_d ∙ sym (kept_at move_need (flags v line.lists.needs.items) line.plan.needs.items k d need_count at_d))
 
   -- no need stands twice
   pub one_need_place : (there : WhatIsThere) → IsWhatIsThere line v there → (i j d : ℕ) → slice_get there.needs.items i ≡ Some d
@@ -91,7 +58,7 @@ module _ (line : ProductLine) (v : List ℕ) where
     need_of_file k e at_k =
         let its = comes_from move_need (flags v line.lists.needs.items) line.plan.needs.items 0 k e (ap (λ l. slice_get l k) (sym is.has_needs) ∙ at_k) in
         let place = file_place k its.k its.place in
-        let both = need_test its.k its.value its.value_is ∙ and_from _ _ its.flagged (ap is_some its.made) in
+        let both = need_test line v its.k its.value its.value_is ∙ and_from _ _ its.flagged (ap is_some its.made) in
         let (asked, source) = and_parts (is_need_asked_for line v its.k) (is_source_there line v its.k) both in
         record {
           need = its.value;
@@ -113,7 +80,7 @@ module _ (line : ProductLine) (v : List ℕ) where
     pub need_in_plan : (d : ℕ) (need : NeedPlan) → slice_get line.plan.needs.items d ≡ Some need → is_need_asked_for line v d ≡ true → is_source_there line v d ≡ true
         → IsNeedInPlan d need
     need_in_plan d need at_d asked source =
-        let both = sym (need_test d need at_d) ∙ and_from _ _ asked source in
+        let both = sym (need_test line v d need at_d) ∙ and_from _ _ asked source in
         let (flag, some) = and_parts (flag_at (flags v line.lists.needs.items) d) (is_some (move_need need)) both in
         go (move_need need) refl flag some
       where

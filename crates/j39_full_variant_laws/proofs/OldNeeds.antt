@@ -1,31 +1,29 @@
 -- What is too old in a possible variant is found of one that is full for the need.
-use Rattle.std.proofs.Common.{◌≡◌, ℕ, true, false, ◌&&◌, List, ◌++◌, map, Contains, Option, Some, None, is_some, refl, sym, ◌∙◌, ap, subst, inl, inr}
+use Rattle.std.proofs.Common.{◌≡◌, ℕ, true, false, ◌&&◌, List, Contains, Option, Some, None, is_some, refl, sym, ◌∙◌, ap, subst}
 use Rattle.std.specs.List.{slice_get}
 use Rattle.std.specs.Option.{option_map_or}
 use Rattle.std.proofs.lemmas.Bool.{and_from, and_parts}
-use Rattle.j39_findings.specs.Found.{found}
-use Rattle.j39_findings.proofs.FoundLaws.{are_findings}
-use Rattle.j39_findings.specs.declared.checking.finding.Finding.{Finding}
-use Rattle.j39_findings.specs.declared.checking.finding.Finding.TheVariants.{BadPgn, NeedUnmet}
+use Rattle.j39_findings.specs.declared.checking.finding.Finding.TheVariants.{BadPgn}
 use Rattle.j39_load.specs.declared.findings.load_finding.LoadFinding.{LoadFinding}
 use Rattle.j39_load.specs.declared.findings.load_finding.LoadFinding.TheVariants.{NoPeriod, Overload, LateFlow, NeedTooOld}
 use Rattle.j39_network.specs.declared.plan.need_plan.NeedPlan.{NeedPlan}
 use Rattle.j39_variants.specs.VariantPlans.{group_places, moved_from, place_at, unit_places}
 use Rattle.j39_variants.specs.declared.line.ProductLine.{ProductLine}
-use Rattle.j39_line_findings.specs.InFile.{finding_in_file, load_finding_in_file}
+use Rattle.j39_line_findings.specs.InFile.{load_finding_in_file}
 use Rattle.j39_line_findings.specs.PossibleVariants.{IsPossible}
 use Rattle.j39_line_findings.specs.LineFound.{AreVariantFindings, IsFound}
 use Rattle.j39_line_findings.specs.MissedNeeds.{is_group_there, is_need_asked_for, is_sender_there, is_source_there}
-use Rattle.j39_line_findings.specs.There.{missed_needs, place_in_file}
+use Rattle.j39_line_findings.specs.There.{place_in_file}
 use Rattle.j39_line_findings.specs.declared.line_finding.LineFinding.{LineFinding}
-use Rattle.j39_line_findings.specs.declared.line_finding.LineFinding.TheVariants.{OfPlan, OfLoad}
+use Rattle.j39_line_findings.specs.declared.line_finding.LineFinding.TheVariants.{OfLoad}
 use Rattle.j39_part_laws.specs.PartLoads.{HasGoodNumbers}
+use Rattle.j39_line_findings.specs.declared.part.LinePart.TheVariants.{Need}
 use Rattle.j39_line_part_laws.specs.Covering.{IsCoveredBy}
-use Rattle.j39_line_part_laws.proofs.FoundOfCovering.{either, left, made_of, of_made, right, same_load}
+use Rattle.j39_line_part_laws.proofs.FoundOfCovering.{in_load, of_load_reported, of_plan_reported}
 use Rattle.j39_line_part_laws.proofs.FullCovers.{has_full_cover_for}
 use Rattle.j39_line_part_laws.proofs.Possible.{possible_too}
-use Rattle.j39_full_variant_laws.specs.OldNeeds.{AsksForAge, EachHasFullForNeed, HasNoBadNumber, IsPossibleFullFor, OldNeedsAreFoundOfFull, OldNeedsToldOfFullAreToldOfAll}
-use Rattle.j39_full_variant_laws.proofs.InBoxes.{need_by, need_lets}
+use Rattle.j39_full_variant_laws.specs.OldNeeds.{AsksForAge, EachHasFullForNeed, HasNoBadNumber, IsPossibleFullFor, OldNeedsAreFoundOfFull, OldNeedsReportedOfFullAreReportedOfAll}
+use Rattle.j39_full_variant_laws.proofs.InBoxes.{part_by, part_lets}
 use Rattle.j39_full_variant_laws.proofs.NeedsInPlan.{need_in_plan, need_of_file}
 use Rattle.j39_full_variant_laws.proofs.PlacedTests.{need_of}
 use Rattle.j39_full_variant_laws.proofs.Sources.{group_too, meets_back, meets_too, unit_too}
@@ -34,10 +32,10 @@ use Rattle.j39_full_variant_laws.proofs.TooOld.{covered_by, old_need, old_there}
 -- each possible variant in which a need is asked for is covered by one that is full for it
 pub has_full_for_need : (line : ProductLine) → EachHasFullForNeed line
 has_full_for_need line v possible d asked =
-    let (w, is_variant, full, covered, in_box) = has_full_cover_for line (Some d) v possible.is_variant (need_lets line v d asked) in
+    let (w, is_variant, full, covered, in_box) = has_full_cover_for line (Some d) v possible.is_variant (part_lets line v possible.is_variant (Need d) asked) in
     let by = covered_by line d v w covered in
     let also = possible_too line v w possible.is_variant is_variant by possible.possible in
-    let asked_there = need_by line v w d (possible.is_variant.of_each ∙ sym is_variant.of_each) in_box asked in
+    let asked_there = part_by line v w possible.is_variant is_variant (Need d) in_box asked in
     record {
       variant = w;
       full = record { possible = record { is_variant = is_variant; possible = also }; full = full; asked = asked_there };
@@ -51,34 +49,9 @@ has_full_for_need line v possible d asked =
 -- ---- what is found of the load of a variant
 
 module _ (line : ProductLine) (v : List ℕ) (here : List LineFinding) (of_here : AreVariantFindings line v here) where
-  abbrev plans : List LineFinding
-  plans = map (λ finding. OfPlan (finding_in_file of_here.there finding)) (found of_here.plan)
-
-  abbrev loads : List LineFinding
-  loads = map (λ finding. OfLoad (load_finding_in_file of_here.there finding)) of_here.others
-
-  abbrev missed : List LineFinding
-  missed = map (λ d. OfPlan (NeedUnmet d)) (missed_needs line v)
-
-  no_load : (x : LoadFinding) (y : Finding) → OfPlan y ≡ OfLoad x → ⊥
-  no_load x y is = cc
-
-  -- where something old is told at a place of the file, it is told at its place in the plan
+  -- where something old is reported at a place of the file, it is reported at its place in the plan
   pub old_in_plan : (d : ℕ) → IsFound here (OfLoad (NeedTooOld d)) → (k : ℕ) × Contains of_here.others (NeedTooOld k) × (place_in_file of_here.there.needs.items k ≡ d)
-  old_in_plan d one =
-      elim (either plans (loads ++ missed) (OfLoad (NeedTooOld d)) (subst (λ l. IsFound l (OfLoad (NeedTooOld d))) of_here.are_all one)) [
-        | inl of_plan ↦
-            let its = made_of (λ f. OfPlan (finding_in_file of_here.there f)) (found of_here.plan) (OfLoad (NeedTooOld d)) of_plan in
-            absurd (no_load (NeedTooOld d) (finding_in_file of_here.there its.value) its.made)
-        | inr others ↦ elim (either loads missed (OfLoad (NeedTooOld d)) others) [
-          | inr unmet ↦
-              let its = made_of (λ k. OfPlan (NeedUnmet k)) (missed_needs line v) (OfLoad (NeedTooOld d)) unmet in
-              absurd (no_load (NeedTooOld d) (NeedUnmet its.value) its.made)
-          | inl of_load ↦
-              let its = made_of (λ f. OfLoad (load_finding_in_file of_here.there f)) of_here.others (OfLoad (NeedTooOld d)) of_load in
-              go its.value its.among (same_load (load_finding_in_file of_here.there its.value) (NeedTooOld d) its.made)
-        ]
-      ]
+  old_in_plan d one = let (x, among, is) = in_load line v here of_here (NeedTooOld d) one in go x among is
     where
       go : (x : LoadFinding) → Contains of_here.others x → load_finding_in_file of_here.there x ≡ NeedTooOld d
           → (k : ℕ) × Contains of_here.others (NeedTooOld k) × (place_in_file of_here.there.needs.items k ≡ d)
@@ -96,18 +69,12 @@ module _ (line : ProductLine) (v : List ℕ) (here : List LineFinding) (of_here 
           old_same : (i : ℕ) → NeedTooOld i ≡ NeedTooOld d → i ≡ d
           old_same i same = cc
 
-  pub told_in_file : (k : ℕ) → Contains of_here.others (NeedTooOld k) → IsFound here (OfLoad (NeedTooOld (place_in_file of_here.there.needs.items k)))
-  told_in_file k among =
-      let it = OfLoad (load_finding_in_file of_here.there (NeedTooOld k)) in
-      subst (λ l. IsFound l it) (sym of_here.are_all)
-      (right plans (loads ++ missed) it (left loads missed it (of_made (λ f. OfLoad (load_finding_in_file of_here.there f)) of_here.others (NeedTooOld k) among)))
+  pub reported_in_file : (k : ℕ) → Contains of_here.others (NeedTooOld k) → IsFound here (OfLoad (NeedTooOld (place_in_file of_here.there.needs.items k)))
+  reported_in_file k = of_load_reported line v here of_here (NeedTooOld k)
 
   -- no bad number of a group holds where none is found
   pub good_numbers : HasNoBadNumber here → HasGoodNumbers of_here.plan
-  good_numbers none g bad =
-      let it = OfPlan (finding_in_file of_here.there (BadPgn g)) in
-      none (place_in_file of_here.there.groups.items g) (subst (λ l. IsFound l it) (sym of_here.are_all)
-      (left plans (loads ++ missed) it (of_made (λ f. OfPlan (finding_in_file of_here.there f)) (found of_here.plan) (BadPgn g) ((are_findings of_here.plan).complete (BadPgn g) bad))))
+  good_numbers none g bad = none (place_in_file of_here.there.groups.items g) (of_plan_reported line v here of_here (BadPgn g) bad)
 
 -- ---- of a possible variant, and of the one that is full for the need
 
@@ -126,9 +93,9 @@ source_too line v w covered d there = go (slice_get line.plan.needs.items d) the
         and_from _ _ (group_too line v w covered need.group group) (sender need.from from)
 
 module _ (line : ProductLine) (v : List ℕ) (possible : IsPossible line v) (here : List LineFinding) (of_here : AreVariantFindings line v here) where
-  told_at_place : (w : List ℕ) (there : List LineFinding) (of_there : AreVariantFindings line w there) (l d : ℕ)
+  reported_at_place : (w : List ℕ) (there : List LineFinding) (of_there : AreVariantFindings line w there) (l d : ℕ)
       → place_in_file of_there.there.needs.items l ≡ d → Contains of_there.others (NeedTooOld l) → IsFound there (OfLoad (NeedTooOld d))
-  told_at_place w there of_there l d place old = subst (λ n. IsFound there (OfLoad (NeedTooOld n))) place (told_in_file line w there of_there l old)
+  reported_at_place w there of_there l d place old = subst (λ n. IsFound there (OfLoad (NeedTooOld n))) place (reported_in_file line w there of_there l old)
 
   old_at : (k : ℕ) → Contains of_here.others (NeedTooOld k) → (d : ℕ) → place_in_file of_here.there.needs.items k ≡ d → AsksForAge line d
       × ((w : List ℕ) × IsPossibleFullFor line d w
@@ -157,7 +124,7 @@ module _ (line : ProductLine) (v : List ℕ) (possible : IsPossible line v) (her
               of_there.is_there of_here.plan of_there.plan of_here.is_plan of_there.is_plan its.need at_d e also.value its.made also.made
               (good_numbers line w there of_there none) k also.k at_e also.at (those.within ∙ sym parts.within) of_here.others of_there.others among
               of_here.are_others of_there.are_others in
-              told_at_place w there of_there also.k d also.place old,
+              reported_at_place w there of_there also.k d also.place old,
         ),
       )
 
@@ -166,8 +133,8 @@ old_found line v possible here of_here d one =
     let (k, among, place) = old_in_plan line v here of_here d one in
     old_at line v possible here of_here k among d place
 
-pub old_told : (line : ProductLine) → OldNeedsToldOfFullAreToldOfAll line
-old_told line told each v possible here of_here d one =
+pub old_reported : (line : ProductLine) → OldNeedsReportedOfFullAreReportedOfAll line
+old_reported line reported each v possible here of_here d one =
     let (ages, (w, full, found_there)) = old_found line v possible here of_here d one in
-    let (there, of_there, none, tells) = each d ages w full in
-    tells (found_there there of_there none)
+    let (there, of_there, none, reports) = each d ages w full in
+    reports (found_there there of_there none)

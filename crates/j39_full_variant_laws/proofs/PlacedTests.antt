@@ -1,5 +1,5 @@
 -- A test of what stands in the plan of a variant is that of what it comes of in the file.
-use Rattle.std.proofs.Common.{◌≡◌, ℕ, Bool, true, false, not, ◌&&◌, ◌==◌, List, Option, Some, None, option_map, refl, sym, ◌∙◌, ap}
+use Rattle.std.proofs.Common.{◌≡◌, ℕ, Bool, true, false, not, ◌&&◌, ◌==◌, List, Option, Some, None, option_map, refl, sym, ◌∙◌, ap, arith}
 use Rattle.std.proofs.lemmas.Option.{none-some, same_Some}
 use Rattle.j39_network.specs.Serving.{is_asked_for, is_from, is_reached, meets, serves}
 use Rattle.j39_network.specs.declared.plan.flow_plan.FlowPlan.{FlowPlan}
@@ -11,7 +11,7 @@ use Rattle.j39_variants.specs.declared.line.ProductLine.{ProductLine}
 use Rattle.j39_variants.specs.VariantPlans.{flags, group_places, moved_flow, moved_from, moved_need, moved_receivers, moved_request, need_between, place_at, unit_places}
 use Rattle.j39_line_findings.specs.FullVariants.{does_bring}
 use Rattle.j39_line_part_laws.proofs.Parts.{flow_of, request_of}
-use Rattle.j39_full_variant_laws.proofs.Origins.{same_places}
+use Rattle.j39_line_part_laws.proofs.NamedPlaces.{same_places}
 
 pub record IsNeedOf (d : NeedPlan) (u g : Option ℕ) (s : Option (Option ℕ)) (e : NeedPlan) : Type 0 where
   pub unit : u ≡ Some e.unit
@@ -20,14 +20,7 @@ pub record IsNeedOf (d : NeedPlan) (u g : Option ℕ) (s : Option (Option ℕ)) 
   pub within : e.within ≡ d.within
 
 pub need_of : (d : NeedPlan) (u g : Option ℕ) (s : Option (Option ℕ)) (e : NeedPlan) → need_between d u g s ≡ Some e → IsNeedOf d u g s e
-need_of d (Some u) (Some g) (Some s) e is_e =
-    let is = same_Some _ _ is_e in
-    record {
-      unit = ap (λ (z : NeedPlan). Some z.unit) is;
-      group = ap (λ (z : NeedPlan). Some z.group) is;
-      from = ap (λ (z : NeedPlan). Some z.from) is;
-      within = ap (λ (z : NeedPlan). z.within) (sym is);
-    }
+need_of d (Some u) (Some g) (Some s) e is_e = grind (arith, is_e)
 need_of d None g s e is_e = absurd (none-some e is_e)
 need_of d (Some u) None s e is_e = absurd (none-some e is_e)
 need_of d (Some u) (Some g) None e is_e = absurd (none-some e is_e)

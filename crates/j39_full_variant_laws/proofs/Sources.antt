@@ -23,12 +23,13 @@ use Rattle.j39_line_findings.specs.There.{is_flow_there, is_receiver_there, is_r
 use Rattle.j39_line_findings.specs.declared.part.LinePart.TheVariants.{Flow, Need, Request}
 use Rattle.j39_line_part_laws.specs.Covering.{IsCoveredBy, IsCoveredFor}
 use Rattle.j39_line_part_laws.proofs.Agreeing.{answer_agrees, one-answer-back, sending_agrees}
-use Rattle.j39_line_part_laws.proofs.Boxes.{any_at, AreFewer, at_any}
+use Rattle.j39_line_findings.proofs.Tests.{any_at, at_any}
+use Rattle.j39_line_part_laws.proofs.Boxes.{AreFewer}
 use Rattle.j39_line_part_laws.proofs.Filtering.{flow_test, request_test, test_in}
 use Rattle.j39_line_part_laws.proofs.Parts.{flow_of, flows_fewer, groups_fewer, requests_fewer, units_fewer}
 use Rattle.j39_line_part_laws.proofs.Picking.{kept}
 use Rattle.j39_full_variant_laws.specs.FullForNeeds.{IsAnswerIn, MeetsIn}
-use Rattle.j39_full_variant_laws.proofs.InBoxes.{flow_by, flow_lets, meet_by, need_lets, request_by, request_lets}
+use Rattle.j39_full_variant_laws.proofs.InBoxes.{meet_by, part_by, part_lets}
 use Rattle.j39_full_variant_laws.proofs.Origins.{comes_from, stands_at}
 use Rattle.j39_full_variant_laws.proofs.PlacedTests.{brings_same, meets_by, serves_same}
 
@@ -61,35 +62,27 @@ module _ (line : ProductLine) (v w : List ℕ) (covered : IsCoveredBy line v w) 
   receiver_too All there = refl
   receiver_too (One u) there = unit_too u there
 
-  all_too : (a b c d e f g h : Bool) → (a ≡ true → e ≡ true) → (b ≡ true → f ≡ true) → (c ≡ true → g ≡ true) → (d ≡ true → h ≡ true)
-      → (a && (b && (c && d))) ≡ true → (e && (f && (g && h))) ≡ true
-  all_too a b c d e f g h one two three last all =
-      let (first, others) = and_parts a (b && (c && d)) all in
-      let (second, rest) = and_parts b (c && d) others in
-      let (third, fourth) = and_parts c d rest in
-      and_from e (f && (g && h)) (one first) (and_from f (g && h) (two second) (and_from g h (three third) (last fourth)))
+  -- what names its group, its sender and its receiver
+  named_too : (own also : Bool) → (own ≡ true → also ≡ true) → (g s : ℕ) (to : To)
+      → (own && (is_group_there line v g && (is_unit_there line v s && is_receiver_there line v to))) ≡ true
+      → (also && (is_group_there line w g && (is_unit_there line w s && is_receiver_there line w to))) ≡ true
+  named_too own also here g s to all =
+      let (first, others) = and_parts own (is_group_there line v g && (is_unit_there line v s && is_receiver_there line v to)) all in
+      let (second, rest) = and_parts (is_group_there line v g) (is_unit_there line v s && is_receiver_there line v to) others in
+      let (third, fourth) = and_parts (is_unit_there line v s) (is_receiver_there line v to) rest in
+      and_from also _ (here first) (and_from _ _ (group_too g second) (and_from _ _ (unit_too s third) (receiver_too to fourth)))
+
+  some_too : {X : Type 0} (p q : X → Bool) → ((x : X) → p x ≡ true → q x ≡ true) → (o : Option X) → option_map_or p o false ≡ true → option_map_or q o false ≡ true
+  some_too p q each None none = none
+  some_too p q each (Some x) is = each x is
 
   pub flow_too : (f : ℕ) → is_flow_there line v f ≡ true → is_flow_there line w f ≡ true
-  flow_too f there = go (slice_get line.plan.flows.items f) there
-    where
-      go : (o : Option FlowPlan) → option_map_or (λ flow. is_in_at v line.lists.flows.items f && (is_group_there line v flow.group
-          && (is_unit_there line v flow.sender && is_receiver_there line v flow.to))) o false ≡ true
-          → option_map_or (λ flow. is_in_at w line.lists.flows.items f && (is_group_there line w flow.group
-          && (is_unit_there line w flow.sender && is_receiver_there line w flow.to))) o false ≡ true
-      go None none = none
-      go (Some flow) is = all_too _ _ _ _ _ _ _ _ (there_by v w line.lists.flows.items (flows_fewer line v w covered) f) (group_too flow.group)
-          (unit_too flow.sender) (receiver_too flow.to) is
+  flow_too f = some_too _ _ (λ (flow : FlowPlan). named_too _ _ (there_by v w line.lists.flows.items (flows_fewer line v w covered) f) flow.group flow.sender flow.to)
+      (slice_get line.plan.flows.items f)
 
   pub request_too : (r : ℕ) → is_request_there line v r ≡ true → is_request_there line w r ≡ true
-  request_too r there = go (slice_get line.plan.requests.items r) there
-    where
-      go : (o : Option RequestPlan) → option_map_or (λ request. is_in_at v line.lists.requests.items r && (is_group_there line v request.group
-          && (is_unit_there line v request.sender && is_receiver_there line v request.to))) o false ≡ true
-          → option_map_or (λ request. is_in_at w line.lists.requests.items r && (is_group_there line w request.group
-          && (is_unit_there line w request.sender && is_receiver_there line w request.to))) o false ≡ true
-      go None none = none
-      go (Some request) is = all_too _ _ _ _ _ _ _ _ (there_by v w line.lists.requests.items (requests_fewer line v w covered) r) (group_too request.group)
-          (unit_too request.sender) (receiver_too request.to) is
+  request_too r = some_too _ _ (λ (request : RequestPlan). named_too _ _ (there_by v w line.lists.requests.items (requests_fewer line v w covered) r)
+      request.group request.sender request.to) (slice_get line.plan.requests.items r)
 
   pub meets_too : (need : NeedPlan) (f : ℕ) → MeetsIn line v need f → MeetsIn line w need f
   meets_too need f its = record {
@@ -113,20 +106,17 @@ module _ (line : ProductLine) (v w : List ℕ) (is_v : IsVariant line.choices.it
   agree c p q covers = (and_parts (is_covered line (alternative_at c p) (alternative_at c q))
       (agree_on_need line (alternatives_of line) d (alternative_at c p) (alternative_at c q)) covers).1
 
-  long : length w ≡ length v
-  long = is_w.of_each ∙ sym is_v.of_each
-
   module _ (f : ℕ) (flow : FlowPlan) (at_f : slice_get line.plan.flows.items f ≡ Some flow) (brings : does_bring need flow ≡ true) (there : is_flow_there line w f ≡ true) where
     below : f < length line.plan.flows.items
     below = slice_get_within line.plan.flows.items f flow at_f
 
     sent_here : flow.on_request ≡ false → is_flow_there line v f ≡ true
-    sent_here by_itself = flow_by line w v f long (λ c p at_p.
+    sent_here by_itself = part_by line w v is_w is_v (Flow f) (λ c p at_p.
         let (q, at_q, covers) = covered c p at_p in
-        let meet = meet_by line w is_w (Need d) (Flow f) (Flow f) (need_lets line w d asked) (flow_lets line w f there) (flow_lets line w f there) in
+        let meet = meet_by line w is_w (Need d) (Flow f) (Flow f) (part_lets line w is_w (Need d) asked) (part_lets line w is_w (Flow f) there) (part_lets line w is_w (Flow f) there) in
         one-answer-back (flow_lets_in line (alternative_at c p) f) (flow_lets_in line (alternative_at c q) f)
         (sending_agrees line (alternatives_of line) d (alternative_at c p) (alternative_at c q) need at_d f flow at_f brings (agree c p q covers) below by_itself meet)
-        (flow_lets line w f there c q at_q)) there
+        (part_lets line w is_w (Flow f) there c q at_q)) there
 
     module _ (only : flow.on_request ≡ true) (answer : IsAnswerIn line w flow) where
       abbrev r : ℕ
@@ -135,19 +125,19 @@ module _ (line : ProductLine) (v w : List ℕ) (is_v : IsVariant line.choices.it
       both_let : (c p : ℕ) → slice_get v c ≡ Some p → (flow_lets_in line (alternative_at c p) f && request_lets_in line (alternative_at c p) r) ≡ true
       both_let c p at_p =
           let (q, at_q, covers) = covered c p at_p in
-          let meet = meet_by line w is_w (Need d) (Flow f) (Request r) (need_lets line w d asked) (flow_lets line w f there) (request_lets line w r answer.there) in
+          let meet = meet_by line w is_w (Need d) (Flow f) (Request r) (part_lets line w is_w (Need d) asked) (part_lets line w is_w (Flow f) there) (part_lets line w is_w (Request r) answer.there) in
           one-answer-back (flow_lets_in line (alternative_at c p) f && request_lets_in line (alternative_at c p) r)
           (flow_lets_in line (alternative_at c q) f && request_lets_in line (alternative_at c q) r)
           (answer_agrees line (alternatives_of line) d (alternative_at c p) (alternative_at c q) need at_d f flow at_f brings (agree c p q covers) below only r
           answer.request answer.request_is (slice_get_within line.plan.requests.items r answer.request answer.request_is) answer.serves_it meet)
-          (and_from _ _ (flow_lets line w f there c q at_q) (request_lets line w r answer.there c q at_q))
+          (and_from _ _ (part_lets line w is_w (Flow f) there c q at_q) (part_lets line w is_w (Request r) answer.there c q at_q))
 
       answer_here : is_flow_there line v f ≡ true
-      answer_here = flow_by line w v f long (λ c p at_p.
+      answer_here = part_by line w v is_w is_v (Flow f) (λ c p at_p.
           (and_parts (flow_lets_in line (alternative_at c p) f) (request_lets_in line (alternative_at c p) r) (both_let c p at_p)).0) there
 
       request_here : is_request_there line v r ≡ true
-      request_here = request_by line w v r long (λ c p at_p.
+      request_here = part_by line w v is_w is_v (Request r) (λ c p at_p.
           (and_parts (flow_lets_in line (alternative_at c p) f) (request_lets_in line (alternative_at c p) r) (both_let c p at_p)).1) answer.there
 
   pub meets_back : (f : ℕ) → MeetsIn line w need f → MeetsIn line v need f

@@ -29,9 +29,9 @@ use Rattle.j39_line_findings.specs.There.{IsWhatIsThere}
 use Rattle.j39_line_findings.specs.declared.there.WhatIsThere.{WhatIsThere}
 use Rattle.j39_part_laws.specs.PartLoads.{HasGoodNumbers}
 use Rattle.j39_part_laws.specs.PlanParts.{Places}
-use Rattle.j39_part_laws.proofs.LoadFindings.{itself, line_told, none_of, of_late, of_overload, of_unpaced, one_of, told_at, unplanned_there}
+use Rattle.j39_part_laws.proofs.LoadFindings.{itself, line_reported, none_of, of_late, of_overload, of_unpaced, one_of, reported_at, unplanned_there}
 use Rattle.j39_line_part_laws.specs.Covering.{IsCoveredBy, IsCoveredFor}
-use Rattle.j39_line_part_laws.proofs.Boxes.{any_at, at_any}
+use Rattle.j39_line_findings.proofs.Tests.{any_at, at_any}
 use Rattle.j39_line_part_laws.proofs.Full.{covered_of}
 use Rattle.j39_line_part_laws.proofs.Parts.{at, is_part_at}
 use Rattle.j39_line_part_laws.proofs.Picking.{kept, some_picked}
@@ -41,7 +41,7 @@ use Rattle.j39_full_variant_laws.proofs.NeedsInPlan.{move_need}
 use Rattle.j39_full_variant_laws.proofs.Origins.{one_place_each}
 use Rattle.j39_full_variant_laws.proofs.Sources.{in_plan, meets_back, meets_too, of_file}
 
--- ---- what is told of a need
+-- ---- what is reported of a need
 
 pub record IsOld (timing : Timing) (plan : Plan) (delays : List (Option Delay)) (k : ℕ) : Type 0 where
   pub need : NeedPlan
@@ -54,11 +54,11 @@ same_old : (i j : ℕ) → NeedTooOld i ≡ NeedTooOld j → i ≡ j
 same_old i j is = cc
 
 module _ (timing : Timing) (plan : Plan) (delays : List (Option Delay)) where
-  abbrev tells : ℕ → NeedPlan → List LoadFinding
-  tells = oldness timing plan.requests.items plan.flows.items delays
+  abbrev reports : ℕ → NeedPlan → List LoadFinding
+  reports = oldness timing plan.requests.items plan.flows.items delays
 
-  old_at : (k place : ℕ) (need : NeedPlan) → slice_get plan.needs.items place ≡ Some need → Contains (tells place need) (NeedTooOld k) → IsOld timing plan delays k
-  old_at k place need at_place told = go need.within refl told
+  old_at : (k place : ℕ) (need : NeedPlan) → slice_get plan.needs.items place ≡ Some need → Contains (reports place need) (NeedTooOld k) → IsOld timing plan delays k
+  old_at k place need at_place reported = go need.within refl reported
     where
       by : (limit : ℕ) → need.within ≡ Some limit → (b : Bool) → is_too_old timing plan.requests.items plan.flows.items delays need limit ≡ b
           → Contains (if b then NeedTooOld place ∷ [] else []) (NeedTooOld k) → IsOld timing plan delays k
@@ -77,17 +77,17 @@ module _ (timing : Timing) (plan : Plan) (delays : List (Option Delay)) where
   is_old load k found =
       elim (Contains-append_cases (load_findings timing load delays) (old_needs timing plan.requests.items plan.flows.items delays plan.needs.items) (NeedTooOld k) found) [
         | inr old ↦
-            let its = told_at tells 0 plan.needs.items (NeedTooOld k) old in
-            old_at k (0 + its.k) its.value (ap (slice_get plan.needs.items) (let e : 0 + its.k ≡ its.k = omega arith in e) ∙ its.value_is) its.told
+            let its = reported_at reports 0 plan.needs.items (NeedTooOld k) old in
+            old_at k (0 + its.k) its.value (ap (slice_get plan.needs.items) (let e : 0 + its.k ≡ its.k = omega arith in e) ∙ its.value_is) its.reported
         | inl others ↦ elim (Contains-append_cases (lines_of_each without_period 0 delays) (overload timing load ++ lines_of_each lateness 0 delays) (NeedTooOld k) others) [
           | inl unpaced ↦
-              let its = told_at without_period 0 delays (NeedTooOld k) unpaced in
-              absurd (no_period (0 + its.k) k (of_unpaced (0 + its.k) its.value (NeedTooOld k) its.told).1)
+              let its = reported_at without_period 0 delays (NeedTooOld k) unpaced in
+              absurd (no_period (0 + its.k) k (of_unpaced (0 + its.k) its.value (NeedTooOld k) its.reported).1)
           | inr more ↦ elim (Contains-append_cases (overload timing load) (lines_of_each lateness 0 delays) (NeedTooOld k) more) [
             | inl too_much ↦ absurd (no_load load k (of_overload timing load (NeedTooOld k) too_much).1)
             | inr late ↦
-                let its = told_at lateness 0 delays (NeedTooOld k) late in
-                absurd (not_late (0 + its.k) k (of_late (0 + its.k) its.value (NeedTooOld k) its.told))
+                let its = reported_at lateness 0 delays (NeedTooOld k) late in
+                absurd (not_late (0 + its.k) k (of_late (0 + its.k) its.value (NeedTooOld k) its.reported))
           ]
         ]
       ]
@@ -101,15 +101,15 @@ module _ (timing : Timing) (plan : Plan) (delays : List (Option Delay)) where
       not_late : (i j : ℕ) → NeedTooOld j ≡ LateFlow i → ⊥
       not_late i j is = cc
 
-  told_old : (load k : ℕ) → IsOld timing plan delays k → Contains (all_findings plan timing load delays) (NeedTooOld k)
-  told_old load k its =
+  reported_old : (load k : ℕ) → IsOld timing plan delays k → Contains (all_findings plan timing load delays) (NeedTooOld k)
+  reported_old load k its =
       Contains-append_right (load_findings timing load delays) (old_needs timing plan.requests.items plan.flows.items delays plan.needs.items) (NeedTooOld k)
-      (line_told tells 0 plan.needs.items k its.need (NeedTooOld k) its.at
+      (line_reported reports 0 plan.needs.items k its.need (NeedTooOld k) its.at
       (subst (λ o. Contains (option_map_or (λ limit. if is_too_old timing plan.requests.items plan.flows.items delays its.need limit then NeedTooOld (0 + k) ∷ [] else []) o []) (NeedTooOld k))
       (sym its.within) (subst (λ b. Contains (if b then NeedTooOld (0 + k) ∷ [] else []) (NeedTooOld k)) (sym its.old)
       (subst (λ n. Contains (NeedTooOld n ∷ []) (NeedTooOld k)) (let e : k ≡ 0 + k = omega arith in e) (itself (NeedTooOld k))))))
 
--- a need of which it is told asks for an age
+-- a need of which it is reported asks for an age
 pub old_need : (plan : Plan) (others : List LoadFinding) → AreLoadFindings plan (timing_of plan) others → (k : ℕ) → Contains others (NeedTooOld k)
     → (need : NeedPlan) × (slice_get plan.needs.items k ≡ Some need) × (is_some need.within ≡ true)
 unfolding timing_of
@@ -118,8 +118,8 @@ old_need plan others are k found = go plan.timing are
     go : (o : Option Timing) → AreLoadFindings plan (option_map (with_claims plan) o) others
         → (need : NeedPlan) × (slice_get plan.needs.items k ≡ Some need) × (is_some need.within ≡ true)
     go None none = absurd (none_of (NeedTooOld k) (subst (λ l. Contains l (NeedTooOld k)) none found))
-    go (Some timing) (told, ds, asks, is) =
-        let its = is_old (with_claims plan timing) plan ds (total_load (with_claims plan timing) (asked_of (with_claims plan timing) plan told)) k
+    go (Some timing) (reported, ds, asks, is) =
+        let its = is_old (with_claims plan timing) plan ds (total_load (with_claims plan timing) (asked_of (with_claims plan timing) plan reported)) k
         (subst (λ l. Contains l (NeedTooOld k)) is found) in
         (its.need, its.at, ap is_some its.within)
 
@@ -177,16 +177,16 @@ module _ (line : ProductLine) (v w : List ℕ) (is_v : IsVariant line.choices.it
     by_timing : (o : Option Timing) → AreLoadFindings part (option_map (with_claims part) o) others
         → AreLoadFindings whole (option_map (with_claims whole) o) there_others → Contains there_others (NeedTooOld l)
     by_timing None none_here none_there = absurd (none_of (NeedTooOld k) (subst (λ l. Contains l (NeedTooOld k)) none_here found))
-    by_timing (Some timing) (told, ds, asks, is_here) (stays, es, asks_there, is_there) =
-        let its = is_old (with_claims part timing) part ds (total_load (with_claims part timing) (asked_of (with_claims part timing) part told)) k
+    by_timing (Some timing) (reported, ds, asks, is_here) (stays, es, asks_there, is_there) =
+        let its = is_old (with_claims part timing) part ds (total_load (with_claims part timing) (asked_of (with_claims part timing) part reported)) k
         (subst (λ l. Contains l (NeedTooOld k)) is_here found) in
         let same : its.need ≡ e = same_Some its.need e (sym its.at ∙ at_k) in
         let is_part = is_part_at line v w by part whole here there in
         let old = too_old_there p part whole is_part good (with_claims part timing) (unplanned_of whole timing) (few_unplanned whole timing)
-        (unplanned_there p part whole is_part timing) told stays ds es asks asks_there e f come its.limit met_there
+        (unplanned_there p part whole is_part timing) reported stays ds es asks asks_there e f come its.limit met_there
         (subst (λ n. is_too_old (with_claims part timing) part.requests.items part.flows.items ds n its.limit ≡ true) same its.old) in
         subst (λ xs. Contains xs (NeedTooOld l)) (sym is_there)
-        (told_old (with_claims whole timing) whole es (total_load (with_claims whole timing) (asked_of (with_claims whole timing) whole stays)) l
+        (reported_old (with_claims whole timing) whole es (total_load (with_claims whole timing) (asked_of (with_claims whole timing) whole stays)) l
         (record {
           need = f;
           at = at_l;

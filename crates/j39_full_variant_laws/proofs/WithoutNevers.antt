@@ -1,5 +1,6 @@
 -- The full variants of a line without its nevers suffice.
-use Rattle.std.proofs.Common.{◌≡◌, ℕ, Bool, true, false, not, ◌&&◌, ◌||◌, ◌==◌, List, refl, sym, ◌∙◌, ap, inl, inr}
+use Rattle.std.specs.declared.alloc.Global.{Global}
+use Rattle.std.proofs.Common.{◌≡◌, ℕ, Bool, true, false, not, ◌&&◌, ◌||◌, ◌==◌, List, Vec, refl, sym, ◌∙◌, ap, inl, inr, arith}
 use Rattle.std.proofs.lemmas.Bool.{cases_Bool, true≢false}
 use Rattle.j39_findings.specs.declared.checking.finding.Finding.{Finding}
 use Rattle.j39_findings.specs.declared.checking.finding.Finding.TheVariants.{SameName, SameFixedAddress, TooFewAddresses, BadPgn, SamePgn, SignalWidth}
@@ -11,14 +12,15 @@ use Rattle.j39_load.specs.declared.findings.load_finding.LoadFinding.{LoadFindin
 use Rattle.j39_load.specs.declared.findings.load_finding.LoadFinding.TheVariants.{NoPeriod, Overload, LateFlow, NeedTooOld}
 use Rattle.j39_network.specs.declared.plan.Plan.{Plan}
 use Rattle.j39_variants.specs.VariantPlans.{IsVariantPlan}
+use Rattle.j39_variants.specs.declared.line.Alternative.{Alternative}
 use Rattle.j39_variants.specs.declared.line.ProductLine.{ProductLine}
 use Rattle.j39_line_findings.specs.Conditions.{goes_by_conditions}
-use Rattle.j39_line_findings.specs.FullVariants.{line_with}
+use Rattle.j39_line_findings.specs.FullVariants.{line_with, nevers_with}
 use Rattle.j39_line_findings.specs.InFile.{rank_of}
 use Rattle.j39_line_findings.specs.PossibleVariants.{IsPossible}
 use Rattle.j39_line_findings.specs.LineFound.{AreVariantFindings, IsFound}
 use Rattle.j39_line_findings.specs.There.{IsWhatIsThere}
-use Rattle.j39_line_findings.specs.Told.{has_end_in_pool}
+use Rattle.j39_line_findings.specs.Reported.{has_end_in_pool}
 use Rattle.j39_line_findings.specs.declared.full.LineNevers.{LineNevers}
 use Rattle.j39_line_findings.specs.declared.full.LineNevers.TheVariants.{Kept, LeftOut}
 use Rattle.j39_line_findings.specs.declared.line_finding.LineFinding.{LineFinding}
@@ -32,75 +34,43 @@ use Rattle.j39_full_variant_laws.proofs.OldNeeds.{old_found}
 
 -- ---- nothing but what is possible goes by what isn't built
 
-module _ (line : ProductLine) (nevers : LineNevers) (v : List ℕ) where
+-- of a line that isn't built in other boxes
+module _ (line : ProductLine) (nevers : Vec (Vec Alternative Global) Global) (v : List ℕ) where
   abbrev others : ProductLine
-  others = line_with nevers line
+  others = record line { nevers = nevers }
 
-  pub plan_to : (plan : Plan) → IsVariantPlan line v plan → IsVariantPlan others v plan
-  plan_to plan is = record {
-    has_keep_free = is.has_keep_free;
-    has_strangers = is.has_strangers;
-    has_live = is.has_live;
-    has_timing = is.has_timing;
-    has_units = is.has_units;
-    has_groups = is.has_groups;
-    has_flows = is.has_flows;
-    has_needs = is.has_needs;
-    has_requests = is.has_requests;
-  }
+  plan_of_others : (plan : Plan) → IsVariantPlan line v plan → IsVariantPlan others v plan
+  plan_of_others plan is = grind (arith, is)
 
-  pub plan_back : (plan : Plan) → IsVariantPlan others v plan → IsVariantPlan line v plan
-  plan_back plan is = record {
-    has_keep_free = is.has_keep_free;
-    has_strangers = is.has_strangers;
-    has_live = is.has_live;
-    has_timing = is.has_timing;
-    has_units = is.has_units;
-    has_groups = is.has_groups;
-    has_flows = is.has_flows;
-    has_needs = is.has_needs;
-    has_requests = is.has_requests;
-  }
+  there_in_others : (there : WhatIsThere) → IsWhatIsThere line v there → IsWhatIsThere others v there
+  there_in_others there is = grind (arith, is)
 
-  pub there_to : (there : WhatIsThere) → IsWhatIsThere line v there → IsWhatIsThere others v there
-  there_to there is = record {
-    has_units = is.has_units;
-    has_groups = is.has_groups;
-    has_flows = is.has_flows;
-    has_needs = is.has_needs;
-    has_requests = is.has_requests;
-  }
-
-  there_back : (there : WhatIsThere) → IsWhatIsThere others v there → IsWhatIsThere line v there
-  there_back there is = record {
-    has_units = is.has_units;
-    has_groups = is.has_groups;
-    has_flows = is.has_flows;
-    has_needs = is.has_needs;
-    has_requests = is.has_requests;
-  }
-
-  pub findings_to : (findings : List LineFinding) → AreVariantFindings line v findings → AreVariantFindings others v findings
-  findings_to findings are = record {
+  findings_of_others : (findings : List LineFinding) → AreVariantFindings line v findings → AreVariantFindings others v findings
+  findings_of_others findings are = record {
     there = are.there;
-    is_there = there_to are.there are.is_there;
+    is_there = there_in_others are.there are.is_there;
     plan = are.plan;
-    is_plan = plan_to are.plan are.is_plan;
+    is_plan = plan_of_others are.plan are.is_plan;
     others = are.others;
     are_others = are.are_others;
     are_all = are.are_all;
   }
 
-  pub findings_back : (findings : List LineFinding) → AreVariantFindings others v findings → AreVariantFindings line v findings
-  findings_back findings are = record {
-    there = are.there;
-    is_there = there_back are.there are.is_there;
-    plan = are.plan;
-    is_plan = plan_back are.plan are.is_plan;
-    others = are.others;
-    are_others = are.are_others;
-    are_all = are.are_all;
-  }
+module _ (line : ProductLine) (nevers : LineNevers) (v : List ℕ) where
+  pub plan_to : (plan : Plan) → IsVariantPlan line v plan → IsVariantPlan (line_with nevers line) v plan
+  plan_to = plan_of_others line (nevers_with nevers line.nevers) v
+
+  pub plan_back : (plan : Plan) → IsVariantPlan (line_with nevers line) v plan → IsVariantPlan line v plan
+  plan_back = plan_of_others (line_with nevers line) line.nevers v
+
+  pub there_to : (there : WhatIsThere) → IsWhatIsThere line v there → IsWhatIsThere (line_with nevers line) v there
+  there_to = there_in_others line (nevers_with nevers line.nevers) v
+
+  pub findings_to : (findings : List LineFinding) → AreVariantFindings line v findings → AreVariantFindings (line_with nevers line) v findings
+  findings_to = findings_of_others line (nevers_with nevers line.nevers) v
+
+  pub findings_back : (findings : List LineFinding) → AreVariantFindings (line_with nevers line) v findings → AreVariantFindings line v findings
+  findings_back = findings_of_others (line_with nevers line) line.nevers v
 
 pub possible_to : (line : ProductLine) (nevers : LineNevers) (v : List ℕ) → IsPossible line v → IsPossible (line_with nevers line) v
 possible_to line Kept v is = record { is_variant = is.is_variant; possible = is.possible }
@@ -115,7 +85,7 @@ change_nothing line nevers v = record {
   possible = possible_to line nevers v;
 }
 
--- ---- whether a finding counts what is there is told by its number and its place
+-- ---- whether a finding counts what is there is reported by its number and its place
 
 abbrev goes_by : ProductLine → Rank → Bool
 goes_by line rank = not (((rank.number == 3) || ((rank.number == 17) || ((rank.number == 18) || (rank.number == 20)))) || ((rank.number == 28) && has_end_in_pool line rank.first))
@@ -154,7 +124,7 @@ by_rank line (OfLoad (LateFlow f)) = refl
 by_rank line (OfLoad (NeedTooOld d)) = refl
 
 -- what doesn't go by conditions doesn't come by absence, but for ages
-plan_present : (line : ProductLine) (finding : Finding) → goes_by_conditions line (OfPlan finding) ≡ false → is_by_absence (OfPlan finding) ≡ false
+pub plan_present : (line : ProductLine) (finding : Finding) → goes_by_conditions line (OfPlan finding) ≡ false → is_by_absence (OfPlan finding) ≡ false
 plan_present line (PrivateUnsent g) counts = absurd (true≢false counts)
 plan_present line (NeedUnmet n) counts = absurd (true≢false counts)
 plan_present line (RequestUnanswered r) counts = absurd (true≢false counts)

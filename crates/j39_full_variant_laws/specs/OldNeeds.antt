@@ -6,7 +6,7 @@ use Rattle.j39_load.specs.declared.findings.load_finding.LoadFinding.TheVariants
 use Rattle.j39_network.specs.declared.plan.need_plan.NeedPlan.{NeedPlan}
 use Rattle.j39_variants.specs.declared.line.ProductLine.{ProductLine}
 use Rattle.j39_line_findings.specs.PossibleVariants.{IsPossible}
-use Rattle.j39_line_findings.specs.LineFound.{AreVariantFindings, IsFindingTold, IsFound}
+use Rattle.j39_line_findings.specs.LineFound.{AreVariantFindings, IsFindingReported, IsFound}
 use Rattle.j39_line_findings.specs.MissedNeeds.{is_need_asked_for}
 use Rattle.j39_line_findings.specs.declared.line_finding.LineFinding.{LineFinding}
 use Rattle.j39_line_findings.specs.declared.line_finding.LineFinding.TheVariants.{OfPlan, OfLoad}
@@ -51,14 +51,14 @@ OldNeedsAreFoundOfFull line = (v : List ℕ) → IsPossible line v → (here : L
     → IsFound here (OfLoad (NeedTooOld d)) → AsksForAge line d × ((w : List ℕ) × IsPossibleFullFor line d w
     × ((there : List LineFinding) → AreVariantFindings line w there → HasNoBadNumber there → IsFound there (OfLoad (NeedTooOld d))))
 
--- ---- what is told
+-- ---- what is reported
 
--- of each need that asks for an age it is told of each variant that is full for it
-abbrev pub IsToldOfFullForNeeds : ProductLine → List Witnessed → Type 0
-IsToldOfFullForNeeds line told = (d : ℕ) → AsksForAge line d → (w : List ℕ) → IsPossibleFullFor line d w → (there : List LineFinding)
-    × AreVariantFindings line w there × HasNoBadNumber there × (IsFound there (OfLoad (NeedTooOld d)) → IsFindingTold told (OfLoad (NeedTooOld d)))
+-- of each need that asks for an age it is reported of each variant that is full for it
+abbrev pub IsReportedOfFullForNeeds : ProductLine → List Witnessed → Type 0
+IsReportedOfFullForNeeds line reported = (d : ℕ) → AsksForAge line d → (w : List ℕ) → IsPossibleFullFor line d w → (there : List LineFinding)
+    × AreVariantFindings line w there × HasNoBadNumber there × (IsFound there (OfLoad (NeedTooOld d)) → IsFindingReported reported (OfLoad (NeedTooOld d)))
 
 -- then it is of each possible variant
-abbrev pub OldNeedsToldOfFullAreToldOfAll : ProductLine → Type 0
-OldNeedsToldOfFullAreToldOfAll line = (told : List Witnessed) → IsToldOfFullForNeeds line told → (v : List ℕ) → IsPossible line v → (here : List LineFinding)
-    → AreVariantFindings line v here → (d : ℕ) → IsFound here (OfLoad (NeedTooOld d)) → IsFindingTold told (OfLoad (NeedTooOld d))
+abbrev pub OldNeedsReportedOfFullAreReportedOfAll : ProductLine → Type 0
+OldNeedsReportedOfFullAreReportedOfAll line = (reported : List Witnessed) → IsReportedOfFullForNeeds line reported → (v : List ℕ) → IsPossible line v → (here : List LineFinding)
+    → AreVariantFindings line v here → (d : ℕ) → IsFound here (OfLoad (NeedTooOld d)) → IsFindingReported reported (OfLoad (NeedTooOld d))

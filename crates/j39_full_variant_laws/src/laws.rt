@@ -1,8 +1,8 @@
-//! What is told of the full variants of a line of vehicles is told of all possible ones.
+//! What is reported of the full variants of a line of vehicles is reported of all possible ones.
 ghost use Rattle.j39_variants.specs.declared.line.ProductLine.{ProductLine};
 ghost use Rattle.j39_line_findings.specs.declared.full.LineNevers.{LineNevers};
-ghost use Rattle.j39_full_variant_laws.specs.FoundOfFull.{FullVariantsHaveWhatIsFound, ToldOfFullIsToldOfAll};
-ghost use Rattle.j39_full_variant_laws.specs.OldNeeds.{EachHasFullForNeed, OldNeedsAreFoundOfFull, OldNeedsToldOfFullAreToldOfAll};
+ghost use Rattle.j39_full_variant_laws.specs.FoundOfFull.{FullVariantsHaveWhatIsFound, ReportedOfFullIsReportedOfAll};
+ghost use Rattle.j39_full_variant_laws.specs.OldNeeds.{EachHasFullForNeed, OldNeedsAreFoundOfFull, OldNeedsReportedOfFullAreReportedOfAll};
 ghost use Rattle.j39_full_variant_laws.specs.WithoutNevers.{FullVariantsCountAll, NeversChangeNothingBuilt};
 
 /// What is found of a possible variant comes by absence, or is found of a possible one that takes full alternatives
@@ -12,9 +12,9 @@ pub fn full_variants_have_what_is_found()
     ensures { (line : ProductLine) → FullVariantsHaveWhatIsFound line }
 {}
 
-/// So what is told of each of these is told of each possible variant, with at least its number of addresses or bits.
-pub fn told_of_full_variants_is_told_of_all()
-    ensures { (line : ProductLine) → ToldOfFullIsToldOfAll line }
+/// So what is reported of each of these is reported of each possible variant, with at least its number of addresses or bits.
+pub fn reported_of_full_variants_is_reported_of_all()
+    ensures { (line : ProductLine) → ReportedOfFullIsReportedOfAll line }
 {}
 
 /// Each possible variant in which a need is asked for is covered by a possible one that takes alternatives alone that are
@@ -29,13 +29,13 @@ pub fn old_needs_are_found_of_full_variants()
     ensures { (line : ProductLine) → OldNeedsAreFoundOfFull line }
 {}
 
-/// So where it is told of each variant that is full for the need, it is told of each possible one.
-pub fn old_needs_told_of_full_variants_are_told_of_all()
-    ensures { (line : ProductLine) → OldNeedsToldOfFullAreToldOfAll line }
+/// So where it is reported of each variant that is full for the need, it is reported of each possible one.
+pub fn old_needs_reported_of_full_variants_are_reported_of_all()
+    ensures { (line : ProductLine) → OldNeedsReportedOfFullAreReportedOfAll line }
 {}
 
-/// A variant has the same plan and findings whatever isn't built, and is possible where all is: so what is told of the full
-/// variants of a line without its nevers is told of each of its possible variants.
+/// A variant has the same plan and findings whatever isn't built, and is possible where all is: so what is reported of the full
+/// variants of a line without its nevers is reported of each of its possible variants.
 pub fn nevers_change_nothing_that_is_built()
     ensures { NeversChangeNothingBuilt }
 {}

@@ -1,4 +1,4 @@
--- Products and sums of which at most so much is told.
+-- Products and sums of which at most so much is reported.
 use Rattle.std.proofs.Common.{◌≡◌, ℕ, zero, suc, ◌+◌, ◌*◌, ◌<◌, List, [], ◌∷◌, ◌++◌, inl, inr, map, min, sum, refl, sym, ap, ◌∙◌, arith, mul_assoc, mul-suc}
 use Rattle.std.specs.List.{range_with_len}
 use Rattle.std.proofs.lemmas.Bool.{cases_lt}

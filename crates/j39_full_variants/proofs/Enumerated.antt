@@ -1,16 +1,17 @@
 -- The variants that take alternatives of one of some sets alone are made choice by choice.
 use Rattle.std.proofs.Common.{◌≡◌, ℕ, zero, suc, ◌+◌, ◌<◌, List, [], ◌∷◌, ◌++◌, Bool, true, filter, get_or, inl, inr, drop, length, map, refl, sym, ap, subst, ◌∙◌, arith, append_assoc}
 use Rattle.std.specs.List.{list_any, range_with_len}
-use Rattle.std.proofs.lemmas.Bool.{cases_Bool, false≢true}
+use Rattle.std.proofs.lemmas.Bool.{cases_Bool}
 use Rattle.std.proofs.lemmas.List.{append-nil}
 use Rattle.std.proofs.Math.Seq.{drop-cons}
 use Rattle.j39_variants.specs.Variants.{IsEarlier, IsVariant}
 use Rattle.j39_variants.specs.declared.line.Alternative.{Alternative}
 use Rattle.j39_variants.specs.declared.line.Choice.{Choice}
 use Rattle.j39_line_findings.specs.AllVariants.{IsOneOf, longer, with_each}
-use Rattle.j39_line_findings.proofs.EveryVariant.{Fits, fits_from, fits_to, from_range, longer_from, longer_has, one_cases}
+use Rattle.j39_line_findings.proofs.EveryVariant.{Fits, fits_from, fits_to, from_range, longer_from, longer_has}
+use Rattle.j39_line_findings.proofs.OneOf.{one_cases}
 use Rattle.j39_full_variants.specs.SetVariants.{AreEarliestFirst, AreVariantsOfSets, is_of_some_set, takes_alone}
-use Rattle.j39_full_variants.proofs.Filters.{kept_values}
+use Rattle.j39_full_variants.proofs.Filters.{kept_one, kept_values, one_kept}
 use Rattle.j39_full_variants.proofs.Sets.{any_first, any_values}
 
 -- those that begin a variant of one of the sets
@@ -25,29 +26,6 @@ abbrev pub begun : List (List Alternative) → List Choice → List (List ℕ)
 begun sets choices = begun_behind sets (keep sets ([] ∷ [])) choices
 
 -- ---- what is kept
-
-pub kept_one : (p : List ℕ → Bool) (vs : List (List ℕ)) (v : List ℕ) → IsOneOf vs v → p v ≡ true → IsOneOf (filter p vs) v
-kept_one p [] v at is = absurd at
-kept_one p (w ∷ vs) v at is = elim (cases_Bool (p w)) [
-  | inl here ↦ rw here (elim at [
-    | inl same ↦ inl same
-    | inr more ↦ inr (kept_one p vs v more is)
-  ])
-  | inr none ↦ rw none (elim at [
-    | inl same ↦ absurd (false≢true (sym none ∙ ap p same ∙ is))
-    | inr more ↦ kept_one p vs v more is
-  ])
-]
-
-pub one_kept : (p : List ℕ → Bool) (vs : List (List ℕ)) (v : List ℕ) → IsOneOf (filter p vs) v → IsOneOf vs v × (p v ≡ true)
-one_kept p [] v at = absurd at
-one_kept p (w ∷ vs) v at = elim (cases_Bool (p w)) [
-  | inl here ↦ elim (let is : IsOneOf (w ∷ filter p vs) v = rw here at at in is) [
-    | inl same ↦ (inl same, subst (λ x. p x ≡ true) same here)
-    | inr more ↦ let rest = one_kept p vs v more in (inr rest.0, rest.1)
-  ]
-  | inr none ↦ let rest = one_kept p vs v (rw none at at) in (inr rest.0, rest.1)
-]
 
 pub kept_in_order : (p : List ℕ → Bool) (vs : List (List ℕ)) → AreEarliestFirst vs → AreEarliestFirst (filter p vs)
 kept_in_order p [] is = tt

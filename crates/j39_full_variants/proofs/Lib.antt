@@ -1,4 +1,4 @@
-pub mod CountedTold
+pub mod CountedReported
 pub mod Counts
 pub mod Enumerated
 pub mod Filters

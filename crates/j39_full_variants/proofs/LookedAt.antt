@@ -7,9 +7,9 @@ use Rattle.j39_variants.specs.declared.line.ProductLine.{ProductLine}
 use Rattle.j39_line_findings.specs.declared.full.FullAlternatives.{FullAlternatives}
 use Rattle.j39_full_variants.specs.FullSets.{AreLookedAt, full_sets}
 use Rattle.j39_full_variants.specs.SetVariants.{AreVariantsOfSets, AreWidest, has_each_choice, is_of_some_set, with_each_choice}
-use Rattle.j39_full_variants.proofs.Enumerated.{kept_in_order, kept_one, one_kept}
+use Rattle.j39_full_variants.proofs.Enumerated.{kept_in_order}
 use Rattle.j39_full_variants.proofs.Sets.{has_each, one_taken, taken_one, takes_wider}
-use Rattle.j39_full_variants.proofs.Widest.{among_kept, kept_among}
+use Rattle.j39_full_variants.proofs.Filters.{kept_one, one_kept}
 
 -- the sets that count have all variants of the sets
 pub any_widest : (choices : List Choice) (sets kept : List (List Alternative)) (v : List ℕ) → AreWidest (with_each_choice choices sets) kept
@@ -17,14 +17,14 @@ pub any_widest : (choices : List Choice) (sets kept : List (List Alternative)) (
 any_widest choices sets kept v widest is any =
     let one = one_taken sets v any in
     let each = has_each choices one.0 v is.of_each one.2 in
-    let wide = widest.wide one.0 (among_kept (has_each_choice choices) sets one.0 one.1 each) in
+    let wide = widest.wide one.0 (kept_one (has_each_choice choices) sets one.0 one.1 each) in
     taken_one kept wide.0 v wide.1 (takes_wider one.0 wide.0 0 v wide.2 one.2)
 
 pub any_kept : (choices : List Choice) (sets kept : List (List Alternative)) (v : List ℕ) → AreWidest (with_each_choice choices sets) kept
     → is_of_some_set kept v ≡ true → is_of_some_set sets v ≡ true
 any_kept choices sets kept v widest any =
     let one = one_taken kept v any in
-    taken_one sets one.0 v (kept_among (has_each_choice choices) sets one.0 (widest.sound one.0 one.1)).0 one.2
+    taken_one sets one.0 v (one_kept (has_each_choice choices) sets one.0 (widest.sound one.0 one.1)).0 one.2
 
 pub are_looked_at : (line : ProductLine) (full : FullAlternatives) (kept : List (List Alternative)) (vs : List (List ℕ))
     → AreVariantsOfSets line.choices.items kept vs → AreWidest (with_each_choice line.choices.items (full_sets line full)) kept

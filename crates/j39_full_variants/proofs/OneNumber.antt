@@ -13,7 +13,7 @@ use Rattle.j39_line_findings.specs.declared.full.FullAlternatives.{FullAlternati
 use Rattle.j39_full_variants.specs.SetVariantLaws.{HasOneNumber}
 use Rattle.j39_full_variants.specs.SetVariants.{AreNotNested, AreWidest, IsSetAmong, set_has, is_set_inside, product_of, variants_of_set}
 use Rattle.j39_full_variants.proofs.Sets.{carried, inside_through}
-use Rattle.j39_full_variants.proofs.Widest.{among_cases, among_left, among_right}
+use Rattle.j39_line_findings.proofs.OneOf.{one_cases, one_left, one_right}
 
 -- two sets have the same alternatives
 record AreSame (s t : List Alternative) : Type 0 where
@@ -52,9 +52,9 @@ split (s ∷ sets) t (inr more) = let r = split sets t more in record { left = s
 apart_without : (xs ys : List (List Alternative)) (t : List Alternative) → AreNotNested (xs ++ t ∷ ys) → AreNotNested (xs ++ ys)
 apart_without [] ys t is = is.1
 apart_without (x ∷ xs) ys t is = (
-  λ u at. is.0 u (elim (among_cases xs ys u at) [
-    | inl left ↦ among_left xs (t ∷ ys) u left
-    | inr right ↦ among_right xs (t ∷ ys) u (inr right)
+  λ u at. is.0 u (elim (one_cases xs ys u at) [
+    | inl left ↦ one_left xs (t ∷ ys) u left
+    | inr right ↦ one_right xs (t ∷ ys) u (inr right)
   ]),
   apart_without xs ys t is.1,
 )
@@ -62,7 +62,7 @@ apart_without (x ∷ xs) ys t is = (
 -- the others aren't inside it
 others_outside : (xs ys : List (List Alternative)) (t u : List Alternative) → AreNotNested (xs ++ t ∷ ys) → IsSetAmong (xs ++ ys) u → is_set_inside u t ≡ false
 others_outside [] ys t u is at = (is.0 u at).1
-others_outside (x ∷ xs) ys t u is (inl same) = subst (λ v. is_set_inside v t ≡ false) same (is.0 t (among_right xs (t ∷ ys) t (inl refl))).0
+others_outside (x ∷ xs) ys t u is (inl same) = subst (λ v. is_set_inside v t ≡ false) same (is.0 t (one_right xs (t ∷ ys) t (inl refl))).0
 others_outside (x ∷ xs) ys t u is (inr more) = others_outside xs ys t u is.1 more
 
 sum_split : (f : List Alternative → ℕ) (xs ys : List (List Alternative)) (t : List Alternative) → sum (map f (xs ++ t ∷ ys)) ≡ f t + sum (map f (xs ++ ys))
@@ -84,18 +84,18 @@ one_sum f alike (s ∷ these) those one other to back =
     let other_split : AreNotNested (p.left ++ t ∷ p.right) = subst AreNotNested p.whole other in
     let to_rest : HasEach these rest = λ u at.
     let m = to u (inr at) in
-    elim (among_cases p.left (t ∷ p.right) m.0 (subst (λ xs. IsSetAmong xs m.0) p.whole m.1)) [
-      | inl left ↦ (m.0, among_left p.left p.right m.0 left, m.2)
+    elim (one_cases p.left (t ∷ p.right) m.0 (subst (λ xs. IsSetAmong xs m.0) p.whole m.1)) [
+      | inl left ↦ (m.0, one_left p.left p.right m.0 left, m.2)
       | inr (inl same) ↦
           let inside : is_set_inside u s ≡ true =
           inside_through u m.0 s m.2.to (subst (λ x. is_set_inside x s ≡ true) same first.2.back) in
           absurd (false≢true (sym (one.0 u at).1 ∙ inside))
-      | inr (inr right) ↦ (m.0, among_right p.left p.right m.0 right, m.2)
+      | inr (inr right) ↦ (m.0, one_right p.left p.right m.0 right, m.2)
     ] in
     let back_rest : HasEach rest these = λ u at.
-    let whole_at : IsSetAmong (p.left ++ t ∷ p.right) u = elim (among_cases p.left p.right u at) [
-      | inl left ↦ among_left p.left (t ∷ p.right) u left
-      | inr right ↦ among_right p.left (t ∷ p.right) u (inr right)
+    let whole_at : IsSetAmong (p.left ++ t ∷ p.right) u = elim (one_cases p.left p.right u at) [
+      | inl left ↦ one_left p.left (t ∷ p.right) u left
+      | inr right ↦ one_right p.left (t ∷ p.right) u (inr right)
     ] in
     let m = back u (subst (λ xs. IsSetAmong xs u) (sym p.whole) whole_at) in
     elim m.1 [

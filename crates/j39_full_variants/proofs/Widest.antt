@@ -1,60 +1,20 @@
 -- Sets are added one after the other, where they count beside the others.
-use Rattle.std.proofs.Common.{◌≡◌, List, [], ◌∷◌, ◌++◌, Bool, true, false, filter, inl, inr, map, not, refl, sym, ap, subst, ◌⊎◌, ◌∙◌}
+use Rattle.std.proofs.Common.{◌≡◌, List, [], ◌∷◌, ◌++◌, Bool, true, false, filter, inl, inr, map, not, refl, sym, subst}
 use Rattle.std.specs.List.{list_any}
 use Rattle.std.proofs.lemmas.Bool.{cases_Bool, false≢true, true≢false}
 use Rattle.j39_variants.specs.declared.line.Alternative.{Alternative}
 use Rattle.j39_variants.specs.declared.line.Choice.{Choice}
+use Rattle.j39_line_findings.proofs.OneOf.{one_cases, one_left, one_right}
 use Rattle.j39_full_variants.specs.SetVariants.{AreNotNested, AreWidest, IsSetAmong, has_each_choice, is_set_inside, with_each_choice}
-use Rattle.j39_full_variants.proofs.Filters.{kept_values, last_kept, last_left}
+use Rattle.j39_full_variants.proofs.Filters.{kept_one, kept_values, last_kept, last_left, one_kept}
 use Rattle.j39_full_variants.proofs.Sets.{inside_itself, inside_through}
-
-pub among_left : (xs ys : List (List Alternative)) (s : List Alternative) → IsSetAmong xs s → IsSetAmong (xs ++ ys) s
-among_left [] ys s at = absurd at
-among_left (x ∷ xs) ys s (inl same) = inl same
-among_left (x ∷ xs) ys s (inr more) = inr (among_left xs ys s more)
-
-pub among_right : (xs ys : List (List Alternative)) (s : List Alternative) → IsSetAmong ys s → IsSetAmong (xs ++ ys) s
-among_right [] ys s at = at
-among_right (x ∷ xs) ys s at = inr (among_right xs ys s at)
-
-pub among_cases : (xs ys : List (List Alternative)) (s : List Alternative) → IsSetAmong (xs ++ ys) s → IsSetAmong xs s ⊎ IsSetAmong ys s
-among_cases [] ys s at = inr at
-among_cases (x ∷ xs) ys s (inl same) = inl (inl same)
-among_cases (x ∷ xs) ys s (inr more) = elim (among_cases xs ys s more) [
-  | inl left ↦ inl (inr left)
-  | inr right ↦ inr right
-]
-
-pub among_kept : (p : List Alternative → Bool) (xs : List (List Alternative)) (s : List Alternative) → IsSetAmong xs s → p s ≡ true → IsSetAmong (filter p xs) s
-among_kept p [] s at is = absurd at
-among_kept p (x ∷ xs) s at is = elim (cases_Bool (p x)) [
-  | inl here ↦ rw here (elim at [
-    | inl same ↦ inl same
-    | inr more ↦ inr (among_kept p xs s more is)
-  ])
-  | inr none ↦ rw none (elim at [
-    | inl same ↦ absurd (false≢true (sym none ∙ ap p same ∙ is))
-    | inr more ↦ among_kept p xs s more is
-  ])
-]
-
-pub kept_among : (p : List Alternative → Bool) (xs : List (List Alternative)) (s : List Alternative) → IsSetAmong (filter p xs) s
-    → IsSetAmong xs s × (p s ≡ true)
-kept_among p [] s at = absurd at
-kept_among p (x ∷ xs) s at = elim (cases_Bool (p x)) [
-  | inl here ↦ elim (let is : IsSetAmong (x ∷ filter p xs) s = rw here at at in is) [
-    | inl same ↦ (inl same, subst (λ y. p y ≡ true) same here)
-    | inr more ↦ let rest = kept_among p xs s more in (inr rest.0, rest.1)
-  ]
-  | inr none ↦ let rest = kept_among p xs s (rw none at at) in (inr rest.0, rest.1)
-]
 
 -- ---- none inside another
 
 kept_apart : (p : List Alternative → Bool) (xs : List (List Alternative)) → AreNotNested xs → AreNotNested (filter p xs)
 kept_apart p [] is = tt
 kept_apart p (x ∷ xs) is = elim (cases_Bool (p x)) [
-  | inl here ↦ rw here (λ s at. is.0 s (kept_among p xs s at).0, kept_apart p xs is.1)
+  | inl here ↦ rw here (λ s at. is.0 s (one_kept p xs s at).0, kept_apart p xs is.1)
   | inr none ↦ rw none (kept_apart p xs is.1)
 ]
 
@@ -62,7 +22,7 @@ one_more_apart : (xs : List (List Alternative)) (n : List Alternative) → AreNo
     → ((s : List Alternative) → IsSetAmong xs s → (is_set_inside s n ≡ false) × (is_set_inside n s ≡ false)) → AreNotNested (xs ++ n ∷ [])
 one_more_apart [] n is new = (λ s at. absurd at, tt)
 one_more_apart (x ∷ xs) n is new = (
-  λ s at. elim (among_cases xs (n ∷ []) s at) [
+  λ s at. elim (one_cases xs (n ∷ []) s at) [
     | inl left ↦ is.0 s left
     | inr (inl same) ↦ subst (λ t. (is_set_inside x t ≡ false) × (is_set_inside t x ≡ false)) same (new x (inl refl))
     | inr (inr none) ↦ absurd none
@@ -95,8 +55,8 @@ in_some f n (x ∷ xs) is = elim (cases_Bool (is_set_inside n (f x))) [
 more_inside : (sets kept : List (List Alternative)) (n t : List Alternative) → AreWidest sets kept → IsSetAmong kept t → is_set_inside n t ≡ true
     → AreWidest (sets ++ n ∷ []) kept
 more_inside sets kept n t is at inside = record {
-  sound = λ s here. among_left sets (n ∷ []) s (is.sound s here);
-  wide = λ s here. elim (among_cases sets (n ∷ []) s here) [
+  sound = λ s here. one_left sets (n ∷ []) s (is.sound s here);
+  wide = λ s here. elim (one_cases sets (n ∷ []) s here) [
     | inl old ↦ is.wide s old
     | inr (inl same) ↦ (t, at, subst (λ u. is_set_inside u t ≡ true) same inside)
     | inr (inr none) ↦ absurd none
@@ -110,20 +70,20 @@ more_outside : (sets kept : List (List Alternative)) (n : List Alternative) → 
 more_outside sets kept n is none =
     let left : List (List Alternative) = filter (λ s. not (is_set_inside s n)) kept in
     record {
-      sound = λ s at. elim (among_cases left (n ∷ []) s at) [
-        | inl old ↦ among_left sets (n ∷ []) s (is.sound s (kept_among (λ u. not (is_set_inside u n)) kept s old).0)
-        | inr new ↦ among_right sets (n ∷ []) s new
+      sound = λ s at. elim (one_cases left (n ∷ []) s at) [
+        | inl old ↦ one_left sets (n ∷ []) s (is.sound s (one_kept (λ u. not (is_set_inside u n)) kept s old).0)
+        | inr new ↦ one_right sets (n ∷ []) s new
       ];
-      wide = λ s at. elim (among_cases sets (n ∷ []) s at) [
+      wide = λ s at. elim (one_cases sets (n ∷ []) s at) [
         | inl old ↦
             let w = is.wide s old in
             elim (cases_Bool (is_set_inside w.0 n)) [
-              | inl inside ↦ (n, among_right left (n ∷ []) n (inl refl), inside_through s w.0 n w.2 inside)
-              | inr not_so ↦ (w.0, among_left left (n ∷ []) w.0 (among_kept (λ u. not (is_set_inside u n)) kept w.0 w.1 (rw not_so refl)), w.2)
+              | inl inside ↦ (n, one_right left (n ∷ []) n (inl refl), inside_through s w.0 n w.2 inside)
+              | inr not_so ↦ (w.0, one_left left (n ∷ []) w.0 (kept_one (λ u. not (is_set_inside u n)) kept w.0 w.1 (rw not_so refl)), w.2)
             ]
         | inr new ↦ (
           n,
-          among_right left (n ∷ []) n (inl refl),
+          one_right left (n ∷ []) n (inl refl),
           elim new [
             | inl same ↦ subst (λ u. is_set_inside u n ≡ true) same (inside_itself n)
             | inr nothing ↦ absurd nothing
@@ -132,7 +92,7 @@ more_outside sets kept n is none =
       ];
       apart =
           one_more_apart left n (kept_apart (λ u. not (is_set_inside u n)) kept is.apart) (λ s at.
-          let k = kept_among (λ u. not (is_set_inside u n)) kept s at in (
+          let k = one_kept (λ u. not (is_set_inside u n)) kept s at in (
             elim (cases_Bool (is_set_inside s n)) [
               | inl inside ↦ absurd (false≢true (rw inside at k.1))
               | inr not_so ↦ not_so

@@ -32,7 +32,7 @@ takes_full_for line full v _ = takes_alone full.all.items v
 abbrev pub is_looked_for : ProductLine → FullAlternatives → List ℕ → LineFinding → Bool
 is_looked_for line full v finding = not (goes_by_conditions line finding) && takes_full_for line full v finding
 
--- ---- what is told of these variants
+-- ---- what is reported of these variants
 
 -- by the variant at a place
 abbrev pub counted_at : ℕ → LineFinding → Witnessed
@@ -47,14 +47,14 @@ all_counted line full k (v ∷ variants) [] = []
 all_counted line full k (v ∷ variants) (findings ∷ each) = counted_of line full k v findings ++ all_counted line full (k + 1) variants each
 
 -- the best of what is looked for, where these are all findings of each
-pub record AreCountedIn (line : ProductLine) (full : FullAlternatives) (variants : List (List ℕ)) (told : List Witnessed) : Type 0 where
+pub record AreCountedIn (line : ProductLine) (full : FullAlternatives) (variants : List (List ℕ)) (reported : List Witnessed) : Type 0 where
   pub each : List (List LineFinding)
   pub are_each : AllZip (AreVariantFindings line) variants each
-  pub best : AreBest (all_counted line full 0 variants each) told
+  pub best : AreBest (all_counted line full 0 variants each) reported
 
 -- ---- the same in plain words
 
--- the variant that is told as the witness of a finding has it, and it is looked for there
+-- the variant that is reported as the witness of a finding has it, and it is looked for there
 pub record IsCountedWitness (line : ProductLine) (full : FullAlternatives) (variants : List (List ℕ)) (w : Witnessed) : Type 0 where
   pub variant : List ℕ
   pub at : slice_get variants w.variant ≡ Some variant
@@ -63,19 +63,19 @@ pub record IsCountedWitness (line : ProductLine) (full : FullAlternatives) (vari
   pub one : IsFound findings w.finding
   pub looked_for : is_looked_for line full variant w.finding ≡ true
 
--- a finding that a variant has is told: with a greater number of addresses or bits, or with this number, and of no later variant
-pub record IsToldOfNoLater (variants : List (List ℕ)) (told : List Witnessed) (v : List ℕ) (finding : LineFinding) : Type 0 where
+-- a finding that a variant has is reported: with a greater number of addresses or bits, or with this number, and of no later variant
+pub record IsReportedOfNoLater (variants : List (List ℕ)) (reported : List Witnessed) (v : List ℕ) (finding : LineFinding) : Type 0 where
   pub witness : Witnessed
-  pub is_told : IsWitnessAmong told witness
+  pub is_reported : IsWitnessAmong reported witness
   pub has_rank : rank_in witness ≡ rank_of finding
   pub variant : List ℕ
   pub at : slice_get variants witness.variant ≡ Some variant
   pub as_good : (amount_of finding < amount_in witness) ⊎ ((amount_of finding ≡ amount_in witness) × ¬ IsEarlier v variant)
 
--- all that is looked for in these variants is told, and nothing else: each finding once, by number and then by places, with the greatest
+-- all that is looked for in these variants is reported, and nothing else: each finding once, by number and then by places, with the greatest
 -- number of addresses or bits, and with the first variant that has it so
-pub record AreCountedFindings (line : ProductLine) (full : FullAlternatives) (variants : List (List ℕ)) (told : List Witnessed) : Type 0 where
-  pub sound : (w : Witnessed) → IsWitnessAmong told w → IsCountedWitness line full variants w
+pub record AreCountedFindings (line : ProductLine) (full : FullAlternatives) (variants : List (List ℕ)) (reported : List Witnessed) : Type 0 where
+  pub sound : (w : Witnessed) → IsWitnessAmong reported w → IsCountedWitness line full variants w
   pub complete : (v : List ℕ) → IsOneOf variants v → (findings : List LineFinding) × AreVariantFindings line v findings
-      × ((finding : LineFinding) → IsFound findings finding → is_looked_for line full v finding ≡ true → IsToldOfNoLater variants told v finding)
-  pub in_order : AreInOrder told
+      × ((finding : LineFinding) → IsFound findings finding → is_looked_for line full v finding ≡ true → IsReportedOfNoLater variants reported v finding)
+  pub in_order : AreInOrder reported

@@ -7,7 +7,7 @@ use Rattle.j39_line_findings.specs.AllVariants.{IsOneOf}
 use Rattle.j39_line_findings.specs.declared.full.FullAlternatives.{FullAlternatives}
 use Rattle.j39_full_variants.specs.SetVariants.{AreEarliestFirst, AreWidest, is_of_some_set, variants_of_set, with_each_choice}
 
--- those for each need; ages are told of where something is known of the bus
+-- those for each need; ages are reported of where something is known of the bus
 abbrev pub need_sets : ProductLine → FullAlternatives → List (List Alternative)
 need_sets line full = if is_some line.plan.timing then map (λ list. list.items) full.of_needs.items else []
 

@@ -30,14 +30,14 @@ pub record HasFullVariants (line : ProductLine) (nevers : LineNevers) (n : ℕ) 
 pub record AreFullVariants (line : ProductLine) (nevers : LineNevers) (x : FullVariants) : Type 0 where
   pub are_full : AreFullAlternatives (line_with nevers line) x.full
   pub are_looked_at : AreLookedAt (line_with nevers line) x.full (map (λ v. v.items) x.variants.items)
-  pub are_found : AreCountedFindings line x.full (map (λ v. v.items) x.variants.items) x.told.items
+  pub are_found : AreCountedFindings line x.full (map (λ v. v.items) x.variants.items) x.reported.items
   pub few : (n : ℕ) × IsNumberOfVariants line x.full n × (n ≤ looked_limit)
 
 -- too many with its nevers
 abbrev pub AreManyVariants : ProductLine → LineNevers → ℕ → Type 0
 AreManyVariants line nevers n = HasFullVariants line nevers n × (looked_limit < n)
 
--- these are looked at, or so many are too many, at most so many as 64 bits tell
+-- these are looked at, or so many are too many, at most so many as 64 bits hold
 abbrev pub IsLookingWith : ProductLine → LineNevers → Looking → Type 0
 IsLookingWith line nevers (Few x) = AreFullVariants line nevers x
 IsLookingWith line nevers (Many m) = (n : ℕ) × AreManyVariants line nevers n × (m ≡ min n (2 ^ 64 - 1))
@@ -53,11 +53,11 @@ has_bad_number plan = list_any is_bad_number (found plan)
 -- of the line without its nevers there are too many, or something is found of them; or a bad number, with which times aren't compared
 abbrev pub IsOfNoUse : ProductLine → Type 0
 IsOfNoUse line = (has_bad_number line.plan ≡ true)
-    ⊎ (((n : ℕ) × AreManyVariants line LeftOut n) ⊎ ((x : FullVariants) × AreFullVariants line LeftOut x × (x.told.items ≢ [])))
+    ⊎ (((n : ℕ) × AreManyVariants line LeftOut n) ⊎ ((x : FullVariants) × AreFullVariants line LeftOut x × (x.reported.items ≢ [])))
 
 -- The full variants of the line are looked at. Where they are too many, those of it without its nevers, where nothing is found of them, and no
 -- group of the file has a bad number.
 abbrev pub IsLooking : ProductLine → Looking → Type 0
 IsLooking line (Few x) = IsLookingWith line Kept (Few x)
-    ⊎ (((n : ℕ) × AreManyVariants line Kept n) × IsLookingWith line LeftOut (Few x) × (x.told.items ≡ []) × (has_bad_number line.plan ≡ false))
+    ⊎ (((n : ℕ) × AreManyVariants line Kept n) × IsLookingWith line LeftOut (Few x) × (x.reported.items ≡ []) × (has_bad_number line.plan ≡ false))
 IsLooking line (Many m) = IsLookingWith line Kept (Many m) × IsOfNoUse line

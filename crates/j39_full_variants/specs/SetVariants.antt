@@ -1,5 +1,5 @@
 -- Variants that take alternatives of a set alone.
-use Rattle.std.specs.Prelude.{◌≡◌, ◌⊎◌, ℕ, ◌+◌, ◌*◌, ◌==◌, List, [], ◌∷◌, Bool, true, false, ◌&&◌, count_by, filter, length, map}
+use Rattle.std.specs.Prelude.{◌≡◌, ℕ, ◌+◌, ◌*◌, ◌==◌, List, [], ◌∷◌, Bool, true, false, ◌&&◌, count_by, filter, length, map}
 use Rattle.std.specs.List.{list_all, list_any, range_with_len}
 use Rattle.j39_variants.specs.Variants.{IsEarlier, IsVariant, size_at}
 use Rattle.j39_variants.specs.declared.line.Alternative.{Alternative}
@@ -64,8 +64,7 @@ abbrev pub is_set_inside : List Alternative → List Alternative → Bool
 is_set_inside one other = list_all (set_has other) one
 
 abbrev pub IsSetAmong : List (List Alternative) → List Alternative → Type 0
-IsSetAmong [] set = ⊥
-IsSetAmong (s ∷ sets) set = (s ≡ set) ⊎ IsSetAmong sets set
+IsSetAmong = IsOneOf
 
 -- none of these is inside another
 abbrev pub AreNotNested : List (List Alternative) → Type 0

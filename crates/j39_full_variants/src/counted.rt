@@ -74,15 +74,15 @@ fn is_looked_for(
 
 // Adds what is looked for of what the variant at a place has.
 fn add_counted(
-    told: &mut Vec<Witnessed>,
+    reported: &mut Vec<Witnessed>,
     line: &ProductLine,
     full: &FullAlternatives,
     place: usize,
     variant: &[usize],
     findings: &[LineFinding],
 ) -> Result<(), AllocError>
-    ensures { OnOk result ((all : List Witnesses) → AreBest all told.old.items
-        → AreBest (all ++ counted_of line.now full.now place variant.now findings.now) told.new.items) }
+    ensures { OnOk result ((all : List Witnesses) → AreBest all reported.old.items
+        → AreBest (all ++ counted_of line.now full.now place variant.now findings.now) reported.new.items) }
 {
     for finding in findings {
         if is_looked_for(line, full, variant, *finding) {
@@ -91,7 +91,7 @@ fn add_counted(
                 variant: place,
                 counted: true,
             };
-            add(told, new)?;
+            add(reported, new)?;
         }
     }
     Ok(())
@@ -100,17 +100,17 @@ fn add_counted(
 // Adds what is looked for in the variant at a place.
 fn add_of_variant(
     alloc: Global,
-    told: &mut Vec<Witnessed>,
+    reported: &mut Vec<Witnessed>,
     line: &ProductLine,
     full: &FullAlternatives,
     place: usize,
     variant: &[usize],
 ) -> Result<(), AllocError>
-    ensures { OnOk result ((all : List Witnesses) → AreBest all told.old.items → (findings : List LineFindings) × AreVariantFindings line.now variant.now findings
-        × AreBest (all ++ counted_of line.now full.now place variant.now findings) told.new.items) }
+    ensures { OnOk result ((all : List Witnesses) → AreBest all reported.old.items → (findings : List LineFindings) × AreVariantFindings line.now variant.now findings
+        × AreBest (all ++ counted_of line.now full.now place variant.now findings) reported.new.items) }
 {
     let findings = variant_findings(alloc, line, variant)?;
-    add_counted(told, line, full, place, variant, &findings)?;
+    add_counted(reported, line, full, place, variant, &findings)?;
     Ok(())
 }
 
@@ -120,13 +120,13 @@ fn find_counted(
     full: &FullAlternatives,
     variants: &[Vec<usize>],
 ) -> Result<Vec<Witnessed>, AllocError>
-    ensures { IfOk result (λ told. AreCountedIn line.now full.now (map (λ v. v.items) variants.now) told.items) }
+    ensures { IfOk result (λ reported. AreCountedIn line.now full.now (map (λ v. v.items) variants.now) reported.items) }
 {
-    let mut told = Vec::new(alloc);
+    let mut reported = Vec::new(alloc);
     for (place, variant) in variants.iter().enumerate() {
-        add_of_variant(alloc, &mut told, line, full, place, variant)?;
+        add_of_variant(alloc, &mut reported, line, full, place, variant)?;
     }
-    Ok(told)
+    Ok(reported)
 }
 
 /// What these variants, which stand in order, have that counts what is there: too few addresses, too high a load, late
@@ -140,8 +140,8 @@ pub fn counted_findings(
     variants: &[Vec<usize>],
 ) -> Result<Vec<Witnessed>, AllocError>
     requires { AreEarliestFirst (map (λ v. v.items) variants.now) }
-    ensures { IfOk result (λ told. AreCountedFindings line.now full.now (map (λ v. v.items) variants.now) told.items) }
+    ensures { IfOk result (λ reported. AreCountedFindings line.now full.now (map (λ v. v.items) variants.now) reported.items) }
 {
-    let told = find_counted(alloc, line, full, variants)?;
-    Ok(told)
+    let reported = find_counted(alloc, line, full, variants)?;
+    Ok(reported)
 }

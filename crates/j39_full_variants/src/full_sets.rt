@@ -78,7 +78,7 @@ pub fn widest_sets(
     Ok(kept)
 }
 
-/// How many variants the sets have, at most so many as 64 bits tell: one of several sets counts for each.
+/// How many variants the sets have, at most so many as 64 bits hold: one of several sets counts for each.
 pub fn number_of_variants(line: &ProductLine, sets: &[Vec<Alternative>]) -> u64
     ensures { result ≡ min (sum (map (variants_of_set line.now.choices.items) (map (λ s. s.items) sets.now))) (2 ^ 64 - 1) }
 {

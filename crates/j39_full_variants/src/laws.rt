@@ -15,7 +15,7 @@ pub fn number_of_variants_is_one()
     ensures { (line : ProductLine) (full : FullAlternatives) → HasOneNumber line full }
 {}
 
-/// Of each need those alternatives are told that are full for it.
+/// Of each need those alternatives are reported that are full for it.
 pub fn needs_have_their_full_alternatives()
     ensures { NeedsHaveTheirLists }
 {}

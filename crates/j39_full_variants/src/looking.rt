@@ -23,7 +23,7 @@ pub struct FullVariants {
     /// Each once, in order.
     pub variants: Vec<Vec<usize>>,
     /// Each finding by the place of its witness among the variants.
-    pub told: Vec<Witnessed>,
+    pub reported: Vec<Witnessed>,
 }
 
 /// Which full variants of a line are looked at.
@@ -47,11 +47,11 @@ fn look_with(alloc: Global, line: &ProductLine, nevers: LineNevers) -> Result<Lo
         return Ok(Looking::Many(count));
     }
     let variants = looked_at(alloc, line, nevers, &sets)?;
-    let told = counted_findings(alloc, line, &full, &variants)?;
+    let reported = counted_findings(alloc, line, &full, &variants)?;
     Ok(Looking::Few(FullVariants {
         full,
         variants,
-        told,
+        reported,
     }))
 }
 
@@ -79,7 +79,7 @@ fn look_without_nevers(alloc: Global, line: &ProductLine, count: u64) -> Result<
     }
     match look_with(alloc, line, LineNevers::LeftOut)? {
         Looking::Few(found) => {
-            if found.told.is_empty() {
+            if found.reported.is_empty() {
                 return Ok(Looking::Few(found));
             }
             Ok(Looking::Many(count))

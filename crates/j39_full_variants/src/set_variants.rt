@@ -98,7 +98,7 @@ fn count_of_choice(choices: &[Choice], set: &[Alternative], choice: usize) -> us
         .count()
 }
 
-/// How many variants of these choices take alternatives of a set alone, at most so many as 64 bits tell.
+/// How many variants of these choices take alternatives of a set alone, at most so many as 64 bits hold.
 pub fn variants_of_set(choices: &[Choice], set: &[Alternative]) -> u64
     ensures { result ≡ min (variants_of_set choices.now set.now) (2 ^ 64 - 1) }
 {

@@ -1,4 +1,4 @@
--- What a cutter tells of a text is the lines of the text.
+-- What a cutter yields of a text is the lines of the text.
 use Rattle.std.proofs.Common.{◌≡◌, ◌≢◌, ℕ, ◌+◌, ◌==◌, ◌<◌, ◌≤◌, true, false, if◌then◌else◌, List, [], ◌∷◌, ◌++◌, length, map, count_by, take, drop, get_or}
 use Rattle.std.proofs.Common.{refl, sym, ap, ◌∙◌, inl, inr, arith, add-one, eqb-true, eq-eqb, length-append}
 use Rattle.std.specs.Prelude.{nat_lt}
@@ -8,8 +8,8 @@ use Rattle.std.proofs.lemmas.Bool.{cases_Bool, eqb-false, ne_eqb, lt-ltb, le-ltb
 use Rattle.std.proofs.lemmas.List.{append_assoc, append-nil, take_all, length-take-le}
 use Rattle.std.proofs.lemmas.List.Elements.{All-head, All-tail, All-cons, All-append, All-take, All-get_or}
 use Rattle.std.proofs.lemmas.List.Splits.{slice_split-cons_no, slice_split_at, slice_split_none, length-slice_split}
-use Rattle.j39_id.specs.Lines.{line_limit, is_line_feed, Line, Short, Long, line_of, without_empty_end, lines, Pending, at_start, answer_to, behind, tells}
-use Rattle.j39_id.specs.Lines.{told, behind_all, told_at_end}
+use Rattle.j39_id.specs.Lines.{line_limit, is_line_feed, Line, Short, Long, line_of, without_empty_end, lines, Pending, at_start, answer_to, behind, yields}
+use Rattle.j39_id.specs.Lines.{yielded, behind_all, yielded_at_end}
 use Rattle.j39_id.specs.declared.cut.Cut.{Cut}
 use Rattle.j39_id.specs.declared.cut.Cut.TheVariants as cuts
 
@@ -18,10 +18,10 @@ abbrev pub NoFeed : List ℕ → Type 0
 NoFeed bytes = All (λ b. is_line_feed b ≡ false) bytes
 
 abbrev pub inside : List ℕ → Pending
-inside bytes = record { held = bytes; told_long = false }
+inside bytes = record { held = bytes; reported_long = false }
 
 abbrev pub beyond : List ℕ → Pending
-beyond bytes = record { held = bytes; told_long = true }
+beyond bytes = record { held = bytes; reported_long = true }
 
 no_feed-one : (q : List ℕ) (b : ℕ) → NoFeed q → is_line_feed b ≡ false → NoFeed (q ++ b ∷ [])
 no_feed-one q b none other =
@@ -29,11 +29,11 @@ no_feed-one q b none other =
 
 -- ---- pieces
 
-pub told-append : (p : Pending) (front back : List ℕ) → told p (front ++ back) ≡ told p front ++ told (behind_all p front) back
-told-append p [] back = refl
-told-append p (b ∷ bs) back =
-    ap (λ (u : List Line). tells (answer_to p b) p.held ++ u) (told-append (behind p b) bs back)
-    ∙ sym (append_assoc (tells (answer_to p b) p.held) (told (behind p b) bs) (told (behind_all (behind p b) bs) back))
+pub yielded-append : (p : Pending) (front back : List ℕ) → yielded p (front ++ back) ≡ yielded p front ++ yielded (behind_all p front) back
+yielded-append p [] back = refl
+yielded-append p (b ∷ bs) back =
+    ap (λ (u : List Line). yields (answer_to p b) p.held ++ u) (yielded-append (behind p b) bs back)
+    ∙ sym (append_assoc (yields (answer_to p b) p.held) (yielded (behind p b) bs) (yielded (behind_all (behind p b) bs) back))
 
 pub behind_all-append : (p : Pending) (front back : List ℕ) → behind_all p (front ++ back) ≡ behind_all (behind_all p front) back
 behind_all-append p [] back = refl
@@ -96,19 +96,19 @@ short_line q room = let fits : nat_lt line_limit (length q) ≡ false = le-ltb l
 long_line : (q : List ℕ) → line_limit < length q → line_of q ≡ Long
 long_line q above = let long : nat_lt line_limit (length q) ≡ true = lt-ltb line_limit (length q) above in rw long refl
 
--- ---- what is told from within a line
+-- ---- what is reported from within a line
 
--- all that a cutter tells of a text and its end
-abbrev all_told : Pending → List ℕ → List Line
-all_told p text = told p text ++ told_at_end (behind_all p text)
+-- all that a cutter yields of a text and its end
+abbrev all_yielded : Pending → List ℕ → List Line
+all_yielded p text = yielded p text ++ yielded_at_end (behind_all p text)
 
-abbrev TellsInside : List ℕ → Type 0
-TellsInside text = (q : List ℕ) → NoFeed q → length q ≤ line_limit → all_told (inside q) text ≡ lines (q ++ text)
+abbrev YieldsInside : List ℕ → Type 0
+YieldsInside text = (q : List ℕ) → NoFeed q → length q ≤ line_limit → all_yielded (inside q) text ≡ lines (q ++ text)
 
-abbrev TellsBeyond : List ℕ → Type 0
-TellsBeyond text = (h q : List ℕ) → NoFeed q → line_limit < length q → all_told (beyond h) text ≡ drop 1 (lines (q ++ text))
+abbrev YieldsBeyond : List ℕ → Type 0
+YieldsBeyond text = (h q : List ℕ) → NoFeed q → line_limit < length q → all_yielded (beyond h) text ≡ drop 1 (lines (q ++ text))
 
-end_inside : TellsInside []
+end_inside : YieldsInside []
 end_inside q none room =
     elim (cases_Bool (nat_lt 0 (length q))) [
       | inl some ↦
@@ -119,7 +119,7 @@ end_inside q none room =
           rw empty (sym all)
     ]
 
-end_beyond : TellsBeyond []
+end_beyond : YieldsBeyond []
 end_beyond h q none above =
     let some : nat_lt 0 (length q) ≡ true = lt-ltb 0 (length q) (omega arith) in
     let all : lines (q ++ []) ≡ Long ∷ [] = rw (append-nil) (lines_none q none ∙ rw some (ap (λ (l : Line). l ∷ []) (long_line q above))) in
@@ -128,12 +128,12 @@ end_beyond h q none above =
 -- ---- a byte
 
 -- a byte, and then the rest
-told_next : (p : Pending) (b : ℕ) (bs : List ℕ) (cut : Cut) (next : Pending) → answer_to p b ≡ cut → behind p b ≡ next
-    → all_told p (b ∷ bs) ≡ tells cut p.held ++ all_told next bs
-told_next p b bs cut next a n =
-    append_assoc (tells (answer_to p b) p.held) (told (behind p b) bs) (told_at_end (behind_all (behind p b) bs))
-    ∙ ap (λ (c : Cut). tells c p.held ++ all_told (behind p b) bs) a
-    ∙ ap (λ (m : Pending). tells cut p.held ++ all_told m bs) n
+yielded_next : (p : Pending) (b : ℕ) (bs : List ℕ) (cut : Cut) (next : Pending) → answer_to p b ≡ cut → behind p b ≡ next
+    → all_yielded p (b ∷ bs) ≡ yields cut p.held ++ all_yielded next bs
+yielded_next p b bs cut next a n =
+    append_assoc (yields (answer_to p b) p.held) (yielded (behind p b) bs) (yielded_at_end (behind_all (behind p b) bs))
+    ∙ ap (λ (c : Cut). yields c p.held ++ all_yielded (behind p b) bs) a
+    ∙ ap (λ (m : Pending). yields cut p.held ++ all_yielded m bs) n
 
 behind_feed : (p : Pending) (b : ℕ) → is_line_feed b ≡ true → behind p b ≡ at_start
 behind_feed p b feed = rw feed refl
@@ -153,12 +153,12 @@ inside_more q b other below =
 beyond_more : (h : List ℕ) (b : ℕ) → is_line_feed b ≡ false → behind (beyond h) b ≡ beyond h
 beyond_more h b other = rw other refl
 
-next_inside : (b : ℕ) (bs : List ℕ) → TellsInside bs → TellsBeyond bs → TellsInside (b ∷ bs)
+next_inside : (b : ℕ) (bs : List ℕ) → YieldsInside bs → YieldsBeyond bs → YieldsInside (b ∷ bs)
 next_inside b bs shorter longer q none room =
     elim (cases_Bool (is_line_feed b)) [
       | inl feed ↦
-          let rest : all_told at_start bs ≡ lines bs = shorter [] (λ k d below. absurd (omega arith)) (omega arith) in
-          told_next (inside q) b bs cuts.Line at_start (inside_feed q b feed) (behind_feed (inside q) b feed)
+          let rest : all_yielded at_start bs ≡ lines bs = shorter [] (λ k d below. absurd (omega arith)) (omega arith) in
+          yielded_next (inside q) b bs cuts.Line at_start (inside_feed q b feed) (behind_feed (inside q) b feed)
           ∙ ap (λ (u : List Line). Short q ∷ u) rest
           ∙ sym (lines_at q b bs none feed ∙ ap (λ (l : Line). l ∷ lines bs) (short_line q room))
       | inr other ↦
@@ -169,117 +169,117 @@ next_inside b bs shorter longer q none room =
             | inl full ↦
                 let is : length q ≡ line_limit = eqb-true (length q) line_limit full in
                 let long = long_first (q ++ b ∷ []) bs more (omega arith) in
-                let rest : all_told (beyond q) bs ≡ long.0 = longer q (q ++ b ∷ []) more (omega arith) ∙ ap (drop 1) long.1 in
+                let rest : all_yielded (beyond q) bs ≡ long.0 = longer q (q ++ b ∷ []) more (omega arith) ∙ ap (drop 1) long.1 in
                 let here = inside_full q b other is in
-                told_next (inside q) b bs cuts.Long (beyond q) here.0 here.1 ∙ ap (λ (u : List Line). Long ∷ u) rest ∙ sym long.1 ∙ ap lines same
+                yielded_next (inside q) b bs cuts.Long (beyond q) here.0 here.1 ∙ ap (λ (u : List Line). Long ∷ u) rest ∙ sym long.1 ∙ ap lines same
             | inr left ↦
                 let below : length q ≢ line_limit = eqb-false (length q) line_limit left in
                 let here = inside_more q b other below in
-                told_next (inside q) b bs cuts.More (inside (q ++ b ∷ [])) here.0 here.1 ∙ shorter (q ++ b ∷ []) more (omega arith) ∙ ap lines same
+                yielded_next (inside q) b bs cuts.More (inside (q ++ b ∷ [])) here.0 here.1 ∙ shorter (q ++ b ∷ []) more (omega arith) ∙ ap lines same
           ]
     ]
 
-next_beyond : (b : ℕ) (bs : List ℕ) → TellsInside bs → TellsBeyond bs → TellsBeyond (b ∷ bs)
+next_beyond : (b : ℕ) (bs : List ℕ) → YieldsInside bs → YieldsBeyond bs → YieldsBeyond (b ∷ bs)
 next_beyond b bs shorter longer h q none above =
     elim (cases_Bool (is_line_feed b)) [
       | inl feed ↦
-          let rest : all_told at_start bs ≡ lines bs = shorter [] (λ k d below. absurd (omega arith)) (omega arith) in
-          told_next (beyond h) b bs cuts.More at_start refl (behind_feed (beyond h) b feed) ∙ rest ∙ sym (ap (drop 1) (lines_at q b bs none feed))
+          let rest : all_yielded at_start bs ≡ lines bs = shorter [] (λ k d below. absurd (omega arith)) (omega arith) in
+          yielded_next (beyond h) b bs cuts.More at_start refl (behind_feed (beyond h) b feed) ∙ rest ∙ sym (ap (drop 1) (lines_at q b bs none feed))
       | inr other ↦
           let more : NoFeed (q ++ b ∷ []) = no_feed-one q b none other in
           let size : length (q ++ b ∷ []) ≡ length q + 1 = length-append q (b ∷ []) in
           let same : (q ++ b ∷ []) ++ bs ≡ q ++ b ∷ bs = append_assoc q (b ∷ []) bs in
-          told_next (beyond h) b bs cuts.More (beyond h) refl (beyond_more h b other)
+          yielded_next (beyond h) b bs cuts.More (beyond h) refl (beyond_more h b other)
           ∙ longer h (q ++ b ∷ []) more (omega arith) ∙ ap (λ (t : List ℕ). drop 1 (lines t)) same
     ]
 
-tells_both : (text : List ℕ) → TellsInside text × TellsBeyond text
-tells_both [] = (end_inside, end_beyond)
-tells_both (b ∷ bs) =
-    let rest = tells_both bs in
+yields_both : (text : List ℕ) → YieldsInside text × YieldsBeyond text
+yields_both [] = (end_inside, end_beyond)
+yields_both (b ∷ bs) =
+    let rest = yields_both bs in
     (next_inside b bs rest.0 rest.1, next_beyond b bs rest.0 rest.1)
 
-pub tells_lines : (text : List ℕ) → told at_start text ++ told_at_end (behind_all at_start text) ≡ lines text
-tells_lines text = (tells_both text).0 [] (λ k d below. absurd (omega arith)) (omega arith)
+pub yields_lines : (text : List ℕ) → yielded at_start text ++ yielded_at_end (behind_all at_start text) ≡ lines text
+yields_lines text = (yields_both text).0 [] (λ k d below. absurd (omega arith)) (omega arith)
 
--- ---- what is told of bytes without a line feed
+-- ---- what is reported of bytes without a line feed
 
--- a byte that tells nothing, and then the rest
+-- a byte that ends nothing, and then the rest
 quiet_next : (p : Pending) (b : ℕ) (bs : List ℕ) (next : Pending) → answer_to p b ≡ cuts.More → behind p b ≡ next
-    → (told p (b ∷ bs) ≡ told next bs) × (behind_all p (b ∷ bs) ≡ behind_all next bs)
+    → (yielded p (b ∷ bs) ≡ yielded next bs) × (behind_all p (b ∷ bs) ≡ behind_all next bs)
 quiet_next p b bs next a n = (
-  ap (λ (c : Cut). tells c p.held ++ told (behind p b) bs) a ∙ ap (λ (m : Pending). told m bs) n,
+  ap (λ (c : Cut). yields c p.held ++ yielded (behind p b) bs) a ∙ ap (λ (m : Pending). yielded m bs) n,
   ap (λ (m : Pending). behind_all m bs) n,
 )
 
 -- where they fit
-pub told_inside : (q xs : List ℕ) → NoFeed xs → length q + length xs ≤ line_limit → (told (inside q) xs ≡ []) × (behind_all (inside q) xs ≡ inside (q ++ xs))
-told_inside q [] none room = (refl, ap inside (sym (append-nil q)))
-told_inside q (x ∷ xs) none room =
+pub yielded_inside : (q xs : List ℕ) → NoFeed xs → length q + length xs ≤ line_limit → (yielded (inside q) xs ≡ []) × (behind_all (inside q) xs ≡ inside (q ++ xs))
+yielded_inside q [] none room = (refl, ap inside (sym (append-nil q)))
+yielded_inside q (x ∷ xs) none room =
     let other : is_line_feed x ≡ false = All-head (λ b. is_line_feed b ≡ false) x xs none in
     let here = inside_more q x other (λ e. absurd (omega arith)) in
     let size : length (q ++ x ∷ []) ≡ length q + 1 = length-append q (x ∷ []) in
     let next = quiet_next (inside q) x xs (inside (q ++ x ∷ [])) here.0 here.1 in
-    let rest = told_inside (q ++ x ∷ []) xs (All-tail (λ b. is_line_feed b ≡ false) x xs none) (omega arith) in
+    let rest = yielded_inside (q ++ x ∷ []) xs (All-tail (λ b. is_line_feed b ≡ false) x xs none) (omega arith) in
     (next.0 ∙ rest.0, next.1 ∙ rest.1 ∙ ap inside (append_assoc q (x ∷ []) xs))
 
--- where the line was told as long
-pub told_beyond : (h xs : List ℕ) → NoFeed xs → (told (beyond h) xs ≡ []) × (behind_all (beyond h) xs ≡ beyond h)
-told_beyond h [] none = (refl, refl)
-told_beyond h (x ∷ xs) none =
+-- where the line was reported as long
+pub yielded_beyond : (h xs : List ℕ) → NoFeed xs → (yielded (beyond h) xs ≡ []) × (behind_all (beyond h) xs ≡ beyond h)
+yielded_beyond h [] none = (refl, refl)
+yielded_beyond h (x ∷ xs) none =
     let other : is_line_feed x ≡ false = All-head (λ b. is_line_feed b ≡ false) x xs none in
     let next = quiet_next (beyond h) x xs (beyond h) refl (beyond_more h x other) in
-    let rest = told_beyond h xs (All-tail (λ b. is_line_feed b ≡ false) x xs none) in
+    let rest = yielded_beyond h xs (All-tail (λ b. is_line_feed b ≡ false) x xs none) in
     (next.0 ∙ rest.0, next.1 ∙ rest.1)
 
--- bytes that tell nothing, and one more
-quiet_then : (p q next : Pending) (xs : List ℕ) (b : ℕ) (cut : Cut) → told p xs ≡ [] → behind_all p xs ≡ q → answer_to q b ≡ cut → behind q b ≡ next
-    → (told p (xs ++ b ∷ []) ≡ tells cut q.held) × (behind_all p (xs ++ b ∷ []) ≡ next)
+-- bytes that end nothing, and one more
+quiet_then : (p q next : Pending) (xs : List ℕ) (b : ℕ) (cut : Cut) → yielded p xs ≡ [] → behind_all p xs ≡ q → answer_to q b ≡ cut → behind q b ≡ next
+    → (yielded p (xs ++ b ∷ []) ≡ yields cut q.held) × (behind_all p (xs ++ b ∷ []) ≡ next)
 quiet_then p q next xs b cut t r a n = (
-  told-append p xs (b ∷ []) ∙ ap (λ (u : List Line). u ++ told (behind_all p xs) (b ∷ [])) t
-      ∙ ap (λ (m : Pending). told m (b ∷ [])) r ∙ append-nil (tells (answer_to q b) q.held) ∙ ap (λ (c : Cut). tells c q.held) a,
+  yielded-append p xs (b ∷ []) ∙ ap (λ (u : List Line). u ++ yielded (behind_all p xs) (b ∷ [])) t
+      ∙ ap (λ (m : Pending). yielded m (b ∷ [])) r ∙ append-nil (yields (answer_to q b) q.held) ∙ ap (λ (c : Cut). yields c q.held) a,
   behind_all-append p xs (b ∷ []) ∙ ap (λ (m : Pending). behind m b) r ∙ n,
 )
 
 -- where they fill the line, and a byte follows
-pub told_full : (q xs : List ℕ) (b : ℕ) → NoFeed xs → is_line_feed b ≡ false → length q + length xs ≡ line_limit
-    → (told (inside q) (xs ++ b ∷ []) ≡ Long ∷ []) × (behind_all (inside q) (xs ++ b ∷ []) ≡ beyond (q ++ xs))
-told_full q xs b none other full =
-    let front = told_inside q xs none (omega arith) in
+pub yielded_full : (q xs : List ℕ) (b : ℕ) → NoFeed xs → is_line_feed b ≡ false → length q + length xs ≡ line_limit
+    → (yielded (inside q) (xs ++ b ∷ []) ≡ Long ∷ []) × (behind_all (inside q) (xs ++ b ∷ []) ≡ beyond (q ++ xs))
+yielded_full q xs b none other full =
+    let front = yielded_inside q xs none (omega arith) in
     let size : length (q ++ xs) ≡ length q + length xs = length-append q xs in
     let here = inside_full (q ++ xs) b other (omega arith) in
     quiet_then (inside q) (inside (q ++ xs)) (beyond (q ++ xs)) xs b cuts.Long front.0 front.1 here.0 here.1
 
 -- where they are a line
-pub told_whole : (xs : List ℕ) (b : ℕ) → NoFeed xs → is_line_feed b ≡ true → length xs ≤ line_limit
-    → (told at_start (xs ++ b ∷ []) ≡ Short xs ∷ []) × (behind_all at_start (xs ++ b ∷ []) ≡ at_start)
-told_whole xs b none feed room =
-    let front = told_inside [] xs none (omega arith) in
+pub yielded_whole : (xs : List ℕ) (b : ℕ) → NoFeed xs → is_line_feed b ≡ true → length xs ≤ line_limit
+    → (yielded at_start (xs ++ b ∷ []) ≡ Short xs ∷ []) × (behind_all at_start (xs ++ b ∷ []) ≡ at_start)
+yielded_whole xs b none feed room =
+    let front = yielded_inside [] xs none (omega arith) in
     quiet_then at_start (inside xs) at_start xs b cuts.Line front.0 front.1 (inside_feed xs b feed) (behind_feed (inside xs) b feed)
 
 -- ---- a part of a piece
 
 pub part_inside : (q part : List ℕ) → NoFeed part → length q + length part ≤ line_limit
-    → (told (inside q) (take (length part) part) ≡ []) × (behind_all (inside q) (take (length part) part) ≡ inside (q ++ part))
-part_inside q part none room = rw (take_all (length part) part (omega arith)) (told_inside q part none room)
+    → (yielded (inside q) (take (length part) part) ≡ []) × (behind_all (inside q) (take (length part) part) ≡ inside (q ++ part))
+part_inside q part none room = rw (take_all (length part) part (omega arith)) (yielded_inside q part none room)
 
 pub part_beyond : (h part : List ℕ) → NoFeed part
-    → (told (beyond h) (take (length part) part) ≡ []) × (behind_all (beyond h) (take (length part) part) ≡ beyond h)
-part_beyond h part none = rw (take_all (length part) part (omega arith)) (told_beyond h part none)
+    → (yielded (beyond h) (take (length part) part) ≡ []) × (behind_all (beyond h) (take (length part) part) ≡ beyond h)
+part_beyond h part none = rw (take_all (length part) part (omega arith)) (yielded_beyond h part none)
 
 pub part_full : (q part : List ℕ) (room : ℕ) → NoFeed part → length q + room ≡ line_limit → room < length part
-    → (told (inside q) (take (room + 1) part) ≡ Long ∷ []) × (behind_all (inside q) (take (room + 1) part) ≡ beyond (q ++ take room part))
+    → (yielded (inside q) (take (room + 1) part) ≡ Long ∷ []) × (behind_all (inside q) (take (room + 1) part) ≡ beyond (q ++ take room part))
 part_full q part room none full less =
     let cut : take (room + 1) part ≡ take room part ++ get_or part room 0 ∷ [] = rw (add-one room) (take-suc part room 0 less) in
     let front : NoFeed (take room part) = All-take (λ b. is_line_feed b ≡ false) room part none in
     let next : is_line_feed (get_or part room 0) ≡ false = All-get_or (λ b. is_line_feed b ≡ false) part room 0 less none in
     let size : length (take room part) ≡ room = length-take-le room part (omega arith) in
-    rw cut (told_full q (take room part) (get_or part room 0) front next (omega arith))
+    rw cut (yielded_full q (take room part) (get_or part room 0) front next (omega arith))
 
 pub part_whole : (piece : List ℕ) (n : ℕ) → NoFeed (take n piece) → n < length piece → slice_index piece n ≡ 10 → n ≤ line_limit
-    → (told at_start (take (n + 1) piece) ≡ Short (take n piece) ∷ []) × (behind_all at_start (take (n + 1) piece) ≡ at_start)
+    → (yielded at_start (take (n + 1) piece) ≡ Short (take n piece) ∷ []) × (behind_all at_start (take (n + 1) piece) ≡ at_start)
 part_whole piece n none less feed room =
     let cut : take (n + 1) piece ≡ take n piece ++ get_or piece n 0 ∷ [] = rw (add-one n) (take-suc piece n 0 less) in
     let size : length (take n piece) ≡ n = length-take-le n piece (omega arith) in
     let ends : is_line_feed (get_or piece n 0) ≡ true = eq-eqb (get_or piece n 0) 10 feed in
-    rw cut (told_whole (take n piece) (get_or piece n 0) none ends (omega arith))
+    rw cut (yielded_whole (take n piece) (get_or piece n 0) none ends (omega arith))

@@ -1,4 +1,4 @@
--- The lines of a byte stream, and the cases of a cutter that tells them byte by byte.
+-- The lines of a byte stream, and the cases of a cutter that yields them byte by byte.
 use Rattle.std.specs.Prelude.{◌≡◌, ℕ, ◌==◌, ◌||◌, ◌&&◌, not, nat_lt, Bool, true, false, if◌then◌else◌, List, [], ◌∷◌, ◌++◌, length, map}
 use Rattle.std.specs.List.{slice_split}
 use Rattle.j39_id.specs.declared.cut.Cut.{Cut}
@@ -11,7 +11,7 @@ line_limit = 8192
 abbrev pub is_line_feed : ℕ → Bool
 is_line_feed b = b == 10
 
--- what is told of a line: its bytes, or that it has more than a line may have
+-- what is reported of a line: its bytes, or that it has more than a line may have
 pub data Line : Type 0 where
   Short : List ℕ → Line
   Long : Line
@@ -31,23 +31,23 @@ lines text = map line_of (without_empty_end (slice_split is_line_feed text))
 
 -- ---- a cutter
 
--- the line that a cutter is in: its bytes so far, at most the limit, and whether it was told as long
+-- the line that a cutter is in: its bytes so far, at most the limit, and whether it was reported as long
 pub record Pending : Type 0 where
   pub held : List ℕ
-  pub told_long : Bool
+  pub reported_long : Bool
 
 abbrev pub at_start : Pending
-at_start = record { held = []; told_long = false }
+at_start = record { held = []; reported_long = false }
 
 -- what a contract sees of a cutter: the line that it is in, and the line that it gives
 pub record CutterParts : Type 0 where
   pub pending : Pending
   pub line : List ℕ
 
--- the answer to a byte: a line feed ends a line, if it wasn't told as long; a byte above the limit makes it long
+-- the answer to a byte: a line feed ends a line, if it wasn't reported as long; a byte above the limit makes it long
 abbrev pub answer_to : Pending → ℕ → Cut
 answer_to p b =
-    if p.told_long then cuts.More
+    if p.reported_long then cuts.More
     else if is_line_feed b then cuts.Line
     else if length p.held == line_limit then cuts.Long
     else cuts.More
@@ -56,12 +56,12 @@ answer_to p b =
 abbrev pub behind : Pending → ℕ → Pending
 behind p b =
     if is_line_feed b then at_start
-    else if p.told_long || length p.held == line_limit then record { held = p.held; told_long = true }
-    else record { held = p.held ++ b ∷ []; told_long = false }
+    else if p.reported_long || length p.held == line_limit then record { held = p.held; reported_long = true }
+    else record { held = p.held ++ b ∷ []; reported_long = false }
 
--- the answer to the end: a last line that isn't empty, if it wasn't told as long
+-- the answer to the end: a last line that isn't empty, if it wasn't reported as long
 abbrev pub answer_to_end : Pending → Cut
-answer_to_end p = if not p.told_long && nat_lt 0 (length p.held) then cuts.Line else cuts.More
+answer_to_end p = if not p.reported_long && nat_lt 0 (length p.held) then cuts.Line else cuts.More
 
 -- the line that a cutter gives once it answered so
 abbrev pub cutter_line : Cut → Pending → List ℕ
@@ -70,34 +70,34 @@ cutter_line _ p = []
 
 -- ---- its answers to a text
 
--- what an answer tells
-abbrev pub tells : Cut → List ℕ → List Line
-tells cuts.More line = []
-tells cuts.Line line = Short line ∷ []
-tells cuts.Long line = Long ∷ []
+-- what an answer reports
+abbrev pub yields : Cut → List ℕ → List Line
+yields cuts.More line = []
+yields cuts.Line line = Short line ∷ []
+yields cuts.Long line = Long ∷ []
 
--- what its answers to the bytes of a text tell, one byte after another, and the line that it is in then
-abbrev pub told : Pending → List ℕ → List Line
-told p [] = []
-told p (b ∷ bs) = tells (answer_to p b) p.held ++ told (behind p b) bs
+-- what its answers to the bytes of a text report, one byte after another, and the line that it is in then
+abbrev pub yielded : Pending → List ℕ → List Line
+yielded p [] = []
+yielded p (b ∷ bs) = yields (answer_to p b) p.held ++ yielded (behind p b) bs
 
 abbrev pub behind_all : Pending → List ℕ → Pending
 behind_all p [] = p
 behind_all p (b ∷ bs) = behind_all (behind p b) bs
 
--- what its answer to the end tells
-abbrev pub told_at_end : Pending → List Line
-told_at_end p = tells (answer_to_end p) p.held
+-- what its answer to the end reports
+abbrev pub yielded_at_end : Pending → List Line
+yielded_at_end p = yields (answer_to_end p) p.held
 
 -- ---- laws
 
--- a new cutter tells the lines of each text
-abbrev pub TellsLines : Type 0
-TellsLines = (text : List ℕ) → told at_start text ++ told_at_end (behind_all at_start text) ≡ lines text
+-- a new cutter reports the lines of each text
+abbrev pub YieldsLines : Type 0
+YieldsLines = (text : List ℕ) → yielded at_start text ++ yielded_at_end (behind_all at_start text) ≡ lines text
 
--- a piece after another is told as both at once
-abbrev pub TellsPieces : Type 0
-TellsPieces = (p : Pending) (front back : List ℕ) → told p (front ++ back) ≡ told p front ++ told (behind_all p front) back
+-- a piece after another is reported as both at once
+abbrev pub YieldsPieces : Type 0
+YieldsPieces = (p : Pending) (front back : List ℕ) → yielded p (front ++ back) ≡ yielded p front ++ yielded (behind_all p front) back
 
 abbrev pub IsBehindPieces : Type 0
 IsBehindPieces = (p : Pending) (front back : List ℕ) → behind_all p (front ++ back) ≡ behind_all (behind_all p front) back

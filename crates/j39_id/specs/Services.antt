@@ -22,7 +22,7 @@ connection_management = 60416
 abbrev pub address_claimed : ℕ
 address_claimed = 60928
 
--- tells a unit to take another address
+-- asks a unit to take another address
 abbrev pub commanded_address : ℕ
 commanded_address = 65240
 

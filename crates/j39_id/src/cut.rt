@@ -7,6 +7,6 @@ pub enum Cut {
     More,
     /// A line ends here, whose bytes the cutter gives.
     Line,
-    /// The line has more than 8,192 bytes. Its end is not told.
+    /// The line has more than 8,192 bytes. Its end is not reported.
     Long,
 }

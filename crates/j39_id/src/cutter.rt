@@ -2,8 +2,8 @@
 ghost use Rattle.std.specs.Prelude.{◌≡◌, ◌≤◌, ◌<◌, ◌≢◌, [], false, length, take, All, slice_index, IsTrue, IfSome};
 ghost use Rattle.std.specs.Prelude.{unwrap_or};
 ghost use Rattle.std.specs.Option.{option_copied};
-ghost use Rattle.j39_id.specs.Lines.{is_line_feed, at_start, answer_to, behind, answer_to_end, cutter_line, tells};
-ghost use Rattle.j39_id.specs.Lines.{told, behind_all};
+ghost use Rattle.j39_id.specs.Lines.{is_line_feed, at_start, answer_to, behind, answer_to_end, cutter_line, yields};
+ghost use Rattle.j39_id.specs.Lines.{yielded, behind_all};
 ghost use Rattle.j39_id.specs.inside.Cutting.{pending_of, line_in, phase_after};
 
 use crate::{Advance, Cut};
@@ -21,7 +21,7 @@ const LINE_FEED: u8 = b'\n';
 pub(crate) enum CutterPhase {
     // Those of the line so far.
     Inside,
-    // The first ones of a line that was told as long.
+    // The first ones of a line that was reported as long.
     Beyond,
     // The line that just ended.
     Ended,
@@ -29,7 +29,7 @@ pub(crate) enum CutterPhase {
 
 /// Cuts a byte stream into lines, byte by byte or piece by piece. It takes no memory: a line lies in it whole.
 ///
-/// A line above 8,192 bytes is told as soon as it is, and without its bytes.
+/// A line above 8,192 bytes is reported as soon as it is, and without its bytes.
 #[derive(Drop)]
 pub struct Cutter {
     bytes: ArrayVec<u8, LINE_LIMIT>,
@@ -70,7 +70,7 @@ fn hold(bytes: &mut ArrayVec<u8, LINE_LIMIT>, part: &[u8]) -> (Cut, usize)
     requires none { All (λ b. is_line_feed b ≡ false) part.now }
     ensures within { result.1 ≤ length part.now }
     ensures some { 0 < result.1 }
-    ensures told { told (pending_of CutterPhase.Inside bytes.old.items) (take result.1 part.now) ≡ tells result.0 [] }
+    ensures yielded { yielded (pending_of CutterPhase.Inside bytes.old.items) (take result.1 part.now) ≡ yields result.0 [] }
     ensures pending { pending_of (phase_after result.0) bytes.new.items
         ≡ behind_all (pending_of CutterPhase.Inside bytes.old.items) (take result.1 part.now) }
     ensures line { line_in (phase_after result.0) bytes.new.items ≡ [] }
@@ -151,7 +151,7 @@ impl Cutter {
         requires none { All (λ b. is_line_feed b ≡ false) part.now }
         ensures within { result.1 ≤ length part.now }
         ensures some { 0 < result.1 }
-        ensures told { told self.old.pending (take result.1 part.now) ≡ tells result.0 [] }
+        ensures yielded { yielded self.old.pending (take result.1 part.now) ≡ yields result.0 [] }
         ensures pending { self.new.pending ≡ behind_all self.old.pending (take result.1 part.now) }
         ensures line { self.new.line ≡ [] }
     {
@@ -172,8 +172,8 @@ impl Cutter {
     pub fn advance<'p>(&mut self, piece: &'p [u8]) -> Advance<'p>
         ensures within { result.used ≤ length piece.now }
         ensures some { 0 < length piece.now → 0 < result.used }
-        ensures told { told self.old.pending (take result.used piece.now)
-            ≡ tells result.cut (unwrap_or (option_copied result.whole) self.new.line) }
+        ensures yielded { yielded self.old.pending (take result.used piece.now)
+            ≡ yields result.cut (unwrap_or (option_copied result.whole) self.new.line) }
         ensures pending { self.new.pending ≡ behind_all self.old.pending (take result.used piece.now) }
         ensures whole { IfSome result.whole (λ _. (result.cut ≡ Cut.Line) × (self.new.line ≡ [])) }
         ensures line { 0 < length piece.now → result.cut ≢ Cut.Line → self.new.line ≡ [] }

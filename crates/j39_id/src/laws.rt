@@ -1,7 +1,7 @@
 //! Laws of frame lines, NAMEs and lines: facts about the definitions, each the contract of a function that does
 //! nothing.
 ghost use Rattle.hex.specs.Hex.{IsBytes};
-ghost use Rattle.j39_id.specs.Lines.{TellsLines, TellsPieces, IsBehindPieces};
+ghost use Rattle.j39_id.specs.Lines.{YieldsLines, YieldsPieces, IsBehindPieces};
 ghost use Rattle.j39_id.specs.Name.{NamesReadBack, NameBytesReadBack};
 ghost use Rattle.j39_id.specs.FrameLine.{Spells, canon, SpellsAtMostOne, SpelledHasNoFault, HasAtMostOneFault};
 
@@ -35,8 +35,8 @@ pub fn names_and_bytes_are_inverse()
 
 /// What a new cutter answers to the bytes of a text, one after another, and to the end are the lines of the text, in
 /// however many pieces the text came.
-pub fn a_cutter_tells_the_lines()
-    ensures lines { TellsLines }
-    ensures pieces { TellsPieces }
+pub fn a_cutter_yields_the_lines()
+    ensures lines { YieldsLines }
+    ensures pieces { YieldsPieces }
     ensures behind { IsBehindPieces }
 {}

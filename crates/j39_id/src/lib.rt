@@ -35,7 +35,7 @@ pub use ident::{IDENTIFIER_END, Ident};
 pub use label::Label;
 pub use last_word::{is_separator, split_last, words_end};
 pub use laws::{
-    a_cutter_tells_the_lines, canonical_text_spells, names_and_bytes_are_inverse, one_reading,
+    a_cutter_yields_the_lines, canonical_text_spells, names_and_bytes_are_inverse, one_reading,
 };
 pub use line_error::LineError;
 pub use name::Name;

@@ -5,7 +5,7 @@ use crate::name_fields::first_out_of_range;
 use crate::{NameError, NameField, NameFields};
 use std::marker::Model;
 
-/// A NAME (SAE J1939-81): 64 bits that tell one unit from every other, ordered by their number.
+/// A NAME (SAE J1939-81): 64 bits that distinguish one unit from every other, ordered by their number.
 ///
 /// The unit with the smaller NAME keeps an address that two of them claim. Every 64-bit number is a NAME.
 #[derive(Clone, Copy, Default, PartialEq, Eq, PartialOrd, Ord)]

@@ -19,7 +19,7 @@ pub const CONNECTION_MANAGEMENT: Pgn = Pgn { number: 60416 };
 /// Address claimed and, from the null address, cannot claim address: both carry the NAME of the unit.
 pub const ADDRESS_CLAIMED: Pgn = Pgn { number: 60928 };
 
-/// Tells a unit to take another address.
+/// Asks a unit to take another address.
 pub const COMMANDED_ADDRESS: Pgn = Pgn { number: 65240 };
 
 /// The priority of a request and of an address claimed.

@@ -1,4 +1,4 @@
--- What is told of each variant, one after the other.
+-- What is reported of each variant, one after the other.
 use Rattle.std.proofs.Common.{◌≡◌, ◌⊎◌, ℕ, ◌+◌, ◌<◌, List, [], ◌∷◌, ◌++◌, Option, Some, None, inl, inr, get_or, length, map, take, refl, sym, ap, ◌∙◌, arith, subst}
 use Rattle.std.specs.List.{AllZip, range_with_len}
 use Rattle.std.specs.Option.{option_map}
@@ -24,12 +24,12 @@ use Rattle.j39_line_bounds.specs.declared.times.NeedTime.TheVariants as need
 
 -- ---- of one variant
 
-pub told_of : (line : ProductLine) (v : List ℕ) (there : WhatIsThere) (plan : Plan) (timing : Timing) (answer : LoadAnswer) (told : Times)
+pub reported_of : (line : ProductLine) (v : List ℕ) (there : WhatIsThere) (plan : Plan) (timing : Timing) (answer : LoadAnswer) (reported : Times)
     → IsWhatIsThere line v there → IsVariantPlan line v plan → timing_of plan ≡ Some timing → IsLoadAnswer plan timing answer
-    → told.flows.items ≡ map (flow_time there.flows.items answer.delays.items) (range_with_len 0 (length line.plan.flows.items))
-    → told.needs.items ≡ map (need_time line v there plan timing answer.delays.items) (range_with_len 0 (length line.plan.needs.items))
-    → told.load ≡ total_load answer.loads.timing (asked_in answer.loads) → AreVariantTimes line v told
-told_of line v there plan timing answer told is_there is timed is_answer flows needs load =
+    → reported.flows.items ≡ map (flow_time there.flows.items answer.delays.items) (range_with_len 0 (length line.plan.flows.items))
+    → reported.needs.items ≡ map (need_time line v there plan timing answer.delays.items) (range_with_len 0 (length line.plan.needs.items))
+    → reported.load ≡ total_load answer.loads.timing (asked_in answer.loads) → AreVariantTimes line v reported
+reported_of line v there plan timing answer reported is_there is timed is_answer flows needs load =
     let flow_here = flow_time there.flows.items answer.delays.items in
     let need_here = need_time line v there plan timing answer.delays.items in
     let n = length line.plan.flows.items in
@@ -69,8 +69,8 @@ counted line [] v (times ∷ each) more is are = absurd are
 counted line (w ∷ vs) v [] more is are = absurd are
 counted line (w ∷ vs) v (times ∷ each) more is are = (are.0, counted line vs v each more is are.1)
 
-pub none_yet : (line : ProductLine) (told : Times) → AreWorst line [] told → AreTimesAmong line [] told
-none_yet line told are = record { each = []; are_each = tt; worst = are }
+pub none_yet : (line : ProductLine) (reported : Times) → AreWorst line [] reported → AreTimesAmong line [] reported
+none_yet line reported are = record { each = []; are_each = tt; worst = are }
 
 pub one_more : (line : ProductLine) (vs : List (List ℕ)) (v : List ℕ) (old here new : Times) → AreVariantTimes line v here
     → ((each : List Times) → AreWorst line each old → AreWorst line (each ++ here ∷ []) new) → AreTimesAmong line vs old
@@ -111,7 +111,7 @@ module _ (line : ProductLine) where
   of_times (w ∷ vs) (x ∷ each) are times (inr later) =
       let found = of_times vs each are.1 times later in (found.0, inr found.1, found.2)
 
-  module _ (vs : List (List ℕ)) (told : Times) (are : AreTimesAmong line vs told) where
+  module _ (vs : List (List ℕ)) (reported : Times) (are : AreTimesAmong line vs reported) where
     of_some : {T : Type 0} (at : Times → T) (nothing worst : T)
         → (worst ≡ nothing) ⊎ ((times : Times) × IsTimesAmong are.each times × (worst ≡ at times))
         → (worst ≡ nothing) ⊎ IsOfSomeVariant (IsOneOf vs) line at worst
@@ -120,7 +120,7 @@ module _ (line : ProductLine) where
         let found = of_times vs are.each are.are_each times among in
         inr (found.0, found.1, (times, found.2, same))
 
-    pub bound : BoundEachOf (IsOneOf vs) line told
+    pub bound : BoundEachOf (IsOneOf vs) line reported
     bound = record {
       each = λ v is.
           let found = of_variant vs are.each are.are_each v is in (
@@ -132,10 +132,10 @@ module _ (line : ProductLine) where
               load = are.worst.load.none_more found.0 found.2;
             },
           );
-      flows = λ f below. of_some (λ times. time_of_flow times f) flow.NoVariant (time_of_flow told f) (are.worst.flows f below).one;
-      needs = λ d below. of_some (λ times. time_of_need times d) need.NoVariant (time_of_need told d) (are.worst.needs d below).one;
-      load = of_some (λ times. times.load) 0 told.load are.worst.load.one;
+      flows = λ f below. of_some (λ times. time_of_flow times f) flow.NoVariant (time_of_flow reported f) (are.worst.flows f below).one;
+      needs = λ d below. of_some (λ times. time_of_need times d) need.NoVariant (time_of_need reported d) (are.worst.needs d below).one;
+      load = of_some (λ times. times.load) 0 reported.load are.worst.load.one;
     }
 
 pub bound_these : TimesBoundThese
-bound_these line vs told are = bound line vs told are
+bound_these line vs reported are = bound line vs reported are

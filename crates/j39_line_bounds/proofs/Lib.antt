@@ -1,5 +1,5 @@
 pub mod EachTimes
 pub mod Standings
-pub mod ToldNumbers
+pub mod ReportedNumbers
 pub mod UnitPlaces
 pub mod WorstTimes

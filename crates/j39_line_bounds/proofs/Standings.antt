@@ -1,5 +1,5 @@
--- What is told of units, with one variant more.
-use Rattle.std.proofs.Common.{◌≡◌, ◌⊎◌, ℕ, zero, suc, ◌+◌, ◌<◌, List, [], ◌∷◌, ◌++◌, Bool, true, false, Option, Some, None, inl, inr, get_or, length, map, take, refl, sym, ap, ◌∙◌, arith, subst}
+-- What is reported of units, with one variant more.
+use Rattle.std.proofs.Common.{◌≡◌, ℕ, zero, suc, ◌+◌, ◌<◌, List, [], ◌∷◌, ◌++◌, Bool, true, false, Option, Some, None, inl, inr, get_or, length, map, take, refl, sym, ap, ◌∙◌, arith, subst}
 use Rattle.std.specs.Bool.{MatchBool}
 use Rattle.std.specs.Prelude.{if◌then◌else◌}
 use Rattle.std.specs.List.{range_with_len, slice_get}
@@ -13,6 +13,8 @@ use Rattle.j39_network.specs.declared.plan.unit_plan.UnitPlan.{UnitPlan}
 use Rattle.j39_variants.specs.VariantPlans.{IsVariantPlan}
 use Rattle.j39_variants.specs.declared.line.ProductLine.{ProductLine}
 use Rattle.j39_line_findings.specs.AllVariants.{IsOneOf}
+use Rattle.j39_line_findings.proofs.OneOf.{one_cases, one_left, one_right}
+use Rattle.j39_line_findings.proofs.Tests.{value_inside}
 use Rattle.j39_line_findings.specs.MissedNeeds.{is_unit_there}
 use Rattle.j39_line_bounds.specs.LineStandings.{AreStandingsAmong, HasOneStanding, HasPlace, HasLineUnit, IsLineStanding, IsStandingAmong, LacksUnit, MayMoveIn, StandingsAreExact, StaysIn}
 use Rattle.j39_line_bounds.specs.declared.standing.LineStanding.{LineStanding}
@@ -34,9 +36,9 @@ module _ (line : ProductLine) (v : List ℕ) (plan : Plan) (stays : UnitPlan →
   decided p has = decides p unit (same_unit line v u plan p is has ∙ at)
 
   stays_there : stays unit ≡ true → StaysIn line v u
-  stays_there told other p of_other has =
+  stays_there reported other p of_other has =
       let here : StaysBeside plan.strangers (units_of plan) p =
-      subst (λ b. MatchBool b (StaysBeside plan.strangers (units_of plan) p) (¬ StaysBeside plan.strangers (units_of plan) p)) told (decided p has) in
+      subst (λ b. MatchBool b (StaysBeside plan.strangers (units_of plan) p) (¬ StaysBeside plan.strangers (units_of plan) p)) reported (decided p has) in
       let strangers = same_strangers line v plan other is of_other in
       let units = same_units line v plan other is of_other in
       subst (λ n. StaysBeside n (units_of other) p) strangers (subst (λ us. StaysBeside plan.strangers us p) units here)
@@ -52,10 +54,10 @@ module _ (line : ProductLine) (v : List ℕ) (plan : Plan) (stays : UnitPlan →
         (decided has.0 has.1);
   }
 
-  here_of : (there told : Bool) → is_unit_there line v u ≡ there → stays unit ≡ told → Here line v u (if there then Some told else None)
-  here_of false told there_is told_is = is_lacking line v u there_is
-  here_of true true there_is told_is = (is_there line v u there_is, stays_there told_is)
-  here_of true false there_is told_is = moves_there told_is (is_there line v u there_is)
+  here_of : (there reported : Bool) → is_unit_there line v u ≡ there → stays unit ≡ reported → Here line v u (if there then Some reported else None)
+  here_of false reported there_is reported_is = is_lacking line v u there_is
+  here_of true true there_is reported_is = (is_there line v u there_is, stays_there reported_is)
+  here_of true false there_is reported_is = moves_there reported_is (is_there line v u there_is)
 
   pub what_is_here : Here line v u (stays_in_variant line v stays u)
   what_is_here =
@@ -64,29 +66,12 @@ module _ (line : ProductLine) (v : List ℕ) (plan : Plan) (stays : UnitPlan →
 
 -- ---- one variant more
 
-one_left : (xs ys : List (List ℕ)) (v : List ℕ) → IsOneOf xs v → IsOneOf (xs ++ ys) v
-one_left [] ys v is = absurd is
-one_left (x ∷ xs) ys v (inl is) = inl is
-one_left (x ∷ xs) ys v (inr is) = inr (one_left xs ys v is)
-
-one_last : (xs : List (List ℕ)) (v : List ℕ) → IsOneOf (xs ++ v ∷ []) v
-one_last [] v = inl refl
-one_last (x ∷ xs) v = inr (one_last xs v)
-
-one_cases : (xs ys : List (List ℕ)) (v : List ℕ) → IsOneOf (xs ++ ys) v → IsOneOf xs v ⊎ IsOneOf ys v
-one_cases [] ys v is = inr is
-one_cases (x ∷ xs) ys v (inl is) = inl (inl is)
-one_cases (x ∷ xs) ys v (inr is) = elim (one_cases xs ys v is) [
-  | inl left ↦ inl (inr left)
-  | inr right ↦ inr right
-]
-
 module _ (line : ProductLine) (vs : List (List ℕ)) (v : List ℕ) where
   more : (w : List ℕ) → IsOneOf vs w → IsOneOf (vs ++ v ∷ []) w
   more w these = one_left vs (v ∷ []) w these
 
   last : IsOneOf (vs ++ v ∷ []) v
-  last = one_last vs v
+  last = one_right vs (v ∷ []) v (inl refl)
 
   each_more : (P : List ℕ → Type 0) → ((w : List ℕ) → IsOneOf vs w → P w) → P v → (w : List ℕ) → IsOneOf (vs ++ v ∷ []) w → P w
   each_more P so_far here w these = elim (one_cases vs (v ∷ []) w these) [
@@ -123,12 +108,6 @@ module _ (line : ProductLine) (vs : List (List ℕ)) (v : List ℕ) where
     one_more Stays (Some false) so_far here = (v, last, here)
     one_more MayMove (Some false) so_far here = (so_far.0, more so_far.0 so_far.1, so_far.2)
 
--- a unit of the file
-some_unit : (units : List UnitPlan) (u : ℕ) → u < length units → (unit : UnitPlan) × (slice_get units u ≡ Some unit)
-some_unit [] u below = absurd (omega (arith, below))
-some_unit (unit ∷ units) zero below = (unit, refl)
-some_unit (unit ∷ units) (suc u) below = some_unit units u (omega (arith, below))
-
 -- of each unit
 pub all_more : (line : ProductLine) (vs : List (List ℕ)) (v : List ℕ) (plan : Plan) (stays : UnitPlan → Bool) (so_far : List LineStanding)
     → IsVariantPlan line v plan → DecidesWhoStays plan stays → AreStandingsAmong (IsOneOf vs) line so_far
@@ -143,24 +122,24 @@ all_more line vs v plan stays so_far is decides are =
           let inside : u < length so_far = subst (λ m. u < m) count below in
           let in_file : u < length line.plan.units.items = subst (λ m. u < m) units inside in
           let first : 0 + u ≡ u = omega arith in
-          let told : get_or (map with_it (range_with_len 0 n)) u NoVariant ≡ with_it u = get_or-map-range_with_len with_it 0 n u u NoVariant inside first in
-          let unit = some_unit line.plan.units.items u in_file in
-          subst (IsStandingAmong (IsOneOf (vs ++ v ∷ [])) line u) (sym told)
+          let reported : get_or (map with_it (range_with_len 0 n)) u NoVariant ≡ with_it u = get_or-map-range_with_len with_it 0 n u u NoVariant inside first in
+          let unit = value_inside line.plan.units.items u in_file in
+          subst (IsStandingAmong (IsOneOf (vs ++ v ∷ [])) line u) (sym reported)
           (one_more line vs v u (standing_at so_far u) (stays_in_variant line v stays u) (are.each u inside)
           (what_is_here line v plan stays is decides u unit.0 unit.1));
     }
 
 -- ---- no variant yet
 
-told_nothing : {X : Type 0} (xs : List X) (u : ℕ) → get_or (map (λ _. NoVariant) xs) u NoVariant ≡ NoVariant
-told_nothing [] u = refl
-told_nothing (x ∷ xs) zero = refl
-told_nothing (x ∷ xs) (suc u) = told_nothing xs u
+reported_nothing : {X : Type 0} (xs : List X) (u : ℕ) → get_or (map (λ _. NoVariant) xs) u NoVariant ≡ NoVariant
+reported_nothing [] u = refl
+reported_nothing (x ∷ xs) zero = refl
+reported_nothing (x ∷ xs) (suc u) = reported_nothing xs u
 
 pub none_yet : (line : ProductLine) → AreStandingsAmong (IsOneOf []) line (map (λ _. NoVariant) line.plan.units.items)
 none_yet line = record {
   count = length-map line.plan.units.items (λ _. NoVariant);
-  each = λ u below. subst (IsStandingAmong (IsOneOf []) line u) (sym (told_nothing line.plan.units.items u)) (λ v these. absurd these);
+  each = λ u below. subst (IsStandingAmong (IsOneOf []) line u) (sym (reported_nothing line.plan.units.items u)) (λ v these. absurd these);
 }
 
 -- the next one of them
@@ -194,6 +173,6 @@ module _ (line : ProductLine) (u : ℕ) where
 
 pub exact : StandingsAreExact
 exact line standings are = record {
-  sound = λ u below told. subst (IsLineStanding line u) told (are.each u below);
+  sound = λ u below reported. subst (IsLineStanding line u) reported (are.each u below);
   complete = λ u below stays. one_standing line u (get_or standings u NoVariant) Stays (are.each u below) stays;
 }

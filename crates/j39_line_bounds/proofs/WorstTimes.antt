@@ -1,4 +1,4 @@
--- The worst of what is told of variants, one after the other.
+-- The worst of what is reported of variants, one after the other.
 use Rattle.std.proofs.Common.{◌≡◌, ◌⊎◌, ℕ, ◌+◌, ◌<◌, ◌≤◌, List, [], ◌∷◌, ◌++◌, Bool, true, false, ◌&&◌, ◌||◌, nat_lt, inl, inr, get_or, length, map, max, refl, sym, ap, ◌∙◌, arith, subst}
 use Rattle.std.specs.Prelude.{◌==◌, if◌then◌else◌}
 use Rattle.std.specs.List.{range_with_len}
@@ -6,6 +6,7 @@ use Rattle.std.proofs.Math.Nat.{le-max_left, le-max_right}
 use Rattle.std.proofs.lemmas.Bool.{cases_Bool, eq-eqb, eqb-true, false≢true, ltb-false, ltb-true, lt-ltb, true≢false}
 use Rattle.std.proofs.lemmas.List.FromFn.{get_or-map-range_with_len, length-map-range_with_len}
 use Rattle.j39_variants.specs.declared.line.ProductLine.{ProductLine}
+use Rattle.j39_line_findings.proofs.OneOf.{one_cases, one_left, one_right}
 use Rattle.j39_line_bounds.specs.LineTimes.{AreWorst, IsGreatestLoad, IsTimesAmong, IsWorst, time_of_flow, flow_badness, is_less_bad, time_of_need, need_badness, worse}
 use Rattle.j39_line_bounds.specs.declared.times.Badness.{Badness}
 use Rattle.j39_line_bounds.specs.declared.times.FlowTime.TheVariants as flow
@@ -62,44 +63,25 @@ still_not_less a b t below never = not_less b t (λ is.
     let through = from_less a t (less_of_less a b t (less a b below) is) in
     true≢false (sym through ∙ never))
 
--- ---- one of some
-
-among_left : (xs ys : List Times) (t : Times) → IsTimesAmong xs t → IsTimesAmong (xs ++ ys) t
-among_left [] ys t is = absurd is
-among_left (x ∷ xs) ys t (inl is) = inl is
-among_left (x ∷ xs) ys t (inr is) = inr (among_left xs ys t is)
-
-among_last : (xs : List Times) (t : Times) → IsTimesAmong (xs ++ t ∷ []) t
-among_last [] t = inl refl
-among_last (x ∷ xs) t = inr (among_last xs t)
-
-among_cases : (xs ys : List Times) (t : Times) → IsTimesAmong (xs ++ ys) t → IsTimesAmong xs t ⊎ IsTimesAmong ys t
-among_cases [] ys t is = inr is
-among_cases (x ∷ xs) ys t (inl is) = inl (inl is)
-among_cases (x ∷ xs) ys t (inr is) = elim (among_cases xs ys t is) [
-  | inl left ↦ inl (inr left)
-  | inr right ↦ inr right
-]
-
 -- ---- with one more
 
 module _ {T : Type 0} (bad : T → Badness) (nothing : T) (at : Times → T) (each : List Times) (more : Times) (worst : T) (is : IsWorst bad nothing at each worst) where
-  told_of_one : (b : Bool) → ((if b then at more else worst) ≡ nothing)
+  reported_of_one : (b : Bool) → ((if b then at more else worst) ≡ nothing)
       ⊎ ((times : Times) × IsTimesAmong (each ++ more ∷ []) times × ((if b then at more else worst) ≡ at times))
-  told_of_one true = inr (more, among_last each more, refl)
-  told_of_one false = elim is.one [
+  reported_of_one true = inr (more, one_right each (more ∷ []) more (inl refl), refl)
+  reported_of_one false = elim is.one [
     | inl none ↦ inl none
-    | inr one ↦ inr (one.0, among_left each (more ∷ []) one.0 one.1, one.2)
+    | inr one ↦ inr (one.0, one_left each (more ∷ []) one.0 one.1, one.2)
   ]
 
   not_less_than : (b : Bool) → is_less_bad (bad worst) (bad (at more)) ≡ b → (times : Times) → IsTimesAmong (each ++ more ∷ []) times
       → is_less_bad (bad (if b then at more else worst)) (bad (at times)) ≡ false
-  not_less_than true below times among = elim (among_cases each (more ∷ []) times among) [
+  not_less_than true below times among = elim (one_cases each (more ∷ []) times among) [
     | inl old ↦ still_not_less (bad worst) (bad (at more)) (bad (at times)) below (is.none_worse times old)
     | inr (inl same) ↦ subst (λ t. is_less_bad (bad (at more)) (bad (at t)) ≡ false) same (not_less (bad (at more)) (bad (at more)) (not_itself (bad (at more))))
     | inr (inr none) ↦ absurd none
   ]
-  not_less_than false never times among = elim (among_cases each (more ∷ []) times among) [
+  not_less_than false never times among = elim (one_cases each (more ∷ []) times among) [
     | inl old ↦ is.none_worse times old
     | inr (inl same) ↦ subst (λ t. is_less_bad (bad worst) (bad (at t)) ≡ false) same never
     | inr (inr none) ↦ absurd none
@@ -107,7 +89,7 @@ module _ {T : Type 0} (bad : T → Badness) (nothing : T) (at : Times → T) (ea
 
   pub worse_with : IsWorst bad nothing at (each ++ more ∷ []) (worse bad worst (at more))
   worse_with = record {
-    one = told_of_one (is_less_bad (bad worst) (bad (at more)));
+    one = reported_of_one (is_less_bad (bad worst) (bad (at more)));
     none_worse = not_less_than (is_less_bad (bad worst) (bad (at more))) refl;
   }
 
@@ -116,16 +98,16 @@ greatest_with each more load is = record {
   one = elim (cases_Bool (nat_lt load more.load)) [
     | inl below ↦
         let less = ltb-true load more.load below in
-        inr (more, among_last each more, omega (arith, less))
+        inr (more, one_right each (more ∷ []) more (inl refl), omega (arith, less))
     | inr not_below ↦
         let no_more = ltb-false load more.load not_below in
         let same : max load more.load ≡ load = omega (arith, no_more) in
         elim is.one [
           | inl none ↦ inl (same ∙ none)
-          | inr one ↦ inr (one.0, among_left each (more ∷ []) one.0 one.1, same ∙ one.2)
+          | inr one ↦ inr (one.0, one_left each (more ∷ []) one.0 one.1, same ∙ one.2)
         ]
   ];
-  none_more = λ times among. elim (among_cases each (more ∷ []) times among) [
+  none_more = λ times among. elim (one_cases each (more ∷ []) times among) [
     | inl old ↦
         let below = is.none_more times old in
         let left = le-max_left load more.load in
@@ -135,30 +117,35 @@ greatest_with each more load is = record {
   ];
 }
 
-pub all_with : (line : ProductLine) (each : List Times) (one more told : Times)
-    → told.flows.items ≡ map (λ f. worse flow_badness (time_of_flow one f) (time_of_flow more f)) (range_with_len 0 (length one.flows.items))
-    → told.needs.items ≡ map (λ d. worse need_badness (time_of_need one d) (time_of_need more d)) (range_with_len 0 (length one.needs.items))
-    → told.load ≡ max one.load more.load → AreWorst line each one → AreWorst line (each ++ more ∷ []) told
-all_with line each one more told flows needs load are =
-    let worse_flow = λ (f : ℕ). worse flow_badness (time_of_flow one f) (time_of_flow more f) in
-    let worse_need = λ (d : ℕ). worse need_badness (time_of_need one d) (time_of_need more d) in
+-- of each place of the file
+module _ {T : Type 0} (bad : T → Badness) (nothing : T) (at : Times → ℕ → T) (each : List Times) (one more : Times) (values : List T) (n : ℕ)
+    (made : values ≡ map (λ i. worse bad (at one i) (at more i)) (range_with_len 0 n)) where
+  abbrev worse_at : ℕ → T
+  worse_at i = worse bad (at one i) (at more i)
+
+  worse_count : length values ≡ n
+  worse_count = ap length made ∙ length-map-range_with_len worse_at 0 n
+
+  each_worse : (i : ℕ) → i < n → IsWorst bad nothing (λ times. at times i) each (at one i)
+      → IsWorst bad nothing (λ times. at times i) (each ++ more ∷ []) (get_or values i nothing)
+  each_worse i below is =
+      let first : 0 + i ≡ i = omega arith in
+      let here : get_or values i nothing ≡ worse_at i =
+      ap (λ (xs : List T). get_or xs i nothing) made ∙ get_or-map-range_with_len worse_at 0 n i i nothing below first in
+      subst (IsWorst bad nothing (λ times. at times i) (each ++ more ∷ [])) (sym here) (worse_with bad nothing (λ times. at times i) each more (at one i) is)
+
+pub all_with : (line : ProductLine) (each : List Times) (one more reported : Times)
+    → reported.flows.items ≡ map (λ f. worse flow_badness (time_of_flow one f) (time_of_flow more f)) (range_with_len 0 (length one.flows.items))
+    → reported.needs.items ≡ map (λ d. worse need_badness (time_of_need one d) (time_of_need more d)) (range_with_len 0 (length one.needs.items))
+    → reported.load ≡ max one.load more.load → AreWorst line each one → AreWorst line (each ++ more ∷ []) reported
+all_with line each one more reported flows needs load are =
     let n = length one.flows.items in
     let m = length one.needs.items in record {
-      flow_count = ap length flows ∙ length-map-range_with_len worse_flow 0 n ∙ are.flow_count;
-      flows = λ f below.
-          let inside : f < n = subst (λ k. f < k) (sym are.flow_count) below in
-          let first : 0 + f ≡ f = omega arith in
-          let here : time_of_flow told f ≡ worse_flow f =
-          ap (λ xs. get_or xs f flow.NoVariant) flows ∙ get_or-map-range_with_len worse_flow 0 n f f flow.NoVariant inside first in
-          subst (IsWorst flow_badness flow.NoVariant (λ times. time_of_flow times f) (each ++ more ∷ [])) (sym here)
-          (worse_with flow_badness flow.NoVariant (λ times. time_of_flow times f) each more (time_of_flow one f) (are.flows f below));
-      need_count = ap length needs ∙ length-map-range_with_len worse_need 0 m ∙ are.need_count;
-      needs = λ d below.
-          let inside : d < m = subst (λ k. d < k) (sym are.need_count) below in
-          let first : 0 + d ≡ d = omega arith in
-          let here : time_of_need told d ≡ worse_need d =
-          ap (λ xs. get_or xs d need.NoVariant) needs ∙ get_or-map-range_with_len worse_need 0 m d d need.NoVariant inside first in
-          subst (IsWorst need_badness need.NoVariant (λ times. time_of_need times d) (each ++ more ∷ [])) (sym here)
-          (worse_with need_badness need.NoVariant (λ times. time_of_need times d) each more (time_of_need one d) (are.needs d below));
+      flow_count = worse_count flow_badness flow.NoVariant time_of_flow each one more reported.flows.items n flows ∙ are.flow_count;
+      flows = λ f below. each_worse flow_badness flow.NoVariant time_of_flow each one more reported.flows.items n flows f
+          (subst (λ k. f < k) (sym are.flow_count) below) (are.flows f below);
+      need_count = worse_count need_badness need.NoVariant time_of_need each one more reported.needs.items m needs ∙ are.need_count;
+      needs = λ d below. each_worse need_badness need.NoVariant time_of_need each one more reported.needs.items m needs d
+          (subst (λ k. d < k) (sym are.need_count) below) (are.needs d below);
       load = subst (IsGreatestLoad (each ++ more ∷ [])) (sym load) (greatest_with each more one.load are.load);
     }

@@ -37,7 +37,7 @@ pub record MayMoveIn (line : ProductLine) (variant : List ℕ) (u : ℕ) : Type 
 
 -- ---- in all variants of a kind
 
--- what is told of it: none of these variants has it; some do, and it stays in each of them; or in one of them it may move
+-- what is reported of it: none of these variants has it; some do, and it stays in each of them; or in one of them it may move
 abbrev pub IsStandingAmong : (List ℕ → Type 0) → ProductLine → ℕ → LineStanding → Type 0
 IsStandingAmong These line u NoVariant = (variant : List ℕ) → These variant → LacksUnit line variant u
 IsStandingAmong These line u Stays = ((variant : List ℕ) × These variant × HasLineUnit line variant u)
@@ -63,14 +63,14 @@ abbrev pub StaysInEach : ProductLine → ℕ → Type 0
 StaysInEach line u = ((variant : List ℕ) × IsPossible line variant × HasLineUnit line variant u)
     × ((variant : List ℕ) → IsPossible line variant → StaysIn line variant u)
 
--- one that is told to stay does, and each that does is told so
-pub record TellsWhoStays (line : ProductLine) (standings : List LineStanding) : Type 0 where
+-- one that is reported to stay does, and each that does is reported so
+pub record ReportsWhoStays (line : ProductLine) (standings : List LineStanding) : Type 0 where
   pub sound : (u : ℕ) → u < length standings → slice_index_or standings u NoVariant ≡ Stays → StaysInEach line u
   pub complete : (u : ℕ) → u < length standings → StaysInEach line u → slice_index_or standings u NoVariant ≡ Stays
 
 abbrev pub StandingsAreExact : Type 0
-StandingsAreExact = (line : ProductLine) (standings : List LineStanding) → AreLineStandings line standings → TellsWhoStays line standings
+StandingsAreExact = (line : ProductLine) (standings : List LineStanding) → AreLineStandings line standings → ReportsWhoStays line standings
 
--- what is told of a unit is one
+-- what is reported of a unit is one
 abbrev pub HasOneStanding : ProductLine → ℕ → Type 0
 HasOneStanding line u = (one other : LineStanding) → IsLineStanding line u one → IsLineStanding line u other → one ≡ other

@@ -6,7 +6,7 @@ mod standing;
 mod times;
 
 pub use laws::{
-    standings_are_exact, times_bound_these, told_numbers_bound_times, units_have_one_standing,
+    reported_numbers_bound_times, standings_are_exact, times_bound_these, units_have_one_standing,
 };
 pub use standing::{LineStanding, line_standings};
 pub use times::{FlowTime, LineTimes, NeedTime, line_times};

@@ -13,7 +13,7 @@ use j39_network::UnitPlan;
 use j39_variants::{ProductLine, plan_of};
 use std::alloc::{AllocError, Global};
 
-/// What is told of a unit of a line, in some of its variants.
+/// What is reported of a unit of a line, in some of its variants.
 #[derive(Clone, Copy, PartialEq, Eq)]
 pub enum LineStanding {
     /// None of them has it.
@@ -45,7 +45,7 @@ fn stays_in_variant(
     }
 }
 
-// What is told of a unit, with one variant more.
+// What is reported of a unit, with one variant more.
 fn with_variant(so_far: LineStanding, here: Option<bool>) -> LineStanding
     ensures { result ≡ with_variant so_far here }
 {
@@ -97,7 +97,7 @@ fn each_with(
         .collect(alloc)
 }
 
-// What is told of each unit, with one variant more.
+// What is reported of each unit, with one variant more.
 fn standings_with(
     alloc: Global,
     line: &ProductLine,
@@ -113,7 +113,7 @@ fn standings_with(
     Ok(standings)
 }
 
-// What is told of each unit, in no variant.
+// What is reported of each unit, in no variant.
 fn no_standings(alloc: Global, units: &[UnitPlan]) -> Result<Vec<LineStanding>, AllocError>
     ensures { IfOk result (λ v. v.items ≡ map (λ _. NoVariant) units.now) }
 {
@@ -123,7 +123,7 @@ fn no_standings(alloc: Global, units: &[UnitPlan]) -> Result<Vec<LineStanding>, 
         .collect(alloc)
 }
 
-/// What is told of each unit of a line, in order, in these variants: the places of the alternatives that each takes, choice
+/// What is reported of each unit of a line, in order, in these variants: the places of the alternatives that each takes, choice
 /// by choice.
 pub fn line_standings(
     alloc: Global,

@@ -7,7 +7,7 @@ ghost use Rattle.j39_variants.specs.declared.line.ProductLine.{ProductLine as AL
 ghost use Rattle.j39_line_bounds.specs.declared.times.LineTimes.{LineTimes as Times};
 ghost use Rattle.j39_line_bounds.specs.LineTimes.{AreTimesAmong, AreVariantTimes, AreWorst, time_of_flow, time_of_need, worse, youngest_here};
 ghost use Rattle.j39_line_bounds.specs.LineTimes.{age_here, of_degree, badness_known, delay_badness, flow_badness, flow_time};
-ghost use Rattle.j39_line_bounds.specs.LineTimes.{is_less_bad, need_badness, need_time, place_in_variant, time_told};
+ghost use Rattle.j39_line_bounds.specs.LineTimes.{is_less_bad, need_badness, need_time, place_in_variant, time_reported};
 
 use j39_line_findings::{WhatIsThere, is_need_asked_for, place_in_file};
 use j39_load::{Delay, LoadAnswer, WholeTime, has_several, least_age, timing_of, youngest_flow};
@@ -15,16 +15,16 @@ use j39_network::{NeedPlan, Plan, Timing, is_met};
 use j39_variants::{ProductLine, plan_of};
 use std::alloc::{AllocError, Global};
 
-/// What is told of a flow of a line, in some of its variants.
+/// What is reported of a flow of a line, in some of its variants.
 #[derive(Clone, Copy, PartialEq, Eq)]
 pub enum FlowTime {
     /// None of them has it.
     NoVariant,
     /// Its worst delay in those that have it; none where it isn't known how often it is sent.
-    Told(Option<Delay>),
+    Reported(Option<Delay>),
 }
 
-/// What is told of a need of a line that asks for an age, in some of its variants.
+/// What is reported of a need of a line that asks for an age, in some of its variants.
 #[derive(Clone, Copy, PartialEq, Eq)]
 pub enum NeedTime {
     /// None of them asks for it.
@@ -36,7 +36,7 @@ pub enum NeedTime {
     Age(Option<u64>, Option<usize>),
 }
 
-/// What is told of the flows and needs of a line, in order, and its load.
+/// What is reported of the flows and needs of a line, in order, and its load.
 #[derive(Drop)]
 pub struct LineTimes {
     pub flows: Vec<FlowTime>,
@@ -46,7 +46,7 @@ pub struct LineTimes {
 }
 
 impl LineTimes {
-    /// What is told of the flow at a place of the file.
+    /// What is reported of the flow at a place of the file.
     pub fn flow(&self, place: usize) -> FlowTime
         ensures { result ≡ time_of_flow self.now place }
     {
@@ -56,7 +56,7 @@ impl LineTimes {
         }
     }
 
-    /// What is told of the need at a place of the file.
+    /// What is reported of the need at a place of the file.
     pub fn need(&self, place: usize) -> NeedTime
         ensures { result ≡ time_of_need self.now place }
     {
@@ -95,9 +95,9 @@ fn badness_known(time: Option<u64>) -> Badness
     }
 }
 
-// The time that is told of long messages to all: that of each of them, where a deadline is written.
-fn time_told(whole: &WholeTime) -> Option<u64>
-    ensures { result ≡ time_told whole.now }
+// The time that is reported of long messages to all: that of each of them, where a deadline is written.
+fn time_reported(whole: &WholeTime) -> Option<u64>
+    ensures { result ≡ time_reported whole.now }
 {
     if whole.limit.is_some() {
         whole.time_of_each()
@@ -114,7 +114,7 @@ fn delay_badness(delay: &Delay) -> Badness
         Delay::Beyond(bits) => of_degree(2, u64::from(*bits)),
         Delay::Late => of_degree(3, 0),
         Delay::Long(frames) => of_degree(1, u64::from(*frames)),
-        Delay::Whole(whole) => badness_known(time_told(whole)),
+        Delay::Whole(whole) => badness_known(time_reported(whole)),
     }
 }
 
@@ -123,8 +123,8 @@ fn flow_badness(time: &FlowTime) -> Badness
 {
     match time {
         FlowTime::NoVariant => of_degree(0, 0),
-        FlowTime::Told(None) => of_degree(1, 0),
-        FlowTime::Told(Some(delay)) => delay_badness(delay),
+        FlowTime::Reported(None) => of_degree(1, 0),
+        FlowTime::Reported(Some(delay)) => delay_badness(delay),
     }
 }
 
@@ -151,13 +151,13 @@ fn flow_time(there: &[usize], delays: &[Option<Delay>], flow: usize) -> FlowTime
     match place_in_variant(there, flow) {
         None => FlowTime::NoVariant,
         Some(place) => match delays.get(place) {
-            Some(delay) => FlowTime::Told(*delay),
-            None => FlowTime::Told(None),
+            Some(delay) => FlowTime::Reported(*delay),
+            None => FlowTime::Reported(None),
         },
     }
 }
 
-// The plan of a variant, with what is told of it.
+// The plan of a variant, with what is reported of it.
 #[derive(Clone, Copy)]
 struct VariantLoad<'a> {
     line: &'a ProductLine,
@@ -241,7 +241,7 @@ impl VariantLoad<'_> {
     }
 }
 
-// What is told of a variant of a line with this timing.
+// What is reported of a variant of a line with this timing.
 fn variant_times(
     alloc: Global,
     line: &ProductLine,
@@ -253,7 +253,7 @@ fn variant_times(
 {
     let there = WhatIsThere::new(alloc, line, variant)?;
     let answer = LoadAnswer::new(alloc, timing, plan)?;
-    let told = VariantLoad {
+    let reported = VariantLoad {
         line,
         variant,
         there: &there,
@@ -262,8 +262,8 @@ fn variant_times(
         delays: &answer.delays,
     };
     Ok(LineTimes {
-        flows: told.flow_times(alloc)?,
-        needs: told.need_times(alloc)?,
+        flows: reported.flow_times(alloc)?,
+        needs: reported.need_times(alloc)?,
         load: answer.loads.total(),
     })
 }
@@ -323,7 +323,7 @@ fn worse(alloc: Global, one: &LineTimes, other: &LineTimes) -> Result<LineTimes,
     })
 }
 
-// What is told of no variant.
+// What is reported of no variant.
 fn nothing(alloc: Global, line: &ProductLine) -> Result<LineTimes, AllocError>
     ensures { IfOk result (AreWorst line.now []) }
 {
@@ -363,7 +363,7 @@ fn times_with(
     Ok(times)
 }
 
-/// What is told of each flow and each need of a line whose bus is known, and its load, in these variants: the places of the
+/// What is reported of each flow and each need of a line whose bus is known, and its load, in these variants: the places of the
 /// alternatives that each takes, choice by choice.
 pub fn line_times(
     alloc: Global,

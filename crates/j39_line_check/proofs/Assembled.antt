@@ -1,4 +1,4 @@
--- What is told of a line, from what is found by conditions and what is found of full variants.
+-- What is reported of a line, from what is found by conditions and what is found of full variants.
 use Rattle.std.proofs.Common.{◌≡◌, ◌⊎◌, ℕ, ◌<◌, ◌≤◌, List, [], ◌∷◌, ◌++◌, Bool, true, false, not, ◌&&◌, ◌||◌, Some, None, inl, inr, map, unwrap_or, refl, sym, ap, subst, ◌∙◌, arith}
 use Rattle.std.specs.List.{Contains, slice_get}
 use Rattle.std.proofs.lemmas.Bool.{and_parts, cases_Bool, false≢true}
@@ -15,29 +15,30 @@ use Rattle.j39_line_findings.specs.declared.line_finding.LineFinding.{LineFindin
 use Rattle.j39_line_findings.specs.declared.witnessed.Witnessed.{Witnessed}
 use Rattle.j39_line_findings.proofs.Ranking.{none_below_itself}
 use Rattle.j39_line_witnesses.specs.declared.found.FoundByCondition.{FoundByCondition}
-use Rattle.j39_line_witness_laws.specs.ToldByConditions.{TellWhatVariantsHave, IsAmongTold}
+use Rattle.j39_line_witness_laws.specs.ReportedByConditions.{ReportWhatVariantsHave}
+use Rattle.j39_line_witnesses.specs.WitnessLaws.{IsReportedAmong}
 use Rattle.j39_full_variants.specs.CountedFindings.{takes_full_for}
 use Rattle.j39_line_check.proofs.CountingRanks.{same_way}
 use Rattle.j39_line_check.proofs.FindingKinds.{no_amount}
 use Rattle.j39_line_check.proofs.Pairs.{condition_of_pair, pair_of_found}
-use Rattle.j39_line_check.specs.LineChecks.{AreTold, HasIt, IsSure, IsTellable, IsWitnessFor, counts_for}
-use Rattle.j39_line_check.specs.declared.answer.ToldFinding.{ToldFinding}
-use Rattle.j39_line_check.specs.inside.AddedFindings.{AreAdded, Pair, pair_of_condition, pair_told}
+use Rattle.j39_line_check.specs.LineChecks.{AreReported, HasIt, IsSure, IsReportable, IsWitnessFor, counts_for}
+use Rattle.j39_line_check.specs.declared.answer.ReportedFinding.{ReportedFinding}
+use Rattle.j39_line_check.specs.inside.AddedFindings.{AreAdded, Pair, pair_of_condition, pair_reported}
 
 -- of one rank there is one
-pub only_one : (told : List Witnessed) (w x : Witnessed) → AreInOrder told → IsWitnessAmong told w → IsWitnessAmong told x → rank_in w ≡ rank_in x → w ≡ x
+pub only_one : (reported : List Witnessed) (w x : Witnessed) → AreInOrder reported → IsWitnessAmong reported w → IsWitnessAmong reported x → rank_in w ≡ rank_in x → w ≡ x
 only_one [] w x ordered one other same = absurd one
-only_one (y ∷ told) w x ordered (inl first) (inl also) same = sym first ∙ also
-only_one (y ∷ told) w x ordered (inl first) (inr later) same =
+only_one (y ∷ reported) w x ordered (inl first) (inl also) same = sym first ∙ also
+only_one (y ∷ reported) w x ordered (inl first) (inr later) same =
     absurd (none_below_itself (rank_in x) (subst (λ r. is_below r (rank_in x) ≡ true) (ap rank_in first ∙ same) (ordered.0 x later)))
-only_one (y ∷ told) w x ordered (inr later) (inl first) same =
+only_one (y ∷ reported) w x ordered (inr later) (inl first) same =
     absurd (none_below_itself (rank_in w) (subst (λ r. is_below r (rank_in w) ≡ true) (ap rank_in first ∙ sym same) (ordered.0 w later)))
-only_one (y ∷ told) w x ordered (inr one) (inr other) same = only_one told w x ordered.1 one other same
+only_one (y ∷ reported) w x ordered (inr one) (inr other) same = only_one reported w x ordered.1 one other same
 
-module _ (line : ProductLine) (conditioned : List FoundByCondition) (exact : TellWhatVariantsHave line conditioned) where
+module _ (line : ProductLine) (conditioned : List FoundByCondition) (exact : ReportWhatVariantsHave line conditioned) where
   -- ---- by conditions
 
-  pub by_condition : (full : FullAlternatives) (one : FoundByCondition) → IsAmongTold conditioned one → IsWitnessFor line full one.finding one.witness.items
+  pub by_condition : (full : FullAlternatives) (one : FoundByCondition) → IsReportedAmong conditioned one → IsWitnessFor line full one.finding one.witness.items
   by_condition full one among =
       let is = exact.sound one among in record {
         has = inl (record { possible = is.possible; one = is.has });
@@ -50,19 +51,19 @@ module _ (line : ProductLine) (conditioned : List FoundByCondition) (exact : Tel
             let none : amount_of more ≡ 0 = no_amount line more goes in omega (arith, none);
       }
 
-  pub condition_told : (v : List ℕ) (f : LineFinding) → HasIt line v f → goes_by_conditions line f ≡ true
-      → (one : FoundByCondition) × IsAmongTold conditioned one × (one.finding ≡ f)
-  condition_told v f has goes = exact.complete v has.findings (record { is_possible = has.possible; are_findings = has.are_findings }) f goes has.one
+  pub condition_reported : (v : List ℕ) (f : LineFinding) → HasIt line v f → goes_by_conditions line f ≡ true
+      → (one : FoundByCondition) × IsReportedAmong conditioned one × (one.finding ≡ f)
+  condition_reported v f has goes = exact.complete v has.findings (record { is_possible = has.possible; are_findings = has.are_findings }) f goes has.one
 
   -- ---- where there are too many full variants
 
-  pub told_beside : (many : ℕ) (full : FullAlternatives) → AreFullAlternatives line full → (told : List ToldFinding)
-      → AreAdded (map pair_of_condition conditioned) told → AreTold line (Some many) told
-  told_beside many full are_full told are = record {
+  pub reported_beside : (many : ℕ) (full : FullAlternatives) → AreFullAlternatives line full → (reported : List ReportedFinding)
+      → AreAdded (map pair_of_condition conditioned) reported → AreReported line (Some many) reported
+  reported_beside many full are_full reported are = record {
     full = full;
     are_full = are_full;
     sound = λ t at.
-        let one = condition_of_pair conditioned (pair_told t) (are.sound t at) in
+        let one = condition_of_pair conditioned (pair_reported t) (are.sound t at) in
         let finding : t.finding ≡ one.0.finding = ap (λ (p : Pair). p.0) one.2 in
         let variant : t.variant.items ≡ one.0.witness.items = ap (λ (p : Pair). p.1) one.2 in (
           ap (goes_by_conditions line) finding ∙ (exact.sound one.0 one.1).goes,
@@ -70,7 +71,7 @@ module _ (line : ProductLine) (conditioned : List FoundByCondition) (exact : Tel
               (subst (λ f. IsWitnessFor line full f one.0.witness.items) (sym finding) (by_condition full one.0 one.1)),
         );
     complete = λ v f has sure goes.
-        let one = condition_told v f has goes in
+        let one = condition_reported v f has goes in
         let t = are.complete (pair_of_condition one.0) (pair_of_found conditioned one.0 one.1) in
         (t.0, t.1, t.2 ∙ ap rank_of one.2);
     in_order = are.in_order;

@@ -11,7 +11,7 @@ use Rattle.j39_load.specs.declared.findings.load_finding.LoadFinding.TheVariants
 use Rattle.j39_variants.specs.declared.line.ProductLine.{ProductLine}
 use Rattle.j39_line_findings.specs.Conditions.{goes_by_conditions}
 use Rattle.j39_line_findings.specs.InFile.{rank_of}
-use Rattle.j39_line_findings.specs.Told.{has_end_in_pool}
+use Rattle.j39_line_findings.specs.Reported.{has_end_in_pool}
 use Rattle.j39_line_findings.specs.declared.line_finding.LineFinding.{LineFinding}
 use Rattle.j39_line_findings.specs.declared.line_finding.LineFinding.TheVariants.{OfPlan, OfLoad}
 use Rattle.j39_line_findings.specs.declared.rank.Rank.{Rank}
@@ -51,6 +51,6 @@ by_rank line (OfLoad (Overload n)) = refl
 by_rank line (OfLoad (LateFlow f)) = refl
 by_rank line (OfLoad (NeedTooOld d)) = refl
 
--- findings that are told alike go alike
+-- findings that are reported alike go alike
 pub same_way : (line : ProductLine) (f g : LineFinding) → rank_of f ≡ rank_of g → goes_by_conditions line f ≡ goes_by_conditions line g
 same_way line f g same = by_rank line f ∙ ap (goes_by_rank line) same ∙ sym (by_rank line g)

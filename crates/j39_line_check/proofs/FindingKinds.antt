@@ -1,7 +1,6 @@
 -- Kinds of findings: which come by absence, which count what is there, and which have a number of addresses or bits.
-use Rattle.std.proofs.Common.{◌≡◌, ◌⊎◌, ℕ, List, Bool, true, false, not, ◌&&◌, inl, inr, refl, sym, ◌∙◌}
-use Rattle.std.proofs.lemmas.Bool.{cases_Bool, false≢true}
-use Rattle.j39_findings.specs.declared.checking.finding.Finding.{Finding}
+use Rattle.std.proofs.Common.{◌≡◌, ◌⊎◌, ℕ, List, true, false, inl, inr, refl, sym, ◌∙◌}
+use Rattle.std.proofs.lemmas.Bool.{false≢true}
 use Rattle.j39_findings.specs.declared.checking.finding.Finding.TheVariants.{SameName, SameFixedAddress, TooFewAddresses, BadPgn, SamePgn, SignalWidth}
 use Rattle.j39_findings.specs.declared.checking.finding.Finding.TheVariants.{SignalOutside, SignalOverlap, FlowToOne, FlowToSelf, FlowRepeated, KeptAddress}
 use Rattle.j39_findings.specs.declared.checking.finding.Finding.TheVariants.{PrivateUnsent, RecordOverlap, TextOutside, NeedUnmet, RequestUnanswered}
@@ -60,33 +59,6 @@ absent_amount line f absent = elim (amount_kinds line f) [
   | inl none ↦ none
   | inr (counts, there) ↦ absurd (false≢true (sym there ∙ absent))
 ]
-
--- what counts what is there doesn't come by absence, but for ages
-pub counts_there : (line : ProductLine) (f : Finding) → goes_by_conditions line (OfPlan f) ≡ false → is_by_absence (OfPlan f) ≡ false
-counts_there line (SameName i j) counts = refl
-counts_there line (SameFixedAddress i j) counts = refl
-counts_there line (TooFewAddresses n) counts = refl
-counts_there line (BadPgn g) counts = refl
-counts_there line (SamePgn g h) counts = refl
-counts_there line (SignalWidth g s) counts = refl
-counts_there line (SignalOutside g s) counts = refl
-counts_there line (SignalOverlap g s t) counts = refl
-counts_there line (FlowToOne f) counts = refl
-counts_there line (FlowToSelf f) counts = refl
-counts_there line (FlowRepeated f h) counts = refl
-counts_there line (KeptAddress i) counts = refl
-counts_there line (PrivateUnsent g) counts = absurd (false≢true (sym counts))
-counts_there line (RecordOverlap g s t) counts = refl
-counts_there line (TextOutside g t) counts = refl
-counts_there line (NeedUnmet d) counts = absurd (false≢true (sym counts))
-counts_there line (RequestUnanswered r) counts = absurd (false≢true (sym counts))
-counts_there line (RequestUnheard r) counts = absurd (false≢true (sym counts))
-counts_there line (AnswerAstray r) counts = absurd (false≢true (sym counts))
-counts_there line (WhenOutside g) counts = refl
-counts_there line (RequestRepeated r s) counts = refl
-counts_there line (SilentAddress u v) counts = refl
-counts_there line (SilentInPool u) counts = refl
-counts_there line (FlowContested f) counts = refl
 
 -- such a one is looked for in full variants
 pub full_for : (line : ProductLine) (full : FullAlternatives) (v : List ℕ) (f : LineFinding) → is_by_absence f ≡ false

@@ -1,12 +1,12 @@
 pub mod Adding
 pub mod Assembled
-pub mod CountedTold
+pub mod CountedReported
 pub mod CountingRanks
 pub mod FindingKinds
-pub mod NothingTold
+pub mod NothingReported
 pub mod Pairs
 pub mod TakenFull
 pub mod Timed
-pub mod ToldInOrder
-pub mod ToldOfLine
+pub mod ReportedInOrder
+pub mod ReportedOfLine
 pub mod WithoutNevers

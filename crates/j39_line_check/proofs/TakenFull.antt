@@ -21,7 +21,7 @@ use Rattle.j39_full_variants.specs.CountedFindings.{takes_full_of_need}
 use Rattle.j39_full_variants.specs.FullSets.{IsFullSomehow, full_sets, need_sets}
 use Rattle.j39_full_variants.specs.SetVariants.{IsSetAmong, set_has, takes_alone, takes_from}
 use Rattle.j39_full_variants.proofs.Sets.{taken_one}
-use Rattle.j39_line_check.proofs.ToldInOrder.{cases_in, none_in}
+use Rattle.j39_line_check.proofs.ReportedInOrder.{cases_in, none_in}
 
 has_it : (set : List Alternative) (a : Alternative) → Contains set a → set_has set a ≡ true
 has_it [] a at = absurd (none_in a at)
@@ -61,13 +61,13 @@ module _ (line : ProductLine) (full : FullAlternatives) (are_full : AreFullAlter
 
   -- ---- of a need
 
-  set_at : (tell : ℕ → NeedPlan → List Alternative) (place d : ℕ) (needs : List NeedPlan) (need : NeedPlan) → slice_get needs d ≡ Some need
-      → slice_get (lines_of_each (λ k n. tell k n ∷ []) place needs) d ≡ Some (tell (place + d) need)
+  set_at : (report : ℕ → NeedPlan → List Alternative) (place d : ℕ) (needs : List NeedPlan) (need : NeedPlan) → slice_get needs d ≡ Some need
+      → slice_get (lines_of_each (λ k n. report k n ∷ []) place needs) d ≡ Some (report (place + d) need)
   unfolding lines_of_each
-  set_at tell place d [] need at = absurd (cc at)
-  set_at tell place zero (n ∷ needs) need at =
-      ap (λ (k : ℕ). Some (tell k n)) (omega arith) ∙ ap (λ (o : Option NeedPlan). option_map (λ m. tell (place + 0) m) o) at
-  set_at tell place (suc d) (n ∷ needs) need at = set_at tell (place + 1) d needs need at ∙ ap (λ (k : ℕ). Some (tell k need)) (omega arith)
+  set_at report place d [] need at = absurd (cc at)
+  set_at report place zero (n ∷ needs) need at =
+      ap (λ (k : ℕ). Some (report k n)) (omega arith) ∙ ap (λ (o : Option NeedPlan). option_map (λ m. report (place + 0) m) o) at
+  set_at report place (suc d) (n ∷ needs) need at = set_at report (place + 1) d needs need at ∙ ap (λ (k : ℕ). Some (report k need)) (omega arith)
 
   set_of_need : (d : ℕ) (need : NeedPlan) → slice_get line.plan.needs.items d ≡ Some need → is_some need.within ≡ true
       → option_map (λ l. l.items) (slice_get full.of_needs.items d) ≡ Some (full_alternatives line (alternatives_of line) (Some d))

@@ -10,7 +10,7 @@ use Rattle.j39_variants.specs.declared.line.ProductLine.{ProductLine}
 use Rattle.j39_line_findings.specs.Best.{IsWitnessAmong}
 use Rattle.j39_line_findings.specs.Conditions.{goes_by_conditions}
 use Rattle.j39_line_findings.specs.FullVariants.{line_with}
-use Rattle.j39_line_findings.specs.Told.{are_ends_in_pool, has_end_in_pool}
+use Rattle.j39_line_findings.specs.Reported.{are_ends_in_pool, has_end_in_pool}
 use Rattle.j39_line_findings.specs.declared.full.LineNevers.TheVariants.{Kept, LeftOut}
 use Rattle.j39_line_findings.specs.declared.line_finding.LineFinding.{LineFinding}
 use Rattle.j39_line_findings.specs.declared.line_finding.LineFinding.TheVariants.{OfPlan, OfLoad}
@@ -22,8 +22,8 @@ use Rattle.j39_full_variant_laws.specs.WithoutNevers.{NeversChangeNothingBuilt}
 use Rattle.j39_full_variants.specs.CountedFindings.{AreCountedFindings}
 use Rattle.j39_full_variants.specs.LookedVariants.{AreFullVariants, has_bad_number, is_bad_number}
 use Rattle.j39_full_variants.specs.declared.looking.FullVariants.{FullVariants}
-use Rattle.j39_line_check.proofs.CountedTold.{counted_told}
-use Rattle.j39_line_check.proofs.ToldInOrder.{cases_in, none_in}
+use Rattle.j39_line_check.proofs.CountedReported.{counted_reported}
+use Rattle.j39_line_check.proofs.ReportedInOrder.{cases_in, none_in}
 use Rattle.j39_line_check.specs.LineChecks.{AreNumbersGood, HasIt, IsSure}
 
 bad_among : (findings : List Finding) (g : ℕ) → Contains findings (BadPgn g) → list_any is_bad_number findings ≡ true
@@ -37,12 +37,12 @@ bad_among (f ∷ findings) g at = elim (cases_in f (BadPgn g) findings at) [
 ]
 
 module _ (line : ProductLine) (presence : FoundByPresence) (built : NeversChangeNothingBuilt) (x : FullVariants) (are : AreFullVariants line LeftOut x)
-    (none : x.told.items ≡ []) (numbers : has_bad_number line.plan ≡ false) where
+    (none : x.reported.items ≡ []) (numbers : has_bad_number line.plan ≡ false) where
   abbrev bare : ProductLine
   bare = line_with LeftOut line
 
   -- they are the full variants of the line in which all is built
-  counted_bare : AreCountedFindings bare x.full (map (λ v. v.items) x.variants.items) x.told.items
+  counted_bare : AreCountedFindings bare x.full (map (λ v. v.items) x.variants.items) x.reported.items
   unfolding has_end_in_pool are_ends_in_pool
   counted_bare = record {
     sound = λ w among.
@@ -93,5 +93,5 @@ module _ (line : ProductLine) (presence : FoundByPresence) (built : NeversChange
         are_findings = (built line LeftOut v).findings_too has.findings has.are_findings;
         one = has.one;
       } in
-      let told = counted_told bare covers ages x are_bare v f of_bare counts (bare_sure f) in
-      let in_none : IsWitnessAmong [] told.0 = subst (λ ws. IsWitnessAmong ws told.0) none told.1 in in_none
+      let reported = counted_reported bare covers ages x are_bare v f of_bare counts (bare_sure f) in
+      let in_none : IsWitnessAmong [] reported.0 = subst (λ ws. IsWitnessAmong ws reported.0) none reported.1 in in_none

@@ -1,4 +1,4 @@
--- What is told of a line of vehicles: what some possible variant has, each once, with the variant that is its witness.
+-- What is reported of a line of vehicles: what some possible variant has, each once, with the variant that is its witness.
 use Rattle.std.specs.Prelude.{◌≡◌, ◌⊎◌, ℕ, ◌≤◌, ◌||◌, Bool, List, [], ◌∷◌, true, Contains, Option, Some, None}
 use Rattle.j39_findings.specs.declared.checking.finding.Finding.TheVariants.{BadPgn}
 use Rattle.j39_load.specs.declared.findings.load_finding.LoadFinding.TheVariants.{NoPeriod}
@@ -21,7 +21,7 @@ use Rattle.j39_line_check.specs.declared.answer.LineAnswer.{LineAnswer}
 use Rattle.j39_line_check.specs.declared.answer.LineAnswer.TheVariants.{NoVariant, Found}
 use Rattle.j39_line_check.specs.declared.answer.LookedAt.{LookedAt}
 use Rattle.j39_line_check.specs.declared.answer.LookedAt.TheVariants.{Full, TooMany}
-use Rattle.j39_line_check.specs.declared.answer.ToldFinding.{ToldFinding}
+use Rattle.j39_line_check.specs.declared.answer.ReportedFinding.{ReportedFinding}
 
 -- ---- what one variant has
 
@@ -41,7 +41,7 @@ pub record HasAtAnyRate (line : ProductLine) (variant : List ℕ) (finding : Lin
 abbrev pub AreNumbersGood : ProductLine → Type 0
 AreNumbersGood line = (variant : List ℕ) (g : ℕ) → ¬ HasIt line variant (OfPlan (BadPgn g))
 
--- what is found of times is told where the numbers of groups are good
+-- what is found of times is reported where the numbers of groups are good
 abbrev pub IsSure : ProductLine → LineFinding → Type 0
 IsSure line (OfPlan finding) = Unit {0}
 IsSure line (OfLoad (NoPeriod f)) = Unit {0}
@@ -53,7 +53,7 @@ IsSure line (OfLoad finding) = AreNumbersGood line
 abbrev pub counts_for : ProductLine → FullAlternatives → List ℕ → LineFinding → Bool
 counts_for line full variant finding = goes_by_conditions line finding || takes_full_for line full variant finding
 
--- the variant has the finding, by one of its conditions where it goes by these, and counts as its witness, and no earlier one does; of those that are told alike none has a greater number of
+-- the variant has the finding, by one of its conditions where it goes by these, and counts as its witness, and no earlier one does; of those that are reported alike none has a greater number of
 -- addresses or bits
 pub record IsWitnessFor (line : ProductLine) (full : FullAlternatives) (finding : LineFinding) (variant : List ℕ) : Type 0 where
   pub has : HasAtAnyRate line variant finding ⊎ HasIt line variant finding
@@ -66,24 +66,24 @@ pub record IsWitnessFor (line : ProductLine) (full : FullAlternatives) (finding 
 
 -- ---- all of them
 
--- each is told before those behind it, by number and then by places
-abbrev pub AreToldInOrder : List ToldFinding → Type 0
-AreToldInOrder [] = Unit {0}
-AreToldInOrder (t ∷ told) = ((u : ToldFinding) → Contains told u → is_below (rank_of t.finding) (rank_of u.finding) ≡ true) × AreToldInOrder told
+-- each is reported before those behind it, by number and then by places
+abbrev pub AreReportedInOrder : List ReportedFinding → Type 0
+AreReportedInOrder [] = Unit {0}
+AreReportedInOrder (t ∷ reported) = ((u : ReportedFinding) → Contains reported u → is_below (rank_of t.finding) (rank_of u.finding) ≡ true) × AreReportedInOrder reported
 
--- where so many full variants are too many, only findings that go by conditions are told
-abbrev pub IsTellable : ProductLine → Option ℕ → LineFinding → Type 0
-IsTellable line None finding = Unit {0}
-IsTellable line (Some many) finding = goes_by_conditions line finding ≡ true
+-- where so many full variants are too many, only findings that go by conditions are reported
+abbrev pub IsReportable : ProductLine → Option ℕ → LineFinding → Type 0
+IsReportable line None finding = Unit {0}
+IsReportable line (Some many) finding = goes_by_conditions line finding ≡ true
 
--- what is told is had by the variant that is told with it, and all that some possible variant has is told
-pub record AreTold (line : ProductLine) (many : Option ℕ) (told : List ToldFinding) : Type 0 where
+-- what is reported is had by the variant that is reported with it, and all that some possible variant has is reported
+pub record AreReported (line : ProductLine) (many : Option ℕ) (reported : List ReportedFinding) : Type 0 where
   pub full : FullAlternatives
   pub are_full : AreFullAlternatives line full
-  pub sound : (t : ToldFinding) → Contains told t → IsTellable line many t.finding × IsWitnessFor line full t.finding t.variant.items
-  pub complete : (variant : List ℕ) (finding : LineFinding) → HasIt line variant finding → IsSure line finding → IsTellable line many finding
-      → (t : ToldFinding) × Contains told t × (rank_of t.finding ≡ rank_of finding)
-  pub in_order : AreToldInOrder told
+  pub sound : (t : ReportedFinding) → Contains reported t → IsReportable line many t.finding × IsWitnessFor line full t.finding t.variant.items
+  pub complete : (variant : List ℕ) (finding : LineFinding) → HasIt line variant finding → IsSure line finding → IsReportable line many finding
+      → (t : ReportedFinding) × Contains reported t × (rank_of t.finding ≡ rank_of finding)
+  pub in_order : AreReportedInOrder reported
 
 -- at how many variants would have to be looked, where they are too many
 abbrev pub many_of : LookedAt → Option ℕ
@@ -102,11 +102,11 @@ SomePossible line = (variant : List ℕ) × IsPossible line variant
 -- what is found of a line: that no variant is possible, or this
 abbrev pub IsCheckOf : ProductLine → LineAnswer → Type 0
 IsCheckOf line NoVariant = ¬ SomePossible line
-IsCheckOf line (Found told looked) = SomePossible line × AreLookedFor line looked × AreTold line (many_of looked) told.items
+IsCheckOf line (Found reported looked) = SomePossible line × AreLookedFor line looked × AreReported line (many_of looked) reported.items
 
 -- ---- laws
 
--- where nothing is told, no possible variant has a finding
-abbrev pub NothingToldIsNothingFound : Type 0
-NothingToldIsNothingFound = (line : ProductLine) → AreTold line None [] → (variant : List ℕ) → IsPossible line variant
+-- where nothing is reported, no possible variant has a finding
+abbrev pub NothingReportedIsNothingFound : Type 0
+NothingReportedIsNothingFound = (line : ProductLine) → AreReported line None [] → (variant : List ℕ) → IsPossible line variant
     → (findings : List LineFinding) → AreVariantFindings line variant findings → findings ≡ []

@@ -1,4 +1,4 @@
-//! What is told of a line of vehicles.
+//! What is reported of a line of vehicles.
 ghost use Rattle.std.specs.Prelude.{◌≡◌};
 ghost use Rattle.j39_line_check.specs.LineChecks.{many_of};
 
@@ -6,7 +6,7 @@ use j39_line_findings::LineFinding;
 
 /// A finding, and a possible variant that has it.
 #[derive(Drop)]
-pub struct ToldFinding {
+pub struct ReportedFinding {
     pub finding: LineFinding,
     /// The places of the alternatives that it takes, choice by choice.
     pub variant: Vec<usize>,
@@ -18,7 +18,7 @@ pub enum LookedAt {
     /// At the full variants of the line, and at those that are full for a need; or at those of the line without what isn't
     /// built, where the line has too many, and nothing is found of these.
     Full(Vec<Vec<usize>>),
-    /// So many are too many: what counts what is there isn't told.
+    /// So many are too many: what counts what is there isn't reported.
     TooMany(u64),
 }
 
@@ -41,5 +41,5 @@ pub enum LineAnswer {
     NoVariant,
     /// What some possible variant has, each once, by number and then by places in the file; and at which variants was
     /// looked.
-    Found(Vec<ToldFinding>, LookedAt),
+    Found(Vec<ReportedFinding>, LookedAt),
 }

@@ -4,7 +4,7 @@ ghost use Rattle.std.specs.List.{slice_get};
 ghost use Rattle.j39_line_check.specs.LineChecks.{IsCheckOf, SomePossible};
 ghost use Rattle.j39_line_check.specs.inside.AddedFindings.{AreAdded, Pair, pair_counted, pair_of_condition};
 
-use crate::answer::{LineAnswer, LookedAt, ToldFinding};
+use crate::answer::{LineAnswer, LookedAt, ReportedFinding};
 use crate::inserting::add;
 use j39_full_variant_laws::{
     full_variants_have_what_is_found, nevers_change_nothing_that_is_built,
@@ -13,7 +13,7 @@ use j39_full_variant_laws::{
 use j39_full_variants::{FullVariants, Looking, look};
 use j39_line_condition_laws::what_is_there_is_found;
 use j39_line_findings::Witnessed;
-use j39_line_witness_laws::what_is_told_is_what_variants_have;
+use j39_line_witness_laws::what_is_reported_is_what_variants_have;
 use j39_line_witnesses::{FoundByCondition, found_by_conditions, is_any_variant_possible};
 use j39_variants::ProductLine;
 use std::alloc::{AllocError, Global};
@@ -25,24 +25,24 @@ fn copied(alloc: Global, variant: &[usize]) -> Result<Vec<usize>, AllocError>
 }
 
 // Those that are found by conditions.
-fn told_by_conditions(
+fn reported_by_conditions(
     alloc: Global,
     found: &[FoundByCondition],
-) -> Result<Vec<ToldFinding>, AllocError>
-    ensures { IfOk result (λ told. AreAdded (map pair_of_condition found.now) told.items) }
+) -> Result<Vec<ReportedFinding>, AllocError>
+    ensures { IfOk result (λ reported. AreAdded (map pair_of_condition found.now) reported.items) }
 {
-    let mut told = Vec::new(alloc);
+    let mut reported = Vec::new(alloc);
     for one in found {
         let variant = copied(alloc, &one.witness)?;
         add(
-            &mut told,
-            ToldFinding {
+            &mut reported,
+            ReportedFinding {
                 finding: one.finding,
                 variant,
             },
         )?;
     }
-    Ok(told)
+    Ok(reported)
 }
 
 // The variant at a place.
@@ -62,18 +62,18 @@ fn variant_at(
 // Adds those that count what is there.
 fn add_counted(
     alloc: Global,
-    told: &mut Vec<ToldFinding>,
+    reported: &mut Vec<ReportedFinding>,
     variants: &[Vec<usize>],
     counted: &[Witnessed],
 ) -> Result<(), AllocError>
-    ensures { OnOk result ((all : List Pair) → AreAdded all told.old.items
-        → AreAdded (all ++ map (pair_counted (map (λ v. v.items) variants.now)) counted.now) told.new.items) }
+    ensures { OnOk result ((all : List Pair) → AreAdded all reported.old.items
+        → AreAdded (all ++ map (pair_counted (map (λ v. v.items) variants.now)) counted.now) reported.new.items) }
 {
     for witnessed in counted {
         let variant = variant_at(alloc, variants, witnessed.variant)?;
         add(
-            told,
-            ToldFinding {
+            reported,
+            ReportedFinding {
                 finding: witnessed.finding,
                 variant,
             },
@@ -83,24 +83,24 @@ fn add_counted(
 }
 
 // Both those that are found by conditions and those that are found of full variants.
-fn told_of_full(
+fn reported_of_full(
     alloc: Global,
     found: &[FoundByCondition],
     full: &FullVariants,
-) -> Result<Vec<ToldFinding>, AllocError>
-    ensures { IfOk result (λ told. AreAdded (map pair_of_condition found.now
-        ++ map (pair_counted (map (λ v. v.items) full.now.variants.items)) full.now.told.items) told.items) }
+) -> Result<Vec<ReportedFinding>, AllocError>
+    ensures { IfOk result (λ reported. AreAdded (map pair_of_condition found.now
+        ++ map (pair_counted (map (λ v. v.items) full.now.variants.items)) full.now.reported.items) reported.items) }
 {
-    let mut told = told_by_conditions(alloc, found)?;
-    add_counted(alloc, &mut told, &full.variants, &full.told)?;
-    Ok(told)
+    let mut reported = reported_by_conditions(alloc, found)?;
+    add_counted(alloc, &mut reported, &full.variants, &full.reported)?;
+    Ok(reported)
 }
 
 // What is found of a line of which some variant is possible.
 fn found_of(alloc: Global, line: &ProductLine) -> Result<LineAnswer, AllocError>
     ensures { IfOk result (λ answer. SomePossible line.now → IsCheckOf line.now answer) }
 {
-    what_is_told_is_what_variants_have();
+    what_is_reported_is_what_variants_have();
     full_variants_have_what_is_found();
     old_needs_are_found_of_full_variants();
     nevers_change_nothing_that_is_built();
@@ -108,12 +108,12 @@ fn found_of(alloc: Global, line: &ProductLine) -> Result<LineAnswer, AllocError>
     let found = found_by_conditions(alloc, line)?;
     match look(alloc, line)? {
         Looking::Few(full) => {
-            let told = told_of_full(alloc, &found, &full)?;
-            Ok(LineAnswer::Found(told, LookedAt::Full(full.variants)))
+            let reported = reported_of_full(alloc, &found, &full)?;
+            Ok(LineAnswer::Found(reported, LookedAt::Full(full.variants)))
         }
         Looking::Many(count) => {
-            let told = told_by_conditions(alloc, &found)?;
-            Ok(LineAnswer::Found(told, LookedAt::TooMany(count)))
+            let reported = reported_by_conditions(alloc, &found)?;
+            Ok(LineAnswer::Found(reported, LookedAt::TooMany(count)))
         }
     }
 }

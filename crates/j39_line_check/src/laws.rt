@@ -1,7 +1,7 @@
-//! Laws of what is told of a line of vehicles.
-ghost use Rattle.j39_line_check.specs.LineChecks.{NothingToldIsNothingFound};
+//! Laws of what is reported of a line of vehicles.
+ghost use Rattle.j39_line_check.specs.LineChecks.{NothingReportedIsNothingFound};
 
-/// Where nothing is told, no possible variant has a finding.
-pub fn nothing_told_is_nothing_found()
-    ensures { NothingToldIsNothingFound }
+/// Where nothing is reported, no possible variant has a finding.
+pub fn nothing_reported_is_nothing_found()
+    ensures { NothingReportedIsNothingFound }
 {}

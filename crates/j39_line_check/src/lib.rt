@@ -6,6 +6,6 @@ mod check;
 mod inserting;
 mod laws;
 
-pub use answer::{LineAnswer, LookedAt, ToldFinding};
+pub use answer::{LineAnswer, LookedAt, ReportedFinding};
 pub use check::check_line;
-pub use laws::nothing_told_is_nothing_found;
+pub use laws::nothing_reported_is_nothing_found;

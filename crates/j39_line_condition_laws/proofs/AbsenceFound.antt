@@ -1,18 +1,16 @@
 -- What comes by absence is found exactly where the variant meets one of its conditions.
-use Rattle.std.proofs.Common.{◌≡◌, ◌⊎◌, ℕ, zero, suc, ◌+◌, ◌<◌, Bool, true, false, not, ◌&&◌, cond, List, [], ◌∷◌, ◌++◌, length}
-use Rattle.std.proofs.Common.{map, filter, Contains, ◌↔◌, Decides, if◌then◌else◌, Option, Some, None, refl, sym, ◌∙◌, ap, subst, inl, inr, arith}
+use Rattle.std.proofs.Common.{◌≡◌, ◌⊎◌, ℕ, zero, suc, ◌+◌, ◌<◌, Bool, true, false, not, ◌&&◌, cond, List, [], ◌∷◌, length}
+use Rattle.std.proofs.Common.{filter, Contains, ◌↔◌, Decides, if◌then◌else◌, Option, Some, None, refl, sym, ◌∙◌, ap, subst, inl, inr, arith}
 use Rattle.std.specs.List.{range_with_len, slice_get}
 use Rattle.std.specs.Option.{option_map_or}
 use Rattle.std.proofs.lemmas.Bool.{and_from, and_parts, false≢true}
 use Rattle.std.proofs.lemmas.Option.{slice_get_within}
 use Rattle.j39_findings.proofs.Deciding.{Decides-goes_unanswered, Decides-goes_unheard, Decides-is_answered_astray, Decides-is_private_unsent, Decides-is_unmet}
-use Rattle.j39_findings.proofs.FoundLaws.{are_findings}
 use Rattle.j39_findings.specs.Findings.{Holds}
-use Rattle.j39_findings.specs.Found.{found, goes_unanswered, goes_unheard, is_answered_astray, is_private_unsent, is_unmet}
+use Rattle.j39_findings.specs.Found.{goes_unanswered, goes_unheard, is_answered_astray, is_private_unsent, is_unmet}
 use Rattle.j39_findings.specs.declared.checking.finding.Finding.{Finding}
 use Rattle.j39_findings.specs.declared.checking.finding.Finding.TheVariants.{PrivateUnsent, NeedUnmet, RequestUnanswered}
 use Rattle.j39_findings.specs.declared.checking.finding.Finding.TheVariants.{RequestUnheard, AnswerAstray}
-use Rattle.j39_load.specs.declared.findings.load_finding.LoadFinding.{LoadFinding}
 use Rattle.j39_network.specs.Serving.{is_to_one}
 use Rattle.j39_network.specs.declared.plan.Plan.{Plan}
 use Rattle.j39_network.specs.declared.plan.need_plan.NeedPlan.{NeedPlan}
@@ -21,14 +19,14 @@ use Rattle.j39_search.specs.ListPlaces.{ValueAt}
 use Rattle.j39_variants.specs.declared.line.ProductLine.{ProductLine}
 use Rattle.j39_variants.specs.VariantPlans.{group_places, moved_need, unit_places}
 use Rattle.j39_line_findings.specs.Conditions.{astray_conditions, Condition, conditions_of, meets_any, unmet_condition, unsent_condition, unserved_condition}
-use Rattle.j39_line_findings.specs.InFile.{finding_in_file, load_finding_in_file}
+use Rattle.j39_line_findings.specs.InFile.{finding_in_file}
 use Rattle.j39_line_findings.specs.LineFound.{AreVariantFindings, IsFound}
 use Rattle.j39_line_findings.specs.MissedNeeds.{is_in_at, is_need_asked_for, is_need_missed, is_source_there, is_unit_there}
 use Rattle.j39_line_findings.specs.There.{is_need_there, missed_needs, place_in_file}
 use Rattle.j39_line_findings.specs.declared.line_finding.LineFinding.{LineFinding}
-use Rattle.j39_line_findings.specs.declared.line_finding.LineFinding.TheVariants.{OfPlan, OfLoad}
+use Rattle.j39_line_findings.specs.declared.line_finding.LineFinding.TheVariants.{OfPlan}
 use Rattle.j39_line_findings.specs.declared.there.WhatIsThere.{WhatIsThere}
-use Rattle.j39_line_part_laws.proofs.FoundOfCovering.{either, left, made_of, of_made, right, same_plan}
+use Rattle.j39_line_part_laws.proofs.FoundOfCovering.{in_plan, of_missed_reported, of_plan_reported}
 use Rattle.j39_line_condition_laws.specs.ByAbsenceExactly.{AbsenceIsFoundWhereMet, IsFoundWhereMet}
 use Rattle.j39_line_condition_laws.proofs.AbsenceHere.{astray_here, astray_there, source_there, unanswered_here, unanswered_there, unheard_here, unheard_there}
 use Rattle.j39_line_condition_laws.proofs.AbsenceHere.{unmet_here, unsent_here, unsent_there}
@@ -98,21 +96,21 @@ module _ (line : ProductLine) (v : List ℕ) {X Y : Type 0} (R : X → Y → Typ
       → ((i : ℕ) → ValueAt (λ y. passes y ≡ true) ys i → IsFound findings (OfPlan (make (place_in_file at i))))
       → ((k : ℕ) (x : X) → meets_any line v (conditions k x) ≡ true → test k ≡ true) → (k : ℕ)
       → IsFound findings (OfPlan (make k)) ↔ (meets_any line v (option_map_or (conditions k) (slice_get xs k) []) ≡ true)
-  where_met findings make told tell there k = (
-    λ one. met_of k (told k one),
-    λ met. let (i, placed, its) = of_met there k met in subst (λ n. IsFound findings (OfPlan (make n))) placed (tell i its),
+  where_met findings make reported report there k = (
+    λ one. met_of k (reported k one),
+    λ met. let (i, placed, its) = of_met there k met in subst (λ n. IsFound findings (OfPlan (make n))) placed (report i its),
   )
 
 -- ---- of a plan, at places in the file
 
--- what holds of the plan where this is told
-abbrev IsTold : Plan → WhatIsThere → Finding → Type 0
-IsTold plan there (PrivateUnsent g) = PassesAt (is_private_unsent plan.groups.items plan.flows.items) plan.groups.items there.groups.items g
-IsTold plan there (NeedUnmet d) = PassesAt (is_unmet plan.requests.items plan.flows.items) plan.needs.items there.needs.items d
-IsTold plan there (RequestUnanswered r) = PassesAt (goes_unanswered plan.flows.items) plan.requests.items there.requests.items r
-IsTold plan there (RequestUnheard r) = PassesAt (goes_unheard plan.flows.items) plan.requests.items there.requests.items r
-IsTold plan there (AnswerAstray r) = PassesAt (is_answered_astray plan.groups.items plan.flows.items) plan.requests.items there.requests.items r
-IsTold plan there _ = Unit {0}
+-- what holds of the plan where this is reported
+abbrev IsReported : Plan → WhatIsThere → Finding → Type 0
+IsReported plan there (PrivateUnsent g) = PassesAt (is_private_unsent plan.groups.items plan.flows.items) plan.groups.items there.groups.items g
+IsReported plan there (NeedUnmet d) = PassesAt (is_unmet plan.requests.items plan.flows.items) plan.needs.items there.needs.items d
+IsReported plan there (RequestUnanswered r) = PassesAt (goes_unanswered plan.flows.items) plan.requests.items there.requests.items r
+IsReported plan there (RequestUnheard r) = PassesAt (goes_unheard plan.flows.items) plan.requests.items there.requests.items r
+IsReported plan there (AnswerAstray r) = PassesAt (is_answered_astray plan.groups.items plan.flows.items) plan.requests.items there.requests.items r
+IsReported plan there _ = Unit {0}
 
 decided : {Y : Type 0} (test : Y → Bool) (P : Y → Type 0) → ((y : Y) → Decides (test y) (P y)) → (ys : List Y) (i : ℕ) → ValueAt P ys i
     → ValueAt (λ y. test y ≡ true) ys i
@@ -122,15 +120,15 @@ holding : {Y : Type 0} (test : Y → Bool) (P : Y → Type 0) → ((y : Y) → D
     → ValueAt P ys i
 holding test P decides ys i at = record { value = at.value; value_is = at.value_is; meets = (decides at.value).0 at.meets }
 
-told_of : (plan : Plan) (there : WhatIsThere) (finding : Finding) → Holds plan finding → IsTold plan there (finding_in_file there finding)
-told_of plan there (PrivateUnsent g) holds =
+reported_of : (plan : Plan) (there : WhatIsThere) (finding : Finding) → Holds plan finding → IsReported plan there (finding_in_file there finding)
+reported_of plan there (PrivateUnsent g) holds =
     (g, refl, decided _ _ (Decides-is_private_unsent plan.groups.items plan.flows.items) plan.groups.items g holds)
-told_of plan there (NeedUnmet d) holds = (d, refl, decided _ _ (Decides-is_unmet plan.requests.items plan.flows.items) plan.needs.items d holds)
-told_of plan there (RequestUnanswered r) holds = (r, refl, decided _ _ (Decides-goes_unanswered plan.flows.items) plan.requests.items r holds)
-told_of plan there (RequestUnheard r) holds = (r, refl, decided _ _ (Decides-goes_unheard plan.flows.items) plan.requests.items r holds)
-told_of plan there (AnswerAstray r) holds =
+reported_of plan there (NeedUnmet d) holds = (d, refl, decided _ _ (Decides-is_unmet plan.requests.items plan.flows.items) plan.needs.items d holds)
+reported_of plan there (RequestUnanswered r) holds = (r, refl, decided _ _ (Decides-goes_unanswered plan.flows.items) plan.requests.items r holds)
+reported_of plan there (RequestUnheard r) holds = (r, refl, decided _ _ (Decides-goes_unheard plan.flows.items) plan.requests.items r holds)
+reported_of plan there (AnswerAstray r) holds =
     (r, refl, decided _ _ (Decides-is_answered_astray plan.groups.items plan.flows.items) plan.requests.items r holds)
-told_of plan there _ holds = tt
+reported_of plan there _ holds = tt
 
 module _ (line : ProductLine) (v : List ℕ) (findings : List LineFinding) (of : AreVariantFindings line v findings) where
   abbrev plan : Plan
@@ -139,83 +137,53 @@ module _ (line : ProductLine) (v : List ℕ) (findings : List LineFinding) (of :
   abbrev there : WhatIsThere
   there = of.there
 
-  abbrev plans : List LineFinding
-  plans = map (λ finding. OfPlan (finding_in_file there finding)) (found plan)
-
-  abbrev loads : List LineFinding
-  loads = map (λ finding. OfLoad (load_finding_in_file there finding)) of.others
-
-  abbrev missed : List LineFinding
-  missed = map (λ d. OfPlan (NeedUnmet d)) (missed_needs line v)
-
-  no_load : (x : LoadFinding) (y : Finding) → OfLoad x ≡ OfPlan y → ⊥
-  no_load x y is = cc
-
-  -- told of the plan, or missed
+  -- reported of the plan, or missed
   abbrev IsMissed : Finding → Type 0
   IsMissed finding = (d : ℕ) × Contains (missed_needs line v) d × (NeedUnmet d ≡ finding)
 
-  told : (finding : Finding) → IsFound findings (OfPlan finding) → IsTold plan there finding ⊎ IsMissed finding
-  told finding one =
-      elim (either plans (loads ++ missed) (OfPlan finding) (subst (λ l. IsFound l (OfPlan finding)) of.are_all one)) [
-        | inl of_plan ↦
-            let its = made_of (λ f. OfPlan (finding_in_file there f)) (found plan) (OfPlan finding) of_plan in
-            inl (subst (IsTold plan there) (same_plan (finding_in_file there its.value) finding its.made)
-            (told_of plan there its.value ((are_findings plan).sound its.value its.among)))
-        | inr others ↦ elim (either loads missed (OfPlan finding) others) [
-          | inl of_load ↦
-              let its = made_of (λ f. OfLoad (load_finding_in_file there f)) of.others (OfPlan finding) of_load in
-              absurd (no_load (load_finding_in_file there its.value) finding its.made)
-          | inr of_missed ↦
-              let its = made_of (λ d. OfPlan (NeedUnmet d)) (missed_needs line v) (OfPlan finding) of_missed in
-              inr (its.value, its.among, same_plan (NeedUnmet its.value) finding its.made)
-        ]
-      ]
+  reported : (finding : Finding) → IsFound findings (OfPlan finding) → IsReported plan there finding ⊎ IsMissed finding
+  reported finding one = elim (in_plan line v findings of finding one) [
+    | inl (x, holds, is) ↦ inl (subst (IsReported plan there) is (reported_of plan there x holds))
+    | inr missed ↦ inr missed
+  ]
 
   -- no other finding is missed
-  told_only : (finding : Finding) → ((d : ℕ) → NeedUnmet d ≡ finding → ⊥) → IsFound findings (OfPlan finding) → IsTold plan there finding
-  told_only finding other one = elim (told finding one) [
+  reported_only : (finding : Finding) → ((d : ℕ) → NeedUnmet d ≡ finding → ⊥) → IsFound findings (OfPlan finding) → IsReported plan there finding
+  reported_only finding other one = elim (reported finding one) [
     | inl here ↦ here
     | inr (d, among, is) ↦ absurd (other d is)
   ]
 
-  tell : (finding : Finding) → Holds plan finding → IsFound findings (OfPlan (finding_in_file there finding))
-  tell finding holds = subst (λ l. IsFound l (OfPlan (finding_in_file there finding))) (sym of.are_all)
-      (left plans (loads ++ missed) (OfPlan (finding_in_file there finding))
-      (of_made (λ f. OfPlan (finding_in_file there f)) (found plan) finding ((are_findings plan).complete finding holds)))
-
-  tell_missed : (d : ℕ) → Contains (missed_needs line v) d → IsFound findings (OfPlan (NeedUnmet d))
-  tell_missed d among = subst (λ l. IsFound l (OfPlan (NeedUnmet d))) (sym of.are_all)
-      (right plans (loads ++ missed) (OfPlan (NeedUnmet d)) (right loads missed (OfPlan (NeedUnmet d))
-      (of_made (λ n. OfPlan (NeedUnmet n)) (missed_needs line v) d among)))
+  report : (finding : Finding) → Holds plan finding → IsFound findings (OfPlan (finding_in_file there finding))
+  report = of_plan_reported line v findings of
 
   -- ---- groups and requests
 
   unsent_at : (g : ℕ) → IsFoundWhereMet line v findings (OfPlan (PrivateUnsent g))
   unsent_at = where_met line v _ _ _ _ _ (are_groups line v plan of.is_plan there of.is_there) (unsent_condition line)
       (is_private_unsent plan.groups.items plan.flows.items) (unsent_here line v plan of.is_plan there of.is_there) findings PrivateUnsent
-      (λ k. told_only (PrivateUnsent k) (λ d is. cc))
-      (λ i its. tell (PrivateUnsent i) (holding _ _ (Decides-is_private_unsent plan.groups.items plan.flows.items) plan.groups.items i its)) (unsent_there line v)
+      (λ k. reported_only (PrivateUnsent k) (λ d is. cc))
+      (λ i its. report (PrivateUnsent i) (holding _ _ (Decides-is_private_unsent plan.groups.items plan.flows.items) plan.groups.items i its)) (unsent_there line v)
 
   unanswered_at : (r : ℕ) → IsFoundWhereMet line v findings (OfPlan (RequestUnanswered r))
   unanswered_at = where_met line v _ _ _ _ _ (are_requests line v plan of.is_plan there of.is_there)
       (λ k request. if is_to_one request.to then unserved_condition line k request else []) (goes_unanswered plan.flows.items)
       (unanswered_here line v plan of.is_plan there of.is_there) findings RequestUnanswered
-      (λ k. told_only (RequestUnanswered k) (λ d is. cc))
-      (λ i its. tell (RequestUnanswered i) (holding _ _ (Decides-goes_unanswered plan.flows.items) plan.requests.items i its)) (unanswered_there line v)
+      (λ k. reported_only (RequestUnanswered k) (λ d is. cc))
+      (λ i its. report (RequestUnanswered i) (holding _ _ (Decides-goes_unanswered plan.flows.items) plan.requests.items i its)) (unanswered_there line v)
 
   unheard_at : (r : ℕ) → IsFoundWhereMet line v findings (OfPlan (RequestUnheard r))
   unheard_at = where_met line v _ _ _ _ _ (are_requests line v plan of.is_plan there of.is_there)
       (λ k request. if is_to_one request.to then [] else unserved_condition line k request) (goes_unheard plan.flows.items)
       (unheard_here line v plan of.is_plan there of.is_there) findings RequestUnheard
-      (λ k. told_only (RequestUnheard k) (λ d is. cc))
-      (λ i its. tell (RequestUnheard i) (holding _ _ (Decides-goes_unheard plan.flows.items) plan.requests.items i its)) (unheard_there line v)
+      (λ k. reported_only (RequestUnheard k) (λ d is. cc))
+      (λ i its. report (RequestUnheard i) (holding _ _ (Decides-goes_unheard plan.flows.items) plan.requests.items i its)) (unheard_there line v)
 
   astray_at : (r : ℕ) → IsFoundWhereMet line v findings (OfPlan (AnswerAstray r))
   astray_at = where_met line v _ _ _ _ _ (are_requests line v plan of.is_plan there of.is_there) (astray_conditions line)
       (is_answered_astray plan.groups.items plan.flows.items) (astray_here line v plan of.is_plan there of.is_there) findings AnswerAstray
-      (λ k. told_only (AnswerAstray k) (λ d is. cc))
-      (λ i its. tell (AnswerAstray i) (holding _ _ (Decides-is_answered_astray plan.groups.items plan.flows.items) plan.requests.items i its)) (astray_there line v)
+      (λ k. reported_only (AnswerAstray k) (λ d is. cc))
+      (λ i its. report (AnswerAstray i) (holding _ _ (Decides-is_answered_astray plan.groups.items plan.flows.items) plan.requests.items i its)) (astray_there line v)
 
   -- ---- needs
 
@@ -240,13 +208,13 @@ module _ (line : ProductLine) (v : List ℕ) (findings : List LineFinding) (of :
           let here = and_from (is_need_asked_for line v d) (is_source_there line v d) asked sourced in
           let goes = (are_needs line v plan of.is_plan there of.is_there).into d need at_d here in
           subst (λ n. IsFound findings (OfPlan (NeedUnmet n))) goes.place_is
-          (tell (NeedUnmet goes.i) (holding _ _ (Decides-is_unmet plan.requests.items plan.flows.items) plan.needs.items goes.i
+          (report (NeedUnmet goes.i) (holding _ _ (Decides-is_unmet plan.requests.items plan.flows.items) plan.needs.items goes.i
           (record { value = goes.value; value_is = goes.value_is; meets = sym (unmet_same d need goes.value goes.comes here) ∙ met })))
       by false away =
           let is_missed : is_need_missed line v d ≡ true = and_from (is_need_asked_for line v d) (not (is_source_there line v d)) asked (ap not away) in
           let among = from_placed (is_need_missed line v) 0 (length line.plan.needs.items) d (slice_get_within line.plan.needs.items d need at_d)
           (ap (is_need_missed line v) (let e : 0 + d ≡ d = omega arith in e) ∙ is_missed) in
-          tell_missed d (subst (Contains (missed_needs line v)) (let e : 0 + d ≡ d = omega arith in e) among)
+          of_missed_reported line v findings of d (subst (Contains (missed_needs line v)) (let e : 0 + d ≡ d = omega arith in e) among)
 
   missed_met : (d : ℕ) → is_need_missed line v d ≡ true → meets_any line v (conditions_of line (OfPlan (NeedUnmet d))) ≡ true
   missed_met d missed_is = by (slice_get line.plan.needs.items d) refl
@@ -272,7 +240,7 @@ module _ (line : ProductLine) (v : List ℕ) (findings : List LineFinding) (of :
 
   unmet_at : (d : ℕ) → IsFoundWhereMet line v findings (OfPlan (NeedUnmet d))
   unmet_at d = (
-    λ one. elim (told (NeedUnmet d) one) [
+    λ one. elim (reported (NeedUnmet d) one) [
       | inl at ↦ met_of line v _ _ _ _ _ (are_needs line v plan of.is_plan there of.is_there) (unmet_condition line)
           (is_unmet plan.requests.items plan.flows.items) unmet_same d at
       | inr (n, among, is) ↦ missed_met d

@@ -18,11 +18,11 @@ use Rattle.j39_line_findings.specs.Conditions.{astray_conditions, meets_any, mee
 use Rattle.j39_line_findings.specs.MissedNeeds.{is_group_there, is_in_at, is_need_asked_for, is_sender_there, is_source_there, is_unit_there}
 use Rattle.j39_line_findings.specs.There.{is_flow_there, is_receiver_there, is_request_there, IsWhatIsThere}
 use Rattle.j39_line_findings.specs.declared.there.WhatIsThere.{WhatIsThere}
-use Rattle.j39_line_part_laws.proofs.Boxes.{any_at, at_any}
+use Rattle.j39_line_findings.proofs.Tests.{any_at, at_any}
+use Rattle.j39_line_condition_laws.proofs.PickedPlaces.{one_test}
 use Rattle.j39_line_condition_laws.proofs.InVariant.{are_flows, are_requests, group_named}
 use Rattle.j39_line_condition_laws.proofs.Lacking.{all_astray_met, any_unless, any_where, at_flow, at_source, flow_at, is_all_met, is_one_met, is_some_source, is_some_there}
 use Rattle.j39_line_condition_laws.proofs.Lacking.{IsSource, source_at, unmet_met, unsent_met, unserved_met}
-use Rattle.j39_line_condition_laws.proofs.PickedPlaces.{one_test}
 use Rattle.j39_line_condition_laws.proofs.TestsAgree.{both, brings_same, may_name_same, on_request_same, sends_same, serves_same, to_one_same}
 
 -- ---- who has a finding is there

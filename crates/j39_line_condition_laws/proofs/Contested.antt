@@ -10,7 +10,7 @@ use Rattle.j39_findings.specs.Findings.{IsAloneInPlan}
 use Rattle.j39_network.specs.PlannedUnits.{unit_at, units_of}
 use Rattle.j39_network.specs.declared.plan.Plan.{Plan}
 use Rattle.j39_network.specs.declared.plan.unit_plan.UnitPlan.{UnitPlan}
-use Rattle.j39_line_part_laws.proofs.Boxes.{any_at}
+use Rattle.j39_line_findings.proofs.Tests.{any_at}
 use Rattle.j39_line_condition_laws.proofs.Tests.{range_none}
 
 -- another unit is planned at the address of the one at a place

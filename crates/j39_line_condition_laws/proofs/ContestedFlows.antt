@@ -23,9 +23,9 @@ use Rattle.j39_load.specs.LineLists.{lines_of_each}
 use Rattle.j39_line_findings.specs.Conditions.{Condition, conditions_of_plan, contested_by, contested_conditions, is_beside_end, meets_any, meets_condition, where_together}
 use Rattle.j39_line_findings.specs.MissedNeeds.{is_unit_there}
 use Rattle.j39_line_findings.specs.There.{is_flow_there}
-use Rattle.j39_line_findings.specs.Told.{are_at_one_address, are_ends_in_pool, has_end_in_pool, has_pool_address, is_end, is_end_in_pool}
+use Rattle.j39_line_findings.specs.Reported.{are_at_one_address, are_ends_in_pool, has_end_in_pool, has_pool_address, is_end, is_end_in_pool}
 use Rattle.j39_line_findings.specs.declared.part.LinePart.TheVariants.{Unit as AUnit, Flow}
-use Rattle.j39_line_part_laws.proofs.Boxes.{any_at}
+use Rattle.j39_line_findings.proofs.Tests.{any_at}
 use Rattle.j39_line_condition_laws.proofs.Contested.{beside_or_alone, not_alone}
 use Rattle.j39_line_condition_laws.proofs.InPart.{one_back}
 use Rattle.j39_line_condition_laws.proofs.InWhole.{at, flow_there, is_part, unit_place, unit_there}

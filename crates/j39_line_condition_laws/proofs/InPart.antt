@@ -63,18 +63,7 @@ module _ {A : Type 0} (place : ℕ → ℕ) (Stands : A → A → Type 0) (some 
 
 -- a group that stands there is the one here
 pub group_same : (g h : GroupPlan) → IsGroupThere g h → IsGroupThere h g
-group_same g h is = record {
-  label = sym is.label;
-  pgn = sym is.pgn;
-  priority = sym is.priority;
-  length = sym is.length;
-  most = sym is.most;
-  private = sym is.private;
-  every = sym is.every;
-  when = sym is.when;
-  signals = sym is.signals;
-  texts = sym is.texts;
-}
+group_same g h is = grind (arith, is)
 
 module _ (at : Places) (part whole : Plan) (is : IsPartAt at part whole) where
   pub one_unit : (i j : ℕ) → at.unit i ≡ at.unit j → i ≡ j

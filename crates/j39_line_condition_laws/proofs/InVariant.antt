@@ -1,55 +1,21 @@
 -- What is in the plan of a variant, by what is there.
-use Rattle.std.proofs.Common.{◌≡◌, ℕ, Bool, true, false, ◌&&◌, List, [], ◌∷◌, Option, Some, None, option_map, is_some, refl, sym, ◌∙◌, ap, subst}
+use Rattle.std.proofs.Common.{◌≡◌, ℕ, Bool, true, false, ◌&&◌, List, [], ◌∷◌, Some, refl, sym, ◌∙◌, ap, subst}
 use Rattle.std.specs.List.{filter_map, slice_get}
-use Rattle.std.specs.Option.{option_map_or}
 use Rattle.std.proofs.lemmas.List.{length-map}
 use Rattle.std.proofs.lemmas.Option.{same_Some}
 use Rattle.j39_network.specs.declared.plan.Plan.{Plan}
-use Rattle.j39_network.specs.declared.plan.need_plan.NeedPlan.{NeedPlan}
 use Rattle.j39_variants.proofs.Places.{place_same}
 use Rattle.j39_variants.specs.declared.line.ProductLine.{ProductLine}
-use Rattle.j39_variants.specs.VariantPlans.{flag_at, flags, group_places, IsCopyOfGroup, IsVariantPlan, moved_flow, moved_from, moved_need, moved_request, need_between}
+use Rattle.j39_variants.specs.VariantPlans.{flag_at, flags, group_places, IsCopyOfGroup, IsVariantPlan, moved_flow, moved_need, moved_request}
 use Rattle.j39_variants.specs.VariantPlans.{picked, place_at, unit_places}
 use Rattle.j39_variants.specs.Variants.{is_in}
-use Rattle.j39_line_findings.specs.MissedNeeds.{is_group_there, is_in_at, is_sender_there, is_unit_there}
+use Rattle.j39_line_findings.specs.MissedNeeds.{is_group_there}
 use Rattle.j39_line_findings.specs.There.{is_flow_there, is_need_there, is_request_there, IsWhatIsThere}
 use Rattle.j39_line_findings.specs.declared.there.WhatIsThere.{WhatIsThere}
-use Rattle.j39_line_part_laws.proofs.Filtering.{flow_test, request_test, some_place, test_in}
+use Rattle.j39_line_part_laws.proofs.Filtering.{flow_test, request_test, test_in}
 use Rattle.j39_line_part_laws.proofs.Picking.{copy_of, its_copy}
 use Rattle.j39_line_condition_laws.proofs.PickedPlaces.{are_those, AreThose, Comes}
-use Rattle.j39_line_condition_laws.proofs.TestsAgree.{both}
-
--- ---- needs
-
-some_need : (d : NeedPlan) (u g : Option ℕ) (s : Option (Option ℕ)) → is_some (need_between d u g s) ≡ (is_some u && (is_some g && is_some s))
-some_need d None g s = refl
-some_need d (Some u) None s = refl
-some_need d (Some u) (Some g) None = refl
-some_need d (Some u) (Some g) (Some s) = refl
-
-and_assoc : (a b c : Bool) → ((a && b) && c) ≡ (a && (b && c))
-and_assoc true b c = refl
-and_assoc false b c = refl
-
-module _ (line : ProductLine) (v : List ℕ) where
-  some_sender : (s : Option ℕ) → is_some (moved_from (unit_places line v) s) ≡ is_sender_there line v s
-  some_sender None = refl
-  some_sender (Some u) = mapped (place_at (unit_places line v) u) ∙ some_place v line.lists.units.items 0 u
-    where
-      mapped : (o : Option ℕ) → is_some (option_map Some o) ≡ is_some o
-      mapped None = refl
-      mapped (Some p) = refl
-
-  need_test : (k : ℕ) (d : NeedPlan) → slice_get line.plan.needs.items k ≡ Some d
-      → is_need_there line v k ≡ (flag_at (flags v line.lists.needs.items) k && is_some (moved_need (unit_places line v) (group_places line v) d))
-  need_test k d at =
-      both _ _ _ _ (ap (λ o. option_map_or (λ (need : NeedPlan). is_in_at v line.lists.needs.items k && is_unit_there line v need.unit) o false) at)
-      (ap (λ o. option_map_or (λ (need : NeedPlan). is_group_there line v need.group && is_sender_there line v need.from) o false) at)
-      ∙ and_assoc (is_in_at v line.lists.needs.items k) (is_unit_there line v d.unit) (is_group_there line v d.group && is_sender_there line v d.from)
-      ∙ both _ _ _ _ (test_in v line.lists.needs.items k)
-      (both _ _ _ _ (sym (some_place v line.lists.units.items 0 d.unit))
-      (both _ _ _ _ (sym (some_place v line.lists.groups.items 0 d.group)) (sym (some_sender d.from)))
-      ∙ sym (some_need d (place_at (unit_places line v) d.unit) (place_at (group_places line v) d.group) (moved_from (unit_places line v) d.from)))
+use Rattle.j39_line_part_laws.proofs.NeedsThere.{need_test}
 
 -- ---- what is picked as it is
 

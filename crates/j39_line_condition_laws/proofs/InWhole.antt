@@ -1,6 +1,6 @@
 -- The plan of a variant is a part of all that stands in the file.
 use Rattle.std.specs.declared.alloc.Global.{Global}
-use Rattle.std.proofs.Common.{◌≡◌, ℕ, zero, suc, ◌+◌, ◌<◌, Bool, true, false, ◌&&◌, List, [], ◌∷◌, length, Option, Some, None, option_map, unwrap_or, Vec, refl, sym, ◌∙◌, ap, subst, arith}
+use Rattle.std.proofs.Common.{◌≡◌, ℕ, zero, suc, ◌+◌, ◌<◌, Bool, true, false, ◌&&◌, List, [], ◌∷◌, length, Option, Some, None, is_some, option_map, unwrap_or, Vec, refl, sym, ◌∙◌, ap, subst, arith}
 use Rattle.std.specs.List.{filter_map, range_with_len, slice_get}
 use Rattle.std.specs.Option.{option_map_or}
 use Rattle.std.proofs.lemmas.Bool.{false≢true}
@@ -19,30 +19,19 @@ use Rattle.j39_variants.specs.declared.line.ProductLine.{ProductLine}
 use Rattle.j39_variants.specs.VariantPlans.{flag_at, flags, group_places, IsCopyOfGroup, IsVariantPlan, moved_flow, moved_receivers, moved_request, picked, place_at, unit_places}
 use Rattle.j39_variants.specs.Variants.{is_in}
 use Rattle.j39_line_findings.specs.MissedNeeds.{is_group_there, is_in_at, is_unit_there}
-use Rattle.j39_line_findings.specs.There.{is_flow_there, is_receiver_there, is_request_there, IsWhatIsThere, place_in_file}
+use Rattle.j39_line_findings.specs.There.{is_flow_there, is_receiver_there, is_request_there, IsWhatIsThere, place_in_file, places_of_those}
 use Rattle.j39_line_findings.specs.declared.there.WhatIsThere.{WhatIsThere}
 use Rattle.j39_part_laws.specs.PlanParts.{AreSome, IsFlowThere, IsGroupThere, IsPartAt, IsRequestThere, IsSame, Places, to_in}
 use Rattle.j39_part_laws.proofs.Places.{value_at}
 use Rattle.j39_line_part_laws.proofs.Filtering.{flow_test, kept_at, length-kept, parallel, parallel_kept, request_test, test_in}
 use Rattle.j39_line_part_laws.proofs.Parts.{flow_of, request_of}
 use Rattle.j39_line_part_laws.proofs.Picking.{copy_of, its_copy, kept, some_kept, some_picked, thin, thin_rises}
-use Rattle.j39_line_part_laws.proofs.PlacesInFile.{flagged, length-range}
+use Rattle.j39_line_part_laws.proofs.PlacesInFile.{flagged, flagged_kept, length-range}
 use Rattle.j39_line_condition_laws.proofs.FilePlaces.{all_kept, all_more, all_picked, all_set, HasPlace, kept_place, kept_set, named_place, picked_place, picked_set, place_of, set_kept, whole_place}
 
 -- a group of which this is a copy
 copied : (g h : GroupPlan) → IsCopyOfGroup g h → IsGroupThere h g
-copied g h is = record {
-  label = ap (λ l. l.bytes) (sym is.label);
-  pgn = sym is.pgn;
-  priority = sym is.priority;
-  length = sym is.length;
-  most = sym is.most;
-  private = sym is.private;
-  every = sym is.every;
-  when = sym is.when;
-  signals = sym is.signals;
-  texts = sym is.texts;
-}
+copied g h is = grind (arith, is)
 
 -- the place in the file of what has a place among those picked
 in_file_at : (bs : List Bool) (n : ℕ) → length bs ≡ n → (those : List ℕ) → those ≡ picked bs (range_with_len 0 n) → (i k : ℕ)
@@ -51,7 +40,7 @@ in_file_at bs n counted those are i k at =
     let here : k ≡ 0 + whole_place bs i = place_of bs 0 i k (subst (λ m. slice_get (picked bs (range_with_len 0 m)) i ≡ Some k) (sym counted) at) in
     ap (λ l. place_in_file l i) are ∙ ap (λ o. unwrap_or o 0) at ∙ omega (arith, here)
 
--- one that a list tells of
+-- one that a list reports of
 listed : (v : List ℕ) (lists : List (Vec Alternative Global)) (k : ℕ) → is_in_at v lists k ≡ true → k < length lists
 listed v [] zero inside = absurd (false≢true inside)
 listed v [] (suc k) inside = absurd (false≢true inside)
@@ -124,24 +113,16 @@ module _ (line : ProductLine) (v : List ℕ) where
   flow_stands : (f y : FlowPlan) → flow_here f ≡ Some y → IsFlowThere at y f
   flow_stands f y moved =
       let its = flow_of f (place_at (group_places line v) f.group) (place_at (unit_places line v) f.sender) (moved_receivers (unit_places line v) f.to) y moved in
-      record {
-        group = sym (named_place group_flags f.group y.group its.group);
-        sender = sym (named_place unit_flags f.sender y.sender its.sender);
-        to = receivers_of f.to y.to its.to;
-        pace = its.pace;
-        pause = its.pause;
-        on_request = its.on_request;
-      }
+      let group = named_place group_flags f.group y.group its.group in
+      let sender = named_place unit_flags f.sender y.sender its.sender in
+      let to = receivers_of f.to y.to its.to in grind (arith, its, group, sender, to)
 
   request_stands : (r y : RequestPlan) → request_here r ≡ Some y → IsRequestThere at y r
   request_stands r y moved =
       let its = request_of r (place_at (group_places line v) r.group) (place_at (unit_places line v) r.sender) (moved_receivers (unit_places line v) r.to) y moved in
-      record {
-        group = sym (named_place group_flags r.group y.group its.group);
-        sender = sym (named_place unit_flags r.sender y.sender its.sender);
-        to = receivers_of r.to y.to its.to;
-        period = its.period;
-      }
+      let group = named_place group_flags r.group y.group its.group in
+      let sender = named_place unit_flags r.sender y.sender its.sender in
+      let to = receivers_of r.to y.to its.to in grind (arith, its, group, sender, to)
 
   some_of : {X : Type 0} (bs : List Bool) (xs : List X) → length bs ≡ length xs → AreSome (whole_place bs) IsSame (picked bs xs) xs
   some_of bs xs counted = subst (AreSome (whole_place bs) IsSame (picked bs xs)) (all_picked bs xs counted) (some_picked bs (all_set bs) xs (all_more bs))
@@ -251,20 +232,19 @@ module _ (line : ProductLine) (v : List ℕ) where
           in_file_at group_flags (length line.plan.groups.items) group_count these.groups.items
           (are.has_groups ∙ flagged (is_group_there line v) group_flags (length line.plan.groups.items) group_count (λ m below. test_in v line.lists.groups.items m)) i k at_k
 
+      -- of what is kept by what it names
+      in_file_of : {X : Type 0} (f : X → Option X) (test : ℕ → Bool) (lists : List (Vec Alternative Global)) (xs : List X) (places : List ℕ) → length (flags v lists) ≡ length xs
+          → places ≡ places_of_those test (length xs) → ((k : ℕ) (x : X) → slice_get xs k ≡ Some x → test k ≡ (flag_at (flags v lists) k && is_some (f x)))
+          → (i : ℕ) (x : X) → slice_get (filter_map f (picked (flags v lists) xs)) i ≡ Some x → place_in_file places i ≡ whole_place (kept f (flags v lists) xs) i
+      in_file_of f test lists xs places counted are_those tests i x at_x =
+          let (k, at_k) = parallel_kept f (flags v lists) xs (range_with_len 0 (length xs)) (sym (length-range 0 (length xs))) i x at_x in
+          in_file_at (kept f (flags v lists) xs) (length xs) (length-kept f (flags v lists) xs counted) places
+          (are_those ∙ flagged_kept test f (flags v lists) xs counted tests) i k at_k
+
       pub flow_in_file : (i : ℕ) (x : FlowPlan) → slice_get plan.flows.items i ≡ Some x → place_in_file these.flows.items i ≡ at.flow i
-      flow_in_file i x at_x =
-          let (k, at_k) = parallel_kept flow_here (flags v line.lists.flows.items) line.plan.flows.items (range_with_len 0 (length line.plan.flows.items))
-          (sym (length-range 0 (length line.plan.flows.items))) i x (ap (λ l. slice_get l i) (sym is.has_flows) ∙ at_x) in
-          let counted = length-kept flow_here (flags v line.lists.flows.items) line.plan.flows.items listed_flows in
-          in_file_at flow_flags (length line.plan.flows.items) counted these.flows.items
-          (are.has_flows ∙ flagged (is_flow_there line v) flow_flags (length line.plan.flows.items) counted
-          (λ m below. let (f, at_f) = value_at line.plan.flows.items m below in flow_flag m f at_f)) i k at_k
+      flow_in_file i x at_x = in_file_of flow_here (is_flow_there line v) line.lists.flows.items line.plan.flows.items these.flows.items listed_flows are.has_flows
+          (flow_test line v) i x (ap (λ l. slice_get l i) (sym is.has_flows) ∙ at_x)
 
       pub request_in_file : (i : ℕ) (x : RequestPlan) → slice_get plan.requests.items i ≡ Some x → place_in_file these.requests.items i ≡ at.request i
-      request_in_file i x at_x =
-          let (k, at_k) = parallel_kept request_here (flags v line.lists.requests.items) line.plan.requests.items (range_with_len 0 (length line.plan.requests.items))
-          (sym (length-range 0 (length line.plan.requests.items))) i x (ap (λ l. slice_get l i) (sym is.has_requests) ∙ at_x) in
-          let counted = length-kept request_here (flags v line.lists.requests.items) line.plan.requests.items listed_requests in
-          in_file_at request_flags (length line.plan.requests.items) counted these.requests.items
-          (are.has_requests ∙ flagged (is_request_there line v) request_flags (length line.plan.requests.items) counted
-          (λ m below. let (r, at_r) = value_at line.plan.requests.items m below in request_flag m r at_r)) i k at_k
+      request_in_file i x at_x = in_file_of request_here (is_request_there line v) line.lists.requests.items line.plan.requests.items these.requests.items listed_requests
+          are.has_requests (request_test line v) i x (ap (λ l. slice_get l i) (sym is.has_requests) ∙ at_x)

@@ -22,7 +22,7 @@ use Rattle.j39_line_findings.specs.declared.part.LinePart.{LinePart}
 use Rattle.j39_line_findings.specs.declared.part.LinePart.TheVariants.{Flow, Group, Need, Request}
 use Rattle.j39_line_condition_laws.proofs.PickedPlaces.{one_test}
 
--- ---- what is told of the values of a list
+-- ---- what is reported of the values of a list
 
 pub record IsAtPlace {X : Type 0} (P : ℕ → X → Type 0) (xs : List X) : Type 0 where
   pub k : ℕ
@@ -30,54 +30,54 @@ pub record IsAtPlace {X : Type 0} (P : ℕ → X → Type 0) (xs : List X) : Typ
   pub value_is : slice_get xs k ≡ Some value
   pub meets : P k value
 
-module _ {X Y : Type 0} (test : Y → Bool) (tell : ℕ → X → List Y) where
-  told_from : (a : ℕ) (xs : List X) → list_any test (lines_of_each tell a xs) ≡ true → IsAtPlace (λ k x. list_any test (tell (a + k) x) ≡ true) xs
+module _ {X Y : Type 0} (test : Y → Bool) (report : ℕ → X → List Y) where
+  reported_from : (a : ℕ) (xs : List X) → list_any test (lines_of_each report a xs) ≡ true → IsAtPlace (λ k x. list_any test (report (a + k) x) ≡ true) xs
   unfolding lines_of_each
-  told_from a [] some = absurd (false≢true some)
-  told_from a (x ∷ xs) some =
-      elim (or_cases (list_any test (tell a x)) (list_any test (lines_of_each tell (a + 1) xs))
-      (sym (list_any-append test (tell a x) (lines_of_each tell (a + 1) xs)) ∙ some)) [
+  reported_from a [] some = absurd (false≢true some)
+  reported_from a (x ∷ xs) some =
+      elim (or_cases (list_any test (report a x)) (list_any test (lines_of_each report (a + 1) xs))
+      (sym (list_any-append test (report a x) (lines_of_each report (a + 1) xs)) ∙ some)) [
         | inl here ↦ record {
           k = 0;
           value = x;
           value_is = refl;
-          meets = ap (λ n. list_any test (tell n x)) (let e : a + 0 ≡ a = omega arith in e) ∙ here;
+          meets = ap (λ n. list_any test (report n x)) (let e : a + 0 ≡ a = omega arith in e) ∙ here;
         }
         | inr later ↦
-            let its = told_from (a + 1) xs later in
+            let its = reported_from (a + 1) xs later in
             record {
               k = suc its.k;
               value = its.value;
               value_is = its.value_is;
-              meets = ap (λ n. list_any test (tell n its.value)) (let e : a + suc its.k ≡ a + 1 + its.k = omega arith in e) ∙ its.meets;
+              meets = ap (λ n. list_any test (report n its.value)) (let e : a + suc its.k ≡ a + 1 + its.k = omega arith in e) ∙ its.meets;
             }
       ]
 
-  from_told : (a : ℕ) (xs : List X) (k : ℕ) (x : X) → slice_get xs k ≡ Some x → list_any test (tell (a + k) x) ≡ true
-      → list_any test (lines_of_each tell a xs) ≡ true
+  from_reported : (a : ℕ) (xs : List X) (k : ℕ) (x : X) → slice_get xs k ≡ Some x → list_any test (report (a + k) x) ≡ true
+      → list_any test (lines_of_each report a xs) ≡ true
   unfolding lines_of_each
-  from_told a [] k x at some = absurd (no_value k x at)
-  from_told a (z ∷ xs) zero x at some =
-      list_any-append test (tell a z) (lines_of_each tell (a + 1) xs)
-      ∙ or_left (list_any test (tell a z)) (list_any test (lines_of_each tell (a + 1) xs))
-      (ap (λ y. list_any test (tell a y)) (same_Some z x at) ∙ ap (λ n. list_any test (tell n x)) (let e : a ≡ a + 0 = omega arith in e) ∙ some)
-  from_told a (z ∷ xs) (suc k) x at some =
-      list_any-append test (tell a z) (lines_of_each tell (a + 1) xs)
-      ∙ or_right (list_any test (tell a z)) (list_any test (lines_of_each tell (a + 1) xs))
-      (from_told (a + 1) xs k x at (ap (λ n. list_any test (tell n x)) (let e : a + 1 + k ≡ a + suc k = omega arith in e) ∙ some))
+  from_reported a [] k x at some = absurd (no_value k x at)
+  from_reported a (z ∷ xs) zero x at some =
+      list_any-append test (report a z) (lines_of_each report (a + 1) xs)
+      ∙ or_left (list_any test (report a z)) (list_any test (lines_of_each report (a + 1) xs))
+      (ap (λ y. list_any test (report a y)) (same_Some z x at) ∙ ap (λ n. list_any test (report n x)) (let e : a ≡ a + 0 = omega arith in e) ∙ some)
+  from_reported a (z ∷ xs) (suc k) x at some =
+      list_any-append test (report a z) (lines_of_each report (a + 1) xs)
+      ∙ or_right (list_any test (report a z)) (list_any test (lines_of_each report (a + 1) xs))
+      (from_reported (a + 1) xs k x at (ap (λ n. list_any test (report n x)) (let e : a + 1 + k ≡ a + suc k = omega arith in e) ∙ some))
 
-  pub told_at : (xs : List X) → list_any test (lines_of_each tell 0 xs) ≡ true → IsAtPlace (λ k x. list_any test (tell k x) ≡ true) xs
-  told_at xs some =
-      let its = told_from 0 xs some in
+  pub reported_at : (xs : List X) → list_any test (lines_of_each report 0 xs) ≡ true → IsAtPlace (λ k x. list_any test (report k x) ≡ true) xs
+  reported_at xs some =
+      let its = reported_from 0 xs some in
       record {
         k = its.k;
         value = its.value;
         value_is = its.value_is;
-        meets = ap (λ n. list_any test (tell n its.value)) (let e : its.k ≡ 0 + its.k = omega arith in e) ∙ its.meets;
+        meets = ap (λ n. list_any test (report n its.value)) (let e : its.k ≡ 0 + its.k = omega arith in e) ∙ its.meets;
       }
 
-  pub at_told : (xs : List X) (k : ℕ) (x : X) → slice_get xs k ≡ Some x → list_any test (tell k x) ≡ true → list_any test (lines_of_each tell 0 xs) ≡ true
-  at_told xs k x at some = from_told 0 xs k x at (ap (λ n. list_any test (tell n x)) (let e : 0 + k ≡ k = omega arith in e) ∙ some)
+  pub at_reported : (xs : List X) (k : ℕ) (x : X) → slice_get xs k ≡ Some x → list_any test (report k x) ≡ true → list_any test (lines_of_each report 0 xs) ≡ true
+  at_reported xs k x at some = from_reported 0 xs k x at (ap (λ n. list_any test (report n x)) (let e : 0 + k ≡ k = omega arith in e) ∙ some)
 
 -- ---- lists by cases
 
@@ -116,14 +116,14 @@ module _ (line : ProductLine) (v : List ℕ) where
   pub flow_at : (test : FlowPlan → Bool) → is_some_there test ≡ true
       → IsAtPlace (λ k flow. (test flow ≡ true) × (is_flow_there line v k ≡ true)) line.plan.flows.items
   flow_at test some =
-      let its = told_at (are_there line v) (flow_where test) line.plan.flows.items some in
+      let its = reported_at (are_there line v) (flow_where test) line.plan.flows.items some in
       let (passes, there) = and_parts (test its.value) (are_there line v (Flow its.k ∷ []))
       (sym (any_if (are_there line v) (test its.value) (Flow its.k ∷ [])) ∙ its.meets) in
       record { k = its.k; value = its.value; value_is = its.value_is; meets = (passes, sym (and_all (is_flow_there line v its.k)) ∙ there) }
 
   pub at_flow : (test : FlowPlan → Bool) (k : ℕ) (flow : FlowPlan) → slice_get line.plan.flows.items k ≡ Some flow → test flow ≡ true → is_flow_there line v k ≡ true
       → is_some_there test ≡ true
-  at_flow test k flow at passes there = at_told (are_there line v) (flow_where test) line.plan.flows.items k flow at
+  at_flow test k flow at passes there = at_reported (are_there line v) (flow_where test) line.plan.flows.items k flow at
       (any_if (are_there line v) (test flow) (Flow k ∷ []) ∙ and_from (test flow) (are_there line v (Flow k ∷ [])) passes (and_all (is_flow_there line v k) ∙ there))
 
   -- ---- groups and requests
@@ -148,7 +148,7 @@ module _ (line : ProductLine) (v : List ℕ) where
         ≡ (is_request_there line v r && (is_some_there one && not (is_some_there other)))
     astray_met = one_test _ _
         (λ some.
-        let its = told_at (meets_condition line v) (astray_by line r one other) line.plan.flows.items some in
+        let its = reported_at (meets_condition line v) (astray_by line r one other) line.plan.flows.items some in
         let (passes, met) = and_parts (one its.value) (meets_condition line v (by_one its.k))
         (sym (any_if (meets_condition line v) (one its.value) (by_one its.k)) ∙ its.meets) in
         let (both_there, none) = and_parts (are_there line v (Request r ∷ Flow its.k ∷ [])) (not (is_some_there other)) met in
@@ -160,7 +160,7 @@ module _ (line : ProductLine) (v : List ℕ) where
         let (request_there, others) = and_parts (is_request_there line v r) (is_some_there one && not (is_some_there other)) all in
         let (some, none) = and_parts (is_some_there one) (not (is_some_there other)) others in
         let its = flow_at one some in
-        at_told (meets_condition line v) (astray_by line r one other) line.plan.flows.items its.k its.value its.value_is
+        at_reported (meets_condition line v) (astray_by line r one other) line.plan.flows.items its.k its.value its.value_is
         (any_if (meets_condition line v) (one its.value) (by_one its.k)
         ∙ and_from (one its.value) (meets_condition line v (by_one its.k)) its.meets.0
         (and_from (are_there line v (Request r ∷ Flow its.k ∷ [])) (not (is_some_there other))
@@ -220,7 +220,7 @@ module _ (line : ProductLine) (v : List ℕ) where
         asked = λ on. absurd (false≢true (sym asked ∙ on));
       }
       by true brings true asked some =
-          let its = told_at (are_there line v) (answer_with k flow) line.plan.requests.items some in
+          let its = reported_at (are_there line v) (answer_with k flow) line.plan.requests.items some in
           let (answers, there) = and_parts (serves its.value flow) (are_there line v (Flow k ∷ Request its.k ∷ []))
           (sym (any_if (are_there line v) (serves its.value flow) (Flow k ∷ Request its.k ∷ [])) ∙ its.meets) in
           let (flow_there, request_there) = and_parts (is_flow_there line v k) (is_request_there line v its.k && true) there in
@@ -237,7 +237,7 @@ module _ (line : ProductLine) (v : List ℕ) where
 
   pub source_at : (need : NeedPlan) → is_some_source need ≡ true → IsAtPlace (IsSource need) line.plan.flows.items
   source_at need some =
-      let its = told_at (are_there line v) (source_parts line need) line.plan.flows.items some in
+      let its = reported_at (are_there line v) (source_parts line need) line.plan.flows.items some in
       record { k = its.k; value = its.value; value_is = its.value_is; meets = source_from need its.k its.value its.meets }
 
   from_source : (need : NeedPlan) (k : ℕ) (flow : FlowPlan) → IsSource need k flow → list_any (are_there line v) (source_parts line need k flow) ≡ true
@@ -250,10 +250,10 @@ module _ (line : ProductLine) (v : List ℕ) where
       by true is_o =
           let its = source.asked is_o in
           ap (λ b. list_any (are_there line v) (parts_by k flow b flow.on_request)) source.brings ∙ ap (λ o. list_any (are_there line v) (parts_by k flow true o)) is_o
-          ∙ at_told (are_there line v) (answer_with k flow) line.plan.requests.items its.k its.value its.value_is
+          ∙ at_reported (are_there line v) (answer_with k flow) line.plan.requests.items its.k its.value its.value_is
           (any_if (are_there line v) (serves its.value flow) (Flow k ∷ Request its.k ∷ [])
           ∙ and_from (serves its.value flow) (are_there line v (Flow k ∷ Request its.k ∷ [])) its.meets.0
           (and_from (is_flow_there line v k) (is_request_there line v its.k && true) source.is_there (and_all (is_request_there line v its.k) ∙ its.meets.1)))
 
   pub at_source : (need : NeedPlan) (k : ℕ) (flow : FlowPlan) → slice_get line.plan.flows.items k ≡ Some flow → IsSource need k flow → is_some_source need ≡ true
-  at_source need k flow at source = at_told (are_there line v) (source_parts line need) line.plan.flows.items k flow at (from_source need k flow source)
+  at_source need k flow at source = at_reported (are_there line v) (source_parts line need) line.plan.flows.items k flow at (from_source need k flow source)

@@ -1,4 +1,4 @@
--- That a flow has no period is told exactly where something is known of the bus.
+-- That a flow has no period is reported exactly where something is known of the bus.
 use Rattle.std.proofs.Common.{◌≡◌, ℕ, ◌+◌, ◌<◌, List, ◌++◌, length, map, Bool, true, is_some, Contains, Option, Some, None, option_map, refl, sym, ◌∙◌, ap, subst, inl, inr, arith, slice_index_or}
 use Rattle.std.specs.List.{slice_get}
 use Rattle.std.specs.Option.{option_and_then}
@@ -22,7 +22,7 @@ use Rattle.j39_network.specs.declared.plan.pace.Pace.{Pace}
 use Rattle.j39_network.specs.declared.plan.timing.Timing.{Timing}
 use Rattle.j39_network.specs.declared.plan.unit_plan.UnitPlan.{UnitPlan}
 use Rattle.j39_search.proofs.Members.{all_at}
-use Rattle.j39_part_laws.proofs.LoadFindings.{itself, line_told, none_of, of_late, of_old, of_overload, of_unpaced, told_at}
+use Rattle.j39_part_laws.proofs.LoadFindings.{itself, line_reported, none_of, of_late, of_old, of_overload, of_unpaced, reported_at}
 use Rattle.j39_part_laws.proofs.Places.{value_at}
 
 -- the flow at a place has no period
@@ -72,17 +72,17 @@ module _ (plan : Plan) (timing : Timing) (stays : UnitPlan → Bool) (ds : List 
   has_delay : (f : ℕ) → f < length ds → HasDelay timing (asked_of timing plan stays) f (slice_index_or ds f None)
   has_delay f below = asks.waits.each f below
 
-  told_unpaced : (f : ℕ) → Contains (all_findings plan timing load ds) (NoPeriod f) → IsUnpaced plan f
-  told_unpaced f told =
-      elim (Contains-append_cases (load_findings timing load ds) (old_needs timing plan.requests.items plan.flows.items ds plan.needs.items) (NoPeriod f) told) [
+  reported_unpaced : (f : ℕ) → Contains (all_findings plan timing load ds) (NoPeriod f) → IsUnpaced plan f
+  reported_unpaced f reported =
+      elim (Contains-append_cases (load_findings timing load ds) (old_needs timing plan.requests.items plan.flows.items ds plan.needs.items) (NoPeriod f) reported) [
         | inr old ↦ let (d, is_it) = of_old timing plan ds (NoPeriod f) old in absurd (not_old f d is_it)
         | inl others ↦ elim (Contains-append_cases (lines_of_each without_period 0 ds) (overload timing load ++ lines_of_each lateness 0 ds) (NoPeriod f) others) [
           | inl here ↦ found here
           | inr more ↦ elim (Contains-append_cases (overload timing load) (lines_of_each lateness 0 ds) (NoPeriod f) more) [
             | inl much ↦ absurd (not_much f load (of_overload timing load (NoPeriod f) much).1)
             | inr late ↦
-                let its = told_at lateness 0 ds (NoPeriod f) late in
-                absurd (not_late f (0 + its.k) (of_late (0 + its.k) its.value (NoPeriod f) its.told))
+                let its = reported_at lateness 0 ds (NoPeriod f) late in
+                absurd (not_late f (0 + its.k) (of_late (0 + its.k) its.value (NoPeriod f) its.reported))
           ]
         ]
       ]
@@ -101,8 +101,8 @@ module _ (plan : Plan) (timing : Timing) (stays : UnitPlan → Bool) (ds : List 
 
       found : Contains (lines_of_each without_period 0 ds) (NoPeriod f) → IsUnpaced plan f
       found here =
-          let its = told_at without_period 0 ds (NoPeriod f) here in
-          let (none, is_it) = of_unpaced (0 + its.k) its.value (NoPeriod f) its.told in
+          let its = reported_at without_period 0 ds (NoPeriod f) here in
+          let (none, is_it) = of_unpaced (0 + its.k) its.value (NoPeriod f) its.reported in
           let below = slice_get_within ds its.k its.value its.value_is in
           let count = counted in
           let same = one_flow f (0 + its.k) is_it in
@@ -116,8 +116,8 @@ module _ (plan : Plan) (timing : Timing) (stays : UnitPlan → Bool) (ds : List 
             unpaced = unpaced_by its.k flow at_k has.2;
           }
 
-  unpaced_told : (f : ℕ) → IsUnpaced plan f → Contains (all_findings plan timing load ds) (NoPeriod f)
-  unpaced_told f its =
+  unpaced_reported : (f : ℕ) → IsUnpaced plan f → Contains (all_findings plan timing load ds) (NoPeriod f)
+  unpaced_reported f its =
       let inside = slice_get_within plan.flows.items f its.flow its.flow_is in
       let count = counted in
       let below : f < length ds = omega (arith, inside, count) in
@@ -125,27 +125,27 @@ module _ (plan : Plan) (timing : Timing) (stays : UnitPlan → Bool) (ds : List 
       let zero : f ≡ 0 + f = omega arith in
       Contains-append_left (load_findings timing load ds) (old_needs timing plan.requests.items plan.flows.items ds plan.needs.items) (NoPeriod f)
       (Contains-append_left (lines_of_each without_period 0 ds) (overload timing load ++ lines_of_each lateness 0 ds) (NoPeriod f)
-      (line_told without_period 0 ds f None (NoPeriod f) (slice_get-get_or ds f None below ∙ ap Some none)
+      (line_reported without_period 0 ds f None (NoPeriod f) (slice_get-get_or ds f None below ∙ ap Some none)
       (subst (λ n. Contains (without_period n None) (NoPeriod f)) zero (itself (NoPeriod f)))))
 
 module _ (plan : Plan) (others : List LoadFinding) where
-  told_by : (o : Option Timing) → AreLoadFindings plan (option_map (with_claims plan) o) others → (f : ℕ) → Contains others (NoPeriod f)
+  reported_by : (o : Option Timing) → AreLoadFindings plan (option_map (with_claims plan) o) others → (f : ℕ) → Contains others (NoPeriod f)
       → (is_some o ≡ true) × IsUnpaced plan f
-  told_by None none f told = absurd (none_of (NoPeriod f) (subst (λ l. Contains l (NoPeriod f)) none told))
-  told_by (Some timing) (stays, ds, asks, are) f told =
-      (refl, told_unpaced plan (with_claims plan timing) stays ds asks f (subst (λ l. Contains l (NoPeriod f)) are told))
+  reported_by None none f reported = absurd (none_of (NoPeriod f) (subst (λ l. Contains l (NoPeriod f)) none reported))
+  reported_by (Some timing) (stays, ds, asks, are) f reported =
+      (refl, reported_unpaced plan (with_claims plan timing) stays ds asks f (subst (λ l. Contains l (NoPeriod f)) are reported))
 
-  by_told : (o : Option Timing) → AreLoadFindings plan (option_map (with_claims plan) o) others → (f : ℕ) → is_some o ≡ true → IsUnpaced plan f
+  by_reported : (o : Option Timing) → AreLoadFindings plan (option_map (with_claims plan) o) others → (f : ℕ) → is_some o ≡ true → IsUnpaced plan f
       → Contains others (NoPeriod f)
-  by_told None none f some unpaced = cc
-  by_told (Some timing) (stays, ds, asks, are) f some unpaced =
-      subst (λ l. Contains l (NoPeriod f)) (sym are) (unpaced_told plan (with_claims plan timing) stays ds asks f unpaced)
+  by_reported None none f some unpaced = cc
+  by_reported (Some timing) (stays, ds, asks, are) f some unpaced =
+      subst (λ l. Contains l (NoPeriod f)) (sym are) (unpaced_reported plan (with_claims plan timing) stays ds asks f unpaced)
 
   module _ (are : AreLoadFindings plan (timing_of plan) others) (f : ℕ) where
-    pub no_period_told : Contains others (NoPeriod f) → (is_some plan.timing ≡ true) × IsUnpaced plan f
+    pub no_period_reported : Contains others (NoPeriod f) → (is_some plan.timing ≡ true) × IsUnpaced plan f
     unfolding timing_of
-    no_period_told = told_by plan.timing are f
+    no_period_reported = reported_by plan.timing are f
 
-    pub told_no_period : is_some plan.timing ≡ true → IsUnpaced plan f → Contains others (NoPeriod f)
+    pub reported_no_period : is_some plan.timing ≡ true → IsUnpaced plan f → Contains others (NoPeriod f)
     unfolding timing_of
-    told_no_period = by_told plan.timing are f
+    reported_no_period = by_reported plan.timing are f

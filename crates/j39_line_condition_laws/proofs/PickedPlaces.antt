@@ -1,9 +1,9 @@
--- What is picked of a list comes of a value of the file at a place that is told, and each value that is there goes to one.
-use Rattle.std.proofs.Common.{◌≡◌, ℕ, zero, suc, ◌+◌, ◌≤◌, ◌==◌, Bool, true, false, ◌&&◌, cond, List, [], ◌∷◌, length, filter, Option, Some, None, is_some, unwrap_or, refl, sym, ◌∙◌, ap, arith}
+-- What is picked of a list comes of a value of the file at a place that is reported, and each value that is there goes to one.
+use Rattle.std.proofs.Common.{◌≡◌, ℕ, zero, suc, ◌+◌, Bool, true, false, ◌&&◌, cond, List, [], ◌∷◌, length, filter, Option, Some, None, is_some, unwrap_or, refl, sym, ◌∙◌, ap, arith}
 use Rattle.std.specs.List.{cons_option, filter_map, range_with_len, slice_get}
-use Rattle.std.proofs.lemmas.Bool.{eq-eqb, eqb-true, false≢true}
-use Rattle.std.proofs.lemmas.Option.{none-some, same_Some}
-use Rattle.j39_variants.specs.VariantPlans.{flag_at, picked, place_at, places}
+use Rattle.std.proofs.lemmas.Bool.{false≢true}
+use Rattle.std.proofs.lemmas.Option.{same_Some}
+use Rattle.j39_variants.specs.VariantPlans.{flag_at, picked}
 use Rattle.j39_line_findings.specs.There.{place_in_file, places_of_those}
 use Rattle.j39_part_laws.proofs.Places.{no_value}
 
@@ -12,39 +12,6 @@ pub one_test : (a b : Bool) → (a ≡ true → b ≡ true) → (b ≡ true → 
 one_test true b from into = sym (from refl)
 one_test false true from into = into refl
 one_test false false from into = refl
-
--- ---- places among those that are there
-
-least_place : (bs : List Bool) (n i p : ℕ) → place_at (places n bs) i ≡ Some p → n ≤ p
-least_place [] n zero p at = absurd (none-some p at)
-least_place [] n (suc i) p at = absurd (none-some p at)
-least_place (true ∷ bs) n zero p at = let e = same_Some n p at in omega (arith, e)
-least_place (true ∷ bs) n (suc i) p at = let e = least_place bs (n + 1) i p at in omega (arith, e)
-least_place (false ∷ bs) n zero p at = absurd (none-some p at)
-least_place (false ∷ bs) n (suc i) p at = least_place bs n i p at
-
-one_place : (bs : List Bool) (n i j p : ℕ) → place_at (places n bs) i ≡ Some p → place_at (places n bs) j ≡ Some p → i ≡ j
-one_place [] n zero j p at also = absurd (none-some p at)
-one_place [] n (suc i) j p at also = absurd (none-some p at)
-one_place (true ∷ bs) n zero zero p at also = refl
-one_place (true ∷ bs) n zero (suc j) p at also =
-    let e = same_Some n p at in
-    let f = least_place bs (n + 1) j p also in
-    absurd (omega (arith, e, f))
-one_place (true ∷ bs) n (suc i) zero p at also =
-    let e = same_Some n p also in
-    let f = least_place bs (n + 1) i p at in
-    absurd (omega (arith, e, f))
-one_place (true ∷ bs) n (suc i) (suc j) p at also = ap suc (one_place bs (n + 1) i j p at also)
-one_place (false ∷ bs) n zero j p at also = absurd (none-some p at)
-one_place (false ∷ bs) n (suc i) zero p at also = absurd (none-some p also)
-one_place (false ∷ bs) n (suc i) (suc j) p at also = ap suc (one_place bs n i j p at also)
-
--- two things are one in the variant where they are in the file
-pub same_test : (bs : List Bool) (i j p q : ℕ) → place_at (places 0 bs) i ≡ Some p → place_at (places 0 bs) j ≡ Some q → (p == q) ≡ (i == j)
-same_test bs i j p q at also = one_test (p == q) (i == j)
-    (λ same. eq-eqb i j (one_place bs 0 i j q (at ∙ ap Some (eqb-true p q same)) also))
-    (λ same. eq-eqb p q (same_Some p q (sym at ∙ ap (place_at (places 0 bs)) (eqb-true i j same) ∙ also)))
 
 -- ---- what comes of those that are picked
 
@@ -86,36 +53,31 @@ record CameAt {X Y : Type 0} (f : X → Option Y) (test : ℕ → Bool) (a : ℕ
 further_there : (test : ℕ → Bool) (a k : ℕ) → test (a + 1 + k) ≡ true → test (a + suc k) ≡ true
 further_there test a k is = ap test (let e : a + suc k ≡ a + 1 + k = omega arith in e) ∙ is
 
+-- one behind a first value that isn't there
+came_behind : {X Y : Type 0} (f : X → Option Y) (test : ℕ → Bool) (a : ℕ) (x : X) (xs : List X) (i : ℕ) (y : Y) → test a ≡ false
+    → CameAt f test (a + 1) xs i y → CameAt f test a (x ∷ xs) i y
+came_behind f test a x xs i y is its = record {
+  k = suc its.k;
+  value = its.value;
+  value_is = its.value_is;
+  place_is = passed test a (length xs) i its.k is its.place_is;
+  is_there = further_there test a its.k its.is_there;
+  comes = its.comes;
+}
+
 came_at : {X Y : Type 0} (f : X → Option Y) (test : ℕ → Bool) (a : ℕ) (bs : List Bool) (xs : List X) → Tests f test a bs xs → (i : ℕ) (y : Y)
     → slice_get (filter_map f (picked bs xs)) i ≡ Some y → CameAt f test a xs i y
 came_at f test a [] xs tests i y at = absurd (no_value i y at)
 came_at f test a (b ∷ bs) [] tests i y at = absurd (no_value i y at)
 came_at f test a (false ∷ bs) (x ∷ xs) tests i y at =
-    let its = came_at f test (a + 1) bs xs (behind_one f test a false bs x xs tests) i y at in
-    record {
-      k = suc its.k;
-      value = its.value;
-      value_is = its.value_is;
-      place_is = passed test a (length xs) i its.k (first_test f test a false bs x xs tests) its.place_is;
-      is_there = further_there test a its.k its.is_there;
-      comes = its.comes;
-    }
+    came_behind f test a x xs i y (first_test f test a false bs x xs tests) (came_at f test (a + 1) bs xs (behind_one f test a false bs x xs tests) i y at)
 came_at {X = X} {Y = Y} f test a (true ∷ bs) (x ∷ xs) tests i y at =
     by (f x) refl (first_test f test a true bs x xs tests) (came_at f test (a + 1) bs xs (behind_one f test a true bs x xs tests)) i at
   where
     by : (o : Option Y) → f x ≡ o → test a ≡ is_some (f x)
         → ((i : ℕ) (y : Y) → slice_get (filter_map f (picked bs xs)) i ≡ Some y → CameAt f test (a + 1) xs i y)
         → (i : ℕ) → slice_get (cons_option o (filter_map f (picked bs xs))) i ≡ Some y → CameAt f test a (x ∷ xs) i y
-    by None is_o is rest i at =
-        let its = rest i y at in
-        record {
-          k = suc its.k;
-          value = its.value;
-          value_is = its.value_is;
-          place_is = passed test a (length xs) i its.k (is ∙ ap is_some is_o) its.place_is;
-          is_there = further_there test a its.k its.is_there;
-          comes = its.comes;
-        }
+    by None is_o is rest i at = came_behind f test a x xs i y (is ∙ ap is_some is_o) (rest i y at)
     by (Some z) is_o is rest zero at = record {
       k = 0;
       value = x;
@@ -190,7 +152,7 @@ goes_at {X = X} {Y = Y} f test a (true ∷ bs) (z ∷ xs) tests (suc k) x at the
 
 -- ---- in a variant
 
--- R tells which value of the variant comes of a value of the file
+-- R reports which value of the variant comes of a value of the file
 pub record IsFrom {X Y : Type 0} (R : X → Y → Type 0) (test : ℕ → Bool) (xs : List X) (at : List ℕ) (i : ℕ) (y : Y) : Type 0 where
   pub k : ℕ
   pub value : X

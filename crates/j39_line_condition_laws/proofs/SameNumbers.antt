@@ -19,14 +19,14 @@ use Rattle.j39_load.specs.LineLists.{lines_of_each}
 use Rattle.j39_line_findings.specs.Conditions.{Condition, conditions_of_groups, meets_any, meets_condition, sent_together, sent_with, sent_with_any, where_together}
 use Rattle.j39_line_findings.specs.MissedNeeds.{is_group_there}
 use Rattle.j39_line_findings.specs.There.{is_flow_there}
-use Rattle.j39_line_findings.specs.Told.{is_private}
+use Rattle.j39_line_findings.specs.Reported.{is_private}
 use Rattle.j39_line_findings.specs.declared.part.LinePart.TheVariants.{Group, Flow}
 use Rattle.j39_line_condition_laws.proofs.InPart.{same_pgn_found, sent_found}
 use Rattle.j39_line_condition_laws.proofs.InWhole.{at, flow_place, flow_there, group_there, is_part}
 use Rattle.j39_line_condition_laws.proofs.SentTogether.{sending, sending_beside}
 use Rattle.j39_line_condition_laws.proofs.Tests.{at_passed, both_met, four_met, if_of, met_both, met_four, of_if, of_some, passed_at, some_of}
 
--- what two groups are told by, where both are private
+-- what two groups are reported by, where both are private
 pub record AreSentWith (line : ProductLine) (v : List ℕ) (g h : ℕ) : Type 0 where
   pub group : GroupPlan
   pub group_is : slice_get line.plan.groups.items g ≡ Some group

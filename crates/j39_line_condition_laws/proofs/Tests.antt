@@ -9,68 +9,68 @@ use Rattle.j39_load.specs.LineLists.{lines_of_each}
 use Rattle.j39_part_laws.proofs.Places.{no_value}
 use Rattle.j39_line_findings.specs.Conditions.{are_there, is_part_there, meets_any, where_together}
 use Rattle.j39_line_findings.specs.declared.part.LinePart.{LinePart}
-use Rattle.j39_line_part_laws.proofs.Boxes.{at_any}
+use Rattle.j39_line_findings.proofs.Tests.{at_any}
 use Rattle.j39_variants.specs.declared.line.ProductLine.{ProductLine}
 
--- ---- tests of all that is told of a list
+-- ---- tests of all that is reported of a list
 
--- a line that is told of a value passes
-pub record IsPassed {X Y : Type 0} (test : Y → Bool) (tell : ℕ → X → List Y) (place : ℕ) (xs : List X) : Type 0 where
+-- a line that is reported of a value passes
+pub record IsPassed {X Y : Type 0} (test : Y → Bool) (report : ℕ → X → List Y) (place : ℕ) (xs : List X) : Type 0 where
   pub k : ℕ
   pub value : X
   pub value_is : slice_get xs k ≡ Some value
-  pub passes : list_any test (tell (place + k) value) ≡ true
+  pub passes : list_any test (report (place + k) value) ≡ true
 
-pub any_line : {X Y : Type 0} (test : Y → Bool) (tell : ℕ → X → List Y) (place : ℕ) (xs : List X) → list_any test (lines_of_each tell place xs) ≡ true
-    → IsPassed test tell place xs
+pub any_line : {X Y : Type 0} (test : Y → Bool) (report : ℕ → X → List Y) (place : ℕ) (xs : List X) → list_any test (lines_of_each report place xs) ≡ true
+    → IsPassed test report place xs
 unfolding lines_of_each
-any_line test tell place [] some = absurd (false≢true some)
-any_line test tell place (x ∷ xs) some = elim (or_cases (list_any test (tell place x)) (list_any test (lines_of_each tell (place + 1) xs))
-    (sym (list_any-append test (tell place x) (lines_of_each tell (place + 1) xs)) ∙ some)) [
+any_line test report place [] some = absurd (false≢true some)
+any_line test report place (x ∷ xs) some = elim (or_cases (list_any test (report place x)) (list_any test (lines_of_each report (place + 1) xs))
+    (sym (list_any-append test (report place x) (lines_of_each report (place + 1) xs)) ∙ some)) [
       | inl here ↦
           let same : place ≡ place + 0 = omega arith in
-          record { k = 0; value = x; value_is = refl; passes = subst (λ n. list_any test (tell n x) ≡ true) same here }
+          record { k = 0; value = x; value_is = refl; passes = subst (λ n. list_any test (report n x) ≡ true) same here }
       | inr later ↦
-          let its = any_line test tell (place + 1) xs later in
+          let its = any_line test report (place + 1) xs later in
           let same : place + 1 + its.k ≡ place + suc its.k = omega arith in
-          record { k = suc its.k; value = its.value; value_is = its.value_is; passes = subst (λ n. list_any test (tell n its.value) ≡ true) same its.passes }
+          record { k = suc its.k; value = its.value; value_is = its.value_is; passes = subst (λ n. list_any test (report n its.value) ≡ true) same its.passes }
     ]
 
-pub line_any : {X Y : Type 0} (test : Y → Bool) (tell : ℕ → X → List Y) (place : ℕ) (xs : List X) (k : ℕ) (x : X) → slice_get xs k ≡ Some x
-    → list_any test (tell (place + k) x) ≡ true → list_any test (lines_of_each tell place xs) ≡ true
+pub line_any : {X Y : Type 0} (test : Y → Bool) (report : ℕ → X → List Y) (place : ℕ) (xs : List X) (k : ℕ) (x : X) → slice_get xs k ≡ Some x
+    → list_any test (report (place + k) x) ≡ true → list_any test (lines_of_each report place xs) ≡ true
 unfolding lines_of_each
-line_any test tell place [] k x at passes = absurd (no_value k x at)
-line_any test tell place (y ∷ ys) zero x at passes =
+line_any test report place [] k x at passes = absurd (no_value k x at)
+line_any test report place (y ∷ ys) zero x at passes =
     let same : place + 0 ≡ place = omega arith in
-    list_any-append test (tell place y) (lines_of_each tell (place + 1) ys)
-    ∙ or_left (list_any test (tell place y)) (list_any test (lines_of_each tell (place + 1) ys))
-    (subst (λ z. list_any test (tell place z) ≡ true) (sym (same_Some y x at)) (subst (λ n. list_any test (tell n x) ≡ true) same passes))
-line_any test tell place (y ∷ ys) (suc k) x at passes =
+    list_any-append test (report place y) (lines_of_each report (place + 1) ys)
+    ∙ or_left (list_any test (report place y)) (list_any test (lines_of_each report (place + 1) ys))
+    (subst (λ z. list_any test (report place z) ≡ true) (sym (same_Some y x at)) (subst (λ n. list_any test (report n x) ≡ true) same passes))
+line_any test report place (y ∷ ys) (suc k) x at passes =
     let same : place + suc k ≡ place + 1 + k = omega arith in
-    list_any-append test (tell place y) (lines_of_each tell (place + 1) ys)
-    ∙ or_right (list_any test (tell place y)) (list_any test (lines_of_each tell (place + 1) ys))
-    (line_any test tell (place + 1) ys k x at (subst (λ n. list_any test (tell n x) ≡ true) same passes))
+    list_any-append test (report place y) (lines_of_each report (place + 1) ys)
+    ∙ or_right (list_any test (report place y)) (list_any test (lines_of_each report (place + 1) ys))
+    (line_any test report (place + 1) ys k x at (subst (λ n. list_any test (report n x) ≡ true) same passes))
 
 -- of a list from the first place on
-pub record IsPassedAt {X Y : Type 0} (test : Y → Bool) (tell : ℕ → X → List Y) (xs : List X) : Type 0 where
+pub record IsPassedAt {X Y : Type 0} (test : Y → Bool) (report : ℕ → X → List Y) (xs : List X) : Type 0 where
   pub place : ℕ
   pub value : X
   pub value_is : slice_get xs place ≡ Some value
-  pub passes : list_any test (tell place value) ≡ true
+  pub passes : list_any test (report place value) ≡ true
 
-pub passed_at : {X Y : Type 0} (test : Y → Bool) (tell : ℕ → X → List Y) (xs : List X) → list_any test (lines_of_each tell 0 xs) ≡ true → IsPassedAt test tell xs
-passed_at test tell xs some =
-    let its = any_line test tell 0 xs some in
+pub passed_at : {X Y : Type 0} (test : Y → Bool) (report : ℕ → X → List Y) (xs : List X) → list_any test (lines_of_each report 0 xs) ≡ true → IsPassedAt test report xs
+passed_at test report xs some =
+    let its = any_line test report 0 xs some in
     let same : 0 + its.k ≡ its.k = omega arith in
-    record { place = its.k; value = its.value; value_is = its.value_is; passes = subst (λ n. list_any test (tell n its.value) ≡ true) same its.passes }
+    record { place = its.k; value = its.value; value_is = its.value_is; passes = subst (λ n. list_any test (report n its.value) ≡ true) same its.passes }
 
-pub at_passed : {X Y : Type 0} (test : Y → Bool) (tell : ℕ → X → List Y) (xs : List X) (k : ℕ) (x : X) → slice_get xs k ≡ Some x
-    → list_any test (tell k x) ≡ true → list_any test (lines_of_each tell 0 xs) ≡ true
-at_passed test tell xs k x at passes =
+pub at_passed : {X Y : Type 0} (test : Y → Bool) (report : ℕ → X → List Y) (xs : List X) (k : ℕ) (x : X) → slice_get xs k ≡ Some x
+    → list_any test (report k x) ≡ true → list_any test (lines_of_each report 0 xs) ≡ true
+at_passed test report xs k x at passes =
     let same : k ≡ 0 + k = omega arith in
-    line_any test tell 0 xs k x at (subst (λ n. list_any test (tell n x) ≡ true) same passes)
+    line_any test report 0 xs k x at (subst (λ n. list_any test (report n x) ≡ true) same passes)
 
--- where something is told in one case alone
+-- where something is reported in one case alone
 pub of_if : {Y : Type 0} (test : Y → Bool) (b : Bool) (ys : List Y) → list_any test (if b then ys else []) ≡ true → (b ≡ true) × (list_any test ys ≡ true)
 of_if test true ys some = (refl, some)
 of_if test false ys some = absurd (false≢true some)
@@ -79,18 +79,18 @@ pub if_of : {Y : Type 0} (test : Y → Bool) (b : Bool) (ys : List Y) → b ≡ 
 if_of test b ys is some = subst (λ c. list_any test (if c then ys else []) ≡ true) (sym is) some
 
 -- or of a value, where there is one
-pub record IsOfSome {X Y : Type 0} (test : Y → Bool) (tell : X → List Y) (o : Option X) : Type 0 where
+pub record IsOfSome {X Y : Type 0} (test : Y → Bool) (report : X → List Y) (o : Option X) : Type 0 where
   pub value : X
   pub value_is : o ≡ Some value
-  pub passes : list_any test (tell value) ≡ true
+  pub passes : list_any test (report value) ≡ true
 
-pub of_some : {X Y : Type 0} (test : Y → Bool) (tell : X → List Y) (o : Option X) → list_any test (option_map_or tell o []) ≡ true → IsOfSome test tell o
-of_some test tell None none = absurd (false≢true none)
-of_some test tell (Some x) some = record { value = x; value_is = refl; passes = some }
+pub of_some : {X Y : Type 0} (test : Y → Bool) (report : X → List Y) (o : Option X) → list_any test (option_map_or report o []) ≡ true → IsOfSome test report o
+of_some test report None none = absurd (false≢true none)
+of_some test report (Some x) some = record { value = x; value_is = refl; passes = some }
 
-pub some_of : {X Y : Type 0} (test : Y → Bool) (tell : X → List Y) (o : Option X) (x : X) → o ≡ Some x → list_any test (tell x) ≡ true
-    → list_any test (option_map_or tell o []) ≡ true
-some_of test tell o x is passes = subst (λ p. list_any test (option_map_or tell p []) ≡ true) (sym is) passes
+pub some_of : {X Y : Type 0} (test : Y → Bool) (report : X → List Y) (o : Option X) (x : X) → o ≡ Some x → list_any test (report x) ≡ true
+    → list_any test (option_map_or report o []) ≡ true
+some_of test report o x is passes = subst (λ p. list_any test (option_map_or report p []) ≡ true) (sym is) passes
 
 -- ---- places below a number
 

@@ -13,7 +13,7 @@ use Rattle.j39_network.specs.declared.plan.to.To.TheVariants.{All as ToAll, One}
 use Rattle.j39_variants.proofs.Places.{flow_parts, need_parts, request_parts}
 use Rattle.j39_variants.specs.VariantPlans.{flow_between, IsCopyOfGroup, moved_flow, moved_from, moved_need, moved_receivers, moved_request, place_at, places}
 use Rattle.j39_line_findings.specs.FullVariants.{does_bring}
-use Rattle.j39_line_condition_laws.proofs.PickedPlaces.{same_test}
+use Rattle.j39_line_part_laws.proofs.NamedPlaces.{same_places}
 
 pub both : (a b c d : Bool) → a ≡ c → b ≡ d → (a && b) ≡ (c && d)
 both a b c d one other = ap (λ x. x && b) one ∙ ap (λ x. c && x) other
@@ -41,7 +41,7 @@ module _ (units groups : List Bool) where
     where
       by : (o : Option ℕ) → place_at us u ≡ o → option_map One o ≡ Some s → is_to s p ≡ (u == i)
       by None is_o none = absurd (none-some s none)
-      by (Some q) is_o is = ap (λ x. is_to x p) (sym (same_Some (One q) s is)) ∙ same_test units u i q p is_o at
+      by (Some q) is_o is = ap (λ x. is_to x p) (sym (same_Some (One q) s is)) ∙ same_places units u i q p is_o at
 
   reached_same : (t s : To) (i p : ℕ) → moved_receivers us t ≡ Some s → place_at us i ≡ Some p → is_reached s p ≡ is_reached t i
   reached_same t s i p moved at = ap (λ b. not b || is_to s p) (to_one_same t s moved) ∙ ap (λ b. not (is_to_one t) || b) (to_same t s i p moved at)
@@ -50,8 +50,8 @@ module _ (units groups : List Bool) where
   serves_same r q f y asked sent =
       let of_r = request_parts r (place_at gs r.group) (place_at us r.sender) (moved_receivers us r.to) q asked in
       let of_f = flow_parts f (place_at gs f.group) (place_at us f.sender) (moved_receivers us f.to) y sent in
-      both _ _ _ _ (same_test groups f.group r.group y.group q.group of_f.group of_r.group)
-      (both _ _ _ _ (ap not (same_test units f.sender r.sender y.sender q.sender of_f.sender of_r.sender))
+      both _ _ _ _ (same_places groups f.group r.group y.group q.group of_f.group of_r.group)
+      (both _ _ _ _ (ap not (same_places units f.sender r.sender y.sender q.sender of_f.sender of_r.sender))
       (both _ _ _ _ (reached_same r.to q.to f.sender y.sender of_r.receivers of_f.sender) (reached_same f.to y.to r.sender q.sender of_f.receivers of_r.sender)))
 
   from_same : (t s : Option ℕ) (i p : ℕ) → moved_from us t ≡ Some s → place_at us i ≡ Some p → is_from s p ≡ is_from t i
@@ -60,14 +60,14 @@ module _ (units groups : List Bool) where
     where
       by : (o : Option ℕ) → place_at us u ≡ o → option_map Some o ≡ Some s → is_from s p ≡ (i == u)
       by None is_o none = absurd (none-some s none)
-      by (Some q) is_o is = ap (λ x. is_from x p) (sym (same_Some (Some q) s is)) ∙ same_test units i u p q at is_o
+      by (Some q) is_o is = ap (λ x. is_from x p) (sym (same_Some (Some q) s is)) ∙ same_places units i u p q at is_o
 
   pub brings_same : (d e : NeedPlan) (f y : FlowPlan) → moved_need us gs d ≡ Some e → moved_flow us gs f ≡ Some y → does_bring e y ≡ does_bring d f
   brings_same d e f y needed sent =
       let of_d = need_parts d (place_at us d.unit) (place_at gs d.group) (moved_from us d.from) e needed in
       let of_f = flow_parts f (place_at gs f.group) (place_at us f.sender) (moved_receivers us f.to) y sent in
-      both _ _ _ _ (same_test groups f.group d.group y.group e.group of_f.group of_d.group)
-      (both _ _ _ _ (ap not (same_test units f.sender d.unit y.sender e.unit of_f.sender of_d.unit))
+      both _ _ _ _ (same_places groups f.group d.group y.group e.group of_f.group of_d.group)
+      (both _ _ _ _ (ap not (same_places units f.sender d.unit y.sender e.unit of_f.sender of_d.unit))
       (both _ _ _ _ (from_same d.from e.from f.sender y.sender of_d.sender of_f.sender)
       (both _ _ _ _ (reached_same f.to y.to d.unit e.unit of_f.receivers of_d.unit) refl)))
 

@@ -1,28 +1,10 @@
 -- Variants that go on as others begin, by their places.
-use Rattle.std.proofs.Common.{◌≡◌, ℕ, zero, suc, ◌+◌, ◌<◌, ◌⊎◌, List, [], ◌∷◌, ◌++◌, inl, inr, length, map, refl, sym, ap, subst, ◌∙◌, arith, add-zero}
+use Rattle.std.proofs.Common.{◌≡◌, ℕ, zero, suc, ◌+◌, ◌<◌, List, [], ◌∷◌, ◌++◌, inl, inr, length, map, refl, sym, ap, subst, ◌∙◌, arith, add-zero}
 use Rattle.std.specs.List.{range_with_len}
 use Rattle.j39_variants.specs.declared.line.Choice.{Choice}
 use Rattle.j39_variants.specs.Variants.{FitChoices, IsVariant}
 use Rattle.j39_line_findings.specs.AllVariants.{IsOneOf, longer, with_each}
-
--- ---- one of these
-
-one_left : (xs ys : List (List ℕ)) (v : List ℕ) → IsOneOf xs v → IsOneOf (xs ++ ys) v
-one_left [] ys v is = absurd is
-one_left (x ∷ xs) ys v (inl is) = inl is
-one_left (x ∷ xs) ys v (inr is) = inr (one_left xs ys v is)
-
-one_right : (xs ys : List (List ℕ)) (v : List ℕ) → IsOneOf ys v → IsOneOf (xs ++ ys) v
-one_right [] ys v is = is
-one_right (x ∷ xs) ys v is = inr (one_right xs ys v is)
-
-pub one_cases : (xs ys : List (List ℕ)) (v : List ℕ) → IsOneOf (xs ++ ys) v → IsOneOf xs v ⊎ IsOneOf ys v
-one_cases [] ys v is = inr is
-one_cases (x ∷ xs) ys v (inl is) = inl (inl is)
-one_cases (x ∷ xs) ys v (inr is) = elim (one_cases xs ys v is) [
-  | inl left ↦ inl (inr left)
-  | inr right ↦ inr right
-]
+use Rattle.j39_line_findings.proofs.OneOf.{one_cases, one_left, one_right}
 
 -- ---- by places
 

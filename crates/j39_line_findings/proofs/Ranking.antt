@@ -1,4 +1,4 @@
--- The orders by which findings are told, and by which one witness is better than another.
+-- The orders by which findings are reported, and by which one witness is better than another.
 use Rattle.std.proofs.Common.{◌≡◌, ℕ, ◌<◌, ◌≤◌, ◌⊎◌, ◌==◌, Bool, true, false, ◌&&◌, ◌||◌, not, inl, inr, nat_lt, refl, sym, ap, ◌∙◌, arith}
 use Rattle.std.proofs.lemmas.Bool.{cases_Bool, cases_eq, cases_lt, cases_order, eq-eqb, eqb-true, false≢true, le-ltb, lt-ltb, ltb-true, ne_eqb}
 use Rattle.j39_line_findings.specs.Best.{amount_in, is_better, is_earlier_witness}

@@ -11,6 +11,6 @@ longer count [] = []
 longer count (taken ∷ others) = with_each count taken ++ longer count others
 
 -- it is one of these
-abbrev pub IsOneOf : List (List ℕ) → List ℕ → Type 0
-IsOneOf [] v = ⊥
-IsOneOf (w ∷ variants) v = (w ≡ v) ⊎ IsOneOf variants v
+abbrev pub IsOneOf : {X : Type 0} → List X → X → Type 0
+IsOneOf [] x = ⊥
+IsOneOf (y ∷ ys) x = (y ≡ x) ⊎ IsOneOf ys x

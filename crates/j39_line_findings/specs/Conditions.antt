@@ -21,7 +21,7 @@ use Rattle.j39_variants.specs.declared.line.ProductLine.{ProductLine}
 use Rattle.j39_line_findings.specs.FullVariants.{does_bring}
 use Rattle.j39_line_findings.specs.MissedNeeds.{is_group_there, is_need_asked_for, is_unit_there}
 use Rattle.j39_line_findings.specs.There.{is_flow_there, is_request_there}
-use Rattle.j39_line_findings.specs.Told.{are_at_one_address, has_end_in_pool, is_end, is_private}
+use Rattle.j39_line_findings.specs.Reported.{are_at_one_address, has_end_in_pool, is_end, is_private}
 use Rattle.j39_line_findings.specs.declared.line_finding.LineFinding.{LineFinding}
 use Rattle.j39_line_findings.specs.declared.line_finding.LineFinding.TheVariants.{OfPlan, OfLoad}
 use Rattle.j39_line_findings.specs.declared.part.LinePart.{LinePart}

@@ -1,4 +1,4 @@
--- Findings at their places in the file of a line of vehicles, and in which order they are told.
+-- Findings at their places in the file of a line of vehicles, and in which order they are reported.
 use Rattle.std.specs.Prelude.{◌≡◌, ℕ, ◌==◌, List, [], ◌∷◌, ◌++◌, Bool, true, false, ◌&&◌, ◌||◌, map, nat_lt}
 use Rattle.j39_findings.specs.Findings.{finding_number}
 use Rattle.j39_findings.specs.declared.checking.finding.Finding.{Finding}
@@ -59,7 +59,7 @@ findings_in_file there findings others missed =
 abbrev pub rank_by : ℕ → ℕ → ℕ → ℕ → Rank
 rank_by n i j k = record { number = n; first = i; second = j; third = k }
 
--- by what a finding is told: its number, and the places that it names
+-- by what a finding is reported: its number, and the places that it names
 abbrev pub finding_rank : Finding → Rank
 finding_rank (SameName u1 u2) = rank_by 1 u1 u2 0
 finding_rank (SameFixedAddress u1 u2) = rank_by 2 u1 u2 0

@@ -4,8 +4,9 @@ pub mod Boxes
 pub mod Conditions
 pub mod FullVariants
 pub mod InFile
+pub mod KnownParts
 pub mod LineFound
 pub mod MissedNeeds
 pub mod PossibleVariants
 pub mod There
-pub mod Told
+pub mod Reported

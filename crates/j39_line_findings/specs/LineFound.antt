@@ -1,5 +1,5 @@
 -- What is found of a variant of a line of vehicles.
-use Rattle.std.specs.Prelude.{◌≡◌, ◌≤◌, ◌⊎◌, ℕ, List, [], ◌∷◌}
+use Rattle.std.specs.Prelude.{◌≡◌, ◌≤◌, ℕ, List}
 use Rattle.j39_findings.specs.Found.{found}
 use Rattle.j39_load.specs.BusTimes.{timing_of}
 use Rattle.j39_load.specs.LoadFindings.{AreLoadFindings}
@@ -7,6 +7,7 @@ use Rattle.j39_load.specs.declared.findings.load_finding.LoadFinding.{LoadFindin
 use Rattle.j39_network.specs.declared.plan.Plan.{Plan}
 use Rattle.j39_variants.specs.declared.line.ProductLine.{ProductLine}
 use Rattle.j39_variants.specs.VariantPlans.{IsVariantPlan}
+use Rattle.j39_line_findings.specs.AllVariants.{IsOneOf}
 use Rattle.j39_line_findings.specs.Best.{IsWitnessAmong, amount_in, rank_in}
 use Rattle.j39_line_findings.specs.InFile.{amount_of, findings_in_file, rank_of}
 use Rattle.j39_line_findings.specs.PossibleVariants.{IsPossible}
@@ -27,14 +28,13 @@ pub record AreVariantFindings (line : ProductLine) (variant : List ℕ) (finding
 
 -- it is one of these
 abbrev pub IsFound : List LineFinding → LineFinding → Type 0
-IsFound [] finding = ⊥
-IsFound (f ∷ findings) finding = (f ≡ finding) ⊎ IsFound findings finding
+IsFound = IsOneOf
 
 -- these are what a possible variant has
 pub record HasThese (line : ProductLine) (variant : List ℕ) (findings : List LineFinding) : Type 0 where
   pub is_possible : IsPossible line variant
   pub are_findings : AreVariantFindings line variant findings
 
--- a finding is told: one of its number and places, which has at least its number of addresses or bits
-abbrev pub IsFindingTold : List Witnessed → LineFinding → Type 0
-IsFindingTold told finding = (w : Witnessed) × IsWitnessAmong told w × (rank_in w ≡ rank_of finding) × (amount_of finding ≤ amount_in w)
+-- a finding is reported: one of its number and places, which has at least its number of addresses or bits
+abbrev pub IsFindingReported : List Witnessed → LineFinding → Type 0
+IsFindingReported reported finding = (w : Witnessed) × IsWitnessAmong reported w × (rank_in w ≡ rank_of finding) × (amount_of finding ≤ amount_in w)

@@ -1,13 +1,13 @@
 -- What is there in a variant, and its places in the file.
-use Rattle.std.specs.declared.alloc.Global.{Global}
-use Rattle.std.specs.Prelude.{◌≡◌, ℕ, List, Bool, true, false, ◌&&◌, not, filter, length, unwrap_or, Option, Some, None, Vec}
+use Rattle.std.specs.Prelude.{◌≡◌, ℕ, List, Bool, true, false, ◌&&◌, filter, length, unwrap_or}
 use Rattle.std.specs.List.{range_with_len, slice_get}
 use Rattle.std.specs.Option.{option_map_or}
 use Rattle.j39_network.specs.declared.plan.to.To.{To}
 use Rattle.j39_network.specs.declared.plan.to.To.TheVariants.{All, One}
-use Rattle.j39_variants.specs.declared.line.Alternative.{Alternative}
 use Rattle.j39_variants.specs.declared.line.ProductLine.{ProductLine}
 use Rattle.j39_line_findings.specs.MissedNeeds.{is_group_there, is_in_at, is_need_asked_for, is_need_missed, is_source_there, is_unit_there}
+use Rattle.j39_line_findings.specs.declared.there.PartKind.{PartKind}
+use Rattle.j39_line_findings.specs.declared.there.PartKind.TheVariants.{Unit as AUnit, Group, Flow, Need, Request, MissedNeed}
 use Rattle.j39_line_findings.specs.declared.there.WhatIsThere.{WhatIsThere}
 
 abbrev pub is_receiver_there : ProductLine → List ℕ → To → Bool
@@ -30,6 +30,14 @@ is_request_there line variant r = option_map_or
 -- a need that is asked for is in the plan where what it is for is there
 abbrev pub is_need_there : ProductLine → List ℕ → ℕ → Bool
 is_need_there line variant d = is_need_asked_for line variant d && is_source_there line variant d
+
+abbrev pub is_kind_there : ProductLine → List ℕ → PartKind → ℕ → Bool
+is_kind_there line variant AUnit = is_unit_there line variant
+is_kind_there line variant Group = is_group_there line variant
+is_kind_there line variant Flow = is_flow_there line variant
+is_kind_there line variant Need = is_need_there line variant
+is_kind_there line variant Request = is_request_there line variant
+is_kind_there line variant MissedNeed = is_need_missed line variant
 
 -- those of so many places that pass a test, in order
 abbrev pub places_of_those : (ℕ → Bool) → ℕ → List ℕ

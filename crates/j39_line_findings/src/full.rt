@@ -20,11 +20,11 @@ use std::alloc::{AllocError, Global};
 fn alternatives_of_choice(
     alloc: Global,
     choice: usize,
-    told: &Choice,
+    reported: &Choice,
 ) -> Result<Vec<Alternative>, AllocError>
-    ensures { IfOk result (λ v. v.items ≡ alternatives_of_choice choice told.now) }
+    ensures { IfOk result (λ v. v.items ≡ alternatives_of_choice choice reported.now) }
 {
-    (0..told.alternatives.len())
+    (0..reported.alternatives.len())
         .map(|place| Alternative { choice, place })
         .collect(alloc)
 }
@@ -33,8 +33,8 @@ fn alternatives_in(alloc: Global, choices: &[Choice]) -> Result<Vec<Alternative>
     ensures { IfOk result (λ v. v.items ≡ lines_of_each alternatives_of_choice 0 choices.now) }
 {
     let mut alternatives = Vec::new(alloc);
-    for (choice, told) in choices.iter().enumerate() {
-        let of_choice = alternatives_of_choice(alloc, choice, told)?;
+    for (choice, reported) in choices.iter().enumerate() {
+        let of_choice = alternatives_of_choice(alloc, choice, reported)?;
         alternatives.extend_from_slice(&of_choice)?;
     }
     Ok(alternatives)
@@ -352,7 +352,7 @@ pub struct FullAlternatives {
 }
 
 impl FullAlternatives {
-    /// Those of a line, where these are its alternatives.
+    /// The alternatives of the full variants of a line, of which these are all alternatives.
     pub fn new(
         alloc: Global,
         line: &ProductLine,

@@ -8,8 +8,8 @@ mod line_finding;
 mod missed_needs;
 mod part;
 mod rank;
+mod reported;
 mod there;
-mod told;
 mod witnessed;
 
 pub use enumeration::longer;
@@ -19,6 +19,6 @@ pub use line_finding::LineFinding;
 pub use missed_needs::{is_need_asked_for, is_unit_there};
 pub use part::{LinePart, lets_in, names, names_choice, part_lets_in};
 pub use rank::{Rank, is_below};
+pub use reported::{Reporting, has_end_in_pool, is_end};
 pub use there::{WhatIsThere, place_in_file};
-pub use told::{Telling, has_end_in_pool, is_end};
 pub use witnessed::{Witnessed, add};

@@ -144,7 +144,7 @@ fn load_finding_rank(finding: LoadFinding) -> Rank
 }
 
 impl LineFinding {
-    /// By what it is told: its number, and the places that it names.
+    /// By what it is reported: its number, and the places that it names.
     pub fn rank(self) -> Rank
         ensures { result ≡ rank_of self }
     {

@@ -1,8 +1,8 @@
-//! The order in which findings are told.
+//! The order in which findings are reported.
 ghost use Rattle.std.specs.Prelude.{◌≡◌};
 ghost use Rattle.j39_line_findings.specs.InFile.{is_below, is_below_places};
 
-/// By what a finding is told: its number, and the places that it names, and 0 for those that it doesn't name.
+/// By what a finding is reported: its number, and the places that it names, and 0 for those that it doesn't name.
 #[derive(Clone, Copy, PartialEq, Eq)]
 pub struct Rank {
     pub number: u8,
@@ -19,7 +19,7 @@ fn is_below_places(one: Rank, other: Rank) -> bool
             && (one.second < other.second || one.second == other.second && one.third < other.third)
 }
 
-/// Whether a finding of one rank is told before one of the other.
+/// Whether a finding of one rank is reported before one of the other.
 pub fn is_below(one: Rank, other: Rank) -> bool
     ensures { result ≡ is_below one other }
 {

@@ -1,8 +1,7 @@
 //! What is there in a variant, and its places in the file.
-ghost use Rattle.std.specs.Prelude.{◌≡◌, IfOk, length};
-ghost use Rattle.j39_line_findings.specs.MissedNeeds.{is_group_there, is_unit_there};
+ghost use Rattle.std.specs.Prelude.{◌≡◌, IfOk};
 ghost use Rattle.j39_line_findings.specs.There.{IsWhatIsThere, is_flow_there, is_need_there, is_receiver_there};
-ghost use Rattle.j39_line_findings.specs.There.{is_request_there, missed_needs, place_in_file, places_of_those};
+ghost use Rattle.j39_line_findings.specs.There.{is_kind_there, is_request_there, missed_needs, place_in_file, places_of_those};
 
 use crate::missed_needs::{
     is_group_there, is_in_at, is_need_asked_for, is_need_missed, is_source_there, is_unit_there,
@@ -54,6 +53,45 @@ fn is_need_there(line: &ProductLine, variant: &[usize], place: usize) -> bool
     is_need_asked_for(line, variant, place) && is_source_there(line, variant, place)
 }
 
+// What is looked for in a variant.
+#[derive(Clone, Copy)]
+enum PartKind {
+    Unit,
+    Group,
+    Flow,
+    Need,
+    Request,
+    MissedNeed,
+}
+
+fn is_kind_there(line: &ProductLine, variant: &[usize], kind: PartKind, place: usize) -> bool
+    ensures { result ≡ is_kind_there line.now variant.now kind place }
+{
+    match kind {
+        PartKind::Unit => is_unit_there(line, variant, place),
+        PartKind::Group => is_group_there(line, variant, place),
+        PartKind::Flow => is_flow_there(line, variant, place),
+        PartKind::Need => is_need_there(line, variant, place),
+        PartKind::Request => is_request_there(line, variant, place),
+        PartKind::MissedNeed => is_need_missed(line, variant, place),
+    }
+}
+
+// Those of so many places of the file at which it is there, in order.
+fn places_there(
+    alloc: Global,
+    line: &ProductLine,
+    variant: &[usize],
+    kind: PartKind,
+    count: usize,
+) -> Result<Vec<usize>, AllocError>
+    ensures { IfOk result (λ v. v.items ≡ places_of_those (is_kind_there line.now variant.now kind) count) }
+{
+    (0..count)
+        .filter(|place| is_kind_there(line, variant, kind, *place))
+        .collect(alloc)
+}
+
 /// The needs that are asked for in a variant, and are not in its plan.
 pub(crate) fn missed_needs(
     alloc: Global,
@@ -62,9 +100,13 @@ pub(crate) fn missed_needs(
 ) -> Result<Vec<usize>, AllocError>
     ensures { IfOk result (λ v. v.items ≡ missed_needs line.now variant.now) }
 {
-    (0..line.plan.needs.len())
-        .filter(|place| is_need_missed(line, variant, *place))
-        .collect(alloc)
+    places_there(
+        alloc,
+        line,
+        variant,
+        PartKind::MissedNeed,
+        line.plan.needs.len(),
+    )
 }
 
 /// The places in the file of what is there in a variant, in order.
@@ -77,77 +119,18 @@ pub struct WhatIsThere {
     pub requests: Vec<usize>,
 }
 
-fn units_there(
-    alloc: Global,
-    line: &ProductLine,
-    variant: &[usize],
-) -> Result<Vec<usize>, AllocError>
-    ensures { IfOk result (λ v. v.items ≡ places_of_those (is_unit_there line.now variant.now) (length line.now.plan.units.items)) }
-{
-    (0..line.plan.units.len())
-        .filter(|place| is_unit_there(line, variant, *place))
-        .collect(alloc)
-}
-
-fn groups_there(
-    alloc: Global,
-    line: &ProductLine,
-    variant: &[usize],
-) -> Result<Vec<usize>, AllocError>
-    ensures { IfOk result (λ v. v.items ≡ places_of_those (is_group_there line.now variant.now) (length line.now.plan.groups.items)) }
-{
-    (0..line.plan.groups.len())
-        .filter(|place| is_group_there(line, variant, *place))
-        .collect(alloc)
-}
-
-fn flows_there(
-    alloc: Global,
-    line: &ProductLine,
-    variant: &[usize],
-) -> Result<Vec<usize>, AllocError>
-    ensures { IfOk result (λ v. v.items ≡ places_of_those (is_flow_there line.now variant.now) (length line.now.plan.flows.items)) }
-{
-    (0..line.plan.flows.len())
-        .filter(|place| is_flow_there(line, variant, *place))
-        .collect(alloc)
-}
-
-fn needs_there(
-    alloc: Global,
-    line: &ProductLine,
-    variant: &[usize],
-) -> Result<Vec<usize>, AllocError>
-    ensures { IfOk result (λ v. v.items ≡ places_of_those (is_need_there line.now variant.now) (length line.now.plan.needs.items)) }
-{
-    (0..line.plan.needs.len())
-        .filter(|place| is_need_there(line, variant, *place))
-        .collect(alloc)
-}
-
-fn requests_there(
-    alloc: Global,
-    line: &ProductLine,
-    variant: &[usize],
-) -> Result<Vec<usize>, AllocError>
-    ensures { IfOk result (λ v. v.items ≡ places_of_those (is_request_there line.now variant.now) (length line.now.plan.requests.items)) }
-{
-    (0..line.plan.requests.len())
-        .filter(|place| is_request_there(line, variant, *place))
-        .collect(alloc)
-}
-
 impl WhatIsThere {
     /// What is there in a variant.
     pub fn new(alloc: Global, line: &ProductLine, variant: &[usize]) -> Result<Self, AllocError>
         ensures { IfOk result (IsWhatIsThere line.now variant.now) }
     {
+        let plan = &line.plan;
         Ok(WhatIsThere {
-            units: units_there(alloc, line, variant)?,
-            groups: groups_there(alloc, line, variant)?,
-            flows: flows_there(alloc, line, variant)?,
-            needs: needs_there(alloc, line, variant)?,
-            requests: requests_there(alloc, line, variant)?,
+            units: places_there(alloc, line, variant, PartKind::Unit, plan.units.len())?,
+            groups: places_there(alloc, line, variant, PartKind::Group, plan.groups.len())?,
+            flows: places_there(alloc, line, variant, PartKind::Flow, plan.flows.len())?,
+            needs: places_there(alloc, line, variant, PartKind::Need, plan.needs.len())?,
+            requests: places_there(alloc, line, variant, PartKind::Request, plan.requests.len())?,
         })
     }
 }

@@ -39,58 +39,58 @@ fn comes_before(one: &Witnessed, rank: Rank) -> bool
     is_below(one.finding.rank(), rank)
 }
 
-// How many of those that are told come before one of a rank.
-fn place_of(told: &[Witnessed], rank: Rank) -> usize
-    ensures inside { result ≤ length told.now }
-    ensures before { (w : Witnesses) → IsWitnessAmong (take result told.now) w → is_below (rank_in w) rank ≡ true }
-    ensures behind { (d : Witnesses) → result < length told.now → is_below (rank_in (slice_index_or told.now result d)) rank ≡ false }
+// How many of those that are reported come before one of a rank.
+fn place_of(reported: &[Witnessed], rank: Rank) -> usize
+    ensures inside { result ≤ length reported.now }
+    ensures before { (w : Witnesses) → IsWitnessAmong (take result reported.now) w → is_below (rank_in w) rank ≡ true }
+    ensures behind { (d : Witnesses) → result < length reported.now → is_below (rank_in (slice_index_or reported.now result d)) rank ≡ false }
 {
-    for (place, other) in told.iter().enumerate() {
+    for (place, other) in reported.iter().enumerate() {
         if !comes_before(other, rank) {
             return place;
         }
     }
-    told.len()
+    reported.len()
 }
 
-// Whether one of a rank comes before the one that is told at a place, or none is told there.
-fn is_next(told: &[Witnessed], place: usize, rank: Rank) -> bool
-    ensures free { (d : Witnesses) → result ≡ true → place < length told.now → is_below rank (rank_in (slice_index_or told.now place d)) ≡ true }
-    ensures inside { result ≡ false → place < length told.now }
-    ensures taken { (d : Witnesses) → result ≡ false → is_below rank (rank_in (slice_index_or told.now place d)) ≡ false }
+// Whether one of a rank comes before the one that is reported at a place, or none is reported there.
+fn is_next(reported: &[Witnessed], place: usize, rank: Rank) -> bool
+    ensures free { (d : Witnesses) → result ≡ true → place < length reported.now → is_below rank (rank_in (slice_index_or reported.now place d)) ≡ true }
+    ensures inside { result ≡ false → place < length reported.now }
+    ensures taken { (d : Witnesses) → result ≡ false → is_below rank (rank_in (slice_index_or reported.now place d)) ≡ false }
 {
-    match told.get(place) {
+    match reported.get(place) {
         Some(other) => is_below(rank, other.finding.rank()),
         None => true,
     }
 }
 
-fn put(told: &mut Vec<Witnessed>, place: usize, new: Witnessed) -> Result<(), AllocError>
-    requires { place ≤ length told.old.items }
-    ensures { OnOk result (told.new.items ≡ insert told.old.items place new) }
+fn put(reported: &mut Vec<Witnessed>, place: usize, new: Witnessed) -> Result<(), AllocError>
+    requires { place ≤ length reported.old.items }
+    ensures { OnOk result (reported.new.items ≡ insert reported.old.items place new) }
 {
-    told.insert(place, new)?;
+    reported.insert(place, new)?;
     Ok(())
 }
 
-fn replace(told: &mut Vec<Witnessed>, place: usize, new: Witnessed)
-    requires { place < length told.old.items }
-    ensures { told.new.items ≡ slice_set told.old.items place new }
+fn replace(reported: &mut Vec<Witnessed>, place: usize, new: Witnessed)
+    requires { place < length reported.old.items }
+    ensures { reported.new.items ≡ slice_set reported.old.items place new }
 {
-    told[place] = new;
+    reported[place] = new;
 }
 
-/// Adds a finding of a variant to those that are told: each once, with its best witness.
-pub fn add(told: &mut Vec<Witnessed>, new: Witnessed) -> Result<(), AllocError>
-    ensures { OnOk result ((all : List Witnesses) → AreBest all told.old.items → AreBest (all ++ new ∷ []) told.new.items) }
+/// Adds a finding of a variant to those that are reported: each once, with its best witness.
+pub fn add(reported: &mut Vec<Witnessed>, new: Witnessed) -> Result<(), AllocError>
+    ensures { OnOk result ((all : List Witnesses) → AreBest all reported.old.items → AreBest (all ++ new ∷ []) reported.new.items) }
 {
-    let place = place_of(told, new.finding.rank());
-    if is_next(told, place, new.finding.rank()) {
-        put(told, place, new)?;
+    let place = place_of(reported, new.finding.rank());
+    if is_next(reported, place, new.finding.rank()) {
+        put(reported, place, new)?;
         return Ok(());
     }
-    if is_better(&new, &told[place]) {
-        replace(told, place, new);
+    if is_better(&new, &reported[place]) {
+        replace(reported, place, new);
     }
     Ok(())
 }

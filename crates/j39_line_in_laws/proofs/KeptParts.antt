@@ -11,7 +11,7 @@ use Rattle.j39_line_findings.specs.Conditions.{are_there, is_part_there}
 use Rattle.j39_line_findings.specs.FullVariants.{alternative_at, alternatives_of}
 use Rattle.j39_line_findings.specs.declared.part.LinePart.{LinePart}
 use Rattle.j39_line_findings.specs.declared.part.LinePart.TheVariants.{Unit as AUnit, Group, Flow, Need, Request}
-use Rattle.j39_line_part_laws.proofs.Boxes.{at_any}
+use Rattle.j39_line_findings.proofs.Tests.{at_any}
 use Rattle.j39_line_part_laws.proofs.FullCovers.{among, size}
 use Rattle.j39_line_condition_laws.proofs.BoxedParts.{there_in_boxes}
 use Rattle.j39_line_condition_laws.specs.BoxedParts.{HasPart, ListsNameChoices}
@@ -58,18 +58,18 @@ module _ (line : ProductLine) (v : List ℕ) (is : IsVariant line.choices.items 
 -- ---- two variants that take the same of some choices
 
 abbrev pub Agree : (ℕ → Bool) → List ℕ → List ℕ → Type 0
-Agree told w v = (c : ℕ) → told c ≡ true → slice_get v c ≡ slice_get w c
+Agree reported w v = (c : ℕ) → reported c ≡ true → slice_get v c ≡ slice_get w c
 
-pub turned : (told : ℕ → Bool) (w v : List ℕ) → Agree told w v → Agree told v w
-turned told w v agree c is = sym (agree c is)
+pub turned : (reported : ℕ → Bool) (w v : List ℕ) → Agree reported w v → Agree reported v w
+turned reported w v agree c is = sym (agree c is)
 
 -- each choice of which the box lacks an alternative is one of these
-abbrev pub Tells : ProductLine → (ℕ → Bool) → LinePart → Type 0
-Tells line told p = (c : ℕ) → does_lack line (alternatives_of line) p c ≡ true → told c ≡ true
+abbrev pub Reports : ProductLine → (ℕ → Bool) → LinePart → Type 0
+Reports line reported p = (c : ℕ) → does_lack line (alternatives_of line) p c ≡ true → reported c ≡ true
 
-abbrev pub TellAll : ProductLine → (ℕ → Bool) → List LinePart → Type 0
-TellAll line told [] = Unit {0}
-TellAll line told (p ∷ parts) = Tells line told p × TellAll line told parts
+abbrev pub ReportAll : ProductLine → (ℕ → Bool) → List LinePart → Type 0
+ReportAll line reported [] = Unit {0}
+ReportAll line reported (p ∷ parts) = Reports line reported p × ReportAll line reported parts
 
 -- two variants of a line
 pub record AreTwo (line : ProductLine) (w v : List ℕ) : Type 0 where
@@ -80,18 +80,18 @@ pub record AreTwo (line : ProductLine) (w v : List ℕ) : Type 0 where
 pub other_two : (line : ProductLine) (w v : List ℕ) → AreTwo line w v → AreTwo line v w
 other_two line w v two = record { names = two.names; one = two.other; other = two.one }
 
-module _ (line : ProductLine) (told : ℕ → Bool) (w v : List ℕ) (two : AreTwo line w v) (agree : Agree told w v) where
-  pub kept_part : (p : LinePart) → Tells line told p → is_part_there line w p ≡ true → is_part_there line v p ≡ true
-  kept_part p tells there =
+module _ (line : ProductLine) (reported : ℕ → Bool) (w v : List ℕ) (two : AreTwo line w v) (agree : Agree reported w v) where
+  pub kept_part : (p : LinePart) → Reports line reported p → is_part_there line w p ≡ true → is_part_there line v p ≡ true
+  kept_part p reports there =
       let has = in_file line w p there in
       let inside = (there_in_boxes line w two.one two.names p has).0 there in
       (there_in_boxes line v two.other two.names p has).1 (λ c k at. elim (cases_Bool (does_lack line (alternatives_of line) p c)) [
-        | inl lacks ↦ inside c k (sym (agree c (tells c lacks)) ∙ at)
+        | inl lacks ↦ inside c k (sym (agree c (reports c lacks)) ∙ at)
         | inr none ↦ in_unlacking line v two.other p c k at none
       ])
 
-  pub kept_parts : (parts : List LinePart) → TellAll line told parts → are_there line w parts ≡ true → are_there line v parts ≡ true
-  kept_parts [] tell all = refl
+  pub kept_parts : (parts : List LinePart) → ReportAll line reported parts → are_there line w parts ≡ true → are_there line v parts ≡ true
+  kept_parts [] report all = refl
   kept_parts (p ∷ parts) (first, others) all =
       let (one, rest) = and_parts (is_part_there line w p) (are_there line w parts) all in
       and_from (is_part_there line v p) (are_there line v parts) (kept_part p first one) (kept_parts parts others rest)

@@ -1,7 +1,7 @@
 mod KeptFindings
 mod KeptLists
 mod KeptParts
-mod TakenTold
-mod ToldBoxes
-mod ToldLaws
-mod ToldOfLines
+mod TakenReported
+mod ReportedBoxes
+mod ReportedLaws
+mod ReportedOfLines

@@ -1,2 +1,2 @@
-pub mod ToldConditions
-pub mod ToldOfLines
+pub mod ReportedConditions
+pub mod ReportedOfLines

@@ -12,7 +12,7 @@ use Rattle.j39_variants.specs.declared.line.ProductLine.{ProductLine}
 use Rattle.j39_line_findings.specs.Boxes.{are_one_answer, do_meet, flow_lets_in, request_lets_in}
 use Rattle.j39_line_findings.specs.FullVariants.{agree_on_answer, agree_on_answers, agree_on_flow, agree_on_flows, agree_on_need, agree_on_sending, does_bring}
 use Rattle.j39_line_findings.specs.declared.part.LinePart.TheVariants.{Flow, Need, Request}
-use Rattle.j39_line_part_laws.proofs.Boxes.{all_at}
+use Rattle.j39_line_findings.proofs.Tests.{all_at}
 
 -- ---- answers
 

@@ -1,62 +1,23 @@
 -- Who is in a box is in it with covering alternatives too.
 use Rattle.std.specs.declared.alloc.Global.{Global}
-use Rattle.std.proofs.Common.{◌≡◌, ℕ, zero, suc, Bool, true, false, not, ◌&&◌, ◌||◌, ◌==◌, List, [], ◌∷◌, Option, Some, None, Vec, refl, sym, ◌∙◌, ap, inl, inr}
-use Rattle.std.specs.List.{list_all, list_any, slice_get}
+use Rattle.std.proofs.Common.{◌≡◌, ℕ, Bool, true, false, not, ◌&&◌, ◌||◌, ◌==◌, List, [], ◌∷◌, Some, Vec, refl, sym, ◌∙◌, ap, inl, inr}
+use Rattle.std.specs.List.{list_any, slice_get}
 use Rattle.std.specs.Option.{option_map_or}
-use Rattle.std.proofs.lemmas.Bool.{and_from, and_parts, eq-eqb, eqb-true, false≢true, or_cases, or_left, or_right}
-use Rattle.std.proofs.lemmas.Option.{same_Some}
+use Rattle.std.proofs.lemmas.Bool.{and_from, and_parts, eq-eqb, eqb-true, false≢true, or_cases, or_right}
 use Rattle.j39_variants.specs.declared.line.Alternative.{Alternative}
 use Rattle.j39_variants.specs.declared.line.ProductLine.{ProductLine}
 use Rattle.j39_variants.specs.VariantPlans.{flags}
 use Rattle.j39_variants.specs.Variants.{is_in, takes_alternative}
 use Rattle.j39_line_findings.specs.Boxes.{is_one_alternative, lets_in}
-use Rattle.j39_part_laws.proofs.Places.{no_value}
 use Rattle.j39_line_findings.specs.FullVariants.{alternative_at, do_keep, is_covered}
-
--- ---- tests of all values, and of any
-
-pub record IsAtSome {X : Type 0} (p : X → Bool) (xs : List X) : Type 0 where
-  pub i : ℕ
-  pub value : X
-  pub value_is : slice_get xs i ≡ Some value
-  pub passes : p value ≡ true
-
-pub any_at : {X : Type 0} (p : X → Bool) (xs : List X) → list_any p xs ≡ true → IsAtSome p xs
-any_at p [] some = absurd (false≢true some)
-any_at p (x ∷ xs) some = elim (or_cases (p x) (list_any p xs) some) [
-  | inl here ↦ record { i = 0; value = x; value_is = refl; passes = here }
-  | inr later ↦
-      let its = any_at p xs later in
-      record { i = suc its.i; value = its.value; value_is = its.value_is; passes = its.passes }
-]
-
-pub at_any : {X : Type 0} (p : X → Bool) (xs : List X) (i : ℕ) (x : X) → slice_get xs i ≡ Some x → p x ≡ true → list_any p xs ≡ true
-at_any p [] i x at passes = absurd (no_value i x at)
-at_any p (y ∷ ys) zero x at passes = or_left (p y) (list_any p ys) (ap p (same_Some y x at) ∙ passes)
-at_any p (y ∷ ys) (suc i) x at passes = or_right (p y) (list_any p ys) (at_any p ys i x at passes)
-
-pub all_at : {X : Type 0} (p : X → Bool) (xs : List X) → list_all p xs ≡ true → (i : ℕ) (x : X) → slice_get xs i ≡ Some x → p x ≡ true
-all_at p [] all i x at = absurd (no_value i x at)
-all_at p (y ∷ ys) all zero x at = ap p (sym (same_Some y x at)) ∙ (and_parts (p y) (list_all p ys) all).0
-all_at p (y ∷ ys) all (suc i) x at = all_at p ys (and_parts (p y) (list_all p ys) all).1 i x at
-
-pub at_all : {X : Type 0} (p : X → Bool) (xs : List X) → ((i : ℕ) (x : X) → slice_get xs i ≡ Some x → p x ≡ true) → list_all p xs ≡ true
-at_all p [] each = refl
-at_all p (x ∷ xs) each = and_from (p x) (list_all p xs) (each 0 x refl) (at_all p xs (λ i y at. each (suc i) y at))
+use Rattle.j39_line_findings.proofs.Shown.{place_taken}
+use Rattle.j39_line_findings.proofs.Tests.{all_at, any_at, at_all, at_any}
 
 -- ---- a box
 
 leads : (a b : Bool) → (not a || b) ≡ true → a ≡ true → b ≡ true
 leads true b both is = both
 leads false b both is = absurd (false≢true is)
-
--- the place that is taken of the choice of an alternative that is taken
-pub place_taken : (v : List ℕ) (b : Alternative) → takes_alternative v b ≡ true → slice_get v b.choice ≡ Some b.place
-place_taken v b takes = go (slice_get v b.choice) refl takes
-  where
-    go : (o : Option ℕ) → slice_get v b.choice ≡ o → option_map_or (λ place. place == b.place) o false ≡ true → slice_get v b.choice ≡ Some b.place
-    go None is_o never = absurd (false≢true never)
-    go (Some p) is_o same = is_o ∙ ap Some (eqb-true p b.place same)
 
 -- where the box has the one alternative it has the other
 abbrev Keeps : List Alternative → List ℕ → List ℕ → Type 0

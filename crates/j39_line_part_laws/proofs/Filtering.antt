@@ -154,20 +154,24 @@ module _ (line : ProductLine) (v : List ℕ) where
       ∙ ap (λ b. between (is_in_at v line.lists.groups.items g) b (is_some (moved_receivers us to))) (some_place v line.lists.units.items 0 s)
       ∙ ap (between (is_in_at v line.lists.groups.items g) (is_in_at v line.lists.units.items s)) (some_receivers to)
 
+  -- what is there by its own list and by all that it names
+  named_test : (lists : List (Vec Alternative Global)) (k g s : ℕ) (to : To) (moves : Bool)
+      → moves ≡ between (is_some (place_at gs g)) (is_some (place_at us s)) (is_some (moved_receivers us to))
+      → (is_in_at v lists k && between (is_in_at v line.lists.groups.items g) (is_in_at v line.lists.units.items s) (is_receiver_there line v to))
+      ≡ (flag_at (flags v lists) k && moves)
+  named_test lists k g s to moves is =
+      ap (λ b. is_in_at v lists k && b) (sym (is ∙ all_there g s to)) ∙ ap (λ b. b && moves) (test_in v lists k)
+
   pub flow_test : (k : ℕ) (f : FlowPlan) → slice_get line.plan.flows.items k ≡ Some f
       → is_flow_there line v k ≡ (flag_at (flags v line.lists.flows.items) k && is_some (moved_flow us gs f))
   flow_test k f at =
       ap (λ o. option_map_or (λ (flow : FlowPlan). is_in_at v line.lists.flows.items k
       && between (is_in_at v line.lists.groups.items flow.group) (is_in_at v line.lists.units.items flow.sender) (is_receiver_there line v flow.to)) o false) at
-      ∙ ap (λ b. is_in_at v line.lists.flows.items k && b)
-      (sym (some_flow f (place_at gs f.group) (place_at us f.sender) (moved_receivers us f.to) ∙ all_there f.group f.sender f.to))
-      ∙ ap (λ b. b && is_some (moved_flow us gs f)) (test_in v line.lists.flows.items k)
+      ∙ named_test line.lists.flows.items k f.group f.sender f.to _ (some_flow f (place_at gs f.group) (place_at us f.sender) (moved_receivers us f.to))
 
   pub request_test : (k : ℕ) (r : RequestPlan) → slice_get line.plan.requests.items k ≡ Some r
       → is_request_there line v k ≡ (flag_at (flags v line.lists.requests.items) k && is_some (moved_request us gs r))
   request_test k r at =
       ap (λ o. option_map_or (λ (request : RequestPlan). is_in_at v line.lists.requests.items k
       && between (is_in_at v line.lists.groups.items request.group) (is_in_at v line.lists.units.items request.sender) (is_receiver_there line v request.to)) o false) at
-      ∙ ap (λ b. is_in_at v line.lists.requests.items k && b)
-      (sym (some_request r (place_at gs r.group) (place_at us r.sender) (moved_receivers us r.to) ∙ all_there r.group r.sender r.to))
-      ∙ ap (λ b. b && is_some (moved_request us gs r)) (test_in v line.lists.requests.items k)
+      ∙ named_test line.lists.requests.items k r.group r.sender r.to _ (some_request r (place_at gs r.group) (place_at us r.sender) (moved_receivers us r.to))

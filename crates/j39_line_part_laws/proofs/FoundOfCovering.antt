@@ -1,10 +1,8 @@
 -- What is found of a variant is found of each one that covers it.
-use Rattle.std.proofs.Common.{◌≡◌, ◌⊎◌, ℕ, zero, suc, ◌≤◌, true, false, List, [], ◌∷◌, ◌++◌, map, Contains, Some, refl, sym, ◌∙◌, ap, subst, inl, inr, arith}
+use Rattle.std.proofs.Common.{◌≡◌, ℕ, ◌≤◌, true, false, List, Some, refl, sym, ◌∙◌, ap, subst, inl, inr, arith, ◌⊎◌, zero, suc, [], ◌∷◌, ◌++◌, map, Contains}
 use Rattle.std.specs.List.{slice_get}
 use Rattle.std.proofs.lemmas.Bool.{false≢true, true≢false}
 use Rattle.j39_findings.specs.Findings.{Holds}
-use Rattle.j39_findings.specs.Found.{found}
-use Rattle.j39_findings.proofs.FoundLaws.{are_findings}
 use Rattle.j39_findings.specs.declared.checking.finding.Finding.{Finding}
 use Rattle.j39_findings.specs.declared.checking.finding.Finding.TheVariants.{SameName, SameFixedAddress, TooFewAddresses, BadPgn, SamePgn, SignalWidth}
 use Rattle.j39_findings.specs.declared.checking.finding.Finding.TheVariants.{SignalOutside, SignalOverlap, FlowToOne, FlowToSelf, FlowRepeated, KeptAddress}
@@ -24,35 +22,21 @@ use Rattle.j39_part_laws.specs.PlanParts.{HoldsThere, IsPartAt, Places}
 use Rattle.j39_part_laws.proofs.Places.{value_at}
 use Rattle.j39_part_laws.proofs.Findings.{holds_there}
 use Rattle.j39_part_laws.proofs.LoadFindings.{are_found_there}
+use Rattle.j39_line_findings.proofs.OneOf.{one_cases, one_left, one_right}
 use Rattle.j39_line_findings.specs.InFile.{amount_of, finding_in_file, load_finding_in_file, rank_by, rank_of}
 use Rattle.j39_line_findings.specs.LineFound.{AreVariantFindings, IsFound}
-use Rattle.j39_line_findings.specs.There.{missed_needs, place_in_file}
+use Rattle.j39_line_findings.specs.There.{place_in_file, missed_needs}
 use Rattle.j39_line_findings.specs.declared.line_finding.LineFinding.{LineFinding}
 use Rattle.j39_line_findings.specs.declared.line_finding.LineFinding.TheVariants.{OfPlan, OfLoad}
 use Rattle.j39_line_findings.specs.declared.there.WhatIsThere.{WhatIsThere}
 use Rattle.j39_line_part_laws.specs.Covering.{IsCoveredBy}
-use Rattle.j39_line_part_laws.specs.FoundOfCovering.{AreFoundOfCovering, IsAbsentOrFound, is_by_absence, OnlyAbsenceIsTold}
+use Rattle.j39_line_part_laws.specs.FoundOfCovering.{AreFoundOfCovering, IsAbsentOrFound, is_by_absence, OnlyAbsenceIsReported}
 use Rattle.j39_line_part_laws.proofs.Parts.{at, is_part_at}
 use Rattle.j39_line_part_laws.proofs.PlacesInFile.{flow_same, group_same, request_same, unit_same}
+use Rattle.j39_findings.specs.Found.{found}
+use Rattle.j39_findings.proofs.FoundLaws.{are_findings}
 
--- ---- one of some findings
-
-pub left : (xs ys : List LineFinding) (f : LineFinding) → IsFound xs f → IsFound (xs ++ ys) f
-left [] ys f one = absurd one
-left (x ∷ xs) ys f (inl same) = inl same
-left (x ∷ xs) ys f (inr later) = inr (left xs ys f later)
-
-pub right : (xs ys : List LineFinding) (f : LineFinding) → IsFound ys f → IsFound (xs ++ ys) f
-right [] ys f one = one
-right (x ∷ xs) ys f one = inr (right xs ys f one)
-
-pub either : (xs ys : List LineFinding) (f : LineFinding) → IsFound (xs ++ ys) f → IsFound xs f ⊎ IsFound ys f
-either [] ys f one = inr one
-either (x ∷ xs) ys f (inl same) = inl (inl same)
-either (x ∷ xs) ys f (inr later) = elim (either xs ys f later) [
-  | inl first ↦ inl (inr first)
-  | inr second ↦ inr second
-]
+-- ---- one that is made of one of some values
 
 pub record IsMade {A : Type 0} (make : A → LineFinding) (xs : List A) (f : LineFinding) : Type 0 where
   pub value : A
@@ -77,6 +61,72 @@ same_plan x y is = cc
 
 pub same_load : (x y : LoadFinding) → OfLoad x ≡ OfLoad y → x ≡ y
 same_load x y is = cc
+
+apart : (x : Finding) (y : LoadFinding) → OfPlan x ≡ OfLoad y → ⊥
+apart x y is = cc
+
+-- ---- of a variant
+
+module _ (line : ProductLine) (v : List ℕ) (findings : List LineFinding) (has : AreVariantFindings line v findings) where
+  abbrev plans : List LineFinding
+  plans = map (λ finding. OfPlan (finding_in_file has.there finding)) (found has.plan)
+
+  abbrev loads : List LineFinding
+  loads = map (λ finding. OfLoad (load_finding_in_file has.there finding)) has.others
+
+  abbrev missed : List LineFinding
+  missed = map (λ d. OfPlan (NeedUnmet d)) (missed_needs line v)
+
+  -- one of these three
+  cases : (f : LineFinding) → IsFound findings f → IsFound plans f ⊎ (IsFound loads f ⊎ IsFound missed f)
+  cases f one = elim (one_cases plans (loads ++ missed) f (subst (λ l. IsFound l f) has.are_all one)) [
+    | inl here ↦ inl here
+    | inr others ↦ inr (one_cases loads missed f others)
+  ]
+
+  pub in_plan : (x : Finding) → IsFound findings (OfPlan x) → ((y : Finding) × Holds has.plan y × (finding_in_file has.there y ≡ x))
+      ⊎ ((d : ℕ) × Contains (missed_needs line v) d × (NeedUnmet d ≡ x))
+  in_plan x one = elim (cases (OfPlan x) one) [
+    | inl here ↦
+        let its = made_of (λ f. OfPlan (finding_in_file has.there f)) (found has.plan) (OfPlan x) here in
+        inl (its.value, (are_findings has.plan).sound its.value its.among, same_plan (finding_in_file has.there its.value) x its.made)
+    | inr (inl load) ↦
+        let its = made_of (λ f. OfLoad (load_finding_in_file has.there f)) has.others (OfPlan x) load in
+        absurd (apart x (load_finding_in_file has.there its.value) (sym its.made))
+    | inr (inr need) ↦
+        let its = made_of (λ d. OfPlan (NeedUnmet d)) (missed_needs line v) (OfPlan x) need in
+        inr (its.value, its.among, same_plan (NeedUnmet its.value) x its.made)
+  ]
+
+  pub in_load : (x : LoadFinding) → IsFound findings (OfLoad x) → (y : LoadFinding) × Contains has.others y × (load_finding_in_file has.there y ≡ x)
+  in_load x one = elim (cases (OfLoad x) one) [
+    | inl here ↦
+        let its = made_of (λ f. OfPlan (finding_in_file has.there f)) (found has.plan) (OfLoad x) here in
+        absurd (apart (finding_in_file has.there its.value) x its.made)
+    | inr (inl load) ↦
+        let its = made_of (λ f. OfLoad (load_finding_in_file has.there f)) has.others (OfLoad x) load in
+        (its.value, its.among, same_load (load_finding_in_file has.there its.value) x its.made)
+    | inr (inr need) ↦
+        let its = made_of (λ d. OfPlan (NeedUnmet d)) (missed_needs line v) (OfLoad x) need in
+        absurd (apart (NeedUnmet its.value) x its.made)
+  ]
+
+  is_among : (f : LineFinding) → IsFound (plans ++ (loads ++ missed)) f → IsFound findings f
+  is_among f = subst (λ l. IsFound l f) (sym has.are_all)
+
+  pub of_plan_reported : (y : Finding) → Holds has.plan y → IsFound findings (OfPlan (finding_in_file has.there y))
+  of_plan_reported y holds = is_among _ (one_left plans (loads ++ missed) _
+      (of_made (λ f. OfPlan (finding_in_file has.there f)) (found has.plan) y ((are_findings has.plan).complete y holds)))
+
+  pub of_load_reported : (y : LoadFinding) → Contains has.others y → IsFound findings (OfLoad (load_finding_in_file has.there y))
+  of_load_reported y among = is_among _ (one_right plans (loads ++ missed) _
+      (one_left loads missed _ (of_made (λ f. OfLoad (load_finding_in_file has.there f)) has.others y among)))
+
+  pub of_missed_reported : (d : ℕ) → Contains (missed_needs line v) d → IsFound findings (OfPlan (NeedUnmet d))
+  of_missed_reported d among = is_among _ (one_right plans (loads ++ missed) _
+      (one_right loads missed _ (of_made (λ n. OfPlan (NeedUnmet n)) (missed_needs line v) d among)))
+
+-- ---- of a variant and of one that covers it
 
 one_place : (n j k a b : ℕ) → a ≡ b → rank_by n a j k ≡ rank_by n b j k
 one_place n j k a b same = ap (λ x. rank_by n x j k) same
@@ -118,24 +168,13 @@ module _ (line : ProductLine) (v w : List ℕ) (covered : IsCoveredBy line v w) 
 
   -- ---- findings of the plan
 
-  abbrev plans_there : List LineFinding
-  plans_there = map (λ finding. OfPlan (finding_in_file those finding)) (found whole)
-
-  abbrev loads_there : List LineFinding
-  loads_there = map (λ finding. OfLoad (load_finding_in_file those finding)) of_there.others
-
-  abbrev missed_there : List LineFinding
-  missed_there = map (λ d. OfPlan (NeedUnmet d)) (missed_needs line w)
-
-  told : (x : Finding) → Holds whole x → IsFound there (OfPlan (finding_in_file those x))
-  told x holds = subst (λ l. IsFound l (OfPlan (finding_in_file those x))) (sym of_there.are_all)
-      (left plans_there (loads_there ++ missed_there) (OfPlan (finding_in_file those x))
-      (of_made (λ finding. OfPlan (finding_in_file those finding)) (found whole) x ((are_findings whole).complete x holds)))
+  reported : (x : Finding) → Holds whole x → IsFound there (OfPlan (finding_in_file those x))
+  reported = of_plan_reported line w there of_there
 
   also : (x y : Finding) → Holds whole x → comes_by_absence (finding_in_file those x) ≡ false
       → rank_of (OfPlan (finding_in_file those x)) ≡ rank_of (OfPlan (finding_in_file these y))
       → amount_of (OfPlan (finding_in_file these y)) ≤ amount_of (OfPlan (finding_in_file those x)) → IsAbsentOrFound there (OfPlan (finding_in_file these y))
-  also x y holds present rank amount = inr (OfPlan (finding_in_file those x), told x holds, present, rank, amount)
+  also x y holds present rank amount = inr (OfPlan (finding_in_file those x), reported x holds, present, rank, amount)
 
   found_also : (finding : Finding) → Holds part finding → HoldsThere p whole finding → IsAbsentOrFound there (OfPlan (finding_in_file these finding))
   found_also (SameName i j) holds its = also (SameName (p.unit i) (p.unit j)) (SameName i j) its refl
@@ -177,81 +216,42 @@ module _ (line : ProductLine) (v w : List ℕ) (covered : IsCoveredBy line v w) 
 
   -- ---- findings of the load
 
-  load_told : (x : LoadFinding) → Contains of_there.others x → IsFound there (OfLoad (load_finding_in_file those x))
-  load_told x among = subst (λ l. IsFound l (OfLoad (load_finding_in_file those x))) (sym of_there.are_all)
-      (right plans_there (loads_there ++ missed_there) (OfLoad (load_finding_in_file those x))
-      (left loads_there missed_there (OfLoad (load_finding_in_file those x))
-      (of_made (λ finding. OfLoad (load_finding_in_file those finding)) of_there.others x among)))
-
   load_also : (finding : LoadFinding) → IsFoundThere p part of_there.others finding → IsAbsentOrFound there (OfLoad (load_finding_in_file these finding))
   load_also (NoPeriod f) (inside, among) =
       let (flow, at_f) = value_at part.flows.items f inside in
-      inr (OfLoad (NoPeriod (place_in_file those.flows.items (p.flow f))), load_told (NoPeriod (p.flow f)) among, refl, one_place 16 0 0 _ _ (flow_is f flow at_f), omega arith)
-  load_also (Overload n) (m, more, among) = inr (OfLoad (Overload m), load_told (Overload m) among, refl, refl, more)
+      inr (OfLoad (NoPeriod (place_in_file those.flows.items (p.flow f))), of_load_reported line w there of_there (NoPeriod (p.flow f)) among, refl, one_place 16 0 0 _ _ (flow_is f flow at_f), omega arith)
+  load_also (Overload n) (m, more, among) = inr (OfLoad (Overload m), of_load_reported line w there of_there (Overload m) among, refl, refl, more)
   load_also (LateFlow f) (inside, among) =
       let (flow, at_f) = value_at part.flows.items f inside in
-      inr (OfLoad (LateFlow (place_in_file those.flows.items (p.flow f))), load_told (LateFlow (p.flow f)) among, refl, one_place 18 0 0 _ _ (flow_is f flow at_f), omega arith)
+      inr (OfLoad (LateFlow (place_in_file those.flows.items (p.flow f))), of_load_reported line w there of_there (LateFlow (p.flow f)) among, refl, one_place 18 0 0 _ _ (flow_is f flow at_f), omega arith)
   load_also (NeedTooOld d) its = inl refl
 
   -- ---- all of them
 
-  abbrev plans_here : List LineFinding
-  plans_here = map (λ finding. OfPlan (finding_in_file these finding)) (found part)
-
-  abbrev loads_here : List LineFinding
-  loads_here = map (λ finding. OfLoad (load_finding_in_file these finding)) of_here.others
-
-  abbrev missed_here : List LineFinding
-  missed_here = map (λ d. OfPlan (NeedUnmet d)) (missed_needs line v)
-
-  no_load : (x : LoadFinding) (y : Finding) → OfLoad x ≡ OfPlan y → ⊥
-  no_load x y is = cc
-
   plan_found : (finding : Finding) → IsFound here (OfPlan finding) → IsAbsentOrFound there (OfPlan finding)
-  plan_found finding one =
-      elim (either plans_here (loads_here ++ missed_here) (OfPlan finding) (subst (λ l. IsFound l (OfPlan finding)) of_here.are_all one)) [
-        | inl of_plan ↦
-            let its = made_of (λ f. OfPlan (finding_in_file these f)) (found part) (OfPlan finding) of_plan in
-            let holds = (are_findings part).sound its.value its.among in
-            subst (IsAbsentOrFound there) its.made (found_also its.value holds (holds_there p part whole is_part its.value holds))
-        | inr others ↦ elim (either loads_here missed_here (OfPlan finding) others) [
-          | inl of_load ↦
-              let its = made_of (λ f. OfLoad (load_finding_in_file these f)) of_here.others (OfPlan finding) of_load in
-              absurd (no_load (load_finding_in_file these its.value) finding its.made)
-          | inr missed ↦
-              let its = made_of (λ d. OfPlan (NeedUnmet d)) (missed_needs line v) (OfPlan finding) missed in
-              inl (ap comes_by_absence (sym (same_plan (NeedUnmet its.value) finding its.made)))
-        ]
-      ]
+  plan_found finding one = elim (in_plan line v here of_here finding one) [
+    | inl (x, holds, is) ↦
+        subst (λ f. IsAbsentOrFound there (OfPlan f)) is (found_also x holds (holds_there p part whole is_part x holds))
+    | inr (d, absent, is) ↦ inl (ap comes_by_absence (sym is))
+  ]
 
   load_found : ((g : ℕ) → ¬ IsFound there (OfPlan (BadPgn g))) → (finding : LoadFinding) → IsFound here (OfLoad finding) → IsAbsentOrFound there (OfLoad finding)
   load_found good finding one =
-      elim (either plans_here (loads_here ++ missed_here) (OfLoad finding) (subst (λ l. IsFound l (OfLoad finding)) of_here.are_all one)) [
-        | inl of_plan ↦
-            let its = made_of (λ f. OfPlan (finding_in_file these f)) (found part) (OfLoad finding) of_plan in
-            absurd (no_load finding (finding_in_file these its.value) (sym its.made))
-        | inr others ↦ elim (either loads_here missed_here (OfLoad finding) others) [
-          | inl of_load ↦
-              let its = made_of (λ f. OfLoad (load_finding_in_file these f)) of_here.others (OfLoad finding) of_load in
-              subst (IsAbsentOrFound there) its.made (load_also its.value
-              (are_found_there p part whole is_part (λ g bad. good (place_in_file those.groups.items g) (told (BadPgn g) bad)) of_here.others of_there.others
-              of_here.are_others of_there.are_others its.value its.among))
-          | inr missed ↦
-              let its = made_of (λ d. OfPlan (NeedUnmet d)) (missed_needs line v) (OfLoad finding) missed in
-              absurd (no_load finding (NeedUnmet its.value) (sym its.made))
-        ]
-      ]
+      let (x, among, is) = in_load line v here of_here finding one in
+      subst (λ f. IsAbsentOrFound there (OfLoad f)) is (load_also x
+      (are_found_there p part whole is_part (λ g bad. good (place_in_file those.groups.items g) (reported (BadPgn g) bad)) of_here.others of_there.others
+      of_here.are_others of_there.are_others x among))
 
   pub are_found : AreFoundOfCovering here there
   are_found = record { plans = plan_found; loads = load_found }
 
   -- ---- where only absence is found there
 
-  module _ (only : OnlyAbsenceIsTold there) where
+  module _ (only : OnlyAbsenceIsReported there) where
     by_absence : (finding : LineFinding) → IsAbsentOrFound there finding → is_by_absence finding ≡ true
     by_absence finding (inl absent) = absent
     by_absence finding (inr (other, one, present, rank, amount)) = absurd (true≢false (sym (only other one) ∙ present))
 
-    pub only_absence : OnlyAbsenceIsTold here
+    pub only_absence : OnlyAbsenceIsReported here
     only_absence (OfPlan finding) one = by_absence (OfPlan finding) (plan_found finding one)
     only_absence (OfLoad finding) one = by_absence (OfLoad finding) (load_found (λ g bad. false≢true (only (OfPlan (BadPgn g)) bad)) finding one)

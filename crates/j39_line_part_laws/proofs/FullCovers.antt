@@ -9,10 +9,10 @@ use Rattle.j39_variants.specs.declared.line.Choice.{Choice}
 use Rattle.j39_variants.specs.declared.line.ProductLine.{ProductLine}
 use Rattle.j39_variants.specs.Variants.{is_in, IsVariant, size_at, takes_alternative}
 use Rattle.j39_line_findings.specs.FullVariants.{alternative_at, alternatives_of, alternatives_of_choice, compared, does_leave, does_need_let_in, full_alternatives, is_full_among}
-use Rattle.j39_part_laws.proofs.LoadFindings.{line_told, told_at}
+use Rattle.j39_part_laws.proofs.LoadFindings.{line_reported, reported_at}
 use Rattle.j39_part_laws.proofs.Places.{no_value, value_at}
 use Rattle.j39_line_part_laws.specs.Covering.{HasFullCover, HasFullCoverFor, IsCoveredFor, IsInBoxOf, TakesFullAlone}
-use Rattle.j39_line_part_laws.proofs.Boxes.{at_all, at_any}
+use Rattle.j39_line_findings.proofs.Tests.{at_all, at_any}
 use Rattle.j39_line_part_laws.proofs.Full.{best_of, IsBest, none_better}
 
 -- ---- lists
@@ -77,8 +77,8 @@ module _ (line : ProductLine) where
 
   pub is_of_choice : (i : ℕ) (a : Alternative) → slice_get alternatives i ≡ Some a → (a.choice < length choices) × (a.place < size a.choice)
   is_of_choice i a at =
-      let its = told_at alternatives_of_choice 0 choices a (contains_at alternatives i a at) in
-      let (q, below, made) = of_range (alternative_at (0 + its.k)) 0 (length its.value.alternatives.items) a its.told in
+      let its = reported_at alternatives_of_choice 0 choices a (contains_at alternatives i a at) in
+      let (q, below, made) = of_range (alternative_at (0 + its.k)) 0 (length its.value.alternatives.items) a its.reported in
       let choice : a.choice ≡ its.k = sym (ap (λ (x : Alternative). x.choice) made) ∙ (let e : 0 + its.k ≡ its.k = omega arith in e) in
       let place : a.place ≡ q = sym (ap (λ (x : Alternative). x.place) made) ∙ (let e : 0 + q ≡ q = omega arith in e) in
       let inside = slice_get_within choices its.k its.value its.value_is in
@@ -92,12 +92,12 @@ module _ (line : ProductLine) where
       go : (choice : Choice) × (slice_get choices c ≡ Some choice) → (i : ℕ) × (slice_get alternatives i ≡ Some (alternative_at c m))
       go (choice, at) =
           let many = size_is c choice at in
-          let told = in_range (alternative_at (0 + c)) 0 (length choice.alternatives.items) m (omega (arith, inside, many)) in
+          let reported = in_range (alternative_at (0 + c)) 0 (length choice.alternatives.items) m (omega (arith, inside, many)) in
           let same : alternative_at (0 + c) (0 + m) ≡ alternative_at c m =
           ap (λ k. alternative_at k (0 + m)) (let e : 0 + c ≡ c = omega arith in e) ∙ ap (alternative_at c) (let e : 0 + m ≡ m = omega arith in e) in
           at_contained alternatives (alternative_at c m)
-          (line_told alternatives_of_choice 0 choices c choice (alternative_at c m) at
-          (subst (Contains (alternatives_of_choice (0 + c) choice)) same told))
+          (line_reported alternatives_of_choice 0 choices c choice (alternative_at c m) at
+          (subst (Contains (alternatives_of_choice (0 + c) choice)) same reported))
 
   -- ---- of each alternative of the box of the need a full one
 

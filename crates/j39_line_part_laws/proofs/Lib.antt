@@ -4,6 +4,8 @@ pub mod Filtering
 pub mod FoundOfCovering
 pub mod Full
 pub mod FullCovers
+pub mod NamedPlaces
+pub mod NeedsThere
 pub mod Parts
 pub mod Picking
 pub mod PlacesInFile

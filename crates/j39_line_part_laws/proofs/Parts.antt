@@ -1,6 +1,6 @@
 -- The plan of a variant is a part of that of one that covers it.
 use Rattle.std.specs.declared.alloc.Global.{Global}
-use Rattle.std.proofs.Common.{◌≡◌, ℕ, List, Option, Some, None, option_map, Vec, refl, sym, ◌∙◌, ap, subst}
+use Rattle.std.proofs.Common.{◌≡◌, ℕ, List, Option, Some, None, option_map, Vec, refl, sym, ◌∙◌, ap, subst, arith}
 use Rattle.std.specs.List.{filter_map}
 use Rattle.std.proofs.lemmas.Option.{none-some, same_Some}
 use Rattle.j39_network.specs.declared.plan.Plan.{Plan}
@@ -20,18 +20,7 @@ use Rattle.j39_line_part_laws.proofs.Picking.{kept, place_there, some_copied, so
 
 -- two copies of one group
 copies_alike : (g h k : GroupPlan) → IsCopyOfGroup g h → IsCopyOfGroup g k → IsGroupThere h k
-copies_alike g h k one other = record {
-  label = ap (λ l. l.bytes) (other.label ∙ sym one.label);
-  pgn = other.pgn ∙ sym one.pgn;
-  priority = other.priority ∙ sym one.priority;
-  length = other.length ∙ sym one.length;
-  most = other.most ∙ sym one.most;
-  private = other.private ∙ sym one.private;
-  every = other.every ∙ sym one.every;
-  when = other.when ∙ sym one.when;
-  signals = other.signals ∙ sym one.signals;
-  texts = other.texts ∙ sym one.texts;
-}
+copies_alike g h k one other = grind (arith, one, other)
 
 -- ---- flows and requests
 
@@ -44,16 +33,7 @@ pub record IsFlowOf (f : FlowPlan) (g s : Option ℕ) (t : Option To) (y : FlowP
   pub on_request : f.on_request ≡ y.on_request
 
 pub flow_of : (f : FlowPlan) (g s : Option ℕ) (t : Option To) (y : FlowPlan) → flow_between f g s t ≡ Some y → IsFlowOf f g s t y
-flow_of f (Some g) (Some s) (Some t) y e =
-    let is = same_Some _ _ e in
-    record {
-      group = ap (λ (z : FlowPlan). Some z.group) is;
-      sender = ap (λ (z : FlowPlan). Some z.sender) is;
-      to = ap (λ (z : FlowPlan). Some z.to) is;
-      pace = ap (λ (z : FlowPlan). z.pace) is;
-      pause = ap (λ (z : FlowPlan). z.pause) is;
-      on_request = ap (λ (z : FlowPlan). z.on_request) is;
-    }
+flow_of f (Some g) (Some s) (Some t) y e = grind (arith, e)
 flow_of f None s t y e = absurd (none-some y e)
 flow_of f (Some g) None t y e = absurd (none-some y e)
 flow_of f (Some g) (Some s) None y e = absurd (none-some y e)
@@ -65,17 +45,15 @@ pub record IsRequestOf (r : RequestPlan) (g s : Option ℕ) (t : Option To) (y :
   pub period : r.period ≡ y.period
 
 pub request_of : (r : RequestPlan) (g s : Option ℕ) (t : Option To) (y : RequestPlan) → request_between r g s t ≡ Some y → IsRequestOf r g s t y
-request_of r (Some g) (Some s) (Some t) y e =
-    let is = same_Some _ _ e in
-    record {
-      group = ap (λ (z : RequestPlan). Some z.group) is;
-      sender = ap (λ (z : RequestPlan). Some z.sender) is;
-      to = ap (λ (z : RequestPlan). Some z.to) is;
-      period = ap (λ (z : RequestPlan). z.period) is;
-    }
+request_of r (Some g) (Some s) (Some t) y e = grind (arith, e)
 request_of r None s t y e = absurd (none-some y e)
 request_of r (Some g) None t y e = absurd (none-some y e)
 request_of r (Some g) (Some s) None y e = absurd (none-some y e)
+
+between_there : {X : Type 0} {group sender : Option ℕ} {to : Option To} {g s : ℕ} {t : To} (between : Option ℕ → Option ℕ → Option To → X)
+    → group ≡ Some g → sender ≡ Some s → to ≡ Some t → between group sender to ≡ between (Some g) (Some s) (Some t)
+between_there {group = group} {sender = sender} {to = to} {g = g} {s = s} between is_group is_sender is_to =
+    ap (λ (o : Option ℕ). between o sender to) is_group ∙ ap (λ (o : Option ℕ). between (Some g) o to) is_sender ∙ ap (between (Some g) (Some s)) is_to
 
 module _ (at : Places) (us ws gs hs : List (Option ℕ)) (units : (i p : ℕ) → place_at us i ≡ Some p → place_at ws i ≡ Some (at.unit p))
     (groups : (i p : ℕ) → place_at gs i ≡ Some p → place_at hs i ≡ Some (at.group p)) where
@@ -89,27 +67,17 @@ module _ (at : Places) (us ws gs hs : List (Option ℕ)) (units : (i p : ℕ) �
 
   pub flow_there : (f y : FlowPlan) → moved_flow us gs f ≡ Some y → (z : FlowPlan) × (moved_flow ws hs f ≡ Some z) × IsFlowThere at y z
   flow_there f y moved =
-      let its = flow_of f (place_at gs f.group) (place_at us f.sender) (moved_receivers us f.to) y moved in
-      let group = groups f.group y.group its.group in
-      let sender = units f.sender y.sender its.sender in
-      let to = receivers_there f.to y.to its.to in (
+      let its = flow_of f (place_at gs f.group) (place_at us f.sender) (moved_receivers us f.to) y moved in (
         record f { group = at.group y.group; sender = at.unit y.sender; to = to_in at y.to },
-        ap (λ g. flow_between f g (place_at ws f.sender) (moved_receivers ws f.to)) group
-            ∙ ap (λ s. flow_between f (Some (at.group y.group)) s (moved_receivers ws f.to)) sender
-            ∙ ap (flow_between f (Some (at.group y.group)) (Some (at.unit y.sender))) to,
+        between_there (flow_between f) (groups f.group y.group its.group) (units f.sender y.sender its.sender) (receivers_there f.to y.to its.to),
         record { group = refl; sender = refl; to = refl; pace = its.pace; pause = its.pause; on_request = its.on_request },
       )
 
   pub request_there : (r y : RequestPlan) → moved_request us gs r ≡ Some y → (z : RequestPlan) × (moved_request ws hs r ≡ Some z) × IsRequestThere at y z
   request_there r y moved =
-      let its = request_of r (place_at gs r.group) (place_at us r.sender) (moved_receivers us r.to) y moved in
-      let group = groups r.group y.group its.group in
-      let sender = units r.sender y.sender its.sender in
-      let to = receivers_there r.to y.to its.to in (
+      let its = request_of r (place_at gs r.group) (place_at us r.sender) (moved_receivers us r.to) y moved in (
         record r { group = at.group y.group; sender = at.unit y.sender; to = to_in at y.to },
-        ap (λ g. request_between r g (place_at ws r.sender) (moved_receivers ws r.to)) group
-            ∙ ap (λ s. request_between r (Some (at.group y.group)) s (moved_receivers ws r.to)) sender
-            ∙ ap (request_between r (Some (at.group y.group)) (Some (at.unit y.sender))) to,
+        between_there (request_between r) (groups r.group y.group its.group) (units r.sender y.sender its.sender) (receivers_there r.to y.to its.to),
         record { group = refl; sender = refl; to = refl; period = its.period },
       )
 

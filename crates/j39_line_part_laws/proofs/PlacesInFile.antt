@@ -1,6 +1,6 @@
 -- What is there in both variants has one place in the file.
-use Rattle.std.proofs.Common.{◌≡◌, ℕ, zero, suc, ◌+◌, ◌<◌, Bool, true, List, length, filter, Option, Some, is_some, unwrap_or, refl, sym, ◌∙◌, ap, subst, arith}
-use Rattle.std.specs.List.{range_with_len, slice_get}
+use Rattle.std.proofs.Common.{◌≡◌, ℕ, zero, suc, ◌+◌, ◌<◌, Bool, ◌&&◌, List, length, filter, Option, Some, is_some, unwrap_or, refl, sym, ◌∙◌, ap, subst, arith}
+use Rattle.std.specs.List.{filter_map, range_with_len, slice_get}
 use Rattle.std.proofs.lemmas.List.{length-map}
 use Rattle.j39_network.specs.declared.plan.Plan.{Plan}
 use Rattle.j39_network.specs.declared.plan.flow_plan.FlowPlan.{FlowPlan}
@@ -29,7 +29,7 @@ flagged test bs n same each =
     subst (λ m. filter test (range_with_len 0 m) ≡ picked bs (range_with_len 0 m)) same
     (filtered test bs 0 (λ k below. ap test (let e : 0 + k ≡ k = omega arith in e) ∙ each k (omega (arith, below, same))))
 
--- what stands at a place here stands there at the place that is told
+-- what stands at a place here stands there at the place that is reported
 place_same : (bs cs : List Bool) (n : ℕ) → AreFewer bs cs → (here there : List ℕ) → here ≡ picked bs (range_with_len 0 n) → there ≡ picked cs (range_with_len 0 n)
     → (i k : ℕ) → slice_get (picked bs (range_with_len 0 n)) i ≡ Some k → place_in_file there (thin bs cs i) ≡ place_in_file here i
 place_same bs cs n fewer here there is_here is_there i k at_i =
@@ -41,8 +41,25 @@ pub length-range : (a n : ℕ) → length (range_with_len a n) ≡ n
 length-range a zero = refl
 length-range a (suc n) = ap suc (length-range (a + 1) n)
 
-some_is : {Y : Type 0} (o : Option Y) (y : Y) → o ≡ Some y → is_some o ≡ true
-some_is o y is = ap is_some is
+-- ---- what is kept by what it names
+
+pub flagged_kept : {X Y : Type 0} (test : ℕ → Bool) (f : X → Option Y) (bs : List Bool) (xs : List X) → length bs ≡ length xs
+    → ((k : ℕ) (x : X) → slice_get xs k ≡ Some x → test k ≡ (flag_at bs k && is_some (f x)))
+    → places_of_those test (length xs) ≡ picked (kept f bs xs) (range_with_len 0 (length xs))
+flagged_kept test f bs xs counted tests = flagged test (kept f bs xs) (length xs) (length-kept f bs xs counted)
+    (λ k below. let (x, at_k) = value_at xs k below in tests k x at_k ∙ sym (kept_at f bs xs k x counted at_k))
+
+-- where what the one keeps is found by the other
+keeps_too : {X Y : Type 0} {R : Y → Y → Type 0} (f g : X → Option Y) → ((x : X) (y : Y) → f x ≡ Some y → (z : Y) × (g x ≡ Some z) × R y z)
+    → (bs cs : List Bool) (xs : List X) → AreFewer bs cs → AreFewer (kept f bs xs) (kept g cs xs)
+keeps_too f g found = kept_fewer f g (λ x y is. let (z, is_z, stands) = found x y is in ap is_some is_z)
+
+same_kept_place : {X Y : Type 0} (f g : X → Option Y) (bs cs : List Bool) (xs : List X) → AreFewer (kept f bs xs) (kept g cs xs) → (here there : List ℕ)
+    → here ≡ picked (kept f bs xs) (range_with_len 0 (length xs)) → there ≡ picked (kept g cs xs) (range_with_len 0 (length xs))
+    → (i : ℕ) (y : Y) → slice_get (filter_map f (picked bs xs)) i ≡ Some y → place_in_file there (thin (kept f bs xs) (kept g cs xs) i) ≡ place_in_file here i
+same_kept_place f g bs cs xs fewer here there is_here is_there i y at_i =
+    let (k, at_k) = parallel_kept f bs xs (range_with_len 0 (length xs)) (sym (length-range 0 (length xs))) i y at_i in
+    place_same (kept f bs xs) (kept g cs xs) (length xs) fewer here there is_here is_there i k at_k
 
 module _ (line : ProductLine) (v w : List ℕ) (covered : IsCoveredBy line v w) (part : Plan) (is : IsVariantPlan line v part) (here there : WhatIsThere)
     (are_here : IsWhatIsThere line v here) (are_there : IsWhatIsThere line w there) where
@@ -78,59 +95,38 @@ module _ (line : ProductLine) (v w : List ℕ) (covered : IsCoveredBy line v w) 
   abbrev pub flow_flags : List ℕ → List Bool
   flow_flags x = kept (moved_flow (unit_places line x) (group_places line x)) (flags x line.lists.flows.items) line.plan.flows.items
 
-  pub flow_count : (x : List ℕ) → length (flags x line.lists.flows.items) ≡ length line.plan.flows.items
-  flow_count x = length-map line.lists.flows.items (λ list. is_in x list.items) ∙ line.flow_lists
-
   pub flows_flagged : (x : List ℕ) → places_of_those (is_flow_there line x) (length line.plan.flows.items) ≡ picked (flow_flags x) (range_with_len 0 (length line.plan.flows.items))
-  flows_flagged x = flagged (is_flow_there line x) (flow_flags x) (length line.plan.flows.items)
-      (length-kept (moved_flow (unit_places line x) (group_places line x)) (flags x line.lists.flows.items) line.plan.flows.items (flow_count x))
-      (λ k below. let (f, at_f) = value_at line.plan.flows.items k below in
-      flow_test line x k f at_f
-      ∙ sym (kept_at (moved_flow (unit_places line x) (group_places line x)) (flags x line.lists.flows.items) line.plan.flows.items k f (flow_count x) at_f))
+  flows_flagged x = flagged_kept (is_flow_there line x) (moved_flow (unit_places line x) (group_places line x)) (flags x line.lists.flows.items) line.plan.flows.items
+      (length-map line.lists.flows.items (λ list. is_in x list.items) ∙ line.flow_lists) (flow_test line x)
 
   pub flow_flags_fewer : AreFewer (flow_flags v) (flow_flags w)
-  flow_flags_fewer = kept_fewer (flow_here line v w covered) (flow_in line v w covered)
-      (λ f y moved. let (z, is_z, stands) = flow_there (at line v w covered) (unit_places line v) (unit_places line w) (group_places line v) (group_places line w)
-      (units_there line v w covered) (groups_there line v w covered) f y moved in
-      some_is (flow_in line v w covered f) z is_z)
-      (flags v line.lists.flows.items) (flags w line.lists.flows.items) line.plan.flows.items (flows_fewer line v w covered)
+  flow_flags_fewer = keeps_too (flow_here line v w covered) (flow_in line v w covered)
+      (flow_there (at line v w covered) (unit_places line v) (unit_places line w) (group_places line v) (group_places line w) (units_there line v w covered)
+      (groups_there line v w covered)) (flags v line.lists.flows.items) (flags w line.lists.flows.items) line.plan.flows.items (flows_fewer line v w covered)
 
   pub flow_same : (i : ℕ) (flow : FlowPlan) → slice_get part.flows.items i ≡ Some flow
       → place_in_file there.flows.items ((at line v w covered).flow i) ≡ place_in_file here.flows.items i
-  flow_same i flow at_i =
-      let (k, at_k) = parallel_kept (flow_here line v w covered) (flags v line.lists.flows.items) line.plan.flows.items (range_with_len 0 (length line.plan.flows.items))
-      (sym (length-range 0 (length line.plan.flows.items))) i flow (ap (λ l. slice_get l i) (sym is.has_flows) ∙ at_i) in
-      place_same (flow_flags v) (flow_flags w) (length line.plan.flows.items) flow_flags_fewer
-      here.flows.items there.flows.items (are_here.has_flows ∙ flows_flagged v) (are_there.has_flows ∙ flows_flagged w) i k at_k
+  flow_same i flow at_i = same_kept_place (flow_here line v w covered) (flow_in line v w covered) (flags v line.lists.flows.items) (flags w line.lists.flows.items)
+      line.plan.flows.items flow_flags_fewer here.flows.items there.flows.items (are_here.has_flows ∙ flows_flagged v) (are_there.has_flows ∙ flows_flagged w) i flow
+      (ap (λ l. slice_get l i) (sym is.has_flows) ∙ at_i)
 
   -- ---- requests
 
-  abbrev pub request_flags : List ℕ → List Bool
+  abbrev request_flags : List ℕ → List Bool
   request_flags x = kept (moved_request (unit_places line x) (group_places line x)) (flags x line.lists.requests.items) line.plan.requests.items
-
-  pub request_count : (x : List ℕ) → length (flags x line.lists.requests.items) ≡ length line.plan.requests.items
-  request_count x = length-map line.lists.requests.items (λ list. is_in x list.items) ∙ line.request_lists
 
   requests_flagged : (x : List ℕ) → places_of_those (is_request_there line x) (length line.plan.requests.items)
       ≡ picked (request_flags x) (range_with_len 0 (length line.plan.requests.items))
-  requests_flagged x = flagged (is_request_there line x) (request_flags x) (length line.plan.requests.items)
-      (length-kept (moved_request (unit_places line x) (group_places line x)) (flags x line.lists.requests.items) line.plan.requests.items (request_count x))
-      (λ k below. let (r, at_r) = value_at line.plan.requests.items k below in
-      request_test line x k r at_r
-      ∙ sym (kept_at (moved_request (unit_places line x) (group_places line x)) (flags x line.lists.requests.items) line.plan.requests.items k r (request_count x) at_r))
+  requests_flagged x = flagged_kept (is_request_there line x) (moved_request (unit_places line x) (group_places line x)) (flags x line.lists.requests.items)
+      line.plan.requests.items (length-map line.lists.requests.items (λ list. is_in x list.items) ∙ line.request_lists) (request_test line x)
 
-  pub request_flags_fewer : AreFewer (request_flags v) (request_flags w)
-  request_flags_fewer = kept_fewer (request_here line v w covered) (request_in line v w covered)
-      (λ r y moved. let (z, is_z, stands) = request_there (at line v w covered) (unit_places line v) (unit_places line w) (group_places line v) (group_places line w)
-      (units_there line v w covered) (groups_there line v w covered) r y moved in
-      some_is (request_in line v w covered r) z is_z)
-      (flags v line.lists.requests.items) (flags w line.lists.requests.items) line.plan.requests.items (requests_fewer line v w covered)
+  request_flags_fewer : AreFewer (request_flags v) (request_flags w)
+  request_flags_fewer = keeps_too (request_here line v w covered) (request_in line v w covered)
+      (request_there (at line v w covered) (unit_places line v) (unit_places line w) (group_places line v) (group_places line w) (units_there line v w covered)
+      (groups_there line v w covered)) (flags v line.lists.requests.items) (flags w line.lists.requests.items) line.plan.requests.items (requests_fewer line v w covered)
 
   pub request_same : (i : ℕ) (request : RequestPlan) → slice_get part.requests.items i ≡ Some request
       → place_in_file there.requests.items ((at line v w covered).request i) ≡ place_in_file here.requests.items i
-  request_same i request at_i =
-      let (k, at_k) = parallel_kept (request_here line v w covered) (flags v line.lists.requests.items) line.plan.requests.items
-      (range_with_len 0 (length line.plan.requests.items))
-      (sym (length-range 0 (length line.plan.requests.items))) i request (ap (λ l. slice_get l i) (sym is.has_requests) ∙ at_i) in
-      place_same (request_flags v) (request_flags w) (length line.plan.requests.items) request_flags_fewer
-      here.requests.items there.requests.items (are_here.has_requests ∙ requests_flagged v) (are_there.has_requests ∙ requests_flagged w) i k at_k
+  request_same i request at_i = same_kept_place (request_here line v w covered) (request_in line v w covered) (flags v line.lists.requests.items)
+      (flags w line.lists.requests.items) line.plan.requests.items request_flags_fewer here.requests.items there.requests.items (are_here.has_requests ∙ requests_flagged v)
+      (are_there.has_requests ∙ requests_flagged w) i request (ap (λ l. slice_get l i) (sym is.has_requests) ∙ at_i)

@@ -31,14 +31,14 @@ pub record AreFoundOfCovering (here there : List LineFinding) : Type 0 where
   pub loads : ((g : ℕ) → ¬ IsFound there (OfPlan (BadPgn g))) → (finding : LoadFinding) → IsFound here (OfLoad finding) → IsAbsentOrFound there (OfLoad finding)
 
 -- all that is found comes by absence
-abbrev pub OnlyAbsenceIsTold : List LineFinding → Type 0
-OnlyAbsenceIsTold findings = (finding : LineFinding) → IsFound findings finding → is_by_absence finding ≡ true
+abbrev pub OnlyAbsenceIsReported : List LineFinding → Type 0
+OnlyAbsenceIsReported findings = (finding : LineFinding) → IsFound findings finding → is_by_absence finding ≡ true
 
 -- so it is with the plan of this variant
 abbrev pub IsAbsenceAlone : ProductLine → List ℕ → Type 0
-IsAbsenceAlone line variant = (findings : List LineFinding) × AreVariantFindings line variant findings × OnlyAbsenceIsTold findings
+IsAbsenceAlone line variant = (findings : List LineFinding) × AreVariantFindings line variant findings × OnlyAbsenceIsReported findings
 
 -- where it is so with each possible variant that is full, it is with all that is found of any possible one
 abbrev pub FullVariantsSuffice : ProductLine → Type 0
 FullVariantsSuffice line = ((w : List ℕ) → IsPossible line w → IsFullVariant line w → IsAbsenceAlone line w) → (v : List ℕ) → IsPossible line v
-    → (findings : List LineFinding) → AreVariantFindings line v findings → OnlyAbsenceIsTold findings
+    → (findings : List LineFinding) → AreVariantFindings line v findings → OnlyAbsenceIsReported findings

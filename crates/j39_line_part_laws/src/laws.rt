@@ -3,7 +3,7 @@ ghost use Rattle.std.specs.Prelude.{◌≡◌, ℕ, List, true};
 ghost use Rattle.j39_line_findings.specs.LineFound.{AreVariantFindings};
 ghost use Rattle.j39_line_findings.specs.declared.line_finding.LineFinding.{LineFinding};
 ghost use Rattle.j39_line_part_laws.specs.Covering.{HasFullCover, IsCoveredBy};
-ghost use Rattle.j39_line_part_laws.specs.FoundOfCovering.{AreFoundOfCovering, FullVariantsSuffice, OnlyAbsenceIsTold};
+ghost use Rattle.j39_line_part_laws.specs.FoundOfCovering.{AreFoundOfCovering, FullVariantsSuffice, OnlyAbsenceIsReported};
 ghost use Rattle.j39_network.specs.declared.plan.Plan.{Plan};
 ghost use Rattle.j39_part_laws.specs.PlanParts.{IsPlanPart};
 ghost use Rattle.j39_variants.specs.VariantPlans.{IsVariantPlan};
@@ -33,8 +33,8 @@ pub fn covering_variants_have_what_is_found()
 /// Where only absence is found of a variant, only absence is found of each variant that it covers.
 pub fn only_absence_is_found_of_covered_variants()
     ensures { (line : ProductLine) (v w : List ℕ) (here there : List LineFinding) → IsCoveredBy line v w
-        → AreVariantFindings line v here → AreVariantFindings line w there → OnlyAbsenceIsTold there
-        → OnlyAbsenceIsTold here }
+        → AreVariantFindings line v here → AreVariantFindings line w there → OnlyAbsenceIsReported there
+        → OnlyAbsenceIsReported here }
 {}
 
 /// Each variant is covered by one that takes full alternatives alone.

@@ -5,9 +5,9 @@ use Rattle.std.specs.Prelude.{◌==◌}
 use Rattle.std.proofs.lemmas.Bool.{cases_Bool, eqb-true, true≢false}
 use Rattle.j39_variants.specs.declared.line.ProductLine.{ProductLine}
 use Rattle.j39_line_findings.specs.PossibleVariants.{IsPossible}
-use Rattle.j39_line_check.specs.LineChecks.{AreTold, SomePossible}
-use Rattle.j39_line_check.specs.declared.answer.ToldFinding.{ToldFinding}
-use Rattle.j39_line_text.specs.LineCheckText.{IsCertifiedLine, IsCertifiedVariant, is_some_told}
+use Rattle.j39_line_check.specs.LineChecks.{AreReported, SomePossible}
+use Rattle.j39_line_check.specs.declared.answer.ReportedFinding.{ReportedFinding}
+use Rattle.j39_line_text.specs.LineCheckText.{IsCertifiedLine, IsCertifiedVariant, is_some_reported}
 
 nothing : {X : Type 0} (A : Type 0) (x : X) (xs : List X) → (x ∷ xs) ≡ [] → A
 nothing A x xs is = let none = ap length is in absurd (omega (arith, none))
@@ -27,12 +27,12 @@ none_passes p (x ∷ xs) is = elim (cases_Bool (p x)) [
   | inr fails ↦ rw fails (none_passes p xs (rw fails at is))
 ]
 
-pub certified_line : (line : ProductLine) (many : Option ℕ) (told : List ToldFinding)
-    → ((other : ProductLine) → AreTold other None [] → (v : List ℕ) → IsPossible other v → IsCertifiedVariant other v)
-    → is_some_told many told ≡ false → SomePossible line → AreTold line many told → IsCertifiedLine line
+pub certified_line : (line : ProductLine) (many : Option ℕ) (reported : List ReportedFinding)
+    → ((other : ProductLine) → AreReported other None [] → (v : List ℕ) → IsPossible other v → IsCertifiedVariant other v)
+    → is_some_reported many reported ≡ false → SomePossible line → AreReported line many reported → IsCertifiedLine line
 certified_line line None [] certified none some are = record { some = some; each = certified line are }
-certified_line line None (t ∷ told) certified none some are = elim (cases_Bool (length (t ∷ told) == 0)) [
-  | inl same ↦ let empty = eqb-true (length (t ∷ told)) 0 same in absurd (omega (arith, empty))
+certified_line line None (t ∷ reported) certified none some are = elim (cases_Bool (length (t ∷ reported) == 0)) [
+  | inl same ↦ let empty = eqb-true (length (t ∷ reported)) 0 same in absurd (omega (arith, empty))
   | inr other ↦ absurd (true≢false (rw other at none))
 ]
-certified_line line (Some many) told certified none some are = absurd (true≢false none)
+certified_line line (Some many) reported certified none some are = absurd (true≢false none)

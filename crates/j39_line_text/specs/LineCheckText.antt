@@ -12,8 +12,8 @@ use Rattle.j39_line_findings.specs.PossibleVariants.{IsPossible}
 use Rattle.j39_line_findings.specs.MissedNeeds.{is_some_need_missed}
 use Rattle.j39_line_findings.specs.There.{IsWhatIsThere}
 use Rattle.j39_line_findings.specs.declared.there.WhatIsThere.{WhatIsThere}
-use Rattle.j39_line_check.specs.LineChecks.{AreTold, SomePossible}
-use Rattle.j39_line_check.specs.declared.answer.ToldFinding.{ToldFinding}
+use Rattle.j39_line_check.specs.LineChecks.{AreReported, SomePossible}
+use Rattle.j39_line_check.specs.declared.answer.ReportedFinding.{ReportedFinding}
 use Rattle.j39_line_text.specs.WitnessLines.{findings_of_line_text}
 use Rattle.j39_plan_text.specs.Certified.{IsCertified}
 use Rattle.j39_plan_text.specs.CheckText.{IsReport}
@@ -53,18 +53,18 @@ pub record IsCertifiedLine (line : ProductLine) : Type 0 where
 
 -- ---- a line in which something is
 
--- all that some possible variant has is told, each finding once, with a variant that has it
-pub record IsFoundText (line : ProductLine) (many : Option ℕ) (told : List ToldFinding) (text : List ℕ) : Type 0 where
+-- all that some possible variant has is reported, each finding once, with a variant that has it
+pub record IsFoundText (line : ProductLine) (many : Option ℕ) (reported : List ReportedFinding) (text : List ℕ) : Type 0 where
   pub some : SomePossible line
-  pub are_told : AreTold line many told
-  pub text_is : text ≡ findings_of_line_text line (alternatives_of line) many told
+  pub are_reported : AreReported line many reported
+  pub text_is : text ≡ findings_of_line_text line (alternatives_of line) many reported
 
--- something is told
-abbrev pub is_some_told : Option ℕ → List ToldFinding → Bool
-is_some_told many told = is_some many || not (length told == 0)
+-- something is reported
+abbrev pub is_some_reported : Option ℕ → List ReportedFinding → Bool
+is_some_reported many reported = is_some many || not (length reported == 0)
 
 abbrev pub IsFaultyLine : ProductLine → List ℕ → Type 0
-IsFaultyLine line text = (many : Option ℕ) × (told : List ToldFinding) × IsFoundText line many told text × (is_some_told many told ≡ true)
+IsFaultyLine line text = (many : Option ℕ) × (reported : List ReportedFinding) × IsFoundText line many reported text × (is_some_reported many reported ≡ true)
 
 -- none is possible
 abbrev pub IsImpossibleLine : ProductLine → List ℕ → Type 0
@@ -80,9 +80,12 @@ IsLineReport line text Refused = ⊥
 IsLineReport line text Unreadable = ⊥
 
 -- what is written for a line, of its one plan where it has no choices
+abbrev pub IsPlanOrLine : (Plan → List ℕ → Verdict → Type 0) → (ProductLine → List ℕ → Verdict → Type 0) → ProductLine → List ℕ → Verdict → Type 0
+IsPlanOrLine IsOfPlan IsOfLine line text verdict = ((line.choices.items ≡ []) × IsOfPlan line.plan text verdict)
+    ⊎ ((line.choices.items ≢ []) × IsOfLine line text verdict)
+
 abbrev pub IsPlanOrLineReport : ProductLine → List ℕ → Verdict → Type 0
-IsPlanOrLineReport line text verdict = ((line.choices.items ≡ []) × IsReport line.plan text verdict)
-    ⊎ ((line.choices.items ≢ []) × IsLineReport line text verdict)
+IsPlanOrLineReport = IsPlanOrLine IsReport IsLineReport
 
 -- what is written for a file
 abbrev pub IsLineCheckText : List ℕ → List ℕ → Verdict → Type 0

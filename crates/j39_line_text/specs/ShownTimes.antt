@@ -10,7 +10,7 @@ use Rattle.j39_line_bounds.specs.declared.times.FlowTime.TheVariants as flow
 use Rattle.j39_line_bounds.specs.declared.times.LineTimes.{LineTimes}
 use Rattle.j39_line_bounds.specs.declared.times.NeedTime.{NeedTime}
 use Rattle.j39_line_bounds.specs.declared.times.NeedTime.TheVariants as need
-use Rattle.j39_line_check.specs.declared.answer.ToldFinding.{ToldFinding}
+use Rattle.j39_line_check.specs.declared.answer.ReportedFinding.{ReportedFinding}
 use Rattle.j39_line_findings.specs.declared.line_finding.LineFinding.{LineFinding}
 use Rattle.j39_line_findings.specs.declared.line_finding.LineFinding.TheVariants.{OfPlan, OfLoad}
 use Rattle.j39_line_witnesses.specs.PossibleParts.{ArePartsPossible}
@@ -21,28 +21,28 @@ abbrev pub is_need_of : ℕ → Finding → Bool
 is_need_of d (NeedUnmet e) = e == d
 is_need_of d _ = false
 
-abbrev pub tells_unmet : ℕ → LineFinding → Bool
-tells_unmet d (OfPlan finding) = is_need_of d finding
-tells_unmet d (OfLoad finding) = false
+abbrev pub reports_unmet : ℕ → LineFinding → Bool
+reports_unmet d (OfPlan finding) = is_need_of d finding
+reports_unmet d (OfLoad finding) = false
 
-abbrev pub is_told_unmet : List ToldFinding → ℕ → Bool
-is_told_unmet told d = list_any (λ t. tells_unmet d t.finding) told
+abbrev pub is_reported_unmet : List ReportedFinding → ℕ → Bool
+is_reported_unmet reported d = list_any (λ t. reports_unmet d t.finding) reported
 
--- of a flow that no possible variant has, this; else what the times tell
+-- of a flow that no possible variant has, this; else what the times report
 abbrev pub shown_flow : List Bool → LineTimes → ℕ → FlowTime
 shown_flow possible times f = if slice_index_or possible f false then time_of_flow times f else flow.NoVariant
 
--- of a need for which no possible variant asks, this; else that it is unmet, where this is found of some possible variant; else what the times tell
-abbrev pub shown_need : List Bool → LineTimes → List ToldFinding → ℕ → NeedTime
-shown_need possible times told d =
-    if slice_index_or possible d false then (if is_told_unmet told d then need.Unmet else time_of_need times d) else need.NoVariant
+-- of a need for which no possible variant asks, this; else that it is unmet, where this is found of some possible variant; else what the times report
+abbrev pub shown_need : List Bool → LineTimes → List ReportedFinding → ℕ → NeedTime
+shown_need possible times reported d =
+    if slice_index_or possible d false then (if is_reported_unmet reported d then need.Unmet else time_of_need times d) else need.NoVariant
 
 -- of each flow and each need of the file, in order, and the load
-pub record AreShownTimes (line : ProductLine) (times : LineTimes) (told : List ToldFinding) (shown : LineTimes) : Type 0 where
+pub record AreShownTimes (line : ProductLine) (times : LineTimes) (reported : List ReportedFinding) (shown : LineTimes) : Type 0 where
   pub possible_flows : List Bool
   pub are_flows : ArePartsPossible line (flows_of_line line) possible_flows
   pub possible_needs : List Bool
   pub are_needs : ArePartsPossible line (needs_of_line line) possible_needs
   pub flows : shown.flows.items ≡ map (shown_flow possible_flows times) (range_with_len 0 (length times.flows.items))
-  pub needs : shown.needs.items ≡ map (shown_need possible_needs times told) (range_with_len 0 (length times.needs.items))
+  pub needs : shown.needs.items ≡ map (shown_need possible_needs times reported) (range_with_len 0 (length times.needs.items))
   pub load : shown.load ≡ times.load

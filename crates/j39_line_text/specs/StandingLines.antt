@@ -17,7 +17,7 @@ standing_text MayMove address = field (stays_word false) address
 unfoldable pub line_unit_text : LineStanding → UnitPlan → List ℕ
 line_unit_text standing unit = codes "unit " ++ (unit.label.bytes ++ (standing_text standing unit.address ++ 10 ∷ []))
 
--- of a unit that no possible variant has, this; else what is told of it
+-- of a unit that no possible variant has, this; else what is reported of it
 abbrev pub shown_standing : List Bool → List LineStanding → ℕ → LineStanding
 shown_standing possible standings u = if slice_index_or possible u false then slice_index_or standings u NoVariant else NoVariant
 

@@ -1,4 +1,4 @@
--- The lines that tell of the times of a line of vehicles.
+-- The lines that report of the times of a line of vehicles.
 use Rattle.std.specs.Prelude.{ℕ, ◌*◌, List, [], ◌∷◌, ◌++◌, codes, Option}
 use Rattle.std.specs.Option.{option_map_or}
 use Rattle.j39_load.specs.LineLists.{lines_of_each}
@@ -21,7 +21,7 @@ use Rattle.j39_text.specs.Texts.{field, place_field}
 -- that no possible variant has a flow, or its delay
 unfoldable pub flow_time_text : Timing → Option Pace → FlowTime → List ℕ
 flow_time_text timing pace flow.NoVariant = codes " no variant"
-flow_time_text timing pace (flow.Told delay) = known_delay_text timing pace delay
+flow_time_text timing pace (flow.Reported delay) = known_delay_text timing pace delay
 
 unfoldable pub line_flow_line : Plan → Timing → LineTimes → ℕ → FlowPlan → List ℕ
 line_flow_line plan timing times f planned =

@@ -1,4 +1,4 @@
--- The lines of what is found of a line of vehicles, with what is told of the variants that are its witnesses.
+-- The lines of what is found of a line of vehicles, with what is reported of the variants that are its witnesses.
 use Rattle.std.specs.Prelude.{ℕ, ◌+◌, List, [], ◌∷◌, ◌++◌, ◌==◌, Bool, Option, Some, None, codes, count_by, if◌then◌else◌, length, not, unwrap_or}
 use Rattle.std.specs.List.{list_any, range_with_len, slice_get}
 use Rattle.std.specs.Option.{option_map_or}
@@ -7,11 +7,11 @@ use Rattle.j39_variants.specs.declared.line.Alternative.{Alternative}
 use Rattle.j39_variants.specs.declared.line.Choice.{Choice}
 use Rattle.j39_variants.specs.declared.line.ProductLine.{ProductLine}
 use Rattle.j39_line_findings.specs.InFile.{rank_of}
-use Rattle.j39_line_findings.specs.Told.{is_told}
+use Rattle.j39_line_findings.specs.Reported.{is_reported}
 use Rattle.j39_plan_text.specs.FoundInPlan.{is_of_times}
 use Rattle.j39_line_findings.specs.declared.line_finding.LineFinding.{LineFinding}
 use Rattle.j39_line_findings.specs.declared.line_finding.LineFinding.TheVariants.{OfPlan, OfLoad}
-use Rattle.j39_line_check.specs.declared.answer.ToldFinding.{ToldFinding}
+use Rattle.j39_line_check.specs.declared.answer.ReportedFinding.{ReportedFinding}
 use Rattle.j39_plan_text.specs.FindingLines.{finding_text, run_lines}
 use Rattle.j39_plan_text.specs.LoadLines.{load_finding_text}
 use Rattle.j39_text.specs.Texts.{field}
@@ -28,22 +28,22 @@ label_of_alternative choice p = option_map_or (λ label. label.bytes) (slice_get
 abbrev pub alternative_label : ProductLine → ℕ → ℕ → List ℕ
 alternative_label line c p = option_map_or (λ choice. label_of_alternative choice p) (slice_get line.choices.items c) []
 
--- the alternative of a choice that the witness takes, where it is told
-unfoldable pub told_alternative : ProductLine → List Alternative → List ℕ → LineFinding → ℕ → List ℕ
-told_alternative line alternatives variant finding c =
-    if is_told line alternatives c finding then codes " " ++ alternative_label line c (place_taken variant c) else []
+-- the alternative of a choice that the witness takes, where it is reported
+unfoldable pub reported_alternative : ProductLine → List Alternative → List ℕ → LineFinding → ℕ → List ℕ
+reported_alternative line alternatives variant finding c =
+    if is_reported line alternatives c finding then codes " " ++ alternative_label line c (place_taken variant c) else []
 
-abbrev pub told_alternatives : ProductLine → List Alternative → List ℕ → LineFinding → List ℕ
-told_alternatives line alternatives variant finding =
-    lines_of_each (λ c _. told_alternative line alternatives variant finding c) 0 line.choices.items
+abbrev pub reported_alternatives : ProductLine → List Alternative → List ℕ → LineFinding → List ℕ
+reported_alternatives line alternatives variant finding =
+    lines_of_each (λ c _. reported_alternative line alternatives variant finding c) 0 line.choices.items
 
-abbrev pub is_any_told : ProductLine → List Alternative → LineFinding → Bool
-is_any_told line alternatives finding = list_any (λ c. is_told line alternatives c finding) (range_with_len 0 (length line.choices.items))
+abbrev pub is_any_reported : ProductLine → List Alternative → LineFinding → Bool
+is_any_reported line alternatives finding = list_any (λ c. is_reported line alternatives c finding) (range_with_len 0 (length line.choices.items))
 
--- in which variants: nothing where no alternative is told
+-- in which variants: nothing where no alternative is reported
 unfoldable pub witness_text : ProductLine → List Alternative → List ℕ → LineFinding → List ℕ
 witness_text line alternatives variant finding =
-    if is_any_told line alternatives finding then codes " in" ++ told_alternatives line alternatives variant finding else []
+    if is_any_reported line alternatives finding then codes " in" ++ reported_alternatives line alternatives variant finding else []
 
 -- ---- a finding
 
@@ -65,7 +65,7 @@ witness_report line alternatives variant finding = witness_line line alternative
 
 -- ---- all of them
 
-abbrev pub witness_reports : ProductLine → List Alternative → List ToldFinding → List ℕ
+abbrev pub witness_reports : ProductLine → List Alternative → List ReportedFinding → List ℕ
 witness_reports line alternatives = lines_of_each (λ _ t. witness_report line alternatives t.variant.items t.finding) 0
 
 -- that so many full variants are too many to look at each, and one finding more
@@ -78,26 +78,26 @@ count_with None count = count
 count_with (Some many) count = count + 1
 
 -- a line for each, and how many they are
-unfoldable pub findings_of_line_text : ProductLine → List Alternative → Option ℕ → List ToldFinding → List ℕ
-findings_of_line_text line alternatives many told = witness_reports line alternatives told
-    ++ (many_text many ++ (field (codes "findings ") (count_with many (length told)) ++ 10 ∷ []))
+unfoldable pub findings_of_line_text : ProductLine → List Alternative → Option ℕ → List ReportedFinding → List ℕ
+findings_of_line_text line alternatives many reported = witness_reports line alternatives reported
+    ++ (many_text many ++ (field (codes "findings ") (count_with many (length reported)) ++ 10 ∷ []))
 
--- ---- those of which the lines of the times don't tell
+-- ---- those of which the lines of the times don't report
 
 -- a bus that is too full, a late flow, an old need: F17, F18 and F20
 abbrev pub is_of_line_times : LineFinding → Bool
 is_of_line_times finding = is_of_times (rank_of finding).number
 
-abbrev pub is_untold_of_line : ToldFinding → Bool
-is_untold_of_line t = not (is_of_line_times t.finding)
+abbrev pub is_unshown_of_line : ReportedFinding → Bool
+is_unshown_of_line t = not (is_of_line_times t.finding)
 
-unfoldable pub untold_report : ProductLine → List Alternative → List ℕ → LineFinding → List ℕ
-untold_report line alternatives variant finding = if is_of_line_times finding then [] else witness_report line alternatives variant finding
+unfoldable pub unshown_report : ProductLine → List Alternative → List ℕ → LineFinding → List ℕ
+unshown_report line alternatives variant finding = if is_of_line_times finding then [] else witness_report line alternatives variant finding
 
-abbrev pub untold_reports : ProductLine → List Alternative → List ToldFinding → List ℕ
-untold_reports line alternatives = lines_of_each (λ _ t. untold_report line alternatives t.variant.items t.finding) 0
+abbrev pub unshown_reports : ProductLine → List Alternative → List ReportedFinding → List ℕ
+unshown_reports line alternatives = lines_of_each (λ _ t. unshown_report line alternatives t.variant.items t.finding) 0
 
 -- a line for each, and how many they are, where there are any
-unfoldable pub untold_of_line_text : ProductLine → List Alternative → List ToldFinding → List ℕ
-untold_of_line_text line alternatives told = if count_by is_untold_of_line told == 0 then []
-    else untold_reports line alternatives told ++ (field (codes "findings ") (count_by is_untold_of_line told) ++ 10 ∷ [])
+unfoldable pub unshown_of_line_text : ProductLine → List Alternative → List ReportedFinding → List ℕ
+unshown_of_line_text line alternatives reported = if count_by is_unshown_of_line reported == 0 then []
+    else unshown_reports line alternatives reported ++ (field (codes "findings ") (count_by is_unshown_of_line reported) ++ 10 ∷ [])

@@ -3,7 +3,7 @@ ghost use Rattle.std.specs.Prelude.{◌≡◌, Bool, List, IfOk, map};
 ghost use Rattle.j39_line_bounds.specs.LineStandings.{AreStandingsAmong};
 ghost use Rattle.j39_line_bounds.specs.declared.standing.LineStanding.{LineStanding};
 ghost use Rattle.j39_line_findings.specs.AllVariants.{IsOneOf};
-ghost use Rattle.j39_line_text.specs.Hindrances.{AreToldAt};
+ghost use Rattle.j39_line_text.specs.Hindrances.{AreReportedAt};
 ghost use Rattle.j39_line_text.specs.LineAddressesText.{IsLineAddressesReport, IsLineAddressesText};
 ghost use Rattle.j39_line_text.specs.PossiblePlaces.{units_of_line};
 ghost use Rattle.j39_line_text.specs.StandingLines.{shown_standings, standings_text};
@@ -17,7 +17,7 @@ use crate::possible_places::possible_units;
 use crate::standing_lines::{shown_standings, standings_text};
 use crate::witness_lines::findings_text;
 use j39_line_bounds::line_standings;
-use j39_line_check::{LineAnswer, LookedAt, ToldFinding, check_line};
+use j39_line_check::{LineAnswer, LookedAt, ReportedFinding, check_line};
 use j39_plan_text::{LineReport, report_text, stays_report};
 use j39_run_laws::{who_stays, who_stays_with_strangers};
 use j39_stream::{Fault, Sink, Source, Verdict};
@@ -25,7 +25,7 @@ use j39_text::TextBuffer;
 use j39_variants::ProductLine;
 use std::alloc::{AllocError, Global};
 
-// What is told of the units of a line in these variants.
+// What is reported of the units of a line in these variants.
 fn stays_text(
     alloc: Global,
     line: &ProductLine,
@@ -46,16 +46,16 @@ fn stays_text(
 fn found_addresses(
     alloc: Global,
     line: &ProductLine,
-    told: &[ToldFinding],
+    reported: &[ReportedFinding],
     looked: &LookedAt,
 ) -> Result<(TextBuffer, Verdict), AllocError>
-    ensures { IfOk result (λ report. AreToldAt line.now looked.now told.now → IsLineAddressesReport line.now report.0 report.1) }
+    ensures { IfOk result (λ report. AreReportedAt line.now looked.now reported.now → IsLineAddressesReport line.now report.0 report.1) }
 {
     who_stays();
     who_stays_with_strangers();
     let many = looked.many();
-    if is_hidden(Asked::Addresses, told, many) {
-        let text = findings_text(alloc, line, told, many)?;
+    if is_hidden(Asked::Addresses, reported, many) {
+        let text = findings_text(alloc, line, reported, many)?;
         return Ok((text, Verdict::Findings));
     }
     let text = stays_text(alloc, line, variants_at(looked))?;
@@ -72,8 +72,8 @@ fn line_addresses(alloc: Global, line: &ProductLine) -> Result<(TextBuffer, Verd
             let text = no_variant_text(alloc)?;
             Ok((text, Verdict::Findings))
         }
-        LineAnswer::Found(told, looked) => {
-            let report = found_addresses(alloc, line, &told, &looked)?;
+        LineAnswer::Found(reported, looked) => {
+            let report = found_addresses(alloc, line, &reported, &looked)?;
             Ok(report)
         }
     }
@@ -103,6 +103,7 @@ impl LineReport for AddressesReport {
 /// move, of a line of vehicles in each of the variants at which `check` looks that has them; of one whose NAMEs or
 /// addresses have findings, or of a line with too many full variants, what `check` writes, and how many these are; or why
 /// the file describes no plan.
+#[inline(never)]
 pub fn addresses_line_text<S: Source, W: Sink>(
     alloc: Global,
     source: &mut S,

@@ -33,6 +33,7 @@ impl LineReport for CheckReport {
 /// Writes everything that is wrong with the plan that a file describes, or that nothing is, or why the file describes
 /// none. Of a line of vehicles: that nothing is wrong with any possible variant, that none is possible, or each finding
 /// that one has, and that the full ones are too many to look at each.
+#[inline(never)]
 pub fn check_line_text<S: Source, W: Sink>(
     alloc: Global,
     source: &mut S,

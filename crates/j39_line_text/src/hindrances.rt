@@ -2,7 +2,7 @@
 ghost use Rattle.std.specs.Prelude.{◌≡◌, map};
 ghost use Rattle.j39_line_text.specs.Hindrances.{does_hide, hides, hides_addresses, is_any_hiding, is_hidden, variants_at};
 
-use j39_line_check::{LookedAt, ToldFinding};
+use j39_line_check::{LookedAt, ReportedFinding};
 use j39_line_findings::LineFinding;
 use j39_plan_text::hides_times;
 
@@ -37,13 +37,13 @@ fn does_hide(asked: Asked, finding: LineFinding) -> bool
     hides(asked, finding.rank().number)
 }
 
-fn is_any_hiding(asked: Asked, told: &[ToldFinding]) -> bool
-    ensures { result ≡ is_any_hiding asked told.now }
+fn is_any_hiding(asked: Asked, reported: &[ReportedFinding]) -> bool
+    ensures { result ≡ is_any_hiding asked reported.now }
 {
-    told.iter().any(|one| does_hide(asked, one.finding))
+    reported.iter().any(|one| does_hide(asked, one.finding))
 }
 
-/// The variants of which what is asked is told, where they aren't too many.
+/// The variants of which what is asked is reported, where they aren't too many.
 pub(crate) fn variants_at(looked: &LookedAt) -> &[Vec<usize>]
     ensures { map (λ v. v.items) result.now ≡ variants_at looked.now }
 {
@@ -53,10 +53,10 @@ pub(crate) fn variants_at(looked: &LookedAt) -> &[Vec<usize>]
     }
 }
 
-/// Whether something stands in the way of what is told of a line: too many full variants, or a finding that hides what is
+/// Whether something stands in the way of what is reported of a line: too many full variants, or a finding that hides what is
 /// asked.
-pub(crate) fn is_hidden(asked: Asked, told: &[ToldFinding], many: Option<u64>) -> bool
-    ensures { result ≡ is_hidden asked many told.now }
+pub(crate) fn is_hidden(asked: Asked, reported: &[ReportedFinding], many: Option<u64>) -> bool
+    ensures { result ≡ is_hidden asked many reported.now }
 {
-    many.is_some() || is_any_hiding(asked, told)
+    many.is_some() || is_any_hiding(asked, reported)
 }

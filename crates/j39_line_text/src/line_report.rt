@@ -1,12 +1,12 @@
 //! What is written for a line of vehicles.
 ghost use Rattle.std.specs.Prelude.{◌≡◌, IfOk};
 ghost use Rattle.j39_plan_text.specs.CheckText.{IsReport};
-ghost use Rattle.j39_line_check.specs.LineChecks.{AreTold, SomePossible};
-ghost use Rattle.j39_line_text.specs.LineCheckText.{IsLineReport, is_some_told, line_ok_text, no_variant_text};
+ghost use Rattle.j39_line_check.specs.LineChecks.{AreReported, SomePossible};
+ghost use Rattle.j39_line_text.specs.LineCheckText.{IsLineReport, is_some_reported, line_ok_text, no_variant_text};
 
 use crate::certificate::variants_without_findings_are_certified;
 use crate::witness_lines::findings_text;
-use j39_line_check::{LineAnswer, ToldFinding, check_line};
+use j39_line_check::{LineAnswer, ReportedFinding, check_line};
 use j39_network::Plan;
 use j39_plan_text::{PlanFindings, write_check};
 use j39_stream::Verdict;
@@ -36,25 +36,25 @@ pub(crate) fn no_variant_text(alloc: Global) -> Result<TextBuffer, AllocError>
     Ok(text)
 }
 
-// Whether something is told.
-fn is_some_told(told: &[ToldFinding], many: Option<u64>) -> bool
-    ensures { result ≡ is_some_told many told.now }
+// Whether something is reported.
+fn is_some_reported(reported: &[ReportedFinding], many: Option<u64>) -> bool
+    ensures { result ≡ is_some_reported many reported.now }
 {
-    many.is_some() || !told.is_empty()
+    many.is_some() || !reported.is_empty()
 }
 
 // What is written where something is found of a line, or nothing.
 fn found_report(
     alloc: Global,
     line: &ProductLine,
-    told: &[ToldFinding],
+    reported: &[ReportedFinding],
     many: Option<u64>,
 ) -> Result<(TextBuffer, Verdict), AllocError>
-    ensures { IfOk result (λ report. SomePossible line.now → AreTold line.now many told.now → IsLineReport line.now report.0 report.1) }
+    ensures { IfOk result (λ report. SomePossible line.now → AreReported line.now many reported.now → IsLineReport line.now report.0 report.1) }
 {
     variants_without_findings_are_certified();
-    if is_some_told(told, many) {
-        let text = findings_text(alloc, line, told, many)?;
+    if is_some_reported(reported, many) {
+        let text = findings_text(alloc, line, reported, many)?;
         return Ok((text, Verdict::Findings));
     }
     let text = ok_text(alloc, line)?;
@@ -74,8 +74,8 @@ pub(crate) fn line_report(
             let text = no_variant_text(alloc)?;
             Ok((text, Verdict::Findings))
         }
-        LineAnswer::Found(told, looked) => {
-            let report = found_report(alloc, line, &told, looked.many())?;
+        LineAnswer::Found(reported, looked) => {
+            let report = found_report(alloc, line, &reported, looked.many())?;
             Ok(report)
         }
     }

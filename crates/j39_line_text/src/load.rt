@@ -1,8 +1,8 @@
 //! What the load command writes.
 ghost use Rattle.std.specs.Prelude.{◌≡◌, IfOk, Some};
 ghost use Rattle.j39_load.specs.BusTimes.{timing_of};
-ghost use Rattle.j39_line_text.specs.Hindrances.{AreToldAt, IsShownLine};
-ghost use Rattle.j39_line_text.specs.LineLoadText.{IsLineLoadReport, IsLineLoadText, IsTimesReport, TellsLineTiming, line_load_verdict};
+ghost use Rattle.j39_line_text.specs.Hindrances.{AreReportedAt, IsShownLine};
+ghost use Rattle.j39_line_text.specs.LineLoadText.{IsLineLoadReport, IsLineLoadText, IsTimesReport, ReportsLineTiming, line_load_verdict};
 ghost use Rattle.j39_line_text.specs.declared.hindrances.Asked.TheVariants.{Times};
 ghost use Rattle.j39_stream.specs.CommandEnds.{AnswersWhole, IsOfAny};
 ghost use Rattle.j39_stream.specs.Streams.{plan_limits};
@@ -11,9 +11,9 @@ use crate::hindrances::{Asked, is_hidden, variants_at};
 use crate::line_report::no_variant_text;
 use crate::shown_times::shown_times;
 use crate::time_lines::write_times;
-use crate::witness_lines::{findings_text, write_untold};
+use crate::witness_lines::{findings_text, write_unshown};
 use j39_line_bounds::{line_times, times_bound_these};
-use j39_line_check::{LineAnswer, LookedAt, ToldFinding, check_line};
+use j39_line_check::{LineAnswer, LookedAt, ReportedFinding, check_line};
 use j39_load::timing_of;
 use j39_network::Timing;
 use j39_plan_text::{LineReport, load_report, report_text};
@@ -22,34 +22,34 @@ use j39_text::TextBuffer;
 use j39_variants::ProductLine;
 use std::alloc::{AllocError, Global};
 
-fn verdict_of(told: &[ToldFinding]) -> Verdict
-    ensures { result ≡ line_load_verdict told.now }
+fn verdict_of(reported: &[ReportedFinding]) -> Verdict
+    ensures { result ≡ line_load_verdict reported.now }
 {
-    if told.is_empty() {
+    if reported.is_empty() {
         Verdict::Done
     } else {
         Verdict::Findings
     }
 }
 
-// What is told of the times of a line, where nothing stands in its way, and behind it the findings of which this says nothing.
+// What is reported of the times of a line, where nothing stands in its way, and behind it the findings of which this says nothing.
 fn times_report(
     alloc: Global,
     line: &ProductLine,
     timing: Timing,
-    told: &[ToldFinding],
+    reported: &[ReportedFinding],
     looked: &LookedAt,
 ) -> Result<(TextBuffer, Verdict), AllocError>
-    ensures { IfOk result (λ report. timing_of line.now.plan ≡ Some timing → IsShownLine Times line.now looked.now told.now
+    ensures { IfOk result (λ report. timing_of line.now.plan ≡ Some timing → IsShownLine Times line.now looked.now reported.now
         → IsTimesReport line.now timing report.0 report.1) }
 {
     times_bound_these();
     let times = line_times(alloc, line, variants_at(looked))?;
-    let shown = shown_times(alloc, line, &times, told)?;
+    let shown = shown_times(alloc, line, &times, reported)?;
     let mut text = TextBuffer::new(alloc);
     write_times(&mut text, &line.plan, timing, &shown)?;
-    write_untold(alloc, &mut text, line, told)?;
-    Ok((text, verdict_of(told)))
+    write_unshown(alloc, &mut text, line, reported)?;
+    Ok((text, verdict_of(reported)))
 }
 
 // What is written of the load of a line of which this is found.
@@ -57,18 +57,18 @@ fn found_load(
     alloc: Global,
     line: &ProductLine,
     timing: Timing,
-    told: &[ToldFinding],
+    reported: &[ReportedFinding],
     looked: &LookedAt,
 ) -> Result<(TextBuffer, Verdict), AllocError>
-    ensures { IfOk result (λ report. timing_of line.now.plan ≡ Some timing → AreToldAt line.now looked.now told.now
+    ensures { IfOk result (λ report. timing_of line.now.plan ≡ Some timing → AreReportedAt line.now looked.now reported.now
         → IsLineLoadReport line.now timing report.0 report.1) }
 {
     let many = looked.many();
-    if is_hidden(Asked::Times, told, many) {
-        let text = findings_text(alloc, line, told, many)?;
+    if is_hidden(Asked::Times, reported, many) {
+        let text = findings_text(alloc, line, reported, many)?;
         return Ok((text, Verdict::Findings));
     }
-    let report = times_report(alloc, line, timing, told, looked)?;
+    let report = times_report(alloc, line, timing, reported, looked)?;
     Ok(report)
 }
 
@@ -86,17 +86,17 @@ fn line_load(
             let text = no_variant_text(alloc)?;
             Ok((text, Verdict::Findings))
         }
-        LineAnswer::Found(told, looked) => {
-            let report = found_load(alloc, line, timing, &told, &looked)?;
+        LineAnswer::Found(reported, looked) => {
+            let report = found_load(alloc, line, timing, &reported, &looked)?;
             Ok(report)
         }
     }
 }
 
 // What is known of the bus of a line, where it has choices.
-#[tactic(auto, using(crate::proofs::LineTimings::told_timing))]
+#[tactic(auto, using(crate::proofs::LineTimings::reported_timing))]
 fn line_timing(line: &ProductLine) -> Option<Timing>
-    ensures { TellsLineTiming line.now result }
+    ensures { ReportsLineTiming line.now result }
 {
     if !line.has_choices() {
         return None;
@@ -135,6 +135,7 @@ impl LineReport for TimesReport {
 /// nothing, of a line of vehicles the worst of the variants at which `check` looks; where a finding hides the times, or a
 /// line has too many full variants, what `check` writes, and how many these are; that nothing is known of its bus; or why
 /// the file describes no plan.
+#[inline(never)]
 pub fn load_line_text<S: Source, W: Sink>(
     alloc: Global,
     source: &mut S,

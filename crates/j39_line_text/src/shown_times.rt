@@ -1,12 +1,12 @@
 //! Which times of a line of vehicles are written.
 ghost use Rattle.std.specs.Prelude.{◌≡◌, IfOk, length, map};
 ghost use Rattle.std.specs.List.{range_with_len};
-ghost use Rattle.j39_line_text.specs.ShownTimes.{AreShownTimes, is_need_of, is_told_unmet, shown_flow, shown_need, tells_unmet};
+ghost use Rattle.j39_line_text.specs.ShownTimes.{AreShownTimes, is_need_of, is_reported_unmet, shown_flow, shown_need, reports_unmet};
 
 use crate::possible_places::{is_place_possible, possible_flows, possible_needs};
 use j39_findings::Finding;
 use j39_line_bounds::{FlowTime, LineTimes, NeedTime};
-use j39_line_check::ToldFinding;
+use j39_line_check::ReportedFinding;
 use j39_line_findings::LineFinding;
 use j39_variants::ProductLine;
 use std::alloc::{AllocError, Global};
@@ -21,8 +21,8 @@ fn is_need_of(place: usize, finding: Finding) -> bool
     }
 }
 
-fn tells_unmet(place: usize, finding: LineFinding) -> bool
-    ensures { result ≡ tells_unmet place finding }
+fn reports_unmet(place: usize, finding: LineFinding) -> bool
+    ensures { result ≡ reports_unmet place finding }
 {
     match finding {
         LineFinding::OfPlan(finding) => is_need_of(place, finding),
@@ -30,10 +30,10 @@ fn tells_unmet(place: usize, finding: LineFinding) -> bool
     }
 }
 
-fn is_told_unmet(told: &[ToldFinding], place: usize) -> bool
-    ensures { result ≡ is_told_unmet told.now place }
+fn is_reported_unmet(reported: &[ReportedFinding], place: usize) -> bool
+    ensures { result ≡ is_reported_unmet reported.now place }
 {
-    told.iter().any(|one| tells_unmet(place, one.finding))
+    reported.iter().any(|one| reports_unmet(place, one.finding))
 }
 
 fn shown_flow(possible: &[bool], times: &LineTimes, place: usize) -> FlowTime
@@ -46,14 +46,19 @@ fn shown_flow(possible: &[bool], times: &LineTimes, place: usize) -> FlowTime
     }
 }
 
-// That it is unmet, where this is found, which needn't be in a variant whose times are told.
-fn shown_need(possible: &[bool], times: &LineTimes, told: &[ToldFinding], place: usize) -> NeedTime
-    ensures { result ≡ shown_need possible.now times.now told.now place }
+// That it is unmet, where this is found, which needn't be in a variant whose times are reported.
+fn shown_need(
+    possible: &[bool],
+    times: &LineTimes,
+    reported: &[ReportedFinding],
+    place: usize,
+) -> NeedTime
+    ensures { result ≡ shown_need possible.now times.now reported.now place }
 {
     if !is_place_possible(possible, place) {
         return NeedTime::NoVariant;
     }
-    if is_told_unmet(told, place) {
+    if is_reported_unmet(reported, place) {
         NeedTime::Unmet
     } else {
         times.need(place)
@@ -76,12 +81,12 @@ fn shown_needs(
     alloc: Global,
     possible: &[bool],
     times: &LineTimes,
-    told: &[ToldFinding],
+    reported: &[ReportedFinding],
 ) -> Result<Vec<NeedTime>, AllocError>
-    ensures { IfOk result (λ v. v.items ≡ map (shown_need possible.now times.now told.now) (range_with_len 0 (length times.now.needs.items))) }
+    ensures { IfOk result (λ v. v.items ≡ map (shown_need possible.now times.now reported.now) (range_with_len 0 (length times.now.needs.items))) }
 {
     (0..times.needs.len())
-        .map(|place| shown_need(possible, times, told, place))
+        .map(|place| shown_need(possible, times, reported, place))
         .collect(alloc)
 }
 
@@ -91,14 +96,14 @@ pub(crate) fn shown_times(
     alloc: Global,
     line: &ProductLine,
     times: &LineTimes,
-    told: &[ToldFinding],
+    reported: &[ReportedFinding],
 ) -> Result<LineTimes, AllocError>
-    ensures { IfOk result (λ shown. AreShownTimes line.now times.now told.now shown) }
+    ensures { IfOk result (λ shown. AreShownTimes line.now times.now reported.now shown) }
 {
     let of_flows = possible_flows(alloc, line)?;
     let of_needs = possible_needs(alloc, line)?;
     let flows = shown_flows(alloc, &of_flows, times)?;
-    let needs = shown_needs(alloc, &of_needs, times, told)?;
+    let needs = shown_needs(alloc, &of_needs, times, reported)?;
     Ok(LineTimes {
         flows,
         needs,

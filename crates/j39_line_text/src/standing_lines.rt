@@ -1,12 +1,12 @@
 //! The lines that say which units of a line of vehicles stay.
 ghost use Rattle.std.specs.Prelude.{◌≡◌, ◌++◌, IfOk, OnOk};
-ghost use Rattle.j39_load.specs.LineLists.{lines_of_each};
-ghost use Rattle.j39_line_text.specs.StandingLines.{is_staying, line_unit_at, line_unit_text, standing_text, standings_text};
+ghost use Rattle.j39_line_text.specs.StandingLines.{is_staying, line_unit_text, standing_text, standings_text};
 ghost use Rattle.j39_line_text.specs.StandingLines.{shown_standing, shown_standings};
 
 use crate::possible_places::is_place_possible;
 use j39_line_bounds::LineStanding;
 use j39_network::UnitPlan;
+use j39_plan_text::{WriteLines, write_each};
 use j39_text::TextBuffer;
 use std::alloc::{AllocError, Global};
 
@@ -52,7 +52,7 @@ fn shown_standing(possible: &[bool], standings: &[LineStanding], place: usize) -
     }
 }
 
-/// What is written of each unit, where this is told of it, and these say of each whether some possible variant has it.
+/// What is written of each unit, where this is reported of it, and these say of each whether some possible variant has it.
 pub(crate) fn shown_standings(
     alloc: Global,
     possible: &[bool],
@@ -65,32 +65,21 @@ pub(crate) fn shown_standings(
         .collect(alloc)
 }
 
-// The unit at a place.
-fn write_unit_at(
-    text: &mut TextBuffer,
-    standings: &[LineStanding],
-    place: usize,
-    unit: &UnitPlan,
-) -> Result<(), AllocError>
-    ensures { OnOk result (text.new ≡ text.old ++ line_unit_at standings.now place unit.now) }
-{
-    match standings.get(place) {
-        Some(standing) => write_unit(text, *standing, unit),
-        None => write_unit(text, LineStanding::NoVariant, unit),
-    }
-}
+// Writes each unit, of which this is reported.
+#[derive(Drop)]
+struct UnitStandings<'a>(&'a [LineStanding]);
 
-fn write_units(
-    text: &mut TextBuffer,
-    standings: &[LineStanding],
-    units: &[UnitPlan],
-) -> Result<(), AllocError>
-    ensures { OnOk result (text.new ≡ text.old ++ lines_of_each (line_unit_at standings.now) 0 units.now) }
-{
-    for (place, unit) in units.iter().enumerate() {
-        write_unit_at(text, standings, place, unit)?;
+impl WriteLines<UnitPlan> for UnitStandings<'_> {
+    ghost use Rattle.j39_line_text.specs.StandingLines.{line_unit_at};
+
+    ghost lines = { λ w. line_unit_at w.0.now };
+
+    fn write(&self, text: &mut TextBuffer, at: usize, unit: &UnitPlan) -> Result<(), AllocError> {
+        match self.0.get(at) {
+            Some(standing) => write_unit(text, *standing, unit),
+            None => write_unit(text, LineStanding::NoVariant, unit),
+        }
     }
-    Ok(())
 }
 
 fn is_staying(standing: LineStanding) -> bool
@@ -107,7 +96,7 @@ fn write_standings(
 ) -> Result<(), AllocError>
     ensures { OnOk result (text.new ≡ text.old ++ standings_text standings.now units.now) }
 {
-    write_units(text, standings, units)?;
+    write_each(text, &UnitStandings(standings), units)?;
     let staying = standings
         .iter()
         .filter(|standing| is_staying(**standing))
@@ -117,7 +106,7 @@ fn write_standings(
     text.end_line()
 }
 
-/// A line for each unit of a line of vehicles, in order, of which this is told, and how many of them stay.
+/// A line for each unit of a line of vehicles, in order, of which this is reported, and how many of them stay.
 pub(crate) fn standings_text(
     alloc: Global,
     standings: &[LineStanding],

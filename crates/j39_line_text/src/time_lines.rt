@@ -1,12 +1,11 @@
-//! The lines that tell of the times of a line of vehicles.
+//! The lines that report of the times of a line of vehicles.
 ghost use Rattle.std.specs.Prelude.{◌≡◌, ◌++◌, ◌*◌, OnOk};
-ghost use Rattle.j39_load.specs.LineLists.{lines_of_each};
-ghost use Rattle.j39_line_text.specs.TimeLines.{flow_time_text, line_flow_line, line_need_line, line_times_text, need_time_text, youngest_text};
+ghost use Rattle.j39_line_text.specs.TimeLines.{flow_time_text, line_times_text, need_time_text, youngest_text};
 
 use j39_line_bounds::{FlowTime, LineTimes, NeedTime};
 use j39_load::bits_of_second;
 use j39_network::{FlowPlan, NeedPlan, Plan, Timing};
-use j39_plan_text::{write_age, write_flow, write_known_delay, write_time};
+use j39_plan_text::{WriteLines, write_age, write_each, write_flow, write_known_delay, write_time};
 use j39_text::{TextBuffer, write_need};
 use std::alloc::AllocError;
 
@@ -21,38 +20,29 @@ fn write_flow_time(
 {
     match time {
         FlowTime::NoVariant => text.word(" no variant"),
-        FlowTime::Told(delay) => write_known_delay(text, timing, flow.pace, &delay),
+        FlowTime::Reported(delay) => write_known_delay(text, timing, flow.pace, &delay),
     }
 }
 
-#[tactic(auto, unfolding(crate::specs::TimeLines::line_flow_line))]
-fn write_flow_line(
-    text: &mut TextBuffer,
-    plan: &Plan,
+// Writes each flow with its worst delay.
+#[derive(Drop)]
+struct FlowTimes<'a> {
+    plan: &'a Plan,
     timing: Timing,
-    times: &LineTimes,
-    place: usize,
-    flow: &FlowPlan,
-) -> Result<(), AllocError>
-    ensures { OnOk result (text.new ≡ text.old ++ line_flow_line plan.now timing times.now place flow.now) }
-{
-    write_flow(text, plan, place, flow)?;
-    write_flow_time(text, timing, flow, times.flow(place))?;
-    text.end_line()
+    times: &'a LineTimes,
 }
 
-fn write_flows(
-    text: &mut TextBuffer,
-    plan: &Plan,
-    timing: Timing,
-    times: &LineTimes,
-) -> Result<(), AllocError>
-    ensures { OnOk result (text.new ≡ text.old ++ lines_of_each (line_flow_line plan.now timing times.now) 0 plan.now.flows.items) }
-{
-    for (place, flow) in plan.flows.iter().enumerate() {
-        write_flow_line(text, plan, timing, times, place, flow)?;
+impl WriteLines<FlowPlan> for FlowTimes<'_> {
+    ghost use Rattle.j39_line_text.specs.TimeLines.{line_flow_line};
+
+    ghost lines = { λ w. line_flow_line w.plan.now w.timing w.times.now };
+
+    #[tactic(auto, unfolding(crate::specs::TimeLines::line_flow_line))]
+    fn write(&self, text: &mut TextBuffer, at: usize, flow: &FlowPlan) -> Result<(), AllocError> {
+        write_flow(text, self.plan, at, flow)?;
+        write_flow_time(text, self.timing, flow, self.times.flow(at))?;
+        text.end_line()
     }
-    Ok(())
 }
 
 // Which flow's age it is, where several bring what is needed.
@@ -82,32 +72,27 @@ fn write_need_time(text: &mut TextBuffer, within: u16, time: NeedTime) -> Result
     }
 }
 
-// A need, where it asks for an age.
-#[tactic(auto, unfolding(crate::specs::TimeLines::line_need_line))]
-fn write_need_line(
-    text: &mut TextBuffer,
-    plan: &Plan,
-    times: &LineTimes,
-    place: usize,
-    need: &NeedPlan,
-) -> Result<(), AllocError>
-    ensures { OnOk result (text.new ≡ text.old ++ line_need_line plan.now times.now place need.now) }
-{
-    let Some(within) = need.within else {
-        return Ok(());
-    };
-    write_need(text, plan, place, need)?;
-    write_need_time(text, within, times.need(place))?;
-    text.end_line()
+// Writes each need that asks for an age, with its worst.
+#[derive(Drop)]
+struct NeedTimes<'a> {
+    plan: &'a Plan,
+    times: &'a LineTimes,
 }
 
-fn write_needs(text: &mut TextBuffer, plan: &Plan, times: &LineTimes) -> Result<(), AllocError>
-    ensures { OnOk result (text.new ≡ text.old ++ lines_of_each (line_need_line plan.now times.now) 0 plan.now.needs.items) }
-{
-    for (place, need) in plan.needs.iter().enumerate() {
-        write_need_line(text, plan, times, place, need)?;
+impl WriteLines<NeedPlan> for NeedTimes<'_> {
+    ghost use Rattle.j39_line_text.specs.TimeLines.{line_need_line};
+
+    ghost lines = { λ w. line_need_line w.plan.now w.times.now };
+
+    #[tactic(auto, unfolding(crate::specs::TimeLines::line_need_line))]
+    fn write(&self, text: &mut TextBuffer, at: usize, need: &NeedPlan) -> Result<(), AllocError> {
+        let Some(within) = need.within else {
+            return Ok(());
+        };
+        write_need(text, self.plan, at, need)?;
+        write_need_time(text, within, self.times.need(at))?;
+        text.end_line()
     }
-    Ok(())
 }
 
 /// Writes each flow with its worst delay, each need that asks for an age with its worst, and the greatest load.
@@ -120,8 +105,13 @@ pub(crate) fn write_times(
 ) -> Result<(), AllocError>
     ensures { OnOk result (text.new ≡ text.old ++ line_times_text plan.now timing times.now) }
 {
-    write_flows(text, plan, timing, times)?;
-    write_needs(text, plan, times)?;
+    let flows = FlowTimes {
+        plan,
+        timing,
+        times,
+    };
+    write_each(text, &flows, &plan.flows)?;
+    write_each(text, &NeedTimes { plan, times }, &plan.needs)?;
     text.field("load ", times.load)?;
     text.field(" of ", bits_of_second(timing.bitrate))?;
     text.end_line()

@@ -1,16 +1,14 @@
 //! The lines of what is found of a line of vehicles.
 ghost use Rattle.std.specs.Prelude.{◌≡◌, ◌++◌, IfOk, OnOk, length};
 ghost use Rattle.j39_line_findings.specs.FullVariants.{alternatives_of};
-ghost use Rattle.j39_line_findings.specs.Told.{is_told};
-ghost use Rattle.j39_line_text.specs.WitnessLines.{alternative_label, findings_of_line_text, is_any_told, label_of_alternative, place_taken, run_of_line};
-ghost use Rattle.j39_line_text.specs.WitnessLines.{count_with, many_text};
-ghost use Rattle.j39_line_text.specs.WitnessLines.{told_alternative, told_alternatives, witness_line, witness_text};
-ghost use Rattle.j39_line_text.specs.WitnessLines.{line_finding_text, witness_report, witness_reports};
-ghost use Rattle.j39_line_text.specs.WitnessLines.{is_of_line_times, untold_of_line_text, untold_report, untold_reports};
+ghost use Rattle.j39_line_findings.specs.Reported.{is_reported};
+ghost use Rattle.j39_line_text.specs.WitnessLines.{alternative_label, findings_of_line_text, is_any_reported, label_of_alternative, place_taken, run_of_line};
+ghost use Rattle.j39_line_text.specs.WitnessLines.{count_with, is_of_line_times, line_finding_text, many_text};
+ghost use Rattle.j39_line_text.specs.WitnessLines.{unshown_of_line_text, witness_line, witness_text};
 
-use j39_line_check::ToldFinding;
-use j39_line_findings::{LineFinding, Telling, alternatives_of};
-use j39_plan_text::{write_finding, write_load_finding, write_run};
+use j39_line_check::ReportedFinding;
+use j39_line_findings::{LineFinding, Reporting, alternatives_of};
+use j39_plan_text::{WriteLines, write_each, write_finding, write_load_finding, write_run};
 use j39_text::TextBuffer;
 use j39_variants::{Alternative, Choice, ProductLine};
 use std::alloc::{AllocError, Global};
@@ -42,79 +40,49 @@ fn alternative_label(line: &ProductLine, choice: usize, place: usize) -> &str
     }
 }
 
-fn is_told(
+fn is_reported(
     line: &ProductLine,
     alternatives: &[Alternative],
     finding: LineFinding,
     choice: usize,
 ) -> bool
-    ensures { result ≡ is_told line.now alternatives.now choice finding }
+    ensures { result ≡ is_reported line.now alternatives.now choice finding }
 {
-    let telling = Telling {
+    let reporting = Reporting {
         line,
         alternatives,
         choice,
     };
-    telling.is_told(finding)
+    reporting.is_reported(finding)
 }
 
-fn is_any_told(line: &ProductLine, alternatives: &[Alternative], finding: LineFinding) -> bool
-    ensures { result ≡ is_any_told line.now alternatives.now finding }
+fn is_any_reported(line: &ProductLine, alternatives: &[Alternative], finding: LineFinding) -> bool
+    ensures { result ≡ is_any_reported line.now alternatives.now finding }
 {
-    (0..line.choices.len()).any(|choice| is_told(line, alternatives, finding, choice))
+    (0..line.choices.len()).any(|choice| is_reported(line, alternatives, finding, choice))
 }
 
-// Writes the alternative of a choice that the witness of a finding takes, where it is told.
-#[tactic(auto, unfolding(crate::specs::WitnessLines::told_alternative))]
-fn write_alternative(
-    text: &mut TextBuffer,
-    line: &ProductLine,
-    alternatives: &[Alternative],
-    variant: &[usize],
+// Writes the alternative of each choice that the witness of a finding takes, where it is reported.
+#[derive(Drop)]
+struct ReportedAlternatives<'a> {
+    line: &'a ProductLine,
+    alternatives: &'a [Alternative],
+    variant: &'a [usize],
     finding: LineFinding,
-    choice: usize,
-) -> Result<(), AllocError>
-    ensures { OnOk result (text.new ≡ text.old ++ told_alternative line.now alternatives.now variant.now finding choice) }
-{
-    if is_told(line, alternatives, finding, choice) {
-        text.word(" ")?;
-        text.word(alternative_label(line, choice, place_taken(variant, choice)))
-    } else {
-        Ok(())
-    }
 }
 
-fn write_alternatives(
-    text: &mut TextBuffer,
-    line: &ProductLine,
-    alternatives: &[Alternative],
-    variant: &[usize],
-    finding: LineFinding,
-) -> Result<(), AllocError>
-    ensures { OnOk result (text.new ≡ text.old ++ told_alternatives line.now alternatives.now variant.now finding) }
-{
-    for (choice, _found) in line.choices.iter().enumerate() {
-        write_alternative(text, line, alternatives, variant, finding, choice)?;
-    }
-    Ok(())
-}
+impl WriteLines<Choice> for ReportedAlternatives<'_> {
+    ghost use Rattle.j39_line_text.specs.WitnessLines.{reported_alternative};
 
-// Writes what is told of the witness of a finding.
-#[tactic(auto, unfolding(crate::specs::WitnessLines::witness_text))]
-fn write_witness(
-    text: &mut TextBuffer,
-    line: &ProductLine,
-    alternatives: &[Alternative],
-    variant: &[usize],
-    finding: LineFinding,
-) -> Result<(), AllocError>
-    ensures { OnOk result (text.new ≡ text.old ++ witness_text line.now alternatives.now variant.now finding) }
-{
-    if is_any_told(line, alternatives, finding) {
-        text.word(" in")?;
-        write_alternatives(text, line, alternatives, variant, finding)
-    } else {
-        Ok(())
+    ghost lines = { λ w c _. reported_alternative w.line.now w.alternatives.now w.variant.now w.finding c };
+
+    #[tactic(auto, unfolding(crate::specs::WitnessLines::reported_alternative))]
+    fn write(&self, text: &mut TextBuffer, at: usize, _choice: &Choice) -> Result<(), AllocError> {
+        if is_reported(self.line, self.alternatives, self.finding, at) {
+            text.label(alternative_label(self.line, at, place_taken(self.variant, at)))
+        } else {
+            Ok(())
+        }
     }
 }
 
@@ -145,49 +113,62 @@ fn write_line_run(
     }
 }
 
-#[tactic(auto, unfolding(crate::specs::WitnessLines::witness_line))]
-fn write_witness_line(
-    text: &mut TextBuffer,
-    line: &ProductLine,
-    alternatives: &[Alternative],
-    variant: &[usize],
-    finding: LineFinding,
-) -> Result<(), AllocError>
-    ensures { OnOk result (text.new ≡ text.old ++ witness_line line.now alternatives.now variant.now finding) }
-{
-    write_line_finding(text, line, finding)?;
-    write_witness(text, line, alternatives, variant, finding)?;
-    text.end_line()
-}
-
-#[tactic(auto, unfolding(crate::specs::WitnessLines::witness_report))]
-fn write_report(
-    alloc: Global,
-    text: &mut TextBuffer,
-    line: &ProductLine,
-    alternatives: &[Alternative],
-    variant: &[usize],
-    finding: LineFinding,
-) -> Result<(), AllocError>
-    ensures { OnOk result (text.new ≡ text.old ++ witness_report line.now alternatives.now variant.now finding) }
-{
-    write_witness_line(text, line, alternatives, variant, finding)?;
-    write_line_run(alloc, text, line, finding)
-}
-
-fn write_reports(
-    alloc: Global,
-    text: &mut TextBuffer,
-    line: &ProductLine,
-    alternatives: &[Alternative],
-    told: &[ToldFinding],
-) -> Result<(), AllocError>
-    ensures { OnOk result (text.new ≡ text.old ++ witness_reports line.now alternatives.now told.now) }
-{
-    for one in told {
-        write_report(alloc, text, line, alternatives, &one.variant, one.finding)?;
+impl ReportedAlternatives<'_> {
+    // Writes them behind a word, if any is reported.
+    #[tactic(auto, unfolding(crate::specs::WitnessLines::witness_text))]
+    fn write_witness(&self, text: &mut TextBuffer) -> Result<(), AllocError>
+        ensures { OnOk result (text.new ≡ text.old
+            ++ witness_text self.now.line.now self.now.alternatives.now self.now.variant.now self.now.finding) }
+    {
+        if is_any_reported(self.line, self.alternatives, self.finding) {
+            text.word(" in")?;
+            write_each(text, self, &self.line.choices)
+        } else {
+            Ok(())
+        }
     }
-    Ok(())
+
+    // The line of the finding.
+    #[tactic(auto, unfolding(crate::specs::WitnessLines::witness_line))]
+    fn write_line(&self, text: &mut TextBuffer) -> Result<(), AllocError>
+        ensures { OnOk result (text.new ≡ text.old
+            ++ witness_line self.now.line.now self.now.alternatives.now self.now.variant.now self.now.finding) }
+    {
+        write_line_finding(text, self.line, self.finding)?;
+        self.write_witness(text)?;
+        text.end_line()
+    }
+}
+
+// Writes each finding with what is reported of its witness, and the run that shows it.
+#[derive(Drop)]
+struct Reports<'a> {
+    alloc: Global,
+    line: &'a ProductLine,
+    alternatives: &'a [Alternative],
+}
+
+impl WriteLines<ReportedFinding> for Reports<'_> {
+    ghost use Rattle.j39_line_text.specs.WitnessLines.{witness_report};
+
+    ghost lines = { λ w _ reported. witness_report w.line.now w.alternatives.now reported.variant.items reported.finding };
+
+    #[tactic(auto, unfolding(crate::specs::WitnessLines::witness_report))]
+    fn write(
+        &self,
+        text: &mut TextBuffer,
+        _at: usize,
+        reported: &ReportedFinding,
+    ) -> Result<(), AllocError> {
+        let alternatives = ReportedAlternatives {
+            line: self.line,
+            alternatives: self.alternatives,
+            variant: reported.variant.as_slice(),
+            finding: reported.finding,
+        };
+        alternatives.write_line(text)?;
+        write_line_run(self.alloc, text, self.line, reported.finding)
+    }
 }
 
 // That there are so many full variants, where these are too many.
@@ -204,12 +185,12 @@ fn write_many(text: &mut TextBuffer, many: Option<u64>) -> Result<(), AllocError
     }
 }
 
-fn count_with(many: Option<u64>, told: &[ToldFinding]) -> usize
-    ensures { result ≡ count_with many (length told.now) }
+fn count_with(many: Option<u64>, reported: &[ReportedFinding]) -> usize
+    ensures { result ≡ count_with many (length reported.now) }
 {
     match many {
-        Some(_count) => told.len() + 1,
-        None => told.len(),
+        Some(_count) => reported.len() + 1,
+        None => reported.len(),
     }
 }
 
@@ -220,88 +201,92 @@ fn write_all(
     text: &mut TextBuffer,
     line: &ProductLine,
     alternatives: &[Alternative],
-    told: &[ToldFinding],
+    reported: &[ReportedFinding],
     many: Option<u64>,
 ) -> Result<(), AllocError>
-    ensures { OnOk result (text.new ≡ text.old ++ findings_of_line_text line.now alternatives.now many told.now) }
+    ensures { OnOk result (text.new ≡ text.old ++ findings_of_line_text line.now alternatives.now many reported.now) }
 {
-    write_reports(alloc, text, line, alternatives, told)?;
+    let reports = Reports {
+        alloc,
+        line,
+        alternatives,
+    };
+    write_each(text, &reports, reported)?;
     write_many(text, many)?;
-    text.field("findings ", count_with(many, told))?;
+    text.field("findings ", count_with(many, reported))?;
     text.end_line()
 }
 
-/// A line for each thing that is found of a line of vehicles, with what is told of its witness, and how many there are.
+/// A line for each thing that is found of a line of vehicles, with what is reported of its witness, and how many there are.
 pub(crate) fn findings_text(
     alloc: Global,
     line: &ProductLine,
-    told: &[ToldFinding],
+    reported: &[ReportedFinding],
     many: Option<u64>,
 ) -> Result<TextBuffer, AllocError>
-    ensures { IfOk result (λ text. text ≡ findings_of_line_text line.now (alternatives_of line.now) many told.now) }
+    ensures { IfOk result (λ text. text ≡ findings_of_line_text line.now (alternatives_of line.now) many reported.now) }
 {
     let alternatives = alternatives_of(alloc, line)?;
     let mut text = TextBuffer::new(alloc);
-    write_all(alloc, &mut text, line, &alternatives, told, many)?;
+    write_all(alloc, &mut text, line, &alternatives, reported, many)?;
     Ok(text)
 }
 
-// Whether a finding is one of which the lines of the times tell: of a bus that is too full, a late flow, or an old need.
+// Whether a finding is one of which the lines of the times report: of a bus that is too full, a late flow, or an old need.
 fn is_of_times(finding: LineFinding) -> bool
     ensures { result ≡ is_of_line_times finding }
 {
     matches!(finding.rank().number, 17 | 18 | 20)
 }
 
-#[tactic(auto, unfolding(crate::specs::WitnessLines::untold_report))]
-fn write_untold_report(
-    alloc: Global,
-    text: &mut TextBuffer,
-    line: &ProductLine,
-    alternatives: &[Alternative],
-    variant: &[usize],
-    finding: LineFinding,
-) -> Result<(), AllocError>
-    ensures { OnOk result (text.new ≡ text.old ++ untold_report line.now alternatives.now variant.now finding) }
-{
-    if is_of_times(finding) {
-        return Ok(());
+// Writes each finding of which the lines of the times don't report.
+#[derive(Drop)]
+struct UnreportedReports<'a>(Reports<'a>);
+
+impl WriteLines<ReportedFinding> for UnreportedReports<'_> {
+    ghost use Rattle.j39_line_text.specs.WitnessLines.{unshown_report};
+
+    ghost lines = { λ w _ reported. unshown_report w.0.line.now w.0.alternatives.now reported.variant.items reported.finding };
+
+    #[tactic(auto, unfolding(crate::specs::WitnessLines::unshown_report))]
+    fn write(
+        &self,
+        text: &mut TextBuffer,
+        at: usize,
+        reported: &ReportedFinding,
+    ) -> Result<(), AllocError> {
+        if is_of_times(reported.finding) {
+            return Ok(());
+        }
+        self.0.write(text, at, reported)
     }
-    write_report(alloc, text, line, alternatives, variant, finding)
 }
 
-fn write_untold_reports(
-    alloc: Global,
-    text: &mut TextBuffer,
-    line: &ProductLine,
-    alternatives: &[Alternative],
-    told: &[ToldFinding],
-) -> Result<(), AllocError>
-    ensures { OnOk result (text.new ≡ text.old ++ untold_reports line.now alternatives.now told.now) }
-{
-    for one in told {
-        write_untold_report(alloc, text, line, alternatives, &one.variant, one.finding)?;
-    }
-    Ok(())
-}
-
-/// Writes a line for each thing that is found of a line of vehicles and isn't of its times, with what is told of its
+/// Writes a line for each thing that is found of a line of vehicles and isn't of its times, with what is reported of its
 /// witness, and how many there are, where there are any.
-#[tactic(auto, unfolding(crate::specs::WitnessLines::untold_of_line_text))]
-pub(crate) fn write_untold(
+#[tactic(auto, unfolding(crate::specs::WitnessLines::unshown_of_line_text))]
+pub(crate) fn write_unshown(
     alloc: Global,
     text: &mut TextBuffer,
     line: &ProductLine,
-    told: &[ToldFinding],
+    reported: &[ReportedFinding],
 ) -> Result<(), AllocError>
-    ensures { OnOk result (text.new ≡ text.old ++ untold_of_line_text line.now (alternatives_of line.now) told.now) }
+    ensures { OnOk result (text.new ≡ text.old ++ unshown_of_line_text line.now (alternatives_of line.now) reported.now) }
 {
-    let count = told.iter().filter(|one| !is_of_times(one.finding)).count();
+    let count = reported
+        .iter()
+        .filter(|one| !is_of_times(one.finding))
+        .count();
     if count == 0 {
         return Ok(());
     }
     let alternatives = alternatives_of(alloc, line)?;
-    write_untold_reports(alloc, text, line, &alternatives, told)?;
+    let reports = Reports {
+        alloc,
+        line,
+        alternatives: &alternatives,
+    };
+    write_each(text, &UnreportedReports(reports), reported)?;
     text.field("findings ", count)?;
     text.end_line()
 }

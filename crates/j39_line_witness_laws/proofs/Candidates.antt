@@ -20,7 +20,8 @@ use Rattle.j39_line_findings.specs.Conditions.{unmet_condition, unsent_condition
 use Rattle.j39_line_findings.specs.LineFound.{IsFound}
 use Rattle.j39_line_findings.specs.declared.line_finding.LineFinding.{LineFinding}
 use Rattle.j39_line_findings.specs.declared.line_finding.LineFinding.TheVariants.{OfPlan, OfLoad}
-use Rattle.j39_line_part_laws.proofs.FoundOfCovering.{either, left, made_of, of_made, right}
+use Rattle.j39_line_findings.proofs.OneOf.{one_cases, one_left, one_right}
+use Rattle.j39_line_part_laws.proofs.FoundOfCovering.{made_of, of_made}
 use Rattle.j39_line_condition_laws.proofs.Tests.{of_some}
 use Rattle.j39_line_condition_laws.specs.ByConditions.{MayBeFound}
 use Rattle.j39_line_witnesses.specs.Candidates.{candidates, candidates_of_parts, candidates_of_requests, is_of_parts, of_each_place}
@@ -116,20 +117,20 @@ module _ (line : ProductLine) where
       subst GoesAndMayBe its.made (each its.value)
 
   requests_go : (finding : LineFinding) → IsFound (candidates_of_requests line) finding → GoesAndMayBe finding
-  requests_go finding one = elim (either unanswered_ones (unheard_ones ++ astray_ones) finding one) [
+  requests_go finding one = elim (one_cases unanswered_ones (unheard_ones ++ astray_ones) finding one) [
     | inl first ↦ of_places (λ r. OfPlan (RequestUnanswered r)) (λ k. (refl, inl refl)) (length line.plan.requests.items) finding first
-    | inr others ↦ elim (either unheard_ones astray_ones finding others) [
+    | inr others ↦ elim (one_cases unheard_ones astray_ones finding others) [
       | inl second ↦ of_places (λ r. OfPlan (RequestUnheard r)) (λ k. (refl, inl refl)) (length line.plan.requests.items) finding second
       | inr third ↦ of_places (λ r. OfPlan (AnswerAstray r)) (λ k. (refl, inl refl)) (length line.plan.requests.items) finding third
     ]
   ]
 
   behind_go : (finding : LineFinding) → IsFound behind_parts finding → GoesAndMayBe finding
-  behind_go finding one = elim (either of_groups (of_flows ++ (of_needs ++ candidates_of_requests line)) finding one) [
+  behind_go finding one = elim (one_cases of_groups (of_flows ++ (of_needs ++ candidates_of_requests line)) finding one) [
     | inl group ↦ of_places (λ g. OfPlan (PrivateUnsent g)) (λ k. (refl, inl refl)) (length line.plan.groups.items) finding group
-    | inr more ↦ elim (either of_flows (of_needs ++ candidates_of_requests line) finding more) [
+    | inr more ↦ elim (one_cases of_flows (of_needs ++ candidates_of_requests line) finding more) [
       | inl flow ↦ of_places (λ f. OfLoad (NoPeriod f)) (λ k. (refl, inr tt)) (length line.plan.flows.items) finding flow
-      | inr others ↦ elim (either of_needs (candidates_of_requests line) finding others) [
+      | inr others ↦ elim (one_cases of_needs (candidates_of_requests line) finding others) [
         | inl need ↦ of_places (λ d. OfPlan (NeedUnmet d)) (λ k. (refl, inl refl)) (length line.plan.needs.items) finding need
         | inr request ↦ requests_go finding request
       ]
@@ -137,7 +138,7 @@ module _ (line : ProductLine) where
   ]
 
   pub candidate_goes : (finding : LineFinding) → IsFound (candidates line) finding → GoesAndMayBe finding
-  candidate_goes finding one = elim (either (candidates_of_parts line) behind_parts finding one) [
+  candidate_goes finding one = elim (one_cases (candidates_of_parts line) behind_parts finding one) [
     | inl part ↦
         let its = made_of OfPlan (filter (is_of_parts line) (found line.plan)) finding part in
         let (is, among) = passing (is_of_parts line) (found line.plan) its.value its.among in
@@ -154,47 +155,47 @@ module _ (line : ProductLine) where
     unsent : (g : ℕ) → meets_any line v (conditions_of line (OfPlan (PrivateUnsent g))) ≡ true → Behind (OfPlan (PrivateUnsent g))
     unsent g met =
         let its = of_some (meets_condition line v) (unsent_condition line g) (slice_get line.plan.groups.items g) met in
-        left of_groups (of_flows ++ (of_needs ++ candidates_of_requests line)) (OfPlan (PrivateUnsent g))
+        one_left of_groups (of_flows ++ (of_needs ++ candidates_of_requests line)) (OfPlan (PrivateUnsent g))
         (placed (λ k. OfPlan (PrivateUnsent k)) (length line.plan.groups.items) g (slice_get_within line.plan.groups.items g its.value its.value_is))
 
     unpaced : (f : ℕ) → meets_any line v (conditions_of line (OfLoad (NoPeriod f))) ≡ true → Behind (OfLoad (NoPeriod f))
     unpaced f met =
         let its = of_some (meets_condition line v) (no_period_conditions line f) (slice_get line.plan.flows.items f) met in
-        right of_groups (of_flows ++ (of_needs ++ candidates_of_requests line)) (OfLoad (NoPeriod f))
-        (left of_flows (of_needs ++ candidates_of_requests line) (OfLoad (NoPeriod f))
+        one_right of_groups (of_flows ++ (of_needs ++ candidates_of_requests line)) (OfLoad (NoPeriod f))
+        (one_left of_flows (of_needs ++ candidates_of_requests line) (OfLoad (NoPeriod f))
         (placed (λ k. OfLoad (NoPeriod k)) (length line.plan.flows.items) f (slice_get_within line.plan.flows.items f its.value its.value_is)))
 
     unmet : (d : ℕ) → meets_any line v (conditions_of line (OfPlan (NeedUnmet d))) ≡ true → Behind (OfPlan (NeedUnmet d))
     unmet d met =
         let its = of_some (meets_condition line v) (unmet_condition line d) (slice_get line.plan.needs.items d) met in
-        right of_groups (of_flows ++ (of_needs ++ candidates_of_requests line)) (OfPlan (NeedUnmet d))
-        (right of_flows (of_needs ++ candidates_of_requests line) (OfPlan (NeedUnmet d)) (left of_needs (candidates_of_requests line) (OfPlan (NeedUnmet d))
+        one_right of_groups (of_flows ++ (of_needs ++ candidates_of_requests line)) (OfPlan (NeedUnmet d))
+        (one_right of_flows (of_needs ++ candidates_of_requests line) (OfPlan (NeedUnmet d)) (one_left of_needs (candidates_of_requests line) (OfPlan (NeedUnmet d))
         (placed (λ k. OfPlan (NeedUnmet k)) (length line.plan.needs.items) d (slice_get_within line.plan.needs.items d its.value its.value_is))))
 
     behind_needs : (finding : LineFinding) → IsFound (candidates_of_requests line) finding → Behind finding
-    behind_needs finding one = right of_groups (of_flows ++ (of_needs ++ candidates_of_requests line)) finding
-        (right of_flows (of_needs ++ candidates_of_requests line) finding (right of_needs (candidates_of_requests line) finding one))
+    behind_needs finding one = one_right of_groups (of_flows ++ (of_needs ++ candidates_of_requests line)) finding
+        (one_right of_flows (of_needs ++ candidates_of_requests line) finding (one_right of_needs (candidates_of_requests line) finding one))
 
     unanswered : (r : ℕ) → meets_any line v (conditions_of line (OfPlan (RequestUnanswered r))) ≡ true → Behind (OfPlan (RequestUnanswered r))
     unanswered r met =
         let its = of_some (meets_condition line v) (λ (request : RequestPlan). if is_to_one request.to then unserved_condition line r request else [])
         (slice_get line.plan.requests.items r) met in
-        behind_needs (OfPlan (RequestUnanswered r)) (left unanswered_ones (unheard_ones ++ astray_ones) (OfPlan (RequestUnanswered r))
+        behind_needs (OfPlan (RequestUnanswered r)) (one_left unanswered_ones (unheard_ones ++ astray_ones) (OfPlan (RequestUnanswered r))
         (placed (λ k. OfPlan (RequestUnanswered k)) (length line.plan.requests.items) r (slice_get_within line.plan.requests.items r its.value its.value_is)))
 
     unheard : (r : ℕ) → meets_any line v (conditions_of line (OfPlan (RequestUnheard r))) ≡ true → Behind (OfPlan (RequestUnheard r))
     unheard r met =
         let its = of_some (meets_condition line v) (λ (request : RequestPlan). if is_to_one request.to then [] else unserved_condition line r request)
         (slice_get line.plan.requests.items r) met in
-        behind_needs (OfPlan (RequestUnheard r)) (right unanswered_ones (unheard_ones ++ astray_ones) (OfPlan (RequestUnheard r))
-        (left unheard_ones astray_ones (OfPlan (RequestUnheard r))
+        behind_needs (OfPlan (RequestUnheard r)) (one_right unanswered_ones (unheard_ones ++ astray_ones) (OfPlan (RequestUnheard r))
+        (one_left unheard_ones astray_ones (OfPlan (RequestUnheard r))
         (placed (λ k. OfPlan (RequestUnheard k)) (length line.plan.requests.items) r (slice_get_within line.plan.requests.items r its.value its.value_is))))
 
     astray : (r : ℕ) → meets_any line v (conditions_of line (OfPlan (AnswerAstray r))) ≡ true → Behind (OfPlan (AnswerAstray r))
     astray r met =
         let its = of_some (meets_condition line v) (astray_conditions line r) (slice_get line.plan.requests.items r) met in
-        behind_needs (OfPlan (AnswerAstray r)) (right unanswered_ones (unheard_ones ++ astray_ones) (OfPlan (AnswerAstray r))
-        (right unheard_ones astray_ones (OfPlan (AnswerAstray r))
+        behind_needs (OfPlan (AnswerAstray r)) (one_right unanswered_ones (unheard_ones ++ astray_ones) (OfPlan (AnswerAstray r))
+        (one_right unheard_ones astray_ones (OfPlan (AnswerAstray r))
         (placed (λ k. OfPlan (AnswerAstray k)) (length line.plan.requests.items) r (slice_get_within line.plan.requests.items r its.value its.value_is))))
 
     asked : (x : Finding) → goes_by_conditions line (OfPlan x) ≡ true → meets_any line v (conditions_of line (OfPlan x)) ≡ true
@@ -227,14 +228,14 @@ module _ (line : ProductLine) where
     pub is_candidate : (finding : LineFinding) → goes_by_conditions line finding ≡ true → MayBeFound line finding → meets_any line v (conditions_of line finding) ≡ true
         → IsFound (candidates line) finding
     is_candidate (OfPlan x) goes may met = elim (asked x goes met) [
-      | inr behind ↦ right (candidates_of_parts line) behind_parts (OfPlan x) behind
+      | inr behind ↦ one_right (candidates_of_parts line) behind_parts (OfPlan x) behind
       | inl is ↦ elim may [
         | inl absent ↦ absurd (true≢false (sym absent ∙ (of_parts x is).1))
-        | inr there ↦ left (candidates_of_parts line) behind_parts (OfPlan x)
+        | inr there ↦ one_left (candidates_of_parts line) behind_parts (OfPlan x)
             (of_made OfPlan (filter (is_of_parts line) (found line.plan)) x (passed (is_of_parts line) (found line.plan) x is there))
       ]
     ]
-    is_candidate (OfLoad (NoPeriod f)) goes may met = right (candidates_of_parts line) behind_parts (OfLoad (NoPeriod f)) (unpaced f met)
+    is_candidate (OfLoad (NoPeriod f)) goes may met = one_right (candidates_of_parts line) behind_parts (OfLoad (NoPeriod f)) (unpaced f met)
     is_candidate (OfLoad (Overload n)) goes may met = absurd (false≢true goes)
     is_candidate (OfLoad (LateFlow f)) goes may met = absurd (false≢true goes)
     is_candidate (OfLoad (NeedTooOld d)) goes may met = absurd (false≢true goes)

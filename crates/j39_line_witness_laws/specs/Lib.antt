@@ -1,1 +1,1 @@
-pub mod ToldByConditions
+pub mod ReportedByConditions

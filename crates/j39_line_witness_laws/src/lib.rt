@@ -1,6 +1,6 @@
-//! Laws of findings that are told with their first witnesses.
+//! Laws of findings that are reported with their first witnesses.
 #![tactic(auto)]
 
 mod laws;
 
-pub use laws::what_is_told_is_what_variants_have;
+pub use laws::what_is_reported_is_what_variants_have;

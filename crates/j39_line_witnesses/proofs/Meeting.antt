@@ -16,12 +16,13 @@ use Rattle.j39_line_findings.specs.Conditions.{are_there, meets_any, meets_condi
 use Rattle.j39_line_findings.specs.PossibleVariants.{IsPossible}
 use Rattle.j39_line_findings.specs.declared.part.LinePart.{LinePart}
 use Rattle.j39_line_witnesses.specs.FirstMeeting.{IsWitnessOf, NoneMeets}
-use Rattle.j39_line_witnesses.specs.PartBoxes.{are_parts_known, do_all_let_in, holes_of_parts, is_list_known, list_box, never_hole, never_holes, parts_box, parts_hole}
+use Rattle.j39_line_findings.specs.KnownParts.{are_parts_known, do_all_let_in, is_list_known}
+use Rattle.j39_line_witnesses.specs.PartBoxes.{holes_of_parts, list_box, never_hole, never_holes, parts_box, parts_hole}
 use Rattle.j39_line_witnesses.specs.Presences.{condition_of, parts_in}
 use Rattle.j39_line_witnesses.specs.WitnessLaws.{BoxesAreExact}
 use Rattle.j39_line_witnesses.specs.declared.presence.Presence.{Presence}
-use Rattle.j39_line_witnesses.proofs.Shown.{list_shown, parts_shown}
-use Rattle.j39_line_witnesses.proofs.Tests.{one_answer}
+use Rattle.j39_line_findings.proofs.Shown.{list_shown, parts_shown}
+use Rattle.j39_line_findings.proofs.Tests.{one_answer}
 use Rattle.j39_line_witnesses.proofs.Within.{passing_is_within, within_passing, within_variant}
 
 -- ---- tests

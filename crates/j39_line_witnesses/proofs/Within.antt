@@ -7,8 +7,10 @@ use Rattle.j39_load.specs.LineLists.{lines_of_each}
 use Rattle.j39_variants.specs.declared.line.Alternative.{Alternative}
 use Rattle.j39_variants.specs.declared.line.Choice.{Choice}
 use Rattle.j39_variants.specs.VariantPlans.{flag_at}
-use Rattle.j39_variants.specs.Variants.{FitChoices, IsVariant}
+use Rattle.j39_variants.specs.Variants.{IsVariant}
 use Rattle.j39_line_findings.specs.FullVariants.{alternative_at}
+use Rattle.j39_line_findings.proofs.EveryVariant.{Fits, fits_from, fits_to}
+use Rattle.j39_line_findings.proofs.Shown.{Passes}
 use Rattle.j39_variant_search.specs.VariantSearch.{is_in_box}
 use Rattle.j39_line_witnesses.specs.PartBoxes.{flags_by, flags_of_choice}
 
@@ -26,18 +28,8 @@ flag_inside f a zero p set = absurd (false≢true set)
 flag_inside f a (suc n) zero set = omega arith
 flag_inside f a (suc n) (suc p) set = let less = flag_inside f (a + 1) n p set in omega (arith, less)
 
-one_more_fits : (c : Choice) (cs : List Choice) (p : ℕ) (v : List ℕ) → p < length c.alternatives.items → FitChoices cs v → FitChoices (c ∷ cs) (p ∷ v)
-one_more_fits c cs p v here rest zero below = here
-one_more_fits c cs p v here rest (suc k) below = rest k (omega (arith, below))
-
 -- of some choices, of which these stand from a place on
 module _ (test : Alternative → Bool) where
-  abbrev Fits : List Choice → List ℕ → Type 0
-  Fits [] [] = Unit {0}
-  Fits [] (p ∷ v) = ⊥
-  Fits (c ∷ cs) [] = ⊥
-  Fits (c ∷ cs) (p ∷ v) = (p < length c.alternatives.items) × Fits cs v
-
   abbrev flags_from : ℕ → List Choice → List (List Bool)
   flags_from n choices = lines_of_each (λ c choice. flags_of_choice test c choice ∷ []) n choices
 
@@ -83,35 +75,10 @@ module _ (test : Alternative → Bool) where
       let next : n + suc d ≡ (n + 1) + d = omega arith in
       subst (λ m. test (alternative_at m q) ≡ true) next (passes (suc d) q at)))
 
--- ---- a variant as its choices have it
-
-fits_variant : (cs : List Choice) (v : List ℕ) → Fits (λ a. true) cs v → IsVariant cs v
-fits_variant [] [] is = record { fits = λ k below. absurd (omega (arith, below)); of_each = refl }
-fits_variant [] (p ∷ v) is = absurd is
-fits_variant (c ∷ cs) [] is = absurd is
-fits_variant (c ∷ cs) (p ∷ v) is =
-    let rest = fits_variant cs v is.1 in
-    let same = rest.of_each in record { fits = one_more_fits c cs p v is.0 rest.fits; of_each = omega (arith, same) }
-
-variant_fits : (cs : List Choice) (v : List ℕ) → IsVariant cs v → Fits (λ a. true) cs v
-variant_fits [] [] is = tt
-variant_fits [] (p ∷ v) is = let none = is.of_each in absurd (omega (arith, none))
-variant_fits (c ∷ cs) [] is = let none = is.of_each in absurd (omega (arith, none))
-variant_fits (c ∷ cs) (p ∷ v) is =
-    let same = is.of_each in
-    let all = is.fits in (
-      all zero (omega arith),
-      variant_fits cs v (record { fits = λ k below. all (suc k) (omega (arith, below)); of_each = omega (arith, same) }),
-    )
-
 -- ---- of all choices
 
--- each alternative that the variant takes passes the test
-abbrev pub Passes : (Alternative → Bool) → List ℕ → Type 0
-Passes test v = (c p : ℕ) → slice_get v c ≡ Some p → test (alternative_at c p) ≡ true
-
 pub within_variant : (test : Alternative → Bool) (choices : List Choice) (v : List ℕ) → is_in_box (flags_by test choices) v ≡ true → IsVariant choices v
-within_variant test choices v is = fits_variant choices v (within_fits test 0 choices v is)
+within_variant test choices v is = fits_to choices v (within_fits test 0 choices v is)
 
 pub within_passing : (test : Alternative → Bool) (choices : List Choice) (v : List ℕ) → is_in_box (flags_by test choices) v ≡ true → Passes test v
 within_passing test choices v is c p at =
@@ -120,6 +87,6 @@ within_passing test choices v is c p at =
 
 pub passing_is_within : (test : Alternative → Bool) (choices : List Choice) (v : List ℕ) → IsVariant choices v → Passes test v
     → is_in_box (flags_by test choices) v ≡ true
-passing_is_within test choices v is passes = passing_within test 0 choices v (variant_fits choices v is) (λ c p at.
+passing_is_within test choices v is passes = passing_within test 0 choices v (fits_from choices v is) (λ c p at.
     let here : c ≡ 0 + c = omega arith in
     subst (λ m. test (alternative_at m p) ≡ true) here (passes c p at))

@@ -13,7 +13,7 @@ pub record IsFoundBy (line : ProductLine) (finding : LineFinding) (one : FoundBy
 
 -- of these findings, in their order, those whose conditions some possible variant meets, each with its witness
 abbrev pub AreWitnessed : ProductLine → List LineFinding → List FoundByCondition → Type 0
-AreWitnessed line [] told = told ≡ []
-AreWitnessed line (finding ∷ findings) told =
-    (NoneMeets line (conditions_of line finding) × AreWitnessed line findings told)
-    ⊎ ((one : FoundByCondition) × (others : List FoundByCondition) × (told ≡ one ∷ others) × IsFoundBy line finding one × AreWitnessed line findings others)
+AreWitnessed line [] reported = reported ≡ []
+AreWitnessed line (finding ∷ findings) reported =
+    (NoneMeets line (conditions_of line finding) × AreWitnessed line findings reported)
+    ⊎ ((one : FoundByCondition) × (others : List FoundByCondition) × (reported ≡ one ∷ others) × IsFoundBy line finding one × AreWitnessed line findings others)

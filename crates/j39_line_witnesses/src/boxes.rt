@@ -1,9 +1,9 @@
 //! Boxes of variants: of each choice, of each of its alternatives, whether the box has it.
 ghost use Rattle.std.specs.Prelude.{◌≡◌, ◌++◌, IfOk, OnOk};
 ghost use Rattle.j39_variant_search.specs.VariantSearch.{box_flags, boxes_flags};
-ghost use Rattle.j39_line_witnesses.specs.PartBoxes.{do_all_let_in, flags_of_choice, holes_of_parts, list_box, never_hole, never_holes};
-ghost use Rattle.j39_line_witnesses.specs.PartBoxes.{parts_box, parts_hole};
-ghost use Rattle.j39_line_findings.specs.Boxes.{lets_in};
+ghost use Rattle.j39_line_findings.specs.KnownParts.{do_all_let_in};
+ghost use Rattle.j39_line_witnesses.specs.PartBoxes.{box_test, flags_by, flags_of_choice, hole_of, holes_of_parts, is_test_known};
+ghost use Rattle.j39_line_witnesses.specs.PartBoxes.{list_box, never_holes, parts_box};
 
 use crate::known::{are_parts_known, is_list_known};
 use j39_line_findings::{LinePart, lets_in, part_lets_in};
@@ -18,18 +18,62 @@ fn do_all_let_in(line: &ProductLine, parts: &[LinePart], alternative: &Alternati
         .all(|part| part_lets_in(line, alternative, *part))
 }
 
-fn flags_of_parts(
+// Which alternatives a box has.
+#[derive(Clone, Copy)]
+enum BoxTest<'a> {
+    // Those that the box of this list has.
+    OfList(&'a [Alternative]),
+    // Those that the boxes of all these parts have.
+    OfParts(&'a [LinePart]),
+}
+
+impl BoxTest<'_> {
+    fn lets_in(&self, line: &ProductLine, alternative: &Alternative) -> bool
+        ensures { result ≡ box_test line.now self.now alternative.now }
+    {
+        match self {
+            BoxTest::OfList(list) => lets_in(list, alternative),
+            BoxTest::OfParts(parts) => do_all_let_in(line, parts, alternative),
+        }
+    }
+
+    // Whether it names only choices that the line has.
+    fn is_known(&self, line: &ProductLine) -> bool
+        ensures { result ≡ is_test_known line.now self.now }
+    {
+        match self {
+            BoxTest::OfList(list) => is_list_known(line, list),
+            BoxTest::OfParts(parts) => are_parts_known(line, parts),
+        }
+    }
+}
+
+fn flags_of_choice(
     alloc: Global,
     line: &ProductLine,
-    parts: &[LinePart],
+    test: &BoxTest<'_>,
     choice: usize,
-    told: &Choice,
+    reported: &Choice,
 ) -> Result<Vec<bool>, AllocError>
-    ensures { IfOk result (λ v. v.items ≡ flags_of_choice (do_all_let_in line.now parts.now) choice told.now) }
+    ensures { IfOk result (λ v. v.items ≡ flags_of_choice (box_test line.now test.now) choice reported.now) }
 {
-    (0..told.alternatives.len())
-        .map(|place| do_all_let_in(line, parts, &Alternative { choice, place }))
+    (0..reported.alternatives.len())
+        .map(|place| test.lets_in(line, &Alternative { choice, place }))
         .collect(alloc)
+}
+
+fn flags_by(
+    alloc: Global,
+    line: &ProductLine,
+    test: &BoxTest<'_>,
+) -> Result<Vec<Vec<bool>>, AllocError>
+    ensures { IfOk result (λ flags. box_flags flags.items ≡ flags_by (box_test line.now test.now) line.now.choices.items) }
+{
+    let mut flags = Vec::new(alloc);
+    for (choice, reported) in line.choices.iter().enumerate() {
+        flags.push(flags_of_choice(alloc, line, test, choice, reported)?)?;
+    }
+    Ok(flags)
 }
 
 /// The intersection of the boxes of parts.
@@ -40,24 +84,7 @@ pub fn parts_box(
 ) -> Result<Vec<Vec<bool>>, AllocError>
     ensures { IfOk result (λ flags. box_flags flags.items ≡ parts_box line.now parts.now) }
 {
-    let mut flags = Vec::new(alloc);
-    for (choice, told) in line.choices.iter().enumerate() {
-        flags.push(flags_of_parts(alloc, line, parts, choice, told)?)?;
-    }
-    Ok(flags)
-}
-
-fn flags_of_list(
-    alloc: Global,
-    list: &[Alternative],
-    choice: usize,
-    told: &Choice,
-) -> Result<Vec<bool>, AllocError>
-    ensures { IfOk result (λ v. v.items ≡ flags_of_choice (lets_in list.now) choice told.now) }
-{
-    (0..told.alternatives.len())
-        .map(|place| lets_in(list, &Alternative { choice, place }))
-        .collect(alloc)
+    flags_by(alloc, line, &BoxTest::OfParts(parts))
 }
 
 /// The box of a list.
@@ -68,23 +95,20 @@ pub fn list_box(
 ) -> Result<Vec<Vec<bool>>, AllocError>
     ensures { IfOk result (λ flags. box_flags flags.items ≡ list_box line.now list.now) }
 {
-    let mut flags = Vec::new(alloc);
-    for (choice, told) in line.choices.iter().enumerate() {
-        flags.push(flags_of_list(alloc, list, choice, told)?)?;
-    }
-    Ok(flags)
+    flags_by(alloc, line, &BoxTest::OfList(list))
 }
 
-fn add_never(
+// Adds the box, where it names only choices that the line has.
+fn add_hole(
     alloc: Global,
     line: &ProductLine,
     holes: &mut Vec<Vec<Vec<bool>>>,
-    never: &[Alternative],
+    test: &BoxTest<'_>,
 ) -> Result<(), AllocError>
-    ensures { OnOk result (boxes_flags holes.new.items ≡ boxes_flags holes.old.items ++ never_hole line.now never.now) }
+    ensures { OnOk result (boxes_flags holes.new.items ≡ boxes_flags holes.old.items ++ hole_of line.now test.now) }
 {
-    if is_list_known(line, never) {
-        let hole = list_box(alloc, line, never)?;
+    if test.is_known(line) {
+        let hole = flags_by(alloc, line, test)?;
         holes.push(hole)?;
     }
     Ok(())
@@ -96,24 +120,9 @@ pub fn never_holes(alloc: Global, line: &ProductLine) -> Result<Vec<Vec<Vec<bool
 {
     let mut holes = Vec::new(alloc);
     for never in &line.nevers {
-        add_never(alloc, line, &mut holes, never)?;
+        add_hole(alloc, line, &mut holes, &BoxTest::OfList(never))?;
     }
     Ok(holes)
-}
-
-fn add_hole(
-    alloc: Global,
-    line: &ProductLine,
-    holes: &mut Vec<Vec<Vec<bool>>>,
-    parts: &[LinePart],
-) -> Result<(), AllocError>
-    ensures { OnOk result (boxes_flags holes.new.items ≡ boxes_flags holes.old.items ++ parts_hole line.now parts.now) }
-{
-    if are_parts_known(line, parts) {
-        let hole = parts_box(alloc, line, parts)?;
-        holes.push(hole)?;
-    }
-    Ok(())
 }
 
 /// Adds the box of each of these lists of parts.
@@ -126,7 +135,7 @@ pub(crate) fn add_holes(
     ensures { OnOk result (boxes_flags holes.new.items ≡ boxes_flags holes.old.items ++ holes_of_parts line.now lacking.now) }
 {
     for parts in lacking {
-        add_hole(alloc, line, holes, parts)?;
+        add_hole(alloc, line, holes, &BoxTest::OfParts(parts))?;
     }
     Ok(())
 }

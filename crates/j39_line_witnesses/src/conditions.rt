@@ -4,52 +4,26 @@ ghost use Rattle.j39_findings.specs.declared.checking.finding.Finding.TheVariant
 ghost use Rattle.j39_findings.specs.declared.checking.finding.Finding.TheVariants.{PrivateUnsent, RequestUnanswered, RequestUnheard};
 ghost use Rattle.j39_load.specs.declared.findings.load_finding.LoadFinding.TheVariants.{NoPeriod};
 ghost use Rattle.j39_load.specs.LineLists.{lines_of_each};
-ghost use Rattle.j39_line_findings.specs.Told.{are_at_one_address};
-ghost use Rattle.j39_line_findings.specs.Conditions.{astray_by, astray_conditions, conditions_of, conditions_of_load, conditions_of_plan};
-ghost use Rattle.j39_line_findings.specs.Conditions.{contested_by, contested_conditions, is_beside_end, no_period_conditions};
-ghost use Rattle.j39_line_findings.specs.Conditions.{unmet_condition, unsent_condition, unserved_condition};
+ghost use Rattle.j39_line_findings.specs.Reported.{are_at_one_address};
+ghost use Rattle.j39_line_findings.specs.Conditions.{astray_by, conditions_of, conditions_of_load, conditions_of_plan};
+ghost use Rattle.j39_line_findings.specs.Conditions.{contested_by, is_beside_end};
+ghost use Rattle.j39_line_findings.specs.Conditions.{unserved_condition};
 ghost use Rattle.j39_line_witnesses.specs.FlowTests.{flow_test};
 ghost use Rattle.j39_line_witnesses.specs.Presences.{conditions_in};
 
-use crate::flow_tests::{FlowTest, may_name_receiver};
+use crate::flow_tests::FlowTest;
 use crate::lists::{flows_where, sources_of};
-use crate::presence::{Presence, add_lacking, add_together, where_lacking, where_together};
+use crate::presence::{
+    ConditionList, Presence, add_lacking, add_together, where_lacking, where_together,
+};
 use crate::private_pairs::conditions_of_groups;
 use j39_findings::Finding;
+use j39_findings::sending::may_name_receiver;
 use j39_line_findings::{LineFinding, LinePart, has_end_in_pool, is_end};
 use j39_load::LoadFinding;
-use j39_network::{FlowPlan, GroupPlan, NeedPlan, RequestPlan, To};
+use j39_network::{FlowPlan, RequestPlan, To};
 use j39_variants::ProductLine;
 use std::alloc::{AllocError, Global};
-
-// A private group is there, and no flow of it.
-fn unsent_condition(
-    alloc: Global,
-    line: &ProductLine,
-    place: usize,
-    group: &GroupPlan,
-) -> Result<Vec<Presence>, AllocError>
-    ensures { IfOk result (λ v. conditions_in v.items ≡ unsent_condition line.now place group.now) }
-{
-    if !group.private {
-        return Ok(Vec::new(alloc));
-    }
-    let flows = flows_where(alloc, line, &FlowTest::Sends(group))?;
-    where_lacking(alloc, &[LinePart::Group(place)], flows)
-}
-
-// A need is asked for, and no flow that brings what is needed is there, with a request where it is only asked for.
-fn unmet_condition(
-    alloc: Global,
-    line: &ProductLine,
-    place: usize,
-    need: &NeedPlan,
-) -> Result<Vec<Presence>, AllocError>
-    ensures { IfOk result (λ v. conditions_in v.items ≡ unmet_condition line.now place need.now) }
-{
-    let sources = sources_of(alloc, line, need)?;
-    where_lacking(alloc, &[LinePart::Need(place)], sources)
-}
 
 // A request is there, and no flow that answers it.
 fn unserved_condition(
@@ -57,7 +31,7 @@ fn unserved_condition(
     line: &ProductLine,
     place: usize,
     request: &RequestPlan,
-) -> Result<Vec<Presence>, AllocError>
+) -> ConditionList
     ensures { IfOk result (λ v. conditions_in v.items ≡ unserved_condition line.now place request.now) }
 {
     let flows = flows_where(alloc, line, &FlowTest::Serves(request))?;
@@ -96,7 +70,7 @@ fn astray_by_each(
     place: usize,
     one: &FlowTest,
     other: &FlowTest,
-) -> Result<Vec<Presence>, AllocError>
+) -> ConditionList
     ensures { IfOk result (λ v. conditions_in v.items ≡ lines_of_each (astray_by line.now place
         (flow_test line.now.plan.groups.items one.now) (flow_test line.now.plan.groups.items other.now)) 0 line.now.plan.flows.items) }
 {
@@ -105,28 +79,6 @@ fn astray_by_each(
         add_astray_by(alloc, line, &mut found, place, one, other, answered, flow)?;
     }
     Ok(found)
-}
-
-fn astray_conditions(
-    alloc: Global,
-    line: &ProductLine,
-    place: usize,
-    request: &RequestPlan,
-) -> Result<Vec<Presence>, AllocError>
-    ensures { IfOk result (λ v. conditions_in v.items ≡ astray_conditions line.now place request.now) }
-{
-    let one = FlowTest::ServesOne(request);
-    let all = FlowTest::ServesAll(request);
-    match request.to {
-        To::All => astray_by_each(alloc, line, place, &one, &all),
-        To::One(_) => {
-            if may_name_receiver(&line.plan.groups, request) {
-                astray_by_each(alloc, line, place, &all, &one)
-            } else {
-                Ok(Vec::new(alloc))
-            }
-        }
-    }
 }
 
 fn are_at_one_address(line: &ProductLine, unit: usize, other: usize) -> bool
@@ -168,7 +120,7 @@ fn contested_by_each(
     line: &ProductLine,
     place: usize,
     flow: &FlowPlan,
-) -> Result<Vec<Presence>, AllocError>
+) -> ConditionList
     ensures { IfOk result (λ v. conditions_in v.items
         ≡ lines_of_each (λ u _. contested_by line.now place flow.now u) 0 line.now.plan.units.items) }
 {
@@ -179,70 +131,34 @@ fn contested_by_each(
     Ok(found)
 }
 
-// A flow and a unit at the address of an end are there, on a live bus where units move to no end of the flow.
-fn contested_conditions(
-    alloc: Global,
-    line: &ProductLine,
-    place: usize,
-    flow: &FlowPlan,
-) -> Result<Vec<Presence>, AllocError>
-    ensures { IfOk result (λ v. conditions_in v.items ≡ contested_conditions line.now place flow.now) }
-{
-    if line.plan.live && !has_end_in_pool(line, place) {
-        contested_by_each(alloc, line, place, flow)
-    } else {
-        Ok(Vec::new(alloc))
-    }
-}
-
-fn no_period_conditions(
-    alloc: Global,
-    line: &ProductLine,
-    place: usize,
-    flow: &FlowPlan,
-) -> Result<Vec<Presence>, AllocError>
-    ensures { IfOk result (λ v. conditions_in v.items ≡ no_period_conditions line.now place flow.now) }
-{
-    if line.plan.timing.is_some() && flow.pace.is_none() {
-        where_together(alloc, &[LinePart::Flow(place)])
-    } else {
-        Ok(Vec::new(alloc))
-    }
-}
-
 // ---- what isn't there, of a place
 
-fn conditions_of_unsent(
-    alloc: Global,
-    line: &ProductLine,
-    place: usize,
-) -> Result<Vec<Presence>, AllocError>
+// A private group is there, and no flow of it.
+fn conditions_of_unsent(alloc: Global, line: &ProductLine, place: usize) -> ConditionList
     ensures { IfOk result (λ v. conditions_in v.items ≡ conditions_of_plan line.now (PrivateUnsent place)) }
 {
-    match line.plan.groups.get(place) {
-        Some(group) => unsent_condition(alloc, line, place, group),
-        None => Ok(Vec::new(alloc)),
+    let Some(group) = line.plan.groups.get(place) else {
+        return Ok(Vec::new(alloc));
+    };
+    if !group.private {
+        return Ok(Vec::new(alloc));
     }
+    let flows = flows_where(alloc, line, &FlowTest::Sends(group))?;
+    where_lacking(alloc, &[LinePart::Group(place)], flows)
 }
 
-fn conditions_of_unmet(
-    alloc: Global,
-    line: &ProductLine,
-    place: usize,
-) -> Result<Vec<Presence>, AllocError>
+// A need is asked for, and no flow that brings what is needed is there, with a request where it is only asked for.
+fn conditions_of_unmet(alloc: Global, line: &ProductLine, place: usize) -> ConditionList
     ensures { IfOk result (λ v. conditions_in v.items ≡ conditions_of_plan line.now (NeedUnmet place)) }
 {
-    match line.plan.needs.get(place) {
-        Some(need) => unmet_condition(alloc, line, place, need),
-        None => Ok(Vec::new(alloc)),
-    }
+    let Some(need) = line.plan.needs.get(place) else {
+        return Ok(Vec::new(alloc));
+    };
+    let sources = sources_of(alloc, line, need)?;
+    where_lacking(alloc, &[LinePart::Need(place)], sources)
 }
 
-fn conditions_of_unanswered(
-    alloc: Global,
-    line: &ProductLine,
-    place: usize,
-) -> Result<Vec<Presence>, AllocError>
+fn conditions_of_unanswered(alloc: Global, line: &ProductLine, place: usize) -> ConditionList
     ensures { IfOk result (λ v. conditions_in v.items ≡ conditions_of_plan line.now (RequestUnanswered place)) }
 {
     match line.plan.requests.get(place) {
@@ -257,11 +173,7 @@ fn conditions_of_unanswered(
     }
 }
 
-fn conditions_of_unheard(
-    alloc: Global,
-    line: &ProductLine,
-    place: usize,
-) -> Result<Vec<Presence>, AllocError>
+fn conditions_of_unheard(alloc: Global, line: &ProductLine, place: usize) -> ConditionList
     ensures { IfOk result (λ v. conditions_in v.items ≡ conditions_of_plan line.now (RequestUnheard place)) }
 {
     match line.plan.requests.get(place) {
@@ -276,52 +188,58 @@ fn conditions_of_unheard(
     }
 }
 
-fn conditions_of_astray(
-    alloc: Global,
-    line: &ProductLine,
-    place: usize,
-) -> Result<Vec<Presence>, AllocError>
+// A request and a flow that answers it in the wrong way are there, and none that does in the right one.
+fn conditions_of_astray(alloc: Global, line: &ProductLine, place: usize) -> ConditionList
     ensures { IfOk result (λ v. conditions_in v.items ≡ conditions_of_plan line.now (AnswerAstray place)) }
 {
-    match line.plan.requests.get(place) {
-        Some(request) => astray_conditions(alloc, line, place, request),
-        None => Ok(Vec::new(alloc)),
+    let Some(request) = line.plan.requests.get(place) else {
+        return Ok(Vec::new(alloc));
+    };
+    let one = FlowTest::ServesOne(request);
+    let all = FlowTest::ServesAll(request);
+    match request.to {
+        To::All => astray_by_each(alloc, line, place, &one, &all),
+        To::One(_) => {
+            if may_name_receiver(&line.plan.groups, request) {
+                astray_by_each(alloc, line, place, &all, &one)
+            } else {
+                Ok(Vec::new(alloc))
+            }
+        }
     }
 }
 
-fn conditions_of_contested(
-    alloc: Global,
-    line: &ProductLine,
-    place: usize,
-) -> Result<Vec<Presence>, AllocError>
+// A flow and a unit at the address of an end are there, on a live bus where units move to no end of the flow.
+fn conditions_of_contested(alloc: Global, line: &ProductLine, place: usize) -> ConditionList
     ensures { IfOk result (λ v. conditions_in v.items ≡ conditions_of_plan line.now (FlowContested place)) }
 {
-    match line.plan.flows.get(place) {
-        Some(flow) => contested_conditions(alloc, line, place, flow),
-        None => Ok(Vec::new(alloc)),
+    let Some(flow) = line.plan.flows.get(place) else {
+        return Ok(Vec::new(alloc));
+    };
+    if line.plan.live && !has_end_in_pool(line, place) {
+        contested_by_each(alloc, line, place, flow)
+    } else {
+        Ok(Vec::new(alloc))
     }
 }
 
-fn conditions_of_no_period(
-    alloc: Global,
-    line: &ProductLine,
-    place: usize,
-) -> Result<Vec<Presence>, AllocError>
+// A flow without a period is there, where the plan has timing.
+fn conditions_of_no_period(alloc: Global, line: &ProductLine, place: usize) -> ConditionList
     ensures { IfOk result (λ v. conditions_in v.items ≡ conditions_of_load line.now (NoPeriod place)) }
 {
-    match line.plan.flows.get(place) {
-        Some(flow) => no_period_conditions(alloc, line, place, flow),
-        None => Ok(Vec::new(alloc)),
+    let Some(flow) = line.plan.flows.get(place) else {
+        return Ok(Vec::new(alloc));
+    };
+    if line.plan.timing.is_some() && flow.pace.is_none() {
+        where_together(alloc, &[LinePart::Flow(place)])
+    } else {
+        Ok(Vec::new(alloc))
     }
 }
 
 // ---- of each finding
 
-fn conditions_of_plan(
-    alloc: Global,
-    line: &ProductLine,
-    finding: Finding,
-) -> Result<Vec<Presence>, AllocError>
+fn conditions_of_plan(alloc: Global, line: &ProductLine, finding: Finding) -> ConditionList
     ensures { IfOk result (λ v. conditions_in v.items ≡ conditions_of_plan line.now finding) }
 {
     match finding {
@@ -361,11 +279,7 @@ fn conditions_of_plan(
     }
 }
 
-fn conditions_of_load(
-    alloc: Global,
-    line: &ProductLine,
-    finding: LoadFinding,
-) -> Result<Vec<Presence>, AllocError>
+fn conditions_of_load(alloc: Global, line: &ProductLine, finding: LoadFinding) -> ConditionList
     ensures { IfOk result (λ v. conditions_in v.items ≡ conditions_of_load line.now finding) }
 {
     match finding {
@@ -377,11 +291,7 @@ fn conditions_of_load(
 }
 
 /// On which conditions a variant has the finding; of one that counts what is there, none.
-pub fn conditions_of(
-    alloc: Global,
-    line: &ProductLine,
-    finding: LineFinding,
-) -> Result<Vec<Presence>, AllocError>
+pub fn conditions_of(alloc: Global, line: &ProductLine, finding: LineFinding) -> ConditionList
     ensures { IfOk result (λ v. conditions_in v.items ≡ conditions_of line.now finding) }
 {
     match finding {

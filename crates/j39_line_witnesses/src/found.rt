@@ -26,37 +26,37 @@ fn add_found(
     alloc: Global,
     line: &ProductLine,
     holes: &mut Vec<Vec<Vec<bool>>>,
-    told: &mut Vec<FoundByCondition>,
+    reported: &mut Vec<FoundByCondition>,
     finding: LineFinding,
 ) -> Result<(), AllocError>
     requires { boxes_flags holes.old.items ≡ never_holes line.now line.now.nevers.items }
     ensures kept { OnOk result (boxes_flags holes.new.items ≡ boxes_flags holes.old.items) }
-    ensures added { OnOk result ((findings : List LineFindings) → AreWitnessed line.now findings told.old.items
-        → AreWitnessed line.now (findings ++ finding ∷ []) told.new.items) }
+    ensures added { OnOk result ((findings : List LineFindings) → AreWitnessed line.now findings reported.old.items
+        → AreWitnessed line.now (findings ++ finding ∷ []) reported.new.items) }
 {
     match first_having(alloc, line, holes, finding)? {
         Some(witness) => {
-            told.push(FoundByCondition { finding, witness })?;
+            reported.push(FoundByCondition { finding, witness })?;
             Ok(())
         }
         None => Ok(()),
     }
 }
 
-// Those of these findings that have a witness, each with it.
+// The findings that have a witness, each with its first one.
 fn found_of(
     alloc: Global,
     line: &ProductLine,
     findings: &[LineFinding],
 ) -> Result<Vec<FoundByCondition>, AllocError>
-    ensures { IfOk result (λ told. AreWitnessed line.now findings.now told.items) }
+    ensures { IfOk result (λ reported. AreWitnessed line.now findings.now reported.items) }
 {
     let mut holes = never_holes(alloc, line)?;
-    let mut told = Vec::new(alloc);
+    let mut reported = Vec::new(alloc);
     for finding in findings {
-        add_found(alloc, line, &mut holes, &mut told, *finding)?;
+        add_found(alloc, line, &mut holes, &mut reported, *finding)?;
     }
-    Ok(told)
+    Ok(reported)
 }
 
 /// Each finding that goes by conditions, and that some possible variant of the line has, with the first one that has it.
@@ -64,7 +64,7 @@ pub fn found_by_conditions(
     alloc: Global,
     line: &ProductLine,
 ) -> Result<Vec<FoundByCondition>, AllocError>
-    ensures { IfOk result (λ told. AreWitnessed line.now (candidates line.now) told.items) }
+    ensures { IfOk result (λ reported. AreWitnessed line.now (candidates line.now) reported.items) }
 {
     let findings = candidates(alloc, line)?;
     found_of(alloc, line, &findings)

@@ -8,7 +8,7 @@ pub fn boxes_are_exact()
 {}
 
 /// What is found by conditions is exactly what possible variants meet: each witness is the first possible variant that
-/// meets one of its finding's conditions, and each finding that has one is told.
+/// meets one of its finding's conditions, and each finding that has one is reported.
 pub fn witnessed_are_exact()
     ensures { WitnessedAreExact }
 {}

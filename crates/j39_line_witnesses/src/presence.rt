@@ -13,6 +13,9 @@ pub struct Presence {
     pub lacking: Vec<Vec<LinePart>>,
 }
 
+/// Conditions of one finding.
+pub(crate) type ConditionList = Result<Vec<Presence>, AllocError>;
+
 /// Adds that these are there together, and of each of those lists some part isn't.
 pub(crate) fn add_lacking(
     alloc: Global,
@@ -44,7 +47,7 @@ pub(crate) fn where_lacking(
     alloc: Global,
     parts: &[LinePart],
     lacking: Vec<Vec<LinePart>>,
-) -> Result<Vec<Presence>, AllocError>
+) -> ConditionList
     ensures { IfOk result (λ v. conditions_in v.items ≡ record { together = parts.now; lacking = parts_in lacking.items } ∷ []) }
 {
     let mut found = Vec::new(alloc);
@@ -53,7 +56,7 @@ pub(crate) fn where_lacking(
 }
 
 /// That these are there together, whatever else is there.
-pub(crate) fn where_together(alloc: Global, parts: &[LinePart]) -> Result<Vec<Presence>, AllocError>
+pub(crate) fn where_together(alloc: Global, parts: &[LinePart]) -> ConditionList
     ensures { IfOk result (λ v. conditions_in v.items ≡ where_together parts.now) }
 {
     where_lacking(alloc, parts, Vec::new(alloc))

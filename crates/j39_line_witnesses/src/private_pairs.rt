@@ -5,8 +5,8 @@ ghost use Rattle.j39_line_findings.specs.Conditions.{conditions_of_groups, sent_
 ghost use Rattle.j39_line_findings.specs.declared.part.LinePart.TheVariants.{Group};
 ghost use Rattle.j39_line_witnesses.specs.Presences.{conditions_in};
 
-use crate::flow_tests::{sends, sends_beside};
-use crate::presence::{Presence, add_together, where_together};
+use crate::presence::{ConditionList, Presence, add_together, where_together};
+use j39_findings::sending::{sends, sends_beside};
 use j39_line_findings::LinePart;
 use j39_network::{FlowPlan, GroupPlan};
 use j39_variants::ProductLine;
@@ -83,7 +83,7 @@ impl PrivatePair<'_> {
         Ok(())
     }
 
-    fn sent_together(&self, alloc: Global) -> Result<Vec<Presence>, AllocError>
+    fn sent_together(&self, alloc: Global) -> ConditionList
         ensures { IfOk result (λ v. conditions_in v.items
             ≡ sent_together self.now.line.now self.now.first self.now.second self.now.group.now self.now.other.now) }
     {
@@ -103,7 +103,7 @@ fn conditions_of_both(
     second: usize,
     group: &GroupPlan,
     other: &GroupPlan,
-) -> Result<Vec<Presence>, AllocError>
+) -> ConditionList
     ensures { IfOk result (λ v. conditions_in v.items ≡ if group.now.private && other.now.private
         then sent_together line.now first second group.now other.now else where_together (Group first ∷ Group second ∷ [])) }
 {
@@ -128,7 +128,7 @@ pub(crate) fn conditions_of_groups(
     line: &ProductLine,
     first: usize,
     second: usize,
-) -> Result<Vec<Presence>, AllocError>
+) -> ConditionList
     ensures { IfOk result (λ v. conditions_in v.items ≡ conditions_of_groups line.now first second) }
 {
     match line.plan.groups.get(first) {

@@ -31,7 +31,7 @@ use Rattle.j39_load.specs.Loads.{load_of_flow, loads_of, us_of_bits, us_of_unit_
 use Rattle.j39_load.specs.LineLists.{lines_of_each}
 use Rattle.j39_load.proofs.BoundedFlows.{bounded}
 use Rattle.j39_load.proofs.LeastKnown.{least_of_both}
-use Rattle.j39_load.proofs.StreamsBefore.{none_of_two, told_nothing}
+use Rattle.j39_load.proofs.StreamsBefore.{none_of_two, stated_nothing}
 use Rattle.j39_timing.proofs.Ages.{fresh}
 use Rattle.j39_timing.specs.FreshFrames.{IsFresh}
 use Rattle.j39_search.specs.ListPlaces.{SomeMeets}
@@ -91,13 +91,13 @@ module _ (timing : Timing) (age : ℕ) where
     unfolding lines_of_each
     of_flow place [] is = absurd (none-some age is)
     of_flow place (flow ∷ flows) is =
-        let tell = ages_for timing requests delays need in
-        elim (one_of_smaller (least (tell place flow)) (least (lines_of_each tell (place + 1) flows)) age
-        (sym (least_of_both (tell place flow) (lines_of_each tell (place + 1) flows)) ∙ is)) [
-          | inl here ↦ (0, flow, refl, ap (λ (n : ℕ). least (tell n flow)) (omega arith) ∙ here)
+        let report = ages_for timing requests delays need in
+        elim (one_of_smaller (least (report place flow)) (least (lines_of_each report (place + 1) flows)) age
+        (sym (least_of_both (report place flow) (lines_of_each report (place + 1) flows)) ∙ is)) [
+          | inl here ↦ (0, flow, refl, ap (λ (n : ℕ). least (report n flow)) (omega arith) ∙ here)
           | inr behind ↦
               let (k, other, at, its) = of_flow (place + 1) flows behind in
-              (suc k, other, at, ap (λ (n : ℕ). least (tell n other)) (omega arith) ∙ its)
+              (suc k, other, at, ap (λ (n : ℕ). least (report n other)) (omega arith) ∙ its)
         ]
 
 -- ---- needs that aren't too old
@@ -106,9 +106,9 @@ young_age : (limit : ℕ) (age : Option ℕ) → is_in_limit limit age ≡ true 
 young_age limit None young = absurd (false≢true young)
 young_age limit (Some n) young = (n, refl, leb-true n limit young)
 
-never_told : {X : Type 0} (test : Bool) (x : X) → (if test then x ∷ [] else []) ≡ [] → test ≡ false
-never_told true x none = cc
-never_told false x none = refl
+never_stated : {X : Type 0} (test : Bool) (x : X) → (if test then x ∷ [] else []) ≡ [] → test ≡ false
+never_stated true x none = cc
+never_stated false x none = refl
 
 asked_old : (timing : Timing) (requests : List RequestPlan) (flows : List FlowPlan) (delays : List (Option Delay)) (place : ℕ) (need : NeedPlan) (within : ℕ) (asked : Option ℕ)
     → asked ≡ Some within
@@ -116,7 +116,7 @@ asked_old : (timing : Timing) (requests : List RequestPlan) (flows : List FlowPl
     → is_too_old timing requests flows delays need within ≡ false
 asked_old timing requests flows delays place need within None is none = absurd (none-some within is)
 asked_old timing requests flows delays place need within (Some w) is none =
-    subst (λ (n : ℕ). is_too_old timing requests flows delays need n ≡ false) (same_Some w within is) (never_told _ _ none)
+    subst (λ (n : ℕ). is_too_old timing requests flows delays need n ≡ false) (same_Some w within is) (never_stated _ _ none)
 
 young_where : (unmet young : Bool) → unmet ≡ false → (not unmet && not young) ≡ false → young ≡ true
 young_where true young met none = absurd (true≢false met)
@@ -172,8 +172,8 @@ module _ (plan : Plan) (timing : Timing) (clean : Clean plan) (stays : UnitPlan 
   module _ (n : ℕ) (need : NeedPlan) (within : ℕ) (at : slice_get plan.needs.items n ≡ Some need) (asked : need.within ≡ Some within) where
     not_too_old : is_too_old timing plan.requests.items plan.flows.items delays need within ≡ false
     not_too_old =
-        let told = told_nothing (oldness timing plan.requests.items plan.flows.items delays) 0 plan.needs.items parts.1 n need at in
-        asked_old timing plan.requests.items plan.flows.items delays (0 + n) need within need.within asked told
+        let stated = stated_nothing (oldness timing plan.requests.items plan.flows.items delays) 0 plan.needs.items parts.1 n need at in
+        asked_old timing plan.requests.items plan.flows.items delays (0 + n) need within need.within asked stated
 
     met : is_unmet plan.requests.items plan.flows.items need ≡ false
     met = elim (cases_Bool (is_unmet plan.requests.items plan.flows.items need)) [

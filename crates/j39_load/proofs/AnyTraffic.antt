@@ -1,37 +1,28 @@
--- A bus whose units keep no order keeps to the premises of its queue groups; so frames are in time there for which the wait that is told has room.
-use Rattle.std.proofs.Common.{◌≡◌, ℕ, zero, suc, ◌+◌, ◌*◌, ◌-◌, ◌^◌, ◌<◌, ◌≤◌, ◌⊎◌, Bool, true, false, not, cond, ◌&&◌, ◌||◌, eqb, ltb, if◌then◌else◌, List, []}
-use Rattle.std.proofs.Common.{◌∷◌, ◌++◌, length, get_or, min, All, IfSome, unwrap_or, is_some, Option, Some, None, refl, sym, ap, ◌∙◌, subst, inl, inr}
+-- On a bus whose units partly keep no order, frames of those that do are in time for which the wait that is reported has room, beside the buffering delays.
+use Rattle.std.proofs.Common.{◌≡◌, ℕ, suc, ◌+◌, ◌*◌, ◌-◌, ◌<◌, ◌≤◌, Bool, true, false, not, cond, ◌&&◌, ◌||◌, eqb, ltb, if◌then◌else◌, List, []}
+use Rattle.std.proofs.Common.{◌∷◌, ◌++◌, length, get_or, All, IfSome, unwrap_or, is_some, Option, Some, None, refl, sym, ap, ◌∙◌, subst, inl, inr}
 use Rattle.std.proofs.Common.{option_map, arith}
-use Rattle.std.proofs.lemmas.Bool.{and_parts, both_ways, cases_Bool, cases_lt, eq-eqb, eqb-true, false≢true, lt-ltb, ltb-true, or_cases, or_left, or_right}
+use Rattle.std.proofs.lemmas.Bool.{and_parts, both_ways, cases_Bool, cases_lt, false≢true, lt-ltb, ltb-true, or_cases}
 use Rattle.std.proofs.lemmas.Bool.{true≢false}
-use Rattle.std.proofs.lemmas.Bool.Decides.{eqb_tells}
 use Rattle.std.proofs.lemmas.List.{get_or-append-add, get_or_append_left, get_or_past}
-use Rattle.std.proofs.lemmas.List.FromFn.{get_or-map-range_with_len}
-use Rattle.std.proofs.lemmas.Option.{none-some, same_Some}
-use Rattle.std.specs.Bool.{MatchBool}
 use Rattle.std.specs.Option.{option_map_or}
-use Rattle.j39_id.specs.Limits.{unit_limit}
 use Rattle.j39_network.specs.declared.plan.timing.Timing.{Timing}
 use Rattle.j39_load.specs.declared.frames.flow_frames.FlowFrames.{FlowFrames}
-use Rattle.j39_load.specs.Ages.{least, smaller_known}
-use Rattle.j39_load.specs.AnyQueues.{AreAtMost, IsQueueGroupLevel, IsQueueGroupWait, IsBufferedFor, IsBuffering, Buffering, AreBufferingDelays, are_of_unit}
-use Rattle.j39_load.specs.AnyQueues.{buffered_for, is_member, is_of_queue_group, keep_order, later_frames, least_of, leasts_of, may_be_passed, buffered}
-use Rattle.j39_load.specs.AnyQueues.{own_least, unbounded_at, with_unplanned}
+use Rattle.j39_load.specs.Ages.{least}
+use Rattle.j39_load.specs.AnyQueues.{IsBuffering, Buffering, are_of_unit}
+use Rattle.j39_load.specs.AnyQueues.{buffered_for, keep_order, later_frames, may_be_passed, buffered}
+use Rattle.j39_load.specs.AnyQueues.{unbounded_at}
 use Rattle.j39_load.specs.Damage.{damage_frames}
 use Rattle.j39_load.specs.Delays.{blocking, need_of, streams_before}
 use Rattle.j39_load.specs.Demands.{demands_of}
-use Rattle.j39_load.specs.LineLists.{lines_of_each}
-use Rattle.j39_load.specs.PlannedFrames.{AreFramesInAnyOrder, KeepToQueueGroup, queue_group_of, no_frames, others_of, planned_at, traffic_of}
+use Rattle.j39_load.specs.PlannedFrames.{AreFramesInAnyOrder, no_frames, others_of, planned_at, traffic_of}
 use Rattle.j39_load.specs.Twins.{are_twins, is_same, may_precede}
-use Rattle.j39_load.proofs.LeastKnown.{least_of_both}
-use Rattle.j39_load.proofs.QueueGroupStreams.{queue_group_fits}
 use Rattle.j39_load.proofs.DemandLaws.{demands_where_buffered, demands_with_damage}
 use Rattle.j39_load.proofs.BufferingDelays.{buffered_read, one_each}
 use Rattle.j39_load.proofs.PositivePeriods.{HasPeriod}
 use Rattle.j39_load.proofs.Sending.{IsSent}
 use Rattle.j39_load.proofs.StreamsBefore.{all_before, get_or_inside, taken, with_damage}
-use Rattle.j39_timing.specs.AnyOrder.{AreBegunWithin, Controllers, HaveWaits, IsLegalInAnyOrder, IsOrderedStream, IsUnordered, later_by, buffered_traffic}
-use Rattle.j39_timing.specs.QueueGroups.{QueueGroup, IsTrafficOfQueueGroup, is_with_queue_group}
+use Rattle.j39_timing.specs.AnyOrder.{Controllers, HaveWaits, IsLegalInAnyOrder, IsOrderedStream, later_by, buffered_traffic}
 use Rattle.j39_timing.specs.FrameBits.{longest_frame}
 use Rattle.j39_timing.specs.Messages.{AreSentWithin}
 use Rattle.j39_timing.specs.TimedFrames.{Schedule}
@@ -40,296 +31,14 @@ use Rattle.j39_timing.specs.Sums.{total}
 use Rattle.j39_timing.specs.Traffic.{AreQueuedBehind, AreSteady, DemandFits, IsSingle, IsStreamInTime, delay_of, others_before}
 use Rattle.j39_timing.specs.Waits.{Demand, lesser_share, need}
 use Rattle.j39_timing.specs.declared.stream.Stream.{Stream}
-use Rattle.j39_timing.proofs.QueueGroupTraffic.{begun_within, queue_group_in_time, queue_group_sent}
 use Rattle.j39_timing.proofs.Buffering.{ordered_behind, ordered_in_time}
 use Rattle.j39_timing.proofs.Sums.{total-le}
-
--- ---- the least of what is told of places
-
-smaller_left : (p q : Option ℕ) (a : ℕ) → p ≡ Some a → (n : ℕ) × (smaller_known p q ≡ Some n) × (n ≤ a)
-smaller_left None q a is = absurd (none-some a is)
-smaller_left (Some x) None a is = let same : x ≡ a = same_Some x a is in (x, refl, omega (arith, same))
-smaller_left (Some x) (Some y) a is = let same : x ≡ a = same_Some x a is in (min x y, refl, omega (arith, same))
-
-smaller_right : (p q : Option ℕ) (a n : ℕ) → q ≡ Some n → n ≤ a → (m : ℕ) × (smaller_known p q ≡ Some m) × (m ≤ a)
-smaller_right p None a n is le = absurd (none-some n is)
-smaller_right None (Some y) a n is le = let same : y ≡ n = same_Some y n is in (y, refl, omega (arith, same, le))
-smaller_right (Some x) (Some y) a n is le = let same : y ≡ n = same_Some y n is in (min x y, refl, omega (arith, same, le))
-
-least_within : (tell : ℕ → Option FlowFrames → List ℕ) (place : ℕ) (xs : List (Option FlowFrames)) (k a : ℕ) → k < length xs
-    → least (tell (place + k) (get_or xs k None)) ≡ Some a → (n : ℕ) × (least (lines_of_each tell place xs) ≡ Some n) × (n ≤ a)
-unfolding lines_of_each
-least_within tell place [] k a below is = absurd (omega arith)
-least_within tell place (x ∷ xs) zero a below is =
-    let (n, told, le) = smaller_left (least (tell place x)) (least (lines_of_each tell (place + 1) xs)) a
-    (ap (λ (m : ℕ). least (tell m x)) (omega arith) ∙ is) in
-    (n, least_of_both (tell place x) (lines_of_each tell (place + 1) xs) ∙ told, le)
-least_within tell place (x ∷ xs) (suc k) a below is =
-    let (n, rest, few) = least_within tell (place + 1) xs k a (omega (arith, below))
-    (ap (λ (m : ℕ). least (tell m (get_or xs k None))) (omega arith) ∙ is) in
-    let (m, told, le) = smaller_right (least (tell place x)) (least (lines_of_each tell (place + 1) xs)) a n rest few in
-    (m, least_of_both (tell place x) (lines_of_each tell (place + 1) xs) ∙ told, le)
-
--- ---- units of frames
-
--- frames of a unit that keeps no order
-unordered_of : (a b : Option ℕ) (u : ℕ) → (option_map_or (λ (v : ℕ). eqb v u) a false || option_map_or (λ (v : ℕ). eqb v u) b false) ≡ true
-    → not (is_some a || is_some b) ≡ false
-unordered_of None None u is = absurd (false≢true is)
-unordered_of (Some x) b u is = refl
-unordered_of None (Some y) u is = refl
-
-module _ (m : ℕ → Bool) where
-  -- of frames of a queue group one unit is a member
-  unordered_with : (a b : Option ℕ) → (option_map_or m a false || option_map_or m b false) ≡ true → not (is_some a || is_some b) ≡ false
-  unordered_with None None is = absurd (false≢true is)
-  unordered_with (Some x) b is = refl
-  unordered_with None (Some y) is = refl
-
-  -- a member's frames are of the queue group
-  of_member : (a b : Option ℕ) (u : ℕ) → (option_map_or (λ (v : ℕ). eqb v u) a false || option_map_or (λ (v : ℕ). eqb v u) b false) ≡ true → m u ≡ true
-      → (option_map_or m a false || option_map_or m b false) ≡ true
-  of_member a b u is member =
-      elim (or_cases (option_map_or (λ (v : ℕ). eqb v u) a false) (option_map_or (λ (v : ℕ). eqb v u) b false) is) [
-        | inl one ↦ or_left (option_map_or m a false) (option_map_or m b false) (its a one)
-        | inr other ↦ or_right (option_map_or m a false) (option_map_or m b false) (its b other)
-      ]
-    where
-      its : (o : Option ℕ) → option_map_or (λ (v : ℕ). eqb v u) o false ≡ true → option_map_or m o false ≡ true
-      its None at = absurd (false≢true at)
-      its (Some v) at = let same : v ≡ u = eqb-true v u at in subst (λ (n : ℕ). m n ≡ true) (sym same) member
-
-  -- where frames have one unit it is the member; else they have two
-  member_or_both : (a b : Option ℕ) (u : ℕ) → (option_map_or (λ (v : ℕ). eqb v u) a false || option_map_or (λ (v : ℕ). eqb v u) b false) ≡ true
-      → (option_map_or m a false || option_map_or m b false) ≡ true → (m u ≡ true) ⊎ (is_some b ≡ true)
-  member_or_both a (Some w) u is has = inr refl
-  member_or_both None None u is has = absurd (false≢true is)
-  member_or_both (Some v) None u is has =
-      elim (or_cases (eqb v u) false is) [
-        | inr none ↦ absurd (false≢true none)
-        | inl same ↦ elim (or_cases (m v) false has) [
-          | inr none ↦ absurd (false≢true none)
-          | inl member ↦ inl (subst (λ (n : ℕ). m n ≡ true) (eqb-true v u same) member)
-        ]
-      ]
-
-  -- some unit of frames of which one keeps no order
-  some_end : (a b : Option ℕ) → not (is_some a || is_some b) ≡ false
-      → ((u : ℕ) → (option_map_or (λ (v : ℕ). eqb v u) a false || option_map_or (λ (v : ℕ). eqb v u) b false) ≡ true → m u ≡ true)
-      → (option_map_or m a false || option_map_or m b false) ≡ true
-  some_end None None kept all = absurd (true≢false kept)
-  some_end (Some v) b kept all = or_left (m v) (option_map_or m b false) (all v (or_left (eqb v v) (option_map_or (λ (w : ℕ). eqb w v) b false) (eq-eqb v v refl)))
-  some_end None (Some v) kept all = or_right false (m v) (all v (or_right false (eqb v v) (eq-eqb v v refl)))
+use Rattle.j39_load.proofs.QueueGroupFrames.{begun, found, least_within, positive, read, unordered_of, wait_of_queue_group}
 
 module _ (timing : Timing) (asked : List (Option FlowFrames)) (paced : All HasPeriod (asked ++ damage_frames timing))
     (sent : All (λ (f : Option FlowFrames). IfSome f IsSent) asked) where
   abbrev all : List (Option FlowFrames)
   all = asked ++ damage_frames timing
-
-  abbrev leasts : List (Option ℕ)
-  leasts = leasts_of asked
-
-  pub positive : (j : ℕ) → j < (traffic_of all).count → 0 < ((traffic_of all).stream j).period
-  positive j below = go (get_or all j None) (paced j None below)
-    where
-      go : (frames : Option FlowFrames) → HasPeriod frames → 0 < (unwrap_or frames no_frames).stream.period
-      go None known = omega arith
-      go (Some frames) known = known
-
-  -- where frames are of a unit there are some
-  found : (j u : ℕ) → are_of_unit (planned_at asked j) u ≡ true → (x : FlowFrames) × (get_or asked j None ≡ Some x)
-  found j u is = go (get_or asked j None) refl
-    where
-      go : (o : Option FlowFrames) → get_or asked j None ≡ o → (x : FlowFrames) × (get_or asked j None ≡ Some x)
-      go None at = absurd (false≢true (subst (λ (o : Option FlowFrames). are_of_unit (unwrap_or o no_frames) u ≡ true) at is))
-      go (Some x) at = (x, at)
-
-  read : (j : ℕ) (x : FlowFrames) → get_or asked j None ≡ Some x → planned_at asked j ≡ x
-  read j x at = ap (λ (o : Option FlowFrames). unwrap_or o no_frames) at
-
-  is_sent : (j : ℕ) (x : FlowFrames) → get_or asked j None ≡ Some x → IsSent x
-  is_sent j x at = subst (λ (o : Option FlowFrames). IfSome o IsSent) at (sent j None (get_or_inside asked j x at))
-
-  -- the least identifier of a unit's frames
-  least_known : (j : ℕ) (x : FlowFrames) (u : ℕ) → get_or asked j None ≡ Some x → are_of_unit x u ≡ true
-      → (l : ℕ) × (get_or leasts u None ≡ Some l) × (l ≤ x.least_ident)
-  least_known j x u at its =
-      let inside = get_or_inside asked j x at in
-      let own : least (own_least u (0 + j) (get_or asked j None)) ≡ Some x.least_ident =
-      subst (λ (o : Option FlowFrames). least (own_least u (0 + j) o) ≡ Some x.least_ident) (sym at)
-      (ap (λ (b : Bool). least (if b then x.least_ident ∷ [] else [])) its) in
-      let (n, told, le) = least_within (own_least u) 0 asked j x.least_ident inside own in
-      let placed : u < unit_limit = (is_sent j x at).placed u its in
-      (n, get_or-map-range_with_len (least_of asked) 0 unit_limit u u None placed (omega arith) ∙ told, le)
-
-  -- ---- a queue group
-
-  module _ (own : FlowFrames) (level : ℕ) (is_level : IsQueueGroupLevel leasts asked (with_unplanned timing own) level) where
-    abbrev own_too : FlowFrames
-    own_too = with_unplanned timing own
-
-    abbrev has_member : ℕ → Bool
-    has_member u = is_member leasts own_too level u
-
-    member_below : (u l : ℕ) → get_or leasts u None ≡ Some l → l < level → has_member u ≡ true
-    member_below u l at less =
-        subst (λ (o : Option ℕ). option_map_or (λ (low : ℕ). are_of_unit own_too u || ltb low level) o false ≡ true) (sym at)
-        (or_right (are_of_unit own_too u) (ltb l level) (lt-ltb l level less))
-
-    member_own : (u l : ℕ) → get_or leasts u None ≡ Some l → are_of_unit own u ≡ true → has_member u ≡ true
-    member_own u l at its =
-        subst (λ (o : Option ℕ). option_map_or (λ (low : ℕ). are_of_unit own_too u || ltb low level) o false ≡ true) (sym at)
-        (or_left (are_of_unit own_too u) (ltb l level) its)
-
-    -- frames of the queue group keep to the level
-    at_level : (j : ℕ) (x : FlowFrames) → get_or asked j None ≡ Some x → is_of_queue_group leasts own_too level x ≡ true → x.last_ident ≤ level
-    at_level j x at has =
-        let most : is_of_queue_group leasts own_too level x ≡ true → x.last_ident ≤ level =
-        subst (λ (o : Option FlowFrames). AreAtMost leasts own_too level level o) at (is_level.is.queue_group j None (get_or_inside asked j x at)) in
-        most has
-
-    -- its own frames are
-    own_with : (j : ℕ) → get_or asked j None ≡ Some own → keep_order own ≡ false → is_of_queue_group leasts own_too level own ≡ true
-    own_with j at kept = some_end has_member own.any_sender own.any_receiver kept
-        (λ u its. let (l, known, le) = least_known j own u at its in member_own u l known its)
-
-    -- a unit of frames that are of the queue group, or go before it, is a member
-    unit_with : (j : ℕ) (x : FlowFrames) (u ident : ℕ) → get_or asked j None ≡ Some x → are_of_unit x u ≡ true → x.least_ident ≤ ident
-        → (is_of_queue_group leasts own_too level x ≡ true) ⊎ (ident < level) → has_member u ≡ true
-    unit_with j x u ident at its low (inr below) =
-        let (l, known, le) = least_known j x u at its in
-        member_below u l known (omega (arith, le, low, below))
-    unit_with j x u ident at its low (inl has) =
-        let (l, known, le) = least_known j x u at its in
-        elim (member_or_both has_member x.any_sender x.any_receiver u its has) [
-          | inl member ↦ member
-          | inr both ↦
-              let rises : x.least_ident < x.last_ident = (is_sent j x at).rises both in
-              let most : x.last_ident ≤ level = at_level j x at has in
-              member_below u l known (omega (arith, le, rises, most))
-        ]
-
-    last_above : 0 < timing.unplanned → 2 ^ 29 ≤ level
-    last_above some =
-        let most : own_too.last_ident ≤ level = is_level.is.own_frames in
-        let isnt : eqb timing.unplanned 0 ≡ false = elim (eqb_tells timing.unplanned 0) [
-          | inl both ↦ absurd (let none : timing.unplanned ≡ 0 = both.1 in omega (arith, none, some))
-          | inr apart ↦ apart.0
-        ] in
-        let last : own_too.last_ident ≡ 2 ^ 29 = ap (λ (b : Bool). if b then own.last_ident else 2 ^ 29) isnt in
-        omega (arith, most, last)
-
-    module _ (s : Schedule) (controllers : Controllers) (planned : ℕ → Bool) (of : Origins) (i : ℕ)
-        (known : AreFramesInAnyOrder timing asked s controllers planned of i)
-        (keeps : KeepToQueueGroup timing s planned of (queue_group_of timing asked own level)) where
-      abbrev queue_group : QueueGroup
-      queue_group = queue_group_of timing asked own level
-
-      from_least : (p : ℕ) → p < s.count → planned p ≡ true → (x : FlowFrames) → get_or asked (of.source p) None ≡ Some x → x.least_ident ≤ s.ident p
-      from_least p in_p is x at =
-          subst (λ (f : FlowFrames). f.least_ident ≤ s.ident p) (with_damage timing asked (of.source p) x at) (known.known.from_least p in_p is)
-
-      closed : (p q : ℕ) → p < s.count → q < s.count → planned p ≡ true → planned q ≡ true → controllers.unit q ≡ controllers.unit p
-          → IsUnordered controllers p → is_with_queue_group s of queue_group p ≡ true → queue_group.has (of.source q) ≡ true
-      closed p q in_p in_q is_p is_q same un goes =
-          let u = controllers.unit p in
-          let un_q : IsUnordered controllers q = subst (λ (v : ℕ). controllers.keeps_order v ≡ false) (sym same) un in
-          let of_p : are_of_unit (planned_at asked (of.source p)) u ≡ true = known.of_unit p in_p is_p un in
-          let of_q : are_of_unit (planned_at asked (of.source q)) u ≡ true =
-          subst (λ (v : ℕ). are_of_unit (planned_at asked (of.source q)) v ≡ true) same (known.of_unit q in_q is_q un_q) in
-          let (x, at) = found (of.source p) u of_p in
-          let here = read (of.source p) x at in
-          let its : are_of_unit x u ≡ true = subst (λ (f : FlowFrames). are_of_unit f u ≡ true) here of_p in
-          let low = from_least p in_p is_p x at in
-          let member : has_member u ≡ true = elim (or_cases (queue_group.has (of.source p)) (ltb (s.ident p) level) goes) [
-            | inl has ↦ unit_with (of.source p) x u (s.ident p) at its low
-                (inl (subst (λ (f : FlowFrames). is_of_queue_group leasts own_too level f ≡ true) here has))
-            | inr below ↦ unit_with (of.source p) x u (s.ident p) at its low (inr (ltb-true (s.ident p) level below))
-          ] in
-          of_member has_member (planned_at asked (of.source q)).any_sender (planned_at asked (of.source q)).any_receiver u of_q member
-
-      to_level : (p : ℕ) → p < s.count → planned p ≡ true → queue_group.has (of.source p) ≡ true → s.ident p ≤ level
-      to_level p in_p is has =
-          let kept : keep_order (planned_at asked (of.source p)) ≡ false =
-          unordered_with has_member (planned_at asked (of.source p)).any_sender (planned_at asked (of.source p)).any_receiver has in
-          let last = known.to_last p in_p is kept in
-          go (get_or asked (of.source p) None) refl last
-        where
-          go : (o : Option FlowFrames) → get_or asked (of.source p) None ≡ o → s.ident p ≤ (planned_at asked (of.source p)).last_ident → s.ident p ≤ level
-          go None at last = absurd (false≢true (subst (λ (o : Option FlowFrames). is_of_queue_group leasts own_too level (unwrap_or o no_frames) ≡ true) at has))
-          go (Some x) at last =
-              let here = read (of.source p) x at in
-              let most = at_level (of.source p) x at (subst (λ (f : FlowFrames). is_of_queue_group leasts own_too level f ≡ true) here has) in
-              let it : s.ident p ≤ x.last_ident = subst (λ (f : FlowFrames). s.ident p ≤ f.last_ident) here last in
-              omega (arith, most, it)
-
-      pub queue_group_known : IsTrafficOfQueueGroup s controllers (traffic_of all) timing.unplanned (longest_frame 8) planned of queue_group
-      queue_group_known = record {
-        longest_at_most = known.known.longest_at_most;
-        of_streams = known.known.of_streams;
-        as_wanted = known.known.as_wanted;
-        from_least = known.known.from_least;
-        to_level = to_level;
-        closed = closed;
-        own_identifiers = keeps.own_identifiers;
-        few_unplanned = keeps.few_unplanned;
-        above_all = λ p in_p some.
-            let few : s.ident p < 2 ^ 29 = keeps.identifiers p in_p in
-            let high = last_above some in
-            omega (arith, few, high);
-      }
-
-  -- ---- frames of units that keep no order
-
-  module _ (s : Schedule) (controllers : Controllers) (planned : ℕ → Bool) (of : Origins) (legal : IsLegalInAnyOrder s controllers) (i : ℕ)
-      (known : AreFramesInAnyOrder timing asked s controllers planned of i) where
-    module _ (j : ℕ) (own : FlowFrames) (at : get_or asked j None ≡ Some own) (kept : keep_order own ≡ false)
-        (goes : (j ≡ i) ⊎ ((planned_at asked j).least_ident < (planned_at asked i).greatest_ident)) (wait : ℕ)
-        (waits : IsQueueGroupWait timing leasts asked own (Some wait)) where
-      here : planned_at asked j ≡ own
-      here = read j own at
-
-      keeps : KeepToQueueGroup timing s planned of (queue_group_of timing asked own waits.level)
-      keeps = subst (λ (f : FlowFrames). KeepToQueueGroup timing s planned of (queue_group_of timing asked f waits.level)) here
-          (known.queue_groups j waits.level goes (subst (λ (f : FlowFrames). keep_order f ≡ false) (sym here) kept)
-          (subst (λ (f : FlowFrames). IsQueueGroupLevel leasts asked (with_unplanned timing f) waits.level) (sym here) waits.of_queue_group))
-
-      its_traffic : IsTrafficOfQueueGroup s controllers (traffic_of all) timing.unplanned (longest_frame 8) planned of (queue_group_of timing asked own waits.level)
-      its_traffic = queue_group_known own waits.level waits.of_queue_group s controllers planned of i known keeps
-
-      member : (queue_group_of timing asked own waits.level).has j ≡ true
-      member = subst (λ (f : FlowFrames). is_of_queue_group leasts (with_unplanned timing own) waits.level f ≡ true) (sym here)
-          (own_with own waits.level waits.of_queue_group j at kept)
-
-      there : planned_at all j ≡ own
-      there = with_damage timing asked j own at
-
-      small : ((traffic_of all).stream j).bits ≤ longest_frame 8
-      small = subst (λ (f : FlowFrames). f.stream.bits ≤ 160) (sym there) (is_sent j own at).short
-
-      pub begun : AreBegunWithin s planned of j wait
-      begun = begun_within s controllers (traffic_of all) timing.unplanned (longest_frame 8) planned of (queue_group_of timing asked own waits.level) legal
-          its_traffic positive j wait member small (queue_group_fits timing asked own waits.level wait j there waits.least_wait.1)
-
-      pub any_in_time : IsStreamInTime s planned of j own.stream wait
-      any_in_time = subst (λ (f : FlowFrames). IsStreamInTime s planned of j f.stream wait) there
-          (queue_group_in_time s controllers (traffic_of all) timing.unplanned (longest_frame 8) planned of (queue_group_of timing asked own waits.level) legal
-          its_traffic positive j wait member small (queue_group_fits timing asked own waits.level wait j there waits.least_wait.1))
-
-      pub any_sent : AreSentWithin s planned of j own.stream wait
-      any_sent = subst (λ (f : FlowFrames). AreSentWithin s planned of j f.stream wait) there
-          (queue_group_sent s controllers (traffic_of all) timing.unplanned (longest_frame 8) planned of (queue_group_of timing asked own waits.level) legal
-          its_traffic positive j wait member small (queue_group_fits timing asked own waits.level wait j there waits.least_wait.1))
-
-  -- the wait that is told of such frames
-  pub wait_of_queue_group : (waits : List (Option ℕ)) → AreBufferingDelays timing asked waits → (j : ℕ) (x : FlowFrames) → get_or asked j None ≡ Some x
-      → keep_order x ≡ false → (wait : ℕ) → get_or waits j None ≡ Some wait → IsQueueGroupWait timing leasts asked x (Some wait)
-  wait_of_queue_group waits tells j x at kept wait known =
-      let held : IsBufferedFor timing asked (Some x) (get_or waits j None) =
-      subst (λ (o : Option FlowFrames). IsBufferedFor timing asked o (get_or waits j None)) at (tells.each j (get_or_inside asked j x at)) in
-      let by_queue_group : IsQueueGroupWait timing leasts asked x (get_or waits j None) =
-      subst (λ (b : Bool). MatchBool b (get_or waits j None ≡ Some 0) (IsQueueGroupWait timing leasts asked x (get_or waits j None))) kept held in
-      subst (IsQueueGroupWait timing leasts asked x) known by_queue_group
 
   -- ---- room beside them
 
@@ -454,8 +163,8 @@ module _ (timing : Timing) (asked : List (Option FlowFrames)) (paced : All HasPe
             let own : least (unbounded_at buffering.waits (0 + j) (get_or asked j None)) ≡ Some x.least_ident =
             subst (λ (o : Option FlowFrames). least (unbounded_at buffering.waits (0 + j) o) ≡ Some x.least_ident) (sym found_at)
             (ap (λ (o : Option ℕ). least (if is_some o then [] else x.least_ident ∷ [])) none) in
-            let (n, told, le) = least_within (unbounded_at buffering.waits) 0 asked j x.least_ident (get_or_inside asked j x found_at) own in
-            let low : buffering.least_unbounded ≡ Some n = buffering_delays.least_unbounded ∙ told in
+            let (n, stated, le) = least_within (unbounded_at buffering.waits) 0 asked j x.least_ident (get_or_inside asked j x found_at) own in
+            let low : buffering.least_unbounded ≡ Some n = buffering_delays.least_unbounded ∙ stated in
             let passed : may_be_passed buffering frames.greatest_ident ≡ true =
             subst (λ (o : Option ℕ). option_map_or (λ (m : ℕ). ltb m frames.greatest_ident) o false ≡ true) (sym low)
             (lt-ltb n frames.greatest_ident (omega (arith, le, less))) in
@@ -470,7 +179,7 @@ module _ (timing : Timing) (asked : List (Option FlowFrames)) (paced : All HasPe
             let its : are_of_unit (planned_at asked i) (controllers.unit p) ≡ true =
             subst (λ (j : ℕ). are_of_unit (planned_at asked j) (controllers.unit p) ≡ true) source (known.of_unit p in_p is un) in
             let own : are_of_unit frames (controllers.unit p) ≡ true =
-            subst (λ (f : FlowFrames). are_of_unit f (controllers.unit p) ≡ true) (read i frames at) its in
+            subst (λ (f : FlowFrames). are_of_unit f (controllers.unit p) ≡ true) (read asked i frames at) its in
             absurd (true≢false (sym ordered ∙ unordered_of frames.any_sender frames.any_receiver (controllers.unit p) own))
       ]
 
@@ -491,8 +200,8 @@ module _ (timing : Timing) (asked : List (Option FlowFrames)) (paced : All HasPe
           let j = of.source p in
           let u = controllers.unit p in
           let its : are_of_unit (planned_at asked (of.source p)) (controllers.unit p) ≡ true = known.of_unit p in_p is un in
-          let (x, found_at) = found (of.source p) (controllers.unit p) its in
-          let here : planned_at asked (of.source p) ≡ x = read (of.source p) x found_at in
+          let (x, found_at) = found asked (of.source p) (controllers.unit p) its in
+          let here : planned_at asked (of.source p) ≡ x = read asked (of.source p) x found_at in
           let kept : keep_order x ≡ false =
           unordered_of x.any_sender x.any_receiver (controllers.unit p)
           (subst (λ (f : FlowFrames). are_of_unit f (controllers.unit p) ≡ true) here its) in
@@ -508,25 +217,25 @@ module _ (timing : Timing) (asked : List (Option FlowFrames)) (paced : All HasPe
           (subst (λ (f : FlowFrames). f.least_ident < (planned_at all i).greatest_ident) (with_damage timing asked (of.source p) x found_at) low) in
           let before : (planned_at asked (of.source p)).least_ident < (planned_at asked i).greatest_ident =
           subst (λ (f : FlowFrames). f.least_ident < (planned_at asked i).greatest_ident) (sym here)
-          (subst (λ (f : FlowFrames). x.least_ident < f.greatest_ident) (sym (read i frames at)) less) in
-          let (w, told) = known_wait (of.source p) x found_at less in
-          let is_wait = wait_of_queue_group buffering.waits buffering_delays.bounded (of.source p) x found_at kept w told in
-          let held : buffered_for buffering.waits (of.source p) ≡ w = ap (λ (o : Option ℕ). unwrap_or o 0) told in
-          let by_wait = begun s controllers planned of legal i known (of.source p) x found_at kept (inr before) w is_wait p in_p is refl
+          (subst (λ (f : FlowFrames). x.least_ident < f.greatest_ident) (sym (read asked i frames at)) less) in
+          let (w, stated) = known_wait (of.source p) x found_at less in
+          let is_wait = wait_of_queue_group timing asked paced sent buffering.waits buffering_delays.bounded (of.source p) x found_at kept w stated in
+          let held : buffered_for buffering.waits (of.source p) ≡ w = ap (λ (o : Option ℕ). unwrap_or o 0) stated in
+          let by_wait = begun timing asked paced sent s controllers planned of legal i known (of.source p) x found_at kept (inr before) w is_wait p in_p is refl
           (omega (arith, seen, held)) in
           omega (arith, by_wait, held)
 
       pub ordered_bound : IsSingle frames.stream → delay_of frames.stream wait ≤ frames.stream.period → IsStreamInTime s planned of i frames.stream wait
       ordered_bound single fits =
           subst (λ (own : FlowFrames). IsStreamInTime s planned of i own.stream wait) placed
-          (ordered_in_time s controllers legal (traffic_of all) (others_of timing) (longest_frame 8) planned of i wait known.known positive own_ordered
+          (ordered_in_time s controllers legal (traffic_of all) (others_of timing) (longest_frame 8) planned of i wait known.known (positive timing asked paced sent) own_ordered
           (buffered_for buffering.waits) have demand_fits (subst (λ (own : FlowFrames). IsSingle own.stream) (sym placed) single)
           (subst (λ (own : FlowFrames). delay_of own.stream wait ≤ own.stream.period) (sym placed) fits))
 
       pub ordered_sent : frames.twin_ident ≡ None → AreQueuedBehind s planned of i → AreSteady s planned of i → AreSentWithin s planned of i frames.stream wait
       ordered_sent single after steady =
           subst (λ (own : FlowFrames). AreSentWithin s planned of i own.stream wait) placed
-          (ordered_behind s controllers legal (traffic_of all) (others_of timing) (longest_frame 8) planned of i wait known.known positive own_ordered
+          (ordered_behind s controllers legal (traffic_of all) (others_of timing) (longest_frame 8) planned of i wait known.known (positive timing asked paced sent) own_ordered
           (buffered_for buffering.waits) have demand_fits alone after steady)
         where
           alone : (j : ℕ) → (traffic_of all).are_twins i j ≡ false

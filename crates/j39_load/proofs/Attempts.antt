@@ -1,4 +1,4 @@
--- How many bits a damaged attempt takes; and where no more of them begin in a window than are told, of one more in a row the last begins this
+-- How many bits a damaged attempt takes; and where no more of them begin in a window than are reported, of one more in a row the last begins this
 -- window behind the first.
 use Rattle.std.proofs.Common.{ℕ, zero, suc, ◌+◌, ◌*◌, ◌<◌, ◌≤◌, cond, arith, inl, inr}
 use Rattle.std.proofs.Math.Nat.{mul-le-mul_right}

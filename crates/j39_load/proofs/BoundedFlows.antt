@@ -24,10 +24,11 @@ use Rattle.j39_load.specs.Loads.{loads_of}
 use Rattle.j39_load.specs.LineLists.{lines_of_each}
 use Rattle.j39_load.specs.PlannedFrames.{AreAllOrdered, AreDelaysBounds, AreFramesInAnyOrder, AreFramesOfPlan, AreLateDelaysBounds, AreShortFlowsBounded}
 use Rattle.j39_load.specs.PlannedFrames.{ComeInAnyOrder, IsBounded, IsBoundedBeyond, IsInTimeInAnyOrder, IsInTimeOnEveryBus, no_frames, planned_at}
-use Rattle.j39_load.proofs.AnyTraffic.{any_in_time, any_sent, ordered_bound, ordered_sent, wait_of_queue_group}
+use Rattle.j39_load.proofs.AnyTraffic.{ordered_bound, ordered_sent}
+use Rattle.j39_load.proofs.QueueGroupFrames.{any_in_time, any_sent, wait_of_queue_group}
 use Rattle.j39_load.proofs.PositivePeriods.{ArePaced, HasPeriod, of_loads, all_paced}
 use Rattle.j39_load.proofs.Sending.{IsSent, all_sent}
-use Rattle.j39_load.proofs.StreamsBefore.{none_of_two, own_read, told_nothing}
+use Rattle.j39_load.proofs.StreamsBefore.{none_of_two, own_read, stated_nothing}
 use Rattle.j39_timing.specs.AnyOrder.{Controllers, IsLegalInAnyOrder}
 use Rattle.j39_timing.specs.Messages.{AreSentWithin}
 use Rattle.j39_timing.specs.TimedFrames.{Schedule, IsLegal}
@@ -76,43 +77,43 @@ beyond_late bits is = cc
 
 -- where a time is judged to be within its limit it is
 pub judged_within : (frames : FlowFrames) (limit time bits : ℕ) → Within bits ≡ judged frames limit time → (bits ≡ time) × (bits ≤ limit)
-judged_within frames limit time bits told = go (leb time limit) refl told
+judged_within frames limit time bits stated = go (leb time limit) refl stated
   where
     same_bits : (a b : ℕ) → Within a ≡ Within b → a ≡ b
     same_bits a b e = cc
 
     later : (fits : Bool) → Within bits ≡ (if fits then Beyond time else Late) → ⊥
-    later true told = within_beyond bits time told
-    later false told = within_late bits told
+    later true stated = within_beyond bits time stated
+    later false stated = within_late bits stated
 
     go : (fits : Bool) → leb time limit ≡ fits → Within bits ≡ (if fits then Within time else (if leb time frames.stream.period then Beyond time else Late))
         → (bits ≡ time) × (bits ≤ limit)
-    go false fits told = absurd (later (leb time frames.stream.period) told)
-    go true fits told =
-        let same = same_bits bits time told in
+    go false fits stated = absurd (later (leb time frames.stream.period) stated)
+    go true fits stated =
+        let same = same_bits bits time stated in
         let inside = leb-true time limit fits in
         (same, omega (arith, same, inside))
 
 -- and where it is judged to be beyond it, it is within the period
 judged_beyond : (frames : FlowFrames) (limit time bits : ℕ) → Beyond bits ≡ judged frames limit time
     → (bits ≡ time) × (limit < bits) × (bits ≤ frames.stream.period)
-judged_beyond frames limit time bits told = go (leb time limit) refl told
+judged_beyond frames limit time bits stated = go (leb time limit) refl stated
   where
     same_bits : (a b : ℕ) → Beyond a ≡ Beyond b → a ≡ b
     same_bits a b e = cc
 
     later : (fits : Bool) → leb time frames.stream.period ≡ fits → limit < time → Beyond bits ≡ (if fits then Beyond time else Late)
         → (bits ≡ time) × (limit < bits) × (bits ≤ frames.stream.period)
-    later false fits above told = absurd (beyond_late bits told)
-    later true fits above told =
-        let same = same_bits bits time told in
+    later false fits above stated = absurd (beyond_late bits stated)
+    later true fits above stated =
+        let same = same_bits bits time stated in
         let inside = leb-true time frames.stream.period fits in
         (same, omega (arith, same, above), omega (arith, same, inside))
 
     go : (fits : Bool) → leb time limit ≡ fits → Beyond bits ≡ (if fits then Within time else (if leb time frames.stream.period then Beyond time else Late))
         → (bits ≡ time) × (limit < bits) × (bits ≤ frames.stream.period)
-    go true fits told = absurd (within_beyond time bits (sym told))
-    go false fits told = later (leb time frames.stream.period) refl (leb-false time limit fits) told
+    go true fits stated = absurd (within_beyond time bits (sym stated))
+    go false fits stated = later (leb time frames.stream.period) refl (leb-false time limit fits) stated
 
 module _ (timing : Timing) (asked : List (Option FlowFrames)) (paced : All HasPeriod (asked ++ damage_frames timing))
     (sent : All (λ (f : Option FlowFrames). IfSome f IsSent) asked) (buffering : Buffering) (is : IsBuffering timing asked buffering) (flow : ℕ) (frames : FlowFrames)
@@ -141,20 +142,20 @@ module _ (timing : Timing) (asked : List (Option FlowFrames)) (paced : All HasPe
   ordered_frames : keep_order frames ≡ true → (passed : Bool) → may_be_passed buffering frames.greatest_ident ≡ passed
       → MatchBool passed (Within bits ≡ Late) (IsShortDelay timing buffering.frames flow frames limit (Within bits))
       → IsSingle frames.stream → limit ≤ frames.stream.period → Bound
-  ordered_frames ordered true passed told single limited = absurd (within_late bits told)
-  ordered_frames ordered false passed told single limited = by_delay ordered passed limit told single limited
+  ordered_frames ordered true passed stated single limited = absurd (within_late bits stated)
+  ordered_frames ordered false passed stated single limited = by_delay ordered passed limit stated single limited
 
   ordered_beyond : keep_order frames ≡ true → (passed : Bool) → may_be_passed buffering frames.greatest_ident ≡ passed
       → MatchBool passed (Beyond bits ≡ Late) (IsShortDelay timing buffering.frames flow frames limit (Beyond bits))
       → IsSingle frames.stream → BoundBeyond
-  ordered_beyond ordered true passed told single = absurd (beyond_late bits told)
-  ordered_beyond ordered false passed told single =
-      let (wait, sum, inside, bounds) = by_delay ordered passed frames.stream.period told.1 single (omega arith) in
+  ordered_beyond ordered true passed stated single = absurd (beyond_late bits stated)
+  ordered_beyond ordered false passed stated single =
+      let (wait, sum, inside, bounds) = by_delay ordered passed frames.stream.period stated.1 single (omega arith) in
       let above : limit < bits = elim (cases_lt limit bits) [
         | inl above ↦ above
         | inr below ↦
-            let least = told.1.3 in
-            absurd (told.0 told.1.0 (record { demand_fits = told.1.1.demand_fits; within = omega (arith, below, least) }))
+            let least = stated.1.3 in
+            absurd (stated.0 stated.1.0 (record { demand_fits = stated.1.1.demand_fits; within = omega (arith, below, least) }))
       ] in
       (wait, sum, above, inside, bounds)
 
@@ -165,16 +166,16 @@ module _ (timing : Timing) (asked : List (Option FlowFrames)) (paced : All HasPe
       (wait_of_queue_group timing asked paced sent buffering.waits is.bounded flow frames at kept w known_wait)
 
   unordered_frames : keep_order frames ≡ false → (wait : Option ℕ) → get_or buffering.waits flow None ≡ wait → Within bits ≡ any_delay frames limit wait → Bound
-  unordered_frames kept None known_wait told = absurd (within_late bits told)
-  unordered_frames kept (Some w) known_wait told =
-      let (sum, inside) = judged_within frames limit (delay_of frames.stream w) bits told in
+  unordered_frames kept None known_wait stated = absurd (within_late bits stated)
+  unordered_frames kept (Some w) known_wait stated =
+      let (sum, inside) = judged_within frames limit (delay_of frames.stream w) bits stated in
       (w, sum, inside, by_wait kept w known_wait)
 
   unordered_beyond : keep_order frames ≡ false → (wait : Option ℕ) → get_or buffering.waits flow None ≡ wait → Beyond bits ≡ any_delay frames limit wait
       → BoundBeyond
-  unordered_beyond kept None known_wait told = absurd (beyond_late bits told)
-  unordered_beyond kept (Some w) known_wait told =
-      let (sum, above, inside) = judged_beyond frames limit (delay_of frames.stream w) bits told in
+  unordered_beyond kept None known_wait stated = absurd (beyond_late bits stated)
+  unordered_beyond kept (Some w) known_wait stated =
+      let (sum, above, inside) = judged_beyond frames limit (delay_of frames.stream w) bits stated in
       (w, sum, above, inside, by_wait kept w known_wait)
 
   pub frames_bounded : IsFrameDelay timing buffering flow frames limit (Within bits) → IsSingle frames.stream → limit ≤ frames.stream.period → Bound
@@ -184,8 +185,8 @@ module _ (timing : Timing) (asked : List (Option FlowFrames)) (paced : All HasPe
           → MatchBool keeps
           (MatchBool (may_be_passed buffering frames.greatest_ident) (Within bits ≡ Late) (IsShortDelay timing buffering.frames flow frames limit (Within bits)))
           (Within bits ≡ any_delay frames limit (get_or buffering.waits flow None)) → Bound
-      go true keeps told = ordered_frames keeps (may_be_passed buffering frames.greatest_ident) refl told single limited
-      go false keeps told = unordered_frames keeps (get_or buffering.waits flow None) refl told
+      go true keeps stated = ordered_frames keeps (may_be_passed buffering frames.greatest_ident) refl stated single limited
+      go false keeps stated = unordered_frames keeps (get_or buffering.waits flow None) refl stated
 
   pub frames_beyond : IsFrameDelay timing buffering flow frames limit (Beyond bits) → IsSingle frames.stream → BoundBeyond
   frames_beyond delayed single = go (keep_order frames) refl delayed
@@ -194,8 +195,8 @@ module _ (timing : Timing) (asked : List (Option FlowFrames)) (paced : All HasPe
           → MatchBool keeps
           (MatchBool (may_be_passed buffering frames.greatest_ident) (Beyond bits ≡ Late) (IsShortDelay timing buffering.frames flow frames limit (Beyond bits)))
           (Beyond bits ≡ any_delay frames limit (get_or buffering.waits flow None)) → BoundBeyond
-      go true keeps told = ordered_beyond keeps (may_be_passed buffering frames.greatest_ident) refl told single
-      go false keeps told = unordered_beyond keeps (get_or buffering.waits flow None) refl told
+      go true keeps stated = ordered_beyond keeps (may_be_passed buffering frames.greatest_ident) refl stated single
+      go false keeps stated = unordered_beyond keeps (get_or buffering.waits flow None) refl stated
 
 whole_within : (whole : WholeTime) (bits : ℕ) → Whole whole ≡ Within bits → ⊥
 whole_within whole bits is = cc
@@ -215,10 +216,10 @@ long_beyond count bits is = cc
 long_late : (count : ℕ) → Long count ≡ Late → ⊥
 long_late count is = cc
 
--- the delay of frames of single messages is a bound, or none is told
-never_told : (timing : Timing) (buffering : Buffering) (flow : ℕ) (frames : FlowFrames) (limit : ℕ) (delay : Delay) → ((bits : ℕ) → delay ≡ Within bits → ⊥)
+-- the delay of frames of single messages is a bound, or none is reported
+never_stated : (timing : Timing) (buffering : Buffering) (flow : ℕ) (frames : FlowFrames) (limit : ℕ) (delay : Delay) → ((bits : ℕ) → delay ≡ Within bits → ⊥)
     → ((bits : ℕ) → delay ≡ Beyond bits → ⊥) → (delay ≡ Late → ⊥) → (IsShortDelay timing buffering.frames flow frames limit delay → ⊥) → IsFrameDelay timing buffering flow frames limit delay → ⊥
-never_told timing buffering flow frames limit delay bound beyond none short told = go (keep_order frames) (may_be_passed buffering frames.greatest_ident) told
+never_stated timing buffering flow frames limit delay bound beyond none short stated = go (keep_order frames) (may_be_passed buffering frames.greatest_ident) stated
   where
     late : (wait : Option ℕ) → delay ≡ any_delay frames limit wait → ⊥
     late None is = none is
@@ -238,14 +239,14 @@ never_told timing buffering flow frames limit delay bound beyond none short told
 pub never_whole : (timing : Timing) (buffering : Buffering) (flow : ℕ) (frames : FlowFrames) (limit : ℕ) (whole : WholeTime)
     → IsFrameDelay timing buffering flow frames limit (Whole whole) → ⊥
 never_whole timing buffering flow frames limit whole =
-    never_told timing buffering flow frames limit (Whole whole) (whole_within whole) (whole_beyond whole) (whole_late whole) (λ short. short)
+    never_stated timing buffering flow frames limit (Whole whole) (whole_within whole) (whole_beyond whole) (whole_late whole) (λ short. short)
 
 pub never_long : (timing : Timing) (buffering : Buffering) (flow : ℕ) (frames : FlowFrames) (limit count : ℕ)
     → IsFrameDelay timing buffering flow frames limit (Long count) → ⊥
 never_long timing buffering flow frames limit count =
-    never_told timing buffering flow frames limit (Long count) (long_within count) (long_beyond count) (long_late count) (λ short. short)
+    never_stated timing buffering flow frames limit (Long count) (long_within count) (long_beyond count) (long_late count) (λ short. short)
 
--- frames of a unit's broadcasts, for which a wait is told
+-- frames of a unit's broadcasts, for which a wait is reported
 module _ (timing : Timing) (asked : List (Option FlowFrames)) (paced : All HasPeriod (asked ++ damage_frames timing))
     (sent : All (λ (f : Option FlowFrames). IfSome f IsSent) asked) (buffering : Buffering) (is : IsBuffering timing asked buffering) (place : ℕ) (frames : FlowFrames)
     (at : get_or asked place None ≡ Some frames) (wait : ℕ) (s : Schedule) (controllers : Controllers) (planned : ℕ → Bool) (of : Origins)
@@ -255,26 +256,26 @@ module _ (timing : Timing) (asked : List (Option FlowFrames)) (paced : All HasPe
 
   ordered_turn : keep_order frames ≡ true → (passed : Bool) → may_be_passed buffering frames.greatest_ident ≡ passed
       → MatchBool passed (Some wait ≡ None) (IsWaitOf timing buffering.frames place frames (Some wait)) → AreSentWithin s planned of place frames.stream wait
-  ordered_turn ordered true passed told = absurd (none-some wait (sym told))
-  ordered_turn ordered false passed told =
+  ordered_turn ordered true passed stated = absurd (none-some wait (sym stated))
+  ordered_turn ordered false passed stated =
       let keeps : keep_order (planned_at asked place) ≡ true = subst (λ (f : FlowFrames). keep_order f ≡ true) (sym here) ordered in
-      ordered_sent timing asked paced sent buffering is place frames at ordered passed wait told.1 s controllers planned of legal turn.known single
+      ordered_sent timing asked paced sent buffering is place frames at ordered passed wait stated.1 s controllers planned of legal turn.known single
       (turn.behind keeps) (turn.steady keeps)
 
   unordered_turn : keep_order frames ≡ false → Some wait ≡ get_or buffering.waits place None → AreSentWithin s planned of place frames.stream wait
-  unordered_turn kept told =
+  unordered_turn kept stated =
       any_sent timing asked paced sent s controllers planned of legal place turn.known place frames at kept (inl refl) wait
-      (wait_of_queue_group timing asked paced sent buffering.waits is.bounded place frames at kept wait (sym told))
+      (wait_of_queue_group timing asked paced sent buffering.waits is.bounded place frames at kept wait (sym stated))
 
   pub sent_in_any_order : IsWaitIn timing buffering place frames (Some wait) → AreSentWithin s planned of place frames.stream wait
-  sent_in_any_order told = go (keep_order frames) refl told
+  sent_in_any_order stated = go (keep_order frames) refl stated
     where
       go : (keeps : Bool) → keep_order frames ≡ keeps
           → MatchBool keeps
           (MatchBool (may_be_passed buffering frames.greatest_ident) (Some wait ≡ None) (IsWaitOf timing buffering.frames place frames (Some wait)))
           (Some wait ≡ get_or buffering.waits place None) → AreSentWithin s planned of place frames.stream wait
-      go true keeps told = ordered_turn keeps (may_be_passed buffering frames.greatest_ident) refl told
-      go false keeps told = unordered_turn keeps told
+      go true keeps stated = ordered_turn keeps (may_be_passed buffering frames.greatest_ident) refl stated
+      go false keeps stated = unordered_turn keeps stated
 
 module _ (plan : Plan) (timing : Timing) (stays : UnitPlan → Bool) (delays : List (Option Delay)) (asks : AsksOfBus plan timing stays delays) where
   abbrev asked : Asked
@@ -285,11 +286,11 @@ module _ (plan : Plan) (timing : Timing) (stays : UnitPlan → Bool) (delays : L
       subst (HasDelay timing asked flow) (get_or_from_slice_get delays flow delay None at)
       (asks.waits.each flow (slice_get_within delays flow delay at))
 
-  -- what is told of a flow by its messages
-  pub told_of : (flow : ℕ) (load : FlowLoad) (messages : Messages) (delay : Delay) → slice_get asked.flows flow ≡ Some (Some load)
+  -- what is reported of a flow by its messages
+  pub stated_of : (flow : ℕ) (load : FlowLoad) (messages : Messages) (delay : Delay) → slice_get asked.flows flow ≡ Some (Some load)
       → load.messages ≡ messages → slice_get delays flow ≡ Some (Some delay)
       → (buffering : Buffering) × IsBuffering timing (frames_asked asked) buffering × IsDelayOf timing asked buffering flow messages load.limit delay
-  told_of flow load messages delay its is at =
+  stated_of flow load messages delay its is at =
       let (buffering, buffering_delays, has) = delay_at flow (Some delay) at in
       let same : has.0 ≡ load = same_Some _ _ (same_Some _ _ (sym has.1 ∙ its)) in
       let by_load : IsDelay timing asked buffering flow load delay = subst (λ (l : FlowLoad). IsDelay timing asked buffering flow l delay) same has.2 in
@@ -321,9 +322,9 @@ module _ (plan : Plan) (timing : Timing) (stays : UnitPlan → Bool) (delays : L
   of_messages : (buffering : Buffering) → IsBuffering timing (frames_asked asked) buffering → (flow : ℕ) (load : FlowLoad) (messages : Messages) (bits : ℕ)
       → slice_get asked.flows flow ≡ Some (Some load)
       → load.messages ≡ messages → IsDelayOf timing asked buffering flow messages load.limit (Within bits) → IsBounded timing asked flow bits
-  of_messages buffering buffering_delays flow load (Short frames) bits its is told = of_short buffering buffering_delays flow load frames bits its is told
-  of_messages buffering buffering_delays flow load (ToOne frames) bits its is told = absurd told
-  of_messages buffering buffering_delays flow load (ToAll broadcast) bits its is told = absurd told
+  of_messages buffering buffering_delays flow load (Short frames) bits its is stated = of_short buffering buffering_delays flow load frames bits its is stated
+  of_messages buffering buffering_delays flow load (ToOne frames) bits its is stated = absurd stated
+  of_messages buffering buffering_delays flow load (ToAll broadcast) bits its is stated = absurd stated
 
   beyond_short : (buffering : Buffering) → IsBuffering timing (frames_asked asked) buffering → (flow : ℕ) (load : FlowLoad) (messages : Messages) (bits : ℕ)
       → slice_get asked.flows flow ≡ Some (Some load)
@@ -345,8 +346,8 @@ module _ (plan : Plan) (timing : Timing) (stays : UnitPlan → Bool) (delays : L
         in_any_order = bound.4;
         bounds = λ ordered. in_order timing (frames_asked asked) ordered flow frames bound.0 bound.4;
       }
-  beyond_short buffering buffering_delays flow load (ToOne frames) bits its is told = absurd told
-  beyond_short buffering buffering_delays flow load (ToAll broadcast) bits its is told = absurd told
+  beyond_short buffering buffering_delays flow load (ToOne frames) bits its is stated = absurd stated
+  beyond_short buffering buffering_delays flow load (ToAll broadcast) bits its is stated = absurd stated
 
   pub bounded_beyond : AreLateDelaysBounds timing asked delays
   bounded_beyond flow bits at =
@@ -375,14 +376,14 @@ short_bounded plan timing stays delays asks none flow load frames its short =
   where
     go : lines_of_each without_period 0 delays ≡ [] → lines_of_each lateness 0 delays ≡ [] → (delay : Option Delay) → slice_get delays flow ≡ Some delay
         → (bits : ℕ) × (slice_get delays flow ≡ Some (Some (Within bits))) × IsBounded timing (asked_of timing plan stays) flow bits
-    go paced on_time None at = absurd (let told = told_nothing without_period 0 delays paced flow None at in
-        let some : 1 ≡ 0 = ap length told in omega arith)
+    go paced on_time None at = absurd (let stated = stated_nothing without_period 0 delays paced flow None at in
+        let some : 1 ≡ 0 = ap length stated in omega arith)
     go paced on_time (Some (Within bits)) at = (bits, at, bounded plan timing stays delays asks flow bits at)
-    go paced on_time (Some (Beyond bits)) at = absurd (let told = told_nothing lateness 0 delays on_time flow (Some (Beyond bits)) at in
-        let some : 1 ≡ 0 = ap length told in omega arith)
-    go paced on_time (Some Late) at = absurd (let told = told_nothing lateness 0 delays on_time flow (Some Late) at in
-        let some : 1 ≡ 0 = ap length told in omega arith)
-    go paced on_time (Some (Long count)) at = absurd (let told = told_of plan timing stays delays asks flow load (Short frames) (Long count) its short at in
-        never_long timing told.0 flow frames load.limit count told.2)
-    go paced on_time (Some (Whole whole)) at = absurd (let told = told_of plan timing stays delays asks flow load (Short frames) (Whole whole) its short at in
-        never_whole timing told.0 flow frames load.limit whole told.2)
+    go paced on_time (Some (Beyond bits)) at = absurd (let stated = stated_nothing lateness 0 delays on_time flow (Some (Beyond bits)) at in
+        let some : 1 ≡ 0 = ap length stated in omega arith)
+    go paced on_time (Some Late) at = absurd (let stated = stated_nothing lateness 0 delays on_time flow (Some Late) at in
+        let some : 1 ≡ 0 = ap length stated in omega arith)
+    go paced on_time (Some (Long count)) at = absurd (let stated = stated_of plan timing stays delays asks flow load (Short frames) (Long count) its short at in
+        never_long timing stated.0 flow frames load.limit count stated.2)
+    go paced on_time (Some (Whole whole)) at = absurd (let stated = stated_of plan timing stays delays asks flow load (Short frames) (Whole whole) its short at in
+        never_whole timing stated.0 flow frames load.limit whole stated.2)

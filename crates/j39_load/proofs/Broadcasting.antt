@@ -1,6 +1,6 @@
 -- Broadcasts, one after another.
 use Rattle.std.proofs.Common.{◌≡◌, ℕ, suc, ◌+◌, ◌<◌, ◌≤◌, List, [], ◌∷◌, ◌++◌, length, length-append, take, get_or, min, All, refl, sym, ap, ◌∙◌, arith}
-use Rattle.std.proofs.Common.{Option, Some, None}
+use Rattle.std.proofs.Common.{false, Option, Some, None}
 use Rattle.std.proofs.Math.Seq.{take-suc}
 use Rattle.std.proofs.lemmas.List.{append-nil, take_more}
 use Rattle.std.proofs.lemmas.List.Elements.{All-append, All-cons, filter_map-append}
@@ -9,37 +9,55 @@ use Rattle.j39_load.specs.declared.frames.broadcast.Broadcast.{Broadcast}
 use Rattle.j39_load.specs.Broadcasts.{announced_packets, least_announced, least_packets}
 use Rattle.j39_load.specs.SoundLoads.{IsSoundBroadcast}
 
-least_of_more : (bs : List Broadcast) (b : Broadcast) → least_packets (bs ++ b ∷ []) ≡ min b.least_packets (least_packets bs)
+-- one of which nothing is reported
+abbrev pub no_broadcast : Broadcast
+no_broadcast = record { sender = 0; packets = 0; least_packets = 0; has_short = false; period = 0; apart = 0; jitter = 0; deadline = None }
+
+-- ---- the least count of some broadcasts
+
+-- the least of so many of them, of which there is some
+pub record IsLeastOf (least_of : List Broadcast → ℕ) (bs : List Broadcast) (k n : ℕ) : Type 0 where
+  pub least : n ≡ least_of (take k bs)
+  pub some : 1 ≤ n
+
+module _ (count : Broadcast → ℕ) (least_of : List Broadcast → ℕ) (none : least_of [] ≡ 255)
+    (first : (b : Broadcast) (bs : List Broadcast) → least_of (b ∷ bs) ≡ min (count b) (least_of bs)) where
+  of_one_more : (bs : List Broadcast) (b : Broadcast) → least_of (bs ++ b ∷ []) ≡ min (count b) (least_of bs)
+  of_one_more [] b = first b []
+  of_one_more (x ∷ bs) b =
+      let more = first x (bs ++ b ∷ []) in
+      let rest = of_one_more bs b in
+      let all = first x bs in
+      omega (arith, more, rest, all)
+
+  -- with the next one
+  pub next_least : (bs : List Broadcast) (k least next : ℕ) (d : Broadcast) → k < length bs → IsLeastOf least_of bs k least
+      → next ≡ min (count (get_or bs k d)) least → 1 ≤ count (get_or bs k d) → IsLeastOf least_of bs (k + 1) next
+  next_least bs k least next d inside old smaller some =
+      let up : k + 1 ≡ suc k = omega arith in
+      let taken : least_of (take (k + 1) bs) ≡ min (count (get_or bs k d)) (least_of (take k bs)) =
+      ap (λ (n : ℕ). least_of (take n bs)) up ∙ ap least_of (take-suc bs k d inside) ∙ of_one_more (take k bs) (get_or bs k d) in
+      let before = old.least in
+      let positive = old.some in
+      record { least = omega (arith, smaller, before, taken); some = omega (arith, smaller, some, positive) }
+
+-- of their packets
+pub no_packets : least_packets [] ≡ 255
 unfolding least_packets
-least_of_more [] b = refl
-least_of_more (x ∷ bs) b = ap (min x.least_packets) (least_of_more bs b) ∙ omega arith
+no_packets = refl
 
-pub none_least : least_packets [] ≡ 255
+pub first_packets : (b : Broadcast) (bs : List Broadcast) → least_packets (b ∷ bs) ≡ min b.least_packets (least_packets bs)
 unfolding least_packets
-none_least = refl
+first_packets b bs = refl
 
--- with the next one
-pub next_least : (bs : List Broadcast) (k : ℕ) (d : Broadcast) → k < length bs
-    → least_packets (take (k + 1) bs) ≡ min (get_or bs k d).least_packets (least_packets (take k bs))
-next_least bs k d inside =
-    let next : k + 1 ≡ suc k = omega arith in
-    ap (λ (n : ℕ). least_packets (take n bs)) next ∙ ap least_packets (take-suc bs k d inside) ∙ least_of_more (take k bs) (get_or bs k d)
-
-least_of_one_more : (bs : List Broadcast) (b : Broadcast) → least_announced (bs ++ b ∷ []) ≡ min (announced_packets b) (least_announced bs)
-unfolding least_announced
-least_of_one_more [] b = refl
-least_of_one_more (x ∷ bs) b = ap (min (announced_packets x)) (least_of_one_more bs b) ∙ omega arith
-
+-- of those that are announced
 pub none_announced : least_announced [] ≡ 255
 unfolding least_announced
 none_announced = refl
 
--- of those that are announced, with the next one
-pub next_announced : (bs : List Broadcast) (k : ℕ) (d : Broadcast) → k < length bs
-    → least_announced (take (k + 1) bs) ≡ min (announced_packets (get_or bs k d)) (least_announced (take k bs))
-next_announced bs k d inside =
-    let next : k + 1 ≡ suc k = omega arith in
-    ap (λ (n : ℕ). least_announced (take n bs)) next ∙ ap least_announced (take-suc bs k d inside) ∙ least_of_one_more (take k bs) (get_or bs k d)
+pub first_announced : (b : Broadcast) (bs : List Broadcast) → least_announced (b ∷ bs) ≡ min (announced_packets b) (least_announced bs)
+unfolding least_announced
+first_announced b bs = refl
 
 -- ---- what is kept of a list, one value after another
 

@@ -1,28 +1,14 @@
 -- Frames at the places of all at the end of their buffering delays.
-use Rattle.std.proofs.Common.{◌≡◌, ℕ, zero, suc, ◌+◌, ◌<◌, false, List, [], ◌∷◌, ◌++◌, length, get_or, inl, inr, Option, Some, None, Result, Ok, Err, refl, sym}
+use Rattle.std.proofs.Common.{◌≡◌, ℕ, zero, suc, ◌+◌, ◌<◌, false, List, [], ◌∷◌, length, get_or, Option, Some, None, Result, Ok, Err, refl, sym}
 use Rattle.std.proofs.Common.{subst, ap, ◌∙◌, MatchBool, arith}
 use Rattle.std.proofs.Common.{option_map}
-use Rattle.std.proofs.Math.Seq.{get_or-append_seam}
-use Rattle.std.proofs.lemmas.Bool.{cases_lt}
-use Rattle.std.proofs.lemmas.List.{get_or_append_left}
 use Rattle.std.specs.Prelude.{IfOk}
 use Rattle.j39_network.specs.declared.plan.timing.Timing.{Timing}
 use Rattle.j39_load.specs.declared.frames.flow_frames.FlowFrames.{FlowFrames}
 use Rattle.j39_load.specs.AnyQueues.{IsQueueGroupWait, IsBufferedFor, buffered_for, keep_order, later_frames, leasts_of, buffered}
 use Rattle.j39_load.specs.LineLists.{lines_of_each}
 
--- what holds of the first so many, and of one more
-pub one_more : {X : Type 0} (Is : ℕ → Option X → Type 0) (xs : List (Option X)) (x : Option X) (n : ℕ) → length xs ≡ n
-    → ((k : ℕ) → k < n → Is k (get_or xs k None)) → Is n x → (k : ℕ) → k < n + 1 → Is k (get_or (xs ++ x ∷ []) k None)
-one_more Is xs x n count told is k below = elim (cases_lt k n) [
-  | inl before ↦ subst (Is k) (sym (get_or_append_left xs (x ∷ []) None k (omega (arith, before, count)))) (told k before)
-  | inr after ↦
-      let here : k ≡ n = omega arith in
-      let last : get_or (xs ++ x ∷ []) n None ≡ x = ap (λ (m : ℕ). get_or (xs ++ x ∷ []) m None) (sym count) ∙ get_or-append_seam xs x [] None in
-      subst (λ (m : ℕ). Is m (get_or (xs ++ x ∷ []) m None)) (sym here) (subst (Is n) (sym last) is)
-]
-
--- one is told of each place
+-- one is reported of each place
 each_one : {X Y : Type 0} (f : ℕ → X → Y) (place : ℕ) (xs : List X) (k : ℕ) (d : X) (e : Y) → k < length xs
     → get_or (lines_of_each (λ p x. f p x ∷ []) place xs) k e ≡ f (place + k) (get_or xs k d)
 unfolding lines_of_each

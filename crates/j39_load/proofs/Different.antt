@@ -28,10 +28,10 @@ use Rattle.j39_id.specs.Services.{claim_priority, request as request_group}
 use Rattle.j39_load.specs.Ranks.{AreHeldApart, AreTwinFlows, IsAskedBetween, IsShortFlow}
 use Rattle.j39_load.specs.RequestLoads.{request_ident}
 
--- an identifier tells its group, its source, and in PDU1 its destination
-pub tells : (p q n m d e s t : ℕ) → n < 131072 → m < 131072 → d < 256 → e < 256 → s < 256 → t < 256 → (pf_of n < 240 → n % 256 ≡ 0)
+-- an identifier reports its group, its source, and in PDU1 its destination
+pub states : (p q n m d e s t : ℕ) → n < 131072 → m < 131072 → d < 256 → e < 256 → s < 256 → t < 256 → (pf_of n < 240 → n % 256 ≡ 0)
     → (pf_of m < 240 → m % 256 ≡ 0) → identifier_of p n d s ≡ identifier_of q m e t → (p ≡ q) × (n ≡ m) × (s ≡ t) × (is_pdu2 n ≡ false → d ≡ e)
-tells p q n m d e s t n_few m_few d_few e_few s_few t_few n_low m_low = go (is_pdu2 n) (is_pdu2 m) refl refl
+states p q n m d e s t n_few m_few d_few e_few s_few t_few n_low m_low = go (is_pdu2 n) (is_pdu2 m) refl refl
   where
     go : (a b : Bool) → is_pdu2 n ≡ a → is_pdu2 m ≡ b
         → p * 2 ^ 26 + n * 2 ^ 8 + (if a then 0 else d * 2 ^ 8) + s ≡ q * 2 ^ 26 + m * 2 ^ 8 + (if b then 0 else e * 2 ^ 8) + t
@@ -116,23 +116,23 @@ module _ (plan : Plan) (clean : Clean plan) (named : ℕ → Bool) (held : ℕ �
 
   module _ (f h : ℕ) (flow other : FlowPlan) (group second : GroupPlan) (is : SendsOneFrame f flow group) (its : SendsOneFrame h other second)
       (same : group_ident held group flow ≡ group_ident held second other) where
-    told : (group.priority ≡ second.priority) × (group.pgn ≡ second.pgn) × (held flow.sender ≡ held other.sender)
+    stated : (group.priority ≡ second.priority) × (group.pgn ≡ second.pgn) × (held flow.sender ≡ held other.sender)
         × (is_pdu2 group.pgn ≡ false → destination_at held flow.to ≡ destination_at held other.to)
-    told =
+    stated =
         let can = planned flow.group group is.sent in
         let may = planned other.group second its.sent in
         let low = apart.range flow.sender is.sender in
         let less = apart.range other.sender its.sender in
-        tells group.priority second.priority group.pgn second.pgn (destination_at held flow.to) (destination_at held other.to) (held flow.sender)
+        states group.priority second.priority group.pgn second.pgn (destination_at held flow.to) (destination_at held other.to) (held flow.sender)
         (held other.sender) can.page may.page (few flow.to is.receiver) (few other.to its.receiver) (omega (arith, low)) (omega (arith, less))
         can.group.low may.group.low same
 
     pub senders : flow.sender ≡ other.sender
-    senders = one_unit flow.sender other.sender is.sender its.sender told.2
+    senders = one_unit flow.sender other.sender is.sender its.sender stated.2
 
     -- to one destination, where the frame names one
     one_place : is_pdu2 group.pgn ≡ false → flow.to ≡ other.to
-    one_place pdu1 = one_receiver flow.to other.to is.receiver its.receiver (told.3 pdu1)
+    one_place pdu1 = one_receiver flow.to other.to is.receiver its.receiver (stated.3 pdu1)
 
     sent : (at : ℕ) (one : FlowPlan) (its_group : GroupPlan) (to : To) → SendsOneFrame at one its_group → one.sender ≡ flow.sender
         → (one.to ≡ to) ⊎ (IsToOne one × (to ≡ ToAll) × MayBeOneFrameToAll its_group) → SomeMeets (Fits plan its_group flow.sender to) plan.flows.items
@@ -155,17 +155,17 @@ module _ (plan : Plan) (clean : Clean plan) (named : ℕ → Bool) (held : ℕ �
     reach_all at one its_group short pdu2 ToAll goes = inl goes
     reach_all at one its_group short pdu2 (One v) goes = inr ((v, goes), refl, (leb-true 240 (pf_of its_group.pgn) pdu2, short.short))
 
-    -- unless both groups are told by their data they are one
+    -- unless both groups are distinguished by their data they are one
     groups : ¬ DifferInValue group.when second.when → ¬ DifferInValue second.when group.when → flow.group ≡ other.group
     groups alike likewise = go (is_pdu2 group.pgn) refl
       where
         go : (b : Bool) → is_pdu2 group.pgn ≡ b → flow.group ≡ other.group
         go true pdu2 =
-            one_unless_apart plan clean flow.sender ToAll flow.group other.group group second is.sent its.sent told.1 alike likewise
+            one_unless_apart plan clean flow.sender ToAll flow.group other.group group second is.sent its.sent stated.1 alike likewise
             (sent f flow group ToAll is refl (reach_all f flow group is pdu2 flow.to refl))
-            (sent h other second ToAll its (sym senders) (reach_all h other second its (ap is_pdu2 (sym told.1) ∙ pdu2) other.to refl))
+            (sent h other second ToAll its (sym senders) (reach_all h other second its (ap is_pdu2 (sym stated.1) ∙ pdu2) other.to refl))
         go false pdu1 =
-            one_unless_apart plan clean flow.sender flow.to flow.group other.group group second is.sent its.sent told.1 alike likewise
+            one_unless_apart plan clean flow.sender flow.to flow.group other.group group second is.sent its.sent stated.1 alike likewise
             (sent f flow group flow.to is refl (inl refl)) (sent h other second flow.to its (sym senders) (inl (sym (one_place pdu1))))
 
     -- and their frames have one identifier, whatever addresses the units hold
@@ -183,13 +183,13 @@ module _ (plan : Plan) (clean : Clean plan) (named : ℕ → Bool) (held : ℕ �
         to_there : (at : ℕ → ℕ) (b : Bool) → is_pdu2 group.pgn ≡ b
             → identifier_of second.priority second.pgn (destination_at at flow.to) (at flow.sender)
             ≡ identifier_of second.priority second.pgn (destination_at at other.to) (at flow.sender)
-        to_there at true pdu2 = to_either second.priority (destination_at at flow.to) (destination_at at other.to) (at flow.sender) (ap is_pdu2 (sym told.1) ∙ pdu2)
+        to_there at true pdu2 = to_either second.priority (destination_at at flow.to) (destination_at at other.to) (at flow.sender) (ap is_pdu2 (sym stated.1) ∙ pdu2)
         to_there at false pdu1 = ap (λ (to : To). identifier_of second.priority second.pgn (destination_at at to) (at flow.sender)) (one_place pdu1)
 
         one_identifier : (at : ℕ → ℕ) → group_ident at group flow ≡ group_ident at second other
         one_identifier at =
-            ap (λ (n : ℕ). identifier_of n group.pgn (destination_at at flow.to) (at flow.sender)) told.0
-            ∙ ap (λ (n : ℕ). identifier_of second.priority n (destination_at at flow.to) (at flow.sender)) told.1
+            ap (λ (n : ℕ). identifier_of n group.pgn (destination_at at flow.to) (at flow.sender)) stated.0
+            ∙ ap (λ (n : ℕ). identifier_of second.priority n (destination_at at flow.to) (at flow.sender)) stated.1
             ∙ to_there at (is_pdu2 group.pgn) refl
             ∙ ap (λ (u : ℕ). identifier_of second.priority second.pgn (destination_at at other.to) (at u)) senders
 
@@ -216,9 +216,9 @@ module _ (plan : Plan) (clean : Clean plan) (named : ℕ → Bool) (held : ℕ �
       | inl one_group ↦ absurd (let most = ap (λ (g : GroupPlan). g.most) (one_kind one_group) in omega (arith, short, long, most))
     ]
 
-    -- and where the one is told by its data the other is too
-    pub twins_if_told : (v : Selector) → group.when ≡ Some v → AreTwinFlows group flow second other
-    twins_if_told v first_when = elim one_group_or_twins [
+    -- and where the one is distinguished by its data the other is too
+    pub twins_if_stated : (v : Selector) → group.when ≡ Some v → AreTwinFlows group flow second other
+    twins_if_stated v first_when = elim one_group_or_twins [
       | inr twins ↦ twins
       | inl one_group ↦ same_twins v v first_when (sym (ap (λ (g : GroupPlan). g.when) (one_kind one_group)) ∙ first_when)
     ]
@@ -259,7 +259,7 @@ module _ (plan : Plan) (clean : Clean plan) (named : ℕ → Bool) (held : ℕ �
       from = senders f h flow other group second one two same
 
       number : group.pgn ≡ second.pgn
-      number = (told f h flow other group second one two same).1
+      number = (stated f h flow other group second one two same).1
 
       to_one_place : flow.to ≡ other.to
       to_one_place = go (is_pdu2 group.pgn) refl
@@ -275,7 +275,7 @@ module _ (plan : Plan) (clean : Clean plan) (named : ℕ → Bool) (held : ℕ �
       let can = planned flow.group group is.sent in
       let low = apart.range flow.sender is.sender in
       let less = apart.range request.sender asked.sender in
-      let told = tells group.priority claim_priority group.pgn request_group (destination_at held flow.to) (destination_at held request.to)
+      let stated = states group.priority claim_priority group.pgn request_group (destination_at held flow.to) (destination_at held request.to)
       (held flow.sender) (held request.sender) can.page (omega arith) (few flow.to is.receiver) (few request.to asked.receiver) (omega (arith, low))
       (omega (arith, less)) can.group.low (λ _. refl) same in
-      can.not_service (1, omega arith, sym told.1)
+      can.not_service (1, omega arith, sym stated.1)

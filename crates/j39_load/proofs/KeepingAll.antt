@@ -31,7 +31,7 @@ use Rattle.j39_load.proofs.KeepingApart.{few_bits}
 use Rattle.j39_load.proofs.KeepingOneToAll as one
 use Rattle.j39_load.proofs.KeepingOneToAll.{OneToAll}
 use Rattle.j39_load.proofs.KeepingPlanned.{keeps_queues, slots_kept, planned_address, planned_apart, planned_controllers, planned_held, planned_single}
-use Rattle.j39_load.proofs.KeepingFrames.{one_to}
+use Rattle.j39_load.proofs.KnownFrames.{one_to}
 use Rattle.j39_load.proofs.Milliseconds.{at_once, in_unit_ms, own_ms}
 use Rattle.j39_load.proofs.Slots.{ends_before, slots}
 use Rattle.j39_timing.specs.Rounds.{all_planned}
@@ -88,13 +88,13 @@ last_slot packets f g r w k = elim (cases_lt k packets) [
   ]
 ]
 
-slot_told : (packets f g r w p : ℕ) → slot_of packets (source_of f g r w (choice packets p)) ≡ p
-slot_told packets f g r w zero = refl
-slot_told packets f g r w (suc zero) = refl
-slot_told packets f g r w (suc (suc zero)) = refl
-slot_told packets f g r w (suc (suc (suc zero))) = refl
-slot_told packets f g r w (suc (suc (suc (suc zero)))) = refl
-slot_told packets f g r w (suc (suc (suc (suc (suc k))))) = last_slot packets f g r w k ∙ omega arith
+slot_stated : (packets f g r w p : ℕ) → slot_of packets (source_of f g r w (choice packets p)) ≡ p
+slot_stated packets f g r w zero = refl
+slot_stated packets f g r w (suc zero) = refl
+slot_stated packets f g r w (suc (suc zero)) = refl
+slot_stated packets f g r w (suc (suc (suc zero))) = refl
+slot_stated packets f g r w (suc (suc (suc (suc zero)))) = refl
+slot_stated packets f g r w (suc (suc (suc (suc (suc k))))) = last_slot packets f g r w k ∙ omega arith
 
 module _ (plan : Plan) (timing : Timing) (apart : ArePlannedApart (units_of plan)) (f : ℕ) (flow : FlowPlan) (pace : Pace) (group : GroupPlan)
     (its : slice_get plan.flows.items f ≡ Some flow) (paced : flow.pace ≡ Some pace) (of : slice_get plan.groups.items flow.group ≡ Some group)
@@ -171,7 +171,7 @@ module _ (plan : Plan) (timing : Timing) (apart : ArePlannedApart (units_of plan
     source = λ p. source_of f g r w (choice packets p);
     release = λ p. release_of p (choice packets p);
     slot_of = slot_of packets;
-    slot_told = slot_told packets f g r w;
+    slot_stated = slot_stated packets f g r w;
     first = 4;
     announced = λ x m. refl;
     carried = λ x m k. omega arith;

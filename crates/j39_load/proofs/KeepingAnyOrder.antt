@@ -19,7 +19,7 @@ use Rattle.j39_load.specs.Loads.{any_unit}
 use Rattle.j39_load.specs.PlannedFrames.{AreFramesInAnyOrder, AreFramesOfPlan, KeepToQueueGroup, queue_group_of, no_frames, planned_at}
 use Rattle.j39_load.specs.SentFrames.{FrameSources, Held, IsFirstFrame, IsFrameOf, IsRequestFrame, IsSessionFrame, IsSingleFrame, Part, Source}
 use Rattle.j39_load.specs.SentFrames.{Single, First, InSession, Asking, Announcing, Carrying}
-use Rattle.j39_load.proofs.KeepingFrames.{IsKnown, TakesAny, any_known, queue_cases}
+use Rattle.j39_load.proofs.KnownFrames.{IsKnown, TakesAny, any_known, queue_cases}
 use Rattle.j39_load.proofs.PlacedFrames.{first_read, read, request_frames_read, session_read}
 use Rattle.j39_load.proofs.KeepingPlan.{keeps_premises, of_source}
 use Rattle.j39_load.proofs.SharedIdentifiers.{IsGroupFrame, broadcast_made, broadcast_or_part, no_broadcast, no_part, no_request, of_first, of_single, one_asks, one_sender, one_sends}
@@ -28,32 +28,32 @@ use Rattle.j39_timing.specs.AnyOrder.{Controllers, IsLegalInAnyOrder, IsUnordere
 use Rattle.j39_timing.specs.TimedFrames.{Schedule}
 use Rattle.j39_timing.specs.Traffic.{IsQueuedAt}
 
-module _ (plan : Plan) (timing : Timing) (stays : UnitPlan → Bool) (tells : DecidesWhoStays plan stays) (clean : Clean plan) (s : Schedule)
+module _ (plan : Plan) (timing : Timing) (stays : UnitPlan → Bool) (states : DecidesWhoStays plan stays) (clean : Clean plan) (s : Schedule)
     (queued_first : (p : ℕ) → p < s.count → s.queued p ≤ s.start p) (planned : ℕ → Bool) (sent : FrameSources) (held : Held)
     (keeps : KeepsToPlan plan timing s planned sent held) (controllers : Controllers) (queues : KeepsQueues plan timing s controllers planned sent) where
   abbrev asks : List (Option FlowFrames)
   asks = frames_asked (asked_of timing plan stays)
 
-  -- ---- what is told of a planned frame
+  -- ---- what is reported of a planned frame
 
   module _ (p : ℕ) (in_p : p < s.count) (is : planned p ≡ true) where
     one : IsKnown plan timing stays s (sent.source p) (sent.release p) p
-    one = of_source plan timing stays tells clean s queued_first planned sent held keeps p in_p is
+    one = of_source plan timing stays states clean s queued_first planned sent held keeps p in_p is
 
     asked_there : planned_at asks (source_place plan (sent.source p)) ≡ one.frames
     asked_there = ap (λ (o : Option FlowFrames). unwrap_or o no_frames) one.read
 
-    of_unit_told : IsUnordered controllers p → are_of_unit one.frames (controllers.unit p) ≡ true
-    of_unit_told un =
-        let from = queues.sender p one.sender in_p is one.sends in
-        elim (slice_get_cases plan.units.items one.sender).1 [
+    of_unit_stated : IsUnordered controllers p → are_of_unit one.frames (controllers.unit p) ≡ true
+    of_unit_stated un =
+        let from = queues.sender p one.of_units.sender in_p is one.of_units.sends in
+        elim (slice_get_cases plan.units.items one.of_units.sender).1 [
           | inl (unit, below, at, same) ↦ elim (queue_cases unit.queue) [
             | inl first ↦
-                absurd (true≢false (sym (queues.order one.sender unit at first) ∙ (ap controllers.keeps_order (sym from) ∙ un)))
+                absurd (true≢false (sym (queues.order one.of_units.sender unit at first) ∙ (ap controllers.keeps_order (sym from) ∙ un)))
             | inr any ↦
-                subst (λ (u : ℕ). are_of_unit one.frames u ≡ true) (sym from) (one.of_sender (any_known plan.units.items one.sender unit at any))
+                subst (λ (u : ℕ). are_of_unit one.frames u ≡ true) (sym from) (one.of_units.of_sender (any_known plan.units.items one.of_units.sender unit at any))
           ]
-          | inr (past, none) ↦ absurd (let below = one.planned_sender in omega (arith, past, below))
+          | inr (past, none) ↦ absurd (let below = one.of_units.planned in omega (arith, past, below))
         ]
 
   -- ---- queue groups: what waits in one work-conserving queue (Davis, Navet, 2012), but of several units
@@ -237,7 +237,7 @@ module _ (plan : Plan) (timing : Timing) (stays : UnitPlan → Bool) (tells : De
 
     -- a unit without order takes part in each message of the queue group
     pub any_of : (p : ℕ) (in_p : p < s.count) (is : planned p ≡ true) → has (source_place plan (sent.source p)) ≡ true → TakesAny plan (sent.source p)
-    any_of p in_p is of_it = (one p in_p is).of_any member (subst (λ (f : FlowFrames). is_of f ≡ true) (asked_there p in_p is) of_it)
+    any_of p in_p is of_it = (one p in_p is).of_units.of_any member (subst (λ (f : FlowFrames). is_of f ≡ true) (asked_there p in_p is) of_it)
 
     queue_group_kept : KeepToQueueGroup timing s planned (origins_of plan sent) (queue_group_of timing asks around level)
     queue_group_kept = record {
@@ -262,8 +262,8 @@ module _ (plan : Plan) (timing : Timing) (stays : UnitPlan → Bool) (tells : De
   keeps_any i known = record {
     known = known;
     of_unit = λ p in_p is un.
-        subst (λ (f : FlowFrames). are_of_unit f (controllers.unit p) ≡ true) (sym (asked_there p in_p is)) (of_unit_told p in_p is un);
-    to_last = λ p in_p is kept. subst (λ (f : FlowFrames). s.ident p ≤ f.last_ident) (sym (asked_there p in_p is)) (one p in_p is).last;
+        subst (λ (f : FlowFrames). are_of_unit f (controllers.unit p) ≡ true) (sym (asked_there p in_p is)) (of_unit_stated p in_p is un);
+    to_last = λ p in_p is kept. subst (λ (f : FlowFrames). s.ident p ≤ f.last_ident) (sym (asked_there p in_p is)) (one p in_p is).between.1;
     queue_groups = λ j level goes kept is_level. queue_group_kept (planned_at asks j) level;
   }
 
@@ -271,6 +271,6 @@ pub keeps_in_any_order : (plan : Plan) (timing : Timing) (stays : UnitPlan → B
     → (s : Schedule) (controllers : Controllers) (planned : ℕ → Bool) (sent : FrameSources) (held : Held) (i : ℕ) → IsSingleFlow plan i
     → IsLegalInAnyOrder s controllers → KeepsToPlan plan timing s planned sent held → KeepsQueues plan timing s controllers planned sent
     → AreFramesInAnyOrder timing (frames_asked (asked_of timing plan stays)) s controllers planned (origins_of plan sent) i
-keeps_in_any_order plan timing stays clean tells s controllers planned sent held i single legal keeps queues =
-    keeps_any plan timing stays tells clean s legal.queued_first planned sent held keeps controllers queues i
-    (keeps_premises plan timing stays tells clean s legal.queued_first planned sent held keeps i single)
+keeps_in_any_order plan timing stays clean states s controllers planned sent held i single legal keeps queues =
+    keeps_any plan timing stays states clean s legal.queued_first planned sent held keeps controllers queues i
+    (keeps_premises plan timing stays states clean s legal.queued_first planned sent held keeps i single)

@@ -3,7 +3,6 @@
 use Rattle.std.proofs.Common.{◌≡◌, ℕ, ◌+◌, ◌*◌, ◌^◌, ◌%◌, ◌<◌, ◌≤◌, Bool, true, false, not, cond, if◌then◌else◌, ltb, nat_lt, length, Option}
 use Rattle.std.proofs.Common.{None, Some}
 use Rattle.std.proofs.Common.{refl, sym, ap, ◌∙◌, inl, inr, arith}
-use Rattle.std.proofs.Math.Nat.{mul-le-mul_left}
 use Rattle.std.proofs.lemmas.Bool.{cond_both, leb-false}
 use Rattle.std.proofs.lemmas.Option.{same_Some, slice_get_cases}
 use Rattle.std.specs.List.{slice_get}
@@ -24,9 +23,9 @@ use Rattle.j39_load.specs.KeepsPlan.{CanBeKept, KeepsQueues, KeepsToPlan}
 use Rattle.j39_load.specs.KeptTogether.{CanBeKeptTogether}
 use Rattle.j39_load.specs.Loads.{bits_per_ms, is_any}
 use Rattle.j39_load.specs.Ranks.{AreHeldApart}
-use Rattle.j39_load.specs.SentFrames.{FrameSources, HasPeriodMs, Held, IsMsBehind, Single, goes_to}
+use Rattle.j39_load.specs.SentFrames.{Announcing, Carrying, FrameSources, HasPeriodMs, Held, Single, goes_to}
 use Rattle.j39_load.proofs.DamagedFirst as damaged_first
-use Rattle.j39_load.proofs.KeepingPlanned.{a_period_apart, keeps_all, keeps_queues, no_broadcasts, none_foreseen, none_other, none_sent, period_is}
+use Rattle.j39_load.proofs.KeepingPlanned.{keeps_queues, none_foreseen, none_other, of_one_source, one_source_kept, period_is, source_can_be_kept}
 use Rattle.j39_load.proofs.KeepingPlanned.{planned_address, planned_apart, planned_controllers, planned_held, planned_receiver, planned_sender, planned_single}
 use Rattle.j39_timing.proofs.Rounds.{rounds_legal}
 use Rattle.j39_load.proofs.Milliseconds.{at_once, in_ms_behind, in_unit_ms}
@@ -82,8 +81,9 @@ module _ (plan : Plan) (timing : Timing) (apart : ArePlannedApart (units_of plan
   abbrev bus : Schedule
   bus = in_rounds alone n
 
-  abbrev sent : FrameSources
-  sent = record { source = λ p. Single f; release = λ p. p * step; broadcasts = no_broadcasts }
+  -- no such frame is one of a long message to all
+  to_one : ((u m : ℕ) → Single f ≡ Announcing u m → ⊥) × ((u m k : ℕ) → Single f ≡ Carrying u m k → ⊥)
+  to_one = ((λ u m same. cc), (λ u m k same. cc))
 
   are_senders : AreSenders alone
   are_senders = record {
@@ -93,12 +93,6 @@ module _ (plan : Plan) (timing : Timing) (apart : ArePlannedApart (units_of plan
     positive = omega arith;
     round = omega arith;
   }
-
-  -- one that comes behind another does so a period later at least
-  period_behind : (p q : ℕ) → p < q → IsMsBehind timing pace.period (p * step) (q * step)
-  period_behind p q less =
-      let more : step * (p + 1) ≤ step * q = mul-le-mul_left step (omega (arith, less)) in
-      in_ms_behind timing pace.period (p * step) (q * step) (omega (arith, more))
 
   pub held_apart : (t : ℕ) → AreHeldApart (held.named t) (held.address t)
   held_apart t = planned_apart plan apart t
@@ -112,25 +106,11 @@ module _ (plan : Plan) (timing : Timing) (apart : ArePlannedApart (units_of plan
   pub same_period : (ms : ℕ) → HasPeriodMs plan f ms → pace.period ≡ ms
   same_period ms every = period_is plan f flow pace its paced ms every
 
-  keeps : KeepsToPlan plan timing bus all_planned sent held
-  keeps = keeps_all plan timing apart bus sent
+  pub can_be_kept : CanBeKept plan timing (Single f) n
+  can_be_kept = source_can_be_kept plan timing apart f flow pace its paced (Single f) step (omega arith) (λ ms every. every) to_one bus
       (λ p in_p. planned_single plan timing apart f flow pace group its paced of short bus (p * step) p (omega arith) (omega arith)
       (at_once timing pace.jitter (p * step)) refl)
-      (λ p q ms differ one_source every. a_period_apart plan timing f flow pace its paced step period_behind p q ms differ every)
-      (none_sent plan timing bus all_planned sent (λ u. refl) (λ p u m same. let told = same in cc) (λ p u m k same. let told = same in cc))
-
-  pub can_be_kept : CanBeKept plan timing (Single f) n
-  can_be_kept = record {
-    s = bus;
-    planned = all_planned;
-    sent = sent;
-    held = held;
-    legal = rounds_legal alone are_senders n;
-    keeps = keeps;
-    frames = refl;
-    all_planned = λ p. refl;
-    of_source = λ p. refl;
-  }
+      (rounds_legal alone are_senders n)
 
   -- ---- each frame as late as the jitter allows, and the first damaged once, or behind one that is left half sent
 
@@ -154,19 +134,12 @@ module _ (plan : Plan) (timing : Timing) (apart : ArePlannedApart (units_of plan
   late_bus = damaged_first.frames n long_step jitter (80 + 10 * group.most) ident some_bits room
 
   abbrev late_sent : FrameSources
-  late_sent = record { source = λ p. Single f; release = λ p. p * long_step; broadcasts = no_broadcasts }
-
-  long_period_behind : (p q : ℕ) → p < q → IsMsBehind timing pace.period (p * long_step) (q * long_step)
-  long_period_behind p q less =
-      let more : long_step * (p + 1) ≤ long_step * q = mul-le-mul_left long_step (omega (arith, less)) in
-      in_ms_behind timing pace.period (p * long_step) (q * long_step) (omega (arith, more))
+  late_sent = of_one_source (Single f) long_step
 
   late_keeps : KeepsToPlan plan timing late_bus all_planned late_sent held
-  late_keeps = keeps_all plan timing apart late_bus late_sent
+  late_keeps = one_source_kept plan timing apart f flow pace its paced (Single f) long_step (omega arith) (λ ms every. every) to_one late_bus
       (λ p in_p. planned_single plan timing apart f flow pace group its paced of short late_bus (p * long_step) p (omega arith) (omega arith)
       (in_unit_ms timing pace.jitter (p * long_step) (p * long_step + jitter) (omega arith)) refl)
-      (λ p q ms differ one_source every. a_period_apart plan timing f flow pace its paced long_step long_period_behind p q ms differ every)
-      (none_sent plan timing late_bus all_planned late_sent (λ u. refl) (λ p u m same. let told = same in cc) (λ p u m k same. let told = same in cc))
 
   -- the flow's unit sends all
   abbrev controllers : Controllers
@@ -195,8 +168,8 @@ module _ (plan : Plan) (timing : Timing) (apart : ArePlannedApart (units_of plan
     attempt = damaged_first.damage n long_step jitter (80 + 10 * group.most) ident some_bits room half_sent (omega (arith, short))
 
     late_errors : (rate : ErrorRate) → timing.errors ≡ Some rate → KeepsErrors timing rate late_bus attempt all_planned late_sent
-    late_errors rate told = record {
-      told = told;
+    late_errors rate stated = record {
+      stated = stated;
       in_order = λ e g before in_g. omega arith;
       seldom = λ from.
           let once = one_at_most (λ e. cond (begins_within timing rate.every attempt from e) 1 0)
@@ -221,7 +194,7 @@ module _ (plan : Plan) (timing : Timing) (apart : ArePlannedApart (units_of plan
     }
 
     pub can_be_kept_together : IsPgn group.pgn → (rate : ErrorRate) → timing.errors ≡ Some rate → CanBeKeptTogether plan timing rate f pace n half_sent
-    can_be_kept_together number rate told =
+    can_be_kept_together number rate stated =
         let legal = damaged_first.legal n long_step jitter (80 + 10 * group.most) ident some_bits room half_sent (omega (arith, short)) in
         record {
           s = late_bus;
@@ -234,7 +207,7 @@ module _ (plan : Plan) (timing : Timing) (apart : ArePlannedApart (units_of plan
           any_order = damaged_first.any_order late_bus attempt legal controllers;
           keeps = late_keeps;
           queues = late_queues number;
-          errors = late_errors rate told;
+          errors = late_errors rate stated;
           errors_in_any_order = late_errors_in_any_order;
           frames = refl;
           of_flow = λ p. refl;

@@ -24,7 +24,7 @@ use Rattle.j39_load.specs.KeepsPlan.{source_place}
 use Rattle.j39_load.specs.SentFrames.{Broadcasts, FrameSources, Held, IsFrameOf, Source, Single, First, InSession, Asking, Announcing, Carrying}
 use Rattle.j39_load.proofs.AskedPlaces.{flow_read}
 use Rattle.j39_load.proofs.EachFrames.{each_fits}
-use Rattle.j39_load.proofs.KeepingFrames.{IsPaced}
+use Rattle.j39_load.proofs.KnownFrames.{IsPaced}
 use Rattle.j39_load.proofs.KeepingSources.{of_announcements, of_packets}
 use Rattle.j39_load.proofs.Milliseconds.{behind_bits, some_bits, within_bits}
 use Rattle.j39_load.proofs.PlacedFrames.{all, asked, at_place, its_broadcast, load, to_all_units, traffic, unit_planned}
@@ -401,7 +401,7 @@ module _ (plan : Plan) (timing : Timing) (stays : UnitPlan → Bool) (s : Schedu
 
     -- ---- all streams
 
-    module _ (told : (p : ℕ) → p < s.count → planned p ≡ true
+    module _ (stated : (p : ℕ) → p < s.count → planned p ≡ true
         → IsPaced plan timing stays (sent.source p) ((traffic plan timing stays).stream (source_place plan (sent.source p)))) where
       abbrev stream : ℕ → Stream
       stream = (traffic plan timing stays).stream
@@ -409,9 +409,9 @@ module _ (plan : Plan) (timing : Timing) (stays : UnitPlan → Bool) (s : Schedu
       demand_none : (j : ℕ) (x : Demand) → (stream j).wanted ≡ None → demand_of (demands_of whole) (stream j) ≡ Some x → ⊥
       demand_none j x none is = none-some x (sym (ap (option_and_then (λ (place : ℕ). slice_get (demands_of whole) place)) none) ∙ is)
 
-      demand_told : (j place : ℕ) (x y : Demand) → (stream j).wanted ≡ Some place → slice_get (demands_of whole) place ≡ Some y
+      demand_stated : (j place : ℕ) (x y : Demand) → (stream j).wanted ≡ Some place → slice_get (demands_of whole) place ≡ Some y
           → demand_of (demands_of whole) (stream j) ≡ Some x → y ≡ x
-      demand_told j place x y some at is =
+      demand_stated j place x y some at is =
           same_Some y x (sym at ∙ (sym (ap (option_and_then (λ (k : ℕ). slice_get (demands_of whole) k)) some) ∙ is))
 
       unit_few : (u m : ℕ) → m < b.count u → u < unit_limit
@@ -430,13 +430,13 @@ module _ (plan : Plan) (timing : Timing) (stays : UnitPlan → Bool) (s : Schedu
       of_source (Announcing u m) release p frame paced t span demand is =
           let some : (stream (source_place plan (Announcing u m))).wanted ≡ Some (announcements_demand u) = ap (λ (x : Stream). x.wanted) paced in
           subst (λ (x : Demand). releases_in w plans of (source_place plan (Announcing u m)) t span ≤ frames_wanted span x)
-          (demand_told (source_place plan (Announcing u m)) (announcements_demand u) demand (demand_by Announcements (wants_of whole u)) some
+          (demand_stated (source_place plan (Announcing u m)) (announcements_demand u) demand (demand_by Announcements (wants_of whole u)) some
           (announcements_wanted u whole (unit_few u m frame.known)) is)
           (announcements_most u m frame.known some t span)
       of_source (Carrying u m k) release p frame paced t span demand is =
           let some : (stream (source_place plan (Carrying u m k))).wanted ≡ Some (packets_demand u) = ap (λ (x : Stream). x.wanted) paced in
           subst (λ (x : Demand). releases_in w plans of (source_place plan (Carrying u m k)) t span ≤ frames_wanted span x)
-          (demand_told (source_place plan (Carrying u m k)) (packets_demand u) demand (demand_by Packets (wants_of whole u)) some
+          (demand_stated (source_place plan (Carrying u m k)) (packets_demand u) demand (demand_by Packets (wants_of whole u)) some
           (packets_wanted u whole (unit_few u m frame.0.known)) is)
           (packets_most u m k frame.0.known some t span)
 
@@ -453,7 +453,7 @@ module _ (plan : Plan) (timing : Timing) (stays : UnitPlan → Bool) (s : Schedu
               | inr copy ↦
                   let there : source_place plan (sent.source p) ≡ j = sym copy.place ∙ place in
                   subst (λ (k : ℕ). releases_in w plans of k t span ≤ frames_wanted span demand) there
-                  (of_source (sent.source p) (sent.release p) p (frames p copy.below copy.is) (told p copy.below copy.is) t span demand
+                  (of_source (sent.source p) (sent.release p) p (frames p copy.below copy.is) (stated p copy.below copy.is) t span demand
                   (subst (λ (k : ℕ). demand_of (demands_of whole) (stream k) ≡ Some demand) (sym there) is))
             ]
       ]

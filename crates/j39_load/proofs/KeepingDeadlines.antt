@@ -43,9 +43,9 @@ slot_of (First f) = 0
 slot_of (InSession f part) = 0
 slot_of (Asking r) = 0
 
-slot_told : (u p : ℕ) → slot_of (source_at u p) ≡ p
-slot_told u zero = refl
-slot_told u (suc k) = refl
+slot_stated : (u p : ℕ) → slot_of (source_at u p) ≡ p
+slot_stated u zero = refl
+slot_stated u (suc k) = refl
 
 module _ (plan : Plan) (timing : Timing) (apart : ArePlannedApart (units_of plan)) (f : ℕ) (flow : FlowPlan) (pace : Pace) (group : GroupPlan)
     (its : slice_get plan.flows.items f ≡ Some flow) (paced : flow.pace ≡ Some pace) (of : slice_get plan.groups.items flow.group ≡ Some group)
@@ -92,7 +92,7 @@ module _ (plan : Plan) (timing : Timing) (apart : ArePlannedApart (units_of plan
     source = source_at u;
     release = λ p. p * width;
     slot_of = slot_of;
-    slot_told = slot_told u;
+    slot_stated = slot_stated u;
     first = 0;
     announced = λ x m. refl;
     carried = λ x m k. omega arith;

@@ -1,9 +1,9 @@
 -- A bus with damaged frames that keeps to a plan in the plan's own words keeps the premises of its delays.
-use Rattle.std.proofs.Common.{◌≡◌, ◌≢◌, ℕ, suc, ◌+◌, ◌*◌, ◌-◌, ◌/◌, ◌%◌, ◌<◌, ◌≤◌, ◌⊎◌, Bool, true, false, cond, not, ◌&&◌, ◌||◌, List, ◌++◌, length, get_or, map}
+use Rattle.std.proofs.Common.{◌≡◌, ◌≢◌, ℕ, ◌+◌, ◌*◌, ◌/◌, ◌%◌, ◌<◌, ◌≤◌, ◌⊎◌, Bool, true, false, cond, not, ◌&&◌, ◌||◌, List, ◌++◌, length, get_or, map}
 use Rattle.std.proofs.Common.{unwrap_or, Option, Some, None, ◌^◌, if◌then◌else◌}
 use Rattle.std.proofs.Common.{refl, sym, ap, ◌∙◌, subst, inl, inr, arith}
 use Rattle.std.proofs.Math.Nat.{div-add-mod, mod-lt, mul-le-mul_left}
-use Rattle.std.proofs.lemmas.Bool.{cases_Bool, cases_eq, cases_lt, le-ltb, lt-ltb, ne_eqb, true≢false}
+use Rattle.std.proofs.lemmas.Bool.{cases_eq, cases_lt, le-ltb, ne_eqb, true≢false}
 use Rattle.std.proofs.lemmas.Option.{slice_get_within}
 use Rattle.std.proofs.lemmas.List.{get_or-append-add, length-append, length-map}
 use Rattle.j39_id.specs.Ident.{identifier_of}
@@ -23,7 +23,7 @@ use Rattle.j39_load.specs.AnyQueues.{keep_order}
 use Rattle.j39_load.specs.Asked.{announcements_of_unit, asked_of, frames_asked, frames_of_flow, frames_of_request, packets_of_unit, singles_of_flow}
 use Rattle.j39_load.specs.Damage.{damage_frames, damage_stream, first_frames}
 use Rattle.j39_load.specs.KeepsErrors.{KeepsErrors, origins_with, planned_with}
-use Rattle.j39_load.specs.KeepsPlan.{IsSingleFlow, KeepsToPlan, origins_of, source_place, source_turn}
+use Rattle.j39_load.specs.KeepsPlan.{IsSingleFlow, KeepsToPlan, origins_of, source_place}
 use Rattle.j39_load.specs.Loads.{bits_inside, destination_at, load_of_flow}
 use Rattle.j39_load.specs.PlannedFrames.{AreFramesOfPlan, no_frames, planned_at}
 use Rattle.j39_load.specs.SentFrames.{FrameSources, Announcing, Carrying, HasTime, Held, IsBroadcastFrame, IsFrameOf, Part, Single, First, InSession}
@@ -31,15 +31,16 @@ use Rattle.j39_load.specs.SentFrames.{Asking, Source, goes_to, part_identifier}
 use Rattle.j39_load.specs.SentFrames.{RequestToSend, Packet, ClearToSend, EndAcknowledged}
 use Rattle.j39_findings.specs.Standing.{DecidesWhoStays}
 use Rattle.j39_load.specs.Twins.{is_same}
-use Rattle.j39_load.proofs.Attempts.{a_window_apart, attempt_few}
+use Rattle.j39_load.proofs.Attempts.{a_window_apart}
+use Rattle.j39_load.proofs.DamagedPlaces.{IsDamage, IsFrame, frame_at, own_with, place, shift, width}
+use Rattle.j39_load.proofs.DamagedPlaces as places
 use Rattle.j39_load.proofs.KeepingBroadcasts.{IsCopy, as_wanted}
-use Rattle.j39_load.proofs.KeepingFrames.{IsBelowGreatest, inside_asked}
+use Rattle.j39_load.proofs.KnownFrames.{IsBelowGreatest, inside_asked}
 use Rattle.j39_load.proofs.PlacedFrames.{traffic}
-use Rattle.j39_load.proofs.KeepingPlan.{at_its_place, keeps_stream, of_flow, of_source, of_streams, own_identifier, told_stream}
+use Rattle.j39_load.proofs.KeepingPlan.{at_its_place, keeps_stream, longest_of, of_flow, of_source, of_streams, own_identifier, stated_stream}
 use Rattle.j39_load.proofs.SharedIdentifiers.{IsGroupFrame, of_first, of_single}
 use Rattle.j39_timing.specs.Errors.{Damaged, IsBusWithErrors, IsLegalWithErrors, with_errors}
-use Rattle.j39_timing.proofs.ErrorFrames.{attempt_told, error_told}
-use Rattle.j39_timing.specs.FrameBits.{error_frame, longest_frame}
+use Rattle.j39_timing.proofs.ErrorFrames.{frame_at as frame_there}
 use Rattle.j39_timing.specs.FrameStreams.{Origins, AreOfStreams, KeepsStream}
 use Rattle.j39_timing.specs.TimedFrames.{Schedule}
 use Rattle.j39_timing.specs.declared.stream.Stream.{Stream}
@@ -68,7 +69,7 @@ zero_parts priority pgn destination source none = go (is_pdu2 pgn) refl none
         absurd (true≢false (sym is ∙ ap is_pdu2 number))
     go false is zero = (omega (arith, zero), omega (arith, zero))
 
-module _ (plan : Plan) (timing : Timing) (stays : UnitPlan → Bool) (tells : DecidesWhoStays plan stays) (clean : Clean plan) (s : Schedule) (d : Damaged)
+module _ (plan : Plan) (timing : Timing) (stays : UnitPlan → Bool) (states : DecidesWhoStays plan stays) (clean : Clean plan) (s : Schedule) (d : Damaged)
     (bus : IsBusWithErrors s d) (planned : ℕ → Bool) (sent : FrameSources) (held : Held) (keeps : KeepsToPlan plan timing s planned sent held)
     (rate : ErrorRate) (errors : KeepsErrors timing rate s d planned sent) where
   abbrev pub asks : List (Option FlowFrames)
@@ -86,109 +87,18 @@ module _ (plan : Plan) (timing : Timing) (stays : UnitPlan → Bool) (tells : De
   abbrev pub is_planned : ℕ → Bool
   is_planned = planned_with s planned
 
-  -- ---- what stands at a place
+  -- a frame as it was, or an attempt or the error frame behind it
+  abbrev pub IsFrameOfPlan : ℕ → Type 0
+  IsFrameOfPlan p = IsFrame plan s d planned sent rate (length asks) p
 
-  pub record IsFrame (p : ℕ) : Type 0 where
-    pub below : p < s.count
-    pub queued : w.queued p ≡ s.queued p
-    pub start : w.start p ≡ s.start p
-    pub bits : w.bits p ≡ s.bits p
-    pub ident : w.ident p ≡ s.ident p
-    pub source : of.source p ≡ source_place plan (sent.source p)
-    pub turn : of.turn p ≡ source_turn plan (sent.source p)
-    pub since : of.since p ≡ sent.release p
-    pub plans : is_planned p ≡ planned p
+  abbrev pub IsDamageOf : ℕ → Type 0
+  IsDamageOf p = IsDamage plan s d planned sent rate (length asks) p
 
-  -- an attempt, or the error frame behind it
-  abbrev pub shift : Bool → ℕ
-  shift error = cond error 1 0
+  pub longest_with : (p : ℕ) → p < s.count → s.bits p ≤ 160
+  longest_with = longest_of plan timing stays states clean s bus.queued_first planned sent held keeps
 
-  abbrev place : Bool → ℕ → ℕ
-  place error e = s.count + (cond error d.count 0 + e)
-
-  abbrev width : Bool → ℕ
-  width error = cond error error_frame (longest_frame 8)
-
-  pub record IsDamage (p : ℕ) : Type 0 where
-    pub error : Bool
-    pub attempt : ℕ
-    pub below : attempt < d.count
-    pub is : p ≡ place error attempt
-    pub behind : s.count ≤ p
-    pub queued : w.queued p ≡ d.begin attempt
-    pub bits : w.bits p ≤ width error
-    pub ident : w.ident p ≡ 0
-    pub source : of.source p ≡ length asks + shift error
-    pub turn : of.turn p ≡ attempt % rate.count
-    pub since : of.since p ≡ d.begin attempt
-
-  frame_at : (p : ℕ) → p < s.count → IsFrame p
-  frame_at p below =
-      let front = lt-ltb p s.count below in
-      record {
-        below = below;
-        queued = rw (front) refl;
-        start = rw (front) refl;
-        bits = rw (front) refl;
-        ident = rw (front) refl;
-        source = rw (front) refl;
-        turn = rw (front) refl;
-        since = rw (front) refl;
-        plans = rw (front) refl;
-      }
-
-  longest_of : (p : ℕ) → p < s.count → s.bits p ≤ 160
-  longest_of p in_p = elim (cases_Bool (planned p)) [
-    | inl is ↦ (of_source plan timing stays tells clean s bus.queued_first planned sent held keeps p in_p is).at_most
-    | inr other ↦ keeps.others_length p in_p other
-  ]
-
-  attempt_at : (e : ℕ) → e < d.count → IsDamage (s.count + e)
-  attempt_at e below =
-      let few = attempt_few s d bus longest_of e below in
-      let bits = attempt_told s d s.bits d.sent d.error e below in
-      let source = attempt_told s d (λ p. source_place plan (sent.source p)) (λ e. length asks) (λ e. suc (length asks)) e below in
-      record {
-        error = false;
-        attempt = e;
-        below = below;
-        is = omega arith;
-        behind = omega arith;
-        queued = attempt_told s d s.queued d.begin d.begin e below;
-        bits = omega (arith, bits, few);
-        ident = attempt_told s d s.ident (λ e. 0) (λ e. 0) e below;
-        source = omega (arith, source);
-        turn = attempt_told s d (λ p. source_turn plan (sent.source p)) (λ e. e % rate.count) (λ e. e % rate.count) e below;
-        since = attempt_told s d sent.release d.begin d.begin e below;
-      }
-
-  error_at : (e : ℕ) → e < d.count → IsDamage (s.count + (d.count + e))
-  error_at e below =
-      let few = bus.error_at_most e below in
-      let bits = error_told s d s.bits d.sent d.error e below in
-      let source = error_told s d (λ p. source_place plan (sent.source p)) (λ e. length asks) (λ e. suc (length asks)) e below in
-      record {
-        error = true;
-        attempt = e;
-        below = below;
-        is = omega arith;
-        behind = omega arith;
-        queued = error_told s d s.queued d.begin d.begin e below;
-        bits = omega (arith, bits, few);
-        ident = error_told s d s.ident (λ e. 0) (λ e. 0) e below;
-        source = omega (arith, source);
-        turn = error_told s d (λ p. source_turn plan (sent.source p)) (λ e. e % rate.count) (λ e. e % rate.count) e below;
-        since = error_told s d sent.release d.begin d.begin e below;
-      }
-
-  pub kinds : (p : ℕ) → p < w.count → IsFrame p ⊎ IsDamage p
-  kinds p below = elim (cases_lt p s.count) [
-    | inl front ↦ inl (frame_at p front)
-    | inr behind ↦ elim (cases_lt (p - s.count) d.count) [
-      | inl first ↦ inr (subst IsDamage (omega arith) (attempt_at (p - s.count) first))
-      | inr second ↦ inr (subst IsDamage (omega arith) (error_at (p - s.count - d.count) (omega arith)))
-    ]
-  ]
+  pub kinds : (p : ℕ) → p < w.count → IsFrameOfPlan p ⊎ IsDamageOf p
+  kinds p below = places.kinds plan s d planned sent rate (length asks) bus longest_with p below
 
   -- ---- the streams of damage
 
@@ -196,26 +106,26 @@ module _ (plan : Plan) (timing : Timing) (stays : UnitPlan → Bool) (tells : De
   damage_read error = ap (λ (o : Option FlowFrames). unwrap_or o no_frames) (get_or-append-add asks (damage_frames timing) (shift error) None ∙ by error)
     where
       by : (b : Bool) → get_or (damage_frames timing) (shift b) None ≡ Some (first_frames (damage_stream timing rate (width b)))
-      by true = rw (errors.told) refl
-      by false = rw (errors.told) refl
+      by true = rw (errors.stated) refl
+      by false = rw (errors.stated) refl
 
   two_behind : length streams ≡ length asks + 2
   two_behind = length-append asks (damage_frames timing) ∙ ap (λ (n : ℕ). length asks + n) two
     where
       two : length (damage_frames timing) ≡ 2
-      two = rw (errors.told) refl
+      two = rw (errors.stated) refl
 
   source_inside : (p : ℕ) → p < s.count → planned p ≡ true → source_place plan (sent.source p) < length asks
   source_inside p in_p is = inside_asked plan timing stays s (sent.source p) (sent.release p) p
-      (of_source plan timing stays tells clean s bus.queued_first planned sent held keeps p in_p is)
+      (of_source plan timing stays states clean s bus.queued_first planned sent held keeps p in_p is)
 
-  frame_keeps : (p : ℕ) → IsFrame p → planned p ≡ true → KeepsStream w (length streams) (λ j. (planned_at streams j).stream) of p
+  frame_keeps : (p : ℕ) → IsFrameOfPlan p → planned p ≡ true → KeepsStream w (length streams) (λ j. (planned_at streams j).stream) of p
   frame_keeps p at is =
-      let known = keeps_stream plan timing stays tells clean s bus.queued_first planned sent held keeps p at.below is in
+      let known = keeps_stream plan timing stays states clean s bus.queued_first planned sent held keeps p at.frame.below is in
       let stream = ap (λ (j : ℕ). (planned_at streams j).stream) at.source in
       let source = at.source in
-      let bits = at.bits in
-      let queued = at.queued in
+      let bits = at.frame.bits in
+      let queued = at.frame.queued in
       let turn = at.turn in
       let since = at.since in
       let inside = known.known in
@@ -234,7 +144,7 @@ module _ (plan : Plan) (timing : Timing) (stays : UnitPlan → Bool) (tells : De
         jitter_at_most = omega (arith, since, queued, late, its_jitter);
       }
 
-  damage_keeps : (p : ℕ) → IsDamage p → KeepsStream w (length streams) (λ j. (planned_at streams j).stream) of p
+  damage_keeps : (p : ℕ) → IsDamageOf p → KeepsStream w (length streams) (λ j. (planned_at streams j).stream) of p
   damage_keeps p at =
       let here : planned_at streams (of.source p) ≡ first_frames (damage_stream timing rate (width at.error)) =
       ap (planned_at streams) at.source ∙ damage_read at.error in
@@ -274,14 +184,14 @@ module _ (plan : Plan) (timing : Timing) (stays : UnitPlan → Bool) (tells : De
   period : ℕ → ℕ
   period p = (planned_at streams (of.source p)).stream.period
 
-  damage_period : (p : ℕ) → IsDamage p → period p ≡ bits_inside timing rate.every
+  damage_period : (p : ℕ) → IsDamageOf p → period p ≡ bits_inside timing rate.every
   unfolding period
   damage_period p at = ap (λ (f : FlowFrames). f.stream.period) (ap (planned_at streams) at.source ∙ damage_read at.error)
 
   AreApart : ℕ → ℕ → Type 0
   AreApart p q = (of.since p + period p ≤ of.since q) ⊎ (of.since q + period p ≤ of.since p)
 
-  damage_apart : (p q : ℕ) → IsDamage p → IsDamage q → p ≢ q → of.source p ≡ of.source q → of.turn p ≡ of.turn q → AreApart p q
+  damage_apart : (p q : ℕ) → IsDamageOf p → IsDamageOf q → p ≢ q → of.source p ≡ of.source q → of.turn p ≡ of.turn q → AreApart p q
   unfolding AreApart
   damage_apart p q at_p at_q other source turn =
       let shifts : shift at_p.error ≡ shift at_q.error =
@@ -294,7 +204,7 @@ module _ (plan : Plan) (timing : Timing) (stays : UnitPlan → Bool) (tells : De
       let since_q = at_q.since in
       let window = damage_period p at_p in
       elim (cases_eq at_p.attempt at_q.attempt) [
-        | inl same ↦ absurd (other (at_p.is ∙ (ap (λ (b : Bool). place b at_p.attempt) kind ∙ (ap (place at_q.error) same ∙ sym at_q.is))))
+        | inl same ↦ absurd (other (at_p.is ∙ (ap (λ (b : Bool). place s d b at_p.attempt) kind ∙ (ap (place s d at_q.error) same ∙ sym at_q.is))))
         | inr differ ↦ elim (cases_lt at_p.attempt at_q.attempt) [
           | inl less ↦ inl (let behind = far at_p.attempt at_q.attempt at_q.below less turns in omega (arith, behind, since_p, since_q, window))
           | inr more ↦
@@ -303,24 +213,24 @@ module _ (plan : Plan) (timing : Timing) (stays : UnitPlan → Bool) (tells : De
         ]
       ]
 
-  frames_apart : (p q : ℕ) → IsFrame p → IsFrame q → p ≢ q → planned p ≡ true → planned q ≡ true → of.source p ≡ of.source q
+  frames_apart : (p q : ℕ) → IsFrameOfPlan p → IsFrameOfPlan q → p ≢ q → planned p ≡ true → planned q ≡ true → of.source p ≡ of.source q
       → of.turn p ≡ of.turn q → AreApart p q
   unfolding AreApart period
   frames_apart p q at_p at_q other is_p is_q source turn =
       let since_p = at_p.since in
       let since_q = at_q.since in
       let its = ap (λ (j : ℕ). (planned_at streams j).stream.period) at_p.source in
-      elim ((of_streams plan timing stays tells clean s bus.queued_first planned sent held keeps).spaced p q at_p.below at_q.below other is_p is_q
+      elim ((of_streams plan timing stays states clean s bus.queued_first planned sent held keeps).spaced p q at_p.frame.below at_q.frame.below other is_p is_q
       (sym at_p.source ∙ (source ∙ at_q.source)) (sym at_p.turn ∙ (turn ∙ at_q.turn))) [
         | inl before ↦ inl (omega (arith, before, since_p, since_q, its))
         | inr after ↦ inr (omega (arith, after, since_p, since_q, its))
       ]
 
-  apart_sources : (p q : ℕ) → IsFrame p → planned p ≡ true → IsDamage q → of.source p ≡ of.source q → ⊥
+  apart_sources : (p q : ℕ) → IsFrameOfPlan p → planned p ≡ true → IsDamageOf q → of.source p ≡ of.source q → ⊥
   apart_sources p q at_p is at_q same =
       let one = at_p.source in
       let two = at_q.source in
-      let below = source_inside p at_p.below is in
+      let below = source_inside p at_p.frame.below is in
       omega (arith, one, two, below, same)
 
   streams_with : AreOfStreams w (λ p. is_planned p ≡ true) (length streams) (λ j. (planned_at streams j).stream) of
@@ -406,73 +316,56 @@ module _ (plan : Plan) (timing : Timing) (stays : UnitPlan → Bool) (tells : De
       go (Some m) = refl
 
   module _ (i : ℕ) (flow : i < length asks) (single : IsSingleFlow plan i) where
-    damage_never : (p : ℕ) → IsDamage p → of.source p ≡ i → ⊥
+    damage_never : (p : ℕ) → IsDamageOf p → of.source p ≡ i → ⊥
     damage_never p at same = let source = at.source in omega (arith, source, same, flow)
 
     shared : (p q t : ℕ) → p < w.count → q < w.count → t < w.now → is_planned p ≡ true → may_share (traffic plan timing stays) i (of.source p) ≡ true
         → IsQueuedAt w p t → IsQueuedAt w q t → w.ident p ≡ w.ident q
         → (is_planned q ≡ true) × (may_share (traffic plan timing stays) i (of.source q) ≡ true)
-    shared p q t in_p in_q seen is shares at_p at_q same = elim (kinds p in_p) [
-      | inr damage ↦ absurd (true≢false (sym shares ∙ (ap (may_share (traffic plan timing stays) i) damage.source ∙ not_shared i flow damage.error)))
-      | inl one_at ↦ elim (kinds q in_q) [
-        | inr damage ↦
-            absurd (let some = above_zero p one_at.below (sym one_at.plans ∙ is) in
-            let first = one_at.ident in
-            let none = damage.ident in
-            omega (arith, some, first, none, same))
-        | inl two_at ↦
-            let queued_p = one_at.queued in
-            let start_p = one_at.start in
-            let queued_q = two_at.queued in
-            let start_q = two_at.start in
-            let both = own_identifier plan timing stays tells clean s bus.queued_first planned sent held keeps i single p q t one_at.below two_at.below seen
-            (sym one_at.plans ∙ is) (subst (λ (j : ℕ). may_share (traffic plan timing stays) i j ≡ true) one_at.source shares)
-            (omega (arith, at_p.0, queued_p), omega (arith, at_p.1, start_p)) (omega (arith, at_q.0, queued_q), omega (arith, at_q.1, start_q))
-            (sym one_at.ident ∙ (same ∙ two_at.ident)) in
-            (two_at.plans ∙ both.0, subst (λ (j : ℕ). may_share (traffic plan timing stays) i j ≡ true) (sym two_at.source) both.1)
-      ]
-    ]
+    shared = own_with plan s d planned sent rate (length asks) (may_share (traffic plan timing stays) i)
+        (λ p damage shares. true≢false (sym shares ∙ (ap (may_share (traffic plan timing stays) i) damage.source ∙ not_shared i flow damage.error))) above_zero
+        (own_identifier plan timing stays states clean s bus.queued_first planned sent held keeps i single) bus longest_with
 
-    -- a planned frame lies at its place, at or above the least identifier that is told there
-    least_with : (p : ℕ) (at : IsFrame p) → planned p ≡ true → (planned_at streams (of.source p)).least_ident ≤ w.ident p
+    -- a planned frame lies at its place, at or above the least identifier that is reported there
+    least_with : (p : ℕ) (at : IsFrameOfPlan p) → planned p ≡ true → (planned_at streams (of.source p)).least_ident ≤ w.ident p
     least_with p at is =
-        let low = (of_source plan timing stays tells clean s bus.queued_first planned sent held keeps p at.below is).least in
-        let its = ap (planned_at streams) at.source ∙ at_its_place plan timing stays tells clean s bus.queued_first planned sent held keeps p at.below is in
+        let low = (of_source plan timing stays states clean s bus.queued_first planned sent held keeps p at.frame.below is).between.0 in
+        let its = ap (planned_at streams) at.source ∙ at_its_place plan timing stays states clean s bus.queued_first planned sent held keeps p at.frame.below is in
         let least = ap (λ (f : FlowFrames). f.least_ident) its in
-        let ident = at.ident in
+        let ident = at.frame.ident in
         omega (arith, low, least, ident)
 
     -- and a single frame at or below the greatest
-    its_source : (p : ℕ) (at : IsFrame p) → planned p ≡ true → of.source p ≡ i → sent.source p ≡ Single i
+    its_source : (p : ℕ) (at : IsFrameOfPlan p) → planned p ≡ true → of.source p ≡ i → sent.source p ≡ Single i
     its_source p at is place =
-        of_flow plan timing stays tells clean s bus.queued_first planned sent held keeps i single p at.below is (sym at.source ∙ place)
+        of_flow plan timing stays states clean s bus.queued_first planned sent held keeps i single p at.frame.below is (sym at.source ∙ place)
 
-    greatest_with : (p : ℕ) (at : IsFrame p) → planned p ≡ true → of.source p ≡ i → w.ident p ≤ (planned_at streams (of.source p)).greatest_ident
+    greatest_with : (p : ℕ) (at : IsFrameOfPlan p) → planned p ≡ true → of.source p ≡ i → w.ident p ≤ (planned_at streams (of.source p)).greatest_ident
     greatest_with p at is place =
-        let known = of_source plan timing stays tells clean s bus.queued_first planned sent held keeps p at.below is in
+        let known = of_source plan timing stays states clean s bus.queued_first planned sent held keeps p at.frame.below is in
         let high : s.ident p ≤ known.frames.greatest_ident =
         subst (λ (x : Source). IsBelowGreatest x (s.ident p) known.frames.greatest_ident) (its_source p at is place) known.greatest in
-        let its = ap (planned_at streams) at.source ∙ at_its_place plan timing stays tells clean s bus.queued_first planned sent held keeps p at.below is in
+        let its = ap (planned_at streams) at.source ∙ at_its_place plan timing stays states clean s bus.queued_first planned sent held keeps p at.frame.below is in
         let greatest = ap (λ (f : FlowFrames). f.greatest_ident) its in
-        let ident = at.ident in
+        let ident = at.frame.ident in
         omega (arith, high, greatest, ident)
 
     -- what isn't of damage is a frame as it was
     copies : (p : ℕ) → p < w.count → is_planned p ≡ true → (planned_at streams (of.source p)).stream.wanted ≡ None ⊎ IsCopy plan s planned sent of p
     copies p in_p is = elim (kinds p in_p) [
-      | inl at ↦ inr (record { below = at.below; is = sym at.plans ∙ is; place = at.source; since = at.since })
+      | inl at ↦ inr (record { below = at.frame.below; is = sym at.plans ∙ is; place = at.source; since = at.since })
       | inr at ↦ inl (ap (λ (f : FlowFrames). f.stream.wanted) (ap (planned_at streams) at.source ∙ damage_read at.error))
     ]
 
     pub keeps_with_errors : AreFramesOfPlan timing asks w is_planned of i
     keeps_with_errors = record {
       longest_at_most = λ p in_p. elim (kinds p in_p) [
-        | inl at ↦ let bits = at.bits in let few = longest_of p at.below in omega (arith, bits, few)
+        | inl at ↦ let bits = at.frame.bits in let few = longest_with p at.frame.below in omega (arith, bits, few)
         | inr at ↦ let bits = at.bits in let few = narrow at.error in omega (arith, bits, few)
       ];
       of_streams = streams_with;
       as_wanted = as_wanted plan timing stays s planned sent held keeps.frames keeps.broadcasts w is_planned of copies
-          (told_stream plan timing stays tells clean s bus.queued_first planned sent held keeps);
+          (stated_stream plan timing stays states clean s bus.queued_first planned sent held keeps);
       from_least = λ p in_p is. elim (kinds p in_p) [
         | inl at ↦ least_with p at (sym at.plans ∙ is)
         | inr at ↦ let none = ap (λ (f : FlowFrames). f.least_ident) (ap (planned_at streams) at.source ∙ damage_read at.error) in omega (arith, none)
@@ -483,11 +376,11 @@ module _ (plan : Plan) (timing : Timing) (stays : UnitPlan → Bool) (tells : De
       ];
       own_identifier = shared;
       urgency_of_others = λ p in_p other. elim (kinds p in_p) [
-        | inl at ↦ let ident = at.ident in let low = keeps.others_priority p at.below (sym at.plans ∙ other) in omega (arith, ident, low)
+        | inl at ↦ let ident = at.frame.ident in let low = keeps.others_priority p at.frame.below (sym at.plans ∙ other) in omega (arith, ident, low)
         | inr at ↦ absurd (true≢false (sym (ap (λ (b : Bool). cond b (planned p) true) (le-ltb p s.count at.behind)) ∙ other))
       ];
       few_others = λ p from to in_p is source seen waits wait. elim (kinds p in_p) [
-        | inl at ↦ errors.few_others p from to at.below (sym at.plans ∙ is) (subst HasTime (sym (its_source p at (sym at.plans ∙ is) source)) tt) seen waits wait
+        | inl at ↦ errors.few_others p from to at.frame.below (sym at.plans ∙ is) (subst HasTime (sym (its_source p at (sym at.plans ∙ is) source)) tt) seen waits wait
         | inr at ↦ absurd (damage_never p at source)
       ];
     }
@@ -499,14 +392,14 @@ module _ (plan : Plan) (timing : Timing) (stays : UnitPlan → Bool) (tells : De
   -- what is in time among all is so among the frames
   pub frames_in_time : (i : ℕ) (stream : Stream) (wait : ℕ) → (i < length asks → IsStreamInTime w is_planned of i stream wait)
       → IsStreamInTime s planned (origins_of plan sent) i stream wait
-  frames_in_time i stream wait told p in_p is source seen =
-      let at = frame_at p in_p in
+  frames_in_time i stream wait stated p in_p is source seen =
+      let at = frame_at plan s d planned sent rate (length asks) p (frame_there s d p in_p) in
       let flow : i < length asks = subst (λ (j : ℕ). j < length asks) source (source_inside p in_p is) in
       let since = at.since in
-      let start = at.start in
-      let queued = at.queued in
-      let bits = at.bits in
-      let (begun, ended) = told flow p (omega (arith, in_p)) (at.plans ∙ is) (at.source ∙ source) (omega (arith, since, seen)) in
+      let start = at.frame.start in
+      let queued = at.frame.queued in
+      let bits = at.frame.bits in
+      let (begun, ended) = stated flow p (omega (arith, in_p)) (at.plans ∙ is) (at.source ∙ source) (omega (arith, since, seen)) in
       (omega (arith, begun, start, queued), omega (arith, ended, start, bits, since))
 
 -- the flows stand at the first places
@@ -515,8 +408,8 @@ pub keeps_damaged : (plan : Plan) (timing : Timing) (stays : UnitPlan → Bool) 
     → KeepsToPlan plan timing s planned sent held → KeepsErrors timing rate s d planned sent → IsSingleFlow plan i
     → AreFramesOfPlan timing (frames_asked (asked_of timing plan stays)) (with_errors s d) (planned_with s planned)
     (origins_with plan s d rate (length (frames_asked (asked_of timing plan stays))) sent) i
-keeps_damaged plan timing stays clean tells s d planned sent held rate i legal keeps errors single =
-    keeps_with_errors plan timing stays tells clean s d legal.bus planned sent held keeps rate errors i
+keeps_damaged plan timing stays clean states s d planned sent held rate i legal keeps errors single =
+    keeps_with_errors plan timing stays states clean s d legal.bus planned sent held keeps rate errors i
     (let asked = asked_of timing plan stays in
     let flows = length-map asked.flows frames_of_flow in
     let loads = length-map plan.flows.items (load_of_flow timing plan stays) in

@@ -44,7 +44,7 @@ pub record OneToAll (plan : Plan) (timing : Timing) : Type 0 where
   pub source : ℕ → Source
   pub release : ℕ → ℕ
   pub slot_of : Source → ℕ
-  pub slot_told : (p : ℕ) → slot_of (source p) ≡ p
+  pub slot_stated : (p : ℕ) → slot_of (source p) ≡ p
   -- the slot of the announcement
   pub first : ℕ
   pub announced : (u m : ℕ) → slot_of (Announcing u m) ≡ first
@@ -84,7 +84,7 @@ module _ (plan : Plan) (timing : Timing) (apart : ArePlannedApart (units_of plan
   }
 
   same_slot : (p q : ℕ) → one.source p ≡ one.source q → p ≡ q
-  same_slot p q same = sym (one.slot_told p) ∙ (ap one.slot_of same ∙ one.slot_told q)
+  same_slot p q same = sym (one.slot_stated p) ∙ (ap one.slot_of same ∙ one.slot_stated q)
 
   pub only_message : (x m : ℕ) → m < messages.count x → (m ≡ 0) × (x ≡ u)
   only_message x m below = go (eqb x u) refl below
@@ -119,11 +119,11 @@ module _ (plan : Plan) (timing : Timing) (apart : ArePlannedApart (units_of plan
     one_waits = λ x m k pair. absurd (never_two x m k pair.0 pair.1);
     in_turn = λ x m k less below. absurd (never_two x m k less below);
     announced = λ p x m in_p is source.
-        ap (λ (k : ℕ). k * one.width) (sym (one.slot_told p) ∙ (ap one.slot_of source ∙ one.announced x m));
+        ap (λ (k : ℕ). k * one.width) (sym (one.slot_stated p) ∙ (ap one.slot_of source ∙ one.announced x m));
     once = λ p q x m in_p in_q is_p is_q first second. same_slot p q (first ∙ sym second);
     carried = λ p q x m k in_p in_q is_p is_q first second. same_slot p q (first ∙ sym second);
     behind = λ p x m k in_p is source.
-        let slot = sym (one.slot_told p) ∙ ap one.slot_of source in
+        let slot = sym (one.slot_stated p) ∙ ap one.slot_of source in
         let later = one.carried x m k in
         mul-le-mul_right one.width (omega (arith, slot, later));
     before = λ p x m k later in_p is source less below. absurd (never_two x m later less below);

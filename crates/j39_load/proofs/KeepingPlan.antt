@@ -17,13 +17,14 @@ use Rattle.j39_load.specs.declared.frames.flow_frames.FlowFrames.{FlowFrames}
 use Rattle.j39_load.specs.Asked.{asked_of, frames_asked}
 use Rattle.j39_load.specs.Broadcasts.{broadcasts_by, least_packets}
 use Rattle.j39_load.specs.Loads.{bits_at_least}
-use Rattle.j39_load.specs.KeepsPlan.{source_turn, IsSingleFlow, KeepsToPlan, origins_of, source_place, units_told}
+use Rattle.j39_load.specs.KeepsPlan.{source_turn, IsSingleFlow, KeepsToPlan, origins_of, source_place, units_stated}
 use Rattle.j39_load.specs.PlannedFrames.{AreFramesOfPlan, planned_at}
 use Rattle.j39_load.specs.SentFrames.{FrameSources, HasOwnIdentifier, HasTime, Held, IsFirstFrame, IsFrameOf, IsSessionFrame, IsSingleFrame, Part, Source}
 use Rattle.j39_load.specs.SentFrames.{Single, First, InSession, Asking, Announcing, Carrying}
 use Rattle.j39_load.specs.Twins.{are_twins}
 use Rattle.j39_load.proofs.KeepingBroadcasts.{as_wanted as as_wanted_of}
-use Rattle.j39_load.proofs.KeepingFrames.{IsBelowGreatest, IsKnown, IsPaced, IsPacedBy, here, inside, known}
+use Rattle.j39_load.proofs.KeepingFrames.{known}
+use Rattle.j39_load.proofs.KnownFrames.{IsBelowGreatest, IsKnown, IsPaced, IsPacedBy, here, inside, short}
 use Rattle.j39_load.proofs.KeepingSources.{HasPace, of_announcements, of_packets, one_source}
 use Rattle.j39_load.proofs.PlacedFrames.{all, announcing_read, asked, carrying_read, fewest, first_read, in_request, in_session, own, read, request_frames_read}
 use Rattle.j39_load.proofs.PlacedFrames.{session_read, traffic, unit_asks}
@@ -36,7 +37,7 @@ use Rattle.j39_timing.specs.TimedFrames.{Schedule, IsLegal}
 use Rattle.j39_timing.specs.declared.stream.Stream.{Stream}
 use Rattle.j39_timing.specs.Traffic.{AreAsWanted, IsQueuedAt, may_share}
 
-module _ (plan : Plan) (timing : Timing) (stays : UnitPlan → Bool) (tells : DecidesWhoStays plan stays) (clean : Clean plan) (s : Schedule)
+module _ (plan : Plan) (timing : Timing) (stays : UnitPlan → Bool) (states : DecidesWhoStays plan stays) (clean : Clean plan) (s : Schedule)
     (queued_first : (p : ℕ) → p < s.count → s.queued p ≤ s.start p) (planned : ℕ → Bool) (sent : FrameSources) (held : Held)
     (keeps : KeepsToPlan plan timing s planned sent held) where
   -- ---- a planned frame
@@ -44,7 +45,7 @@ module _ (plan : Plan) (timing : Timing) (stays : UnitPlan → Bool) (tells : De
   module _ (p : ℕ) (in_p : p < s.count) (is : planned p ≡ true) where
     pub of_source : IsKnown plan timing stays s (sent.source p) (sent.release p) p
     of_source =
-        known plan timing stays tells s held keeps.held_by_plan keeps.held_apart sent.broadcasts keeps.broadcasts.messages (sent.source p) (sent.release p) p (queued_first p in_p)
+        known plan timing stays states s held keeps.held_by_plan keeps.held_apart sent.broadcasts keeps.broadcasts.messages (sent.source p) (sent.release p) p (queued_first p in_p)
         (keeps.frames p in_p is)
 
     pub at_its_place : planned_at (all plan timing stays) (source_place plan (sent.source p)) ≡ of_source.frames
@@ -59,17 +60,24 @@ module _ (plan : Plan) (timing : Timing) (stays : UnitPlan → Bool) (tells : De
       jitter_at_most = subst (λ (f : FlowFrames). s.queued p ≤ sent.release p + f.stream.jitter) (sym at_its_place) of_source.jitter_at_most;
     }
 
+  -- no frame is longer, whether planned or not
+  pub longest_of : (p : ℕ) → p < s.count → s.bits p ≤ 160
+  longest_of p in_p = elim (cases_Bool (planned p)) [
+    | inl is ↦ short plan timing stays s (sent.source p) (sent.release p) p (of_source p in_p is)
+    | inr other ↦ keeps.others_length p in_p other
+  ]
+
   -- ---- streams
 
   -- of one source, but of long messages to all, the releases are a period apart
   by_pace : (p q : ℕ) → p < s.count → q < s.count → p ≢ q → planned p ≡ true → planned q ≡ true → sent.source p ≡ sent.source q → (stream : Stream)
       → IsPacedBy plan timing stays (sent.source p) stream
       → (sent.release p + stream.period ≤ sent.release q) ⊎ (sent.release q + stream.period ≤ sent.release p)
-  by_pace p q in_p in_q other is_p is_q one stream told =
-      let period = told.period in
-      elim (keeps.apart p q told.ms in_p in_q other is_p is_q one told.every) [
-        | inl before ↦ inl (let bits = behind_bits timing told.ms (sent.release p) (sent.release q) before in omega (arith, bits, period))
-        | inr after ↦ inr (let bits = behind_bits timing told.ms (sent.release q) (sent.release p) after in omega (arith, bits, period))
+  by_pace p q in_p in_q other is_p is_q one stream stated =
+      let period = stated.period in
+      elim (keeps.apart p q stated.ms in_p in_q other is_p is_q one stated.every) [
+        | inl before ↦ inl (let bits = behind_bits timing stated.ms (sent.release p) (sent.release q) before in omega (arith, bits, period))
+        | inr after ↦ inr (let bits = behind_bits timing stated.ms (sent.release q) (sent.release p) after in omega (arith, bits, period))
       ]
 
   module _ (p q : ℕ) (in_p : p < s.count) (in_q : q < s.count) (other : p ≢ q) (is_p : planned p ≡ true) (is_q : planned q ≡ true) where
@@ -157,23 +165,23 @@ module _ (plan : Plan) (timing : Timing) (stays : UnitPlan → Bool) (tells : De
         (sym place) in
         carried_apart u m n j k first second stream paced
 
-  pub told_stream : (p : ℕ) → p < s.count → planned p ≡ true
+  pub stated_stream : (p : ℕ) → p < s.count → planned p ≡ true
       → IsPaced plan timing stays (sent.source p) ((traffic plan timing stays).stream (source_place plan (sent.source p)))
-  told_stream p in_p is = subst (λ (f : FlowFrames). IsPaced plan timing stays (sent.source p) f.stream) (sym (at_its_place p in_p is)) (of_source p in_p is).paced
+  stated_stream p in_p is = subst (λ (f : FlowFrames). IsPaced plan timing stays (sent.source p) f.stream) (sym (at_its_place p in_p is)) (of_source p in_p is).paced
 
   pub of_streams : AreOfStreams s (λ p. planned p ≡ true) (traffic plan timing stays).count (traffic plan timing stays).stream (origins_of plan sent)
   of_streams = record {
     keeps = λ p in_p is. keeps_stream p in_p is;
     spaced = λ p q in_p in_q other is_p is_q place turn.
         by_source p q in_p in_q other is_p is_q (sent.source p) refl place turn ((traffic plan timing stays).stream (source_place plan (sent.source p)))
-        (told_stream p in_p is_p);
+        (stated_stream p in_p is_p);
   }
 
   -- ---- what is wanted
 
   pub as_wanted : AreAsWanted s planned (origins_of plan sent) (traffic plan timing stays).demands (traffic plan timing stays).stream
   as_wanted = as_wanted_of plan timing stays s planned sent held keeps.frames keeps.broadcasts s planned (origins_of plan sent)
-      (λ p in_p is. inr (record { below = in_p; is = is; place = refl; since = refl })) told_stream
+      (λ p in_p is. inr (record { below = in_p; is = is; place = refl; since = refl })) stated_stream
 
   -- ---- identifiers
 
@@ -218,13 +226,10 @@ module _ (plan : Plan) (timing : Timing) (stays : UnitPlan → Bool) (tells : De
       → (planned q ≡ true) × (may_share (traffic plan timing stays) i (source_place plan (sent.source q)) ≡ true))
       → AreFramesOfPlan timing (frames_asked (asked_of timing plan stays)) s planned (origins_of plan sent) i
   premises_at i timed own = record {
-    longest_at_most = λ p in_p. elim (cases_Bool (planned p)) [
-      | inl is ↦ (of_source p in_p is).at_most
-      | inr other ↦ keeps.others_length p in_p other
-    ];
+    longest_at_most = longest_of;
     of_streams = of_streams;
     as_wanted = as_wanted;
-    from_least = λ p in_p is. subst (λ (f : FlowFrames). f.least_ident ≤ s.ident p) (sym (at_its_place p in_p is)) (of_source p in_p is).least;
+    from_least = λ p in_p is. subst (λ (f : FlowFrames). f.least_ident ≤ s.ident p) (sym (at_its_place p in_p is)) (of_source p in_p is).between.0;
     to_greatest = λ p in_p is place. subst (λ (k : ℕ). s.ident p ≤ (planned_at (all plan timing stays) k).greatest_ident) place
         (subst (λ (f : FlowFrames). s.ident p ≤ f.greatest_ident) (sym (at_its_place p in_p is))
         (below_greatest (sent.source p) (s.ident p) (of_source p in_p is).frames.greatest_ident (timed p in_p is place) (of_source p in_p is).greatest));
@@ -293,7 +298,7 @@ module _ (plan : Plan) (timing : Timing) (stays : UnitPlan → Bool) (tells : De
     of_one_frame (InSession f part) release p one shares = absurd (no_session f part release p one shares)
     of_one_frame (Asking r) release p one shares = absurd (no_asking r release p one shares)
     of_one_frame (Announcing u m) release p one shares = absurd (no_unit (unit_asks plan timing stays sent.broadcasts u m (keeps.broadcasts.messages u m one.known)).announcements
-        (source_place plan (Announcing u m)) (units_told plan.flows.items plan.units.items + u)
+        (source_place plan (Announcing u m)) (units_stated plan.flows.items plan.units.items + u)
         (announcing_read plan timing stays sent.broadcasts u m (keeps.broadcasts.messages u m one.known)) refl refl shares)
     of_one_frame (Carrying u m k) release p one shares = absurd (no_unit (unit_asks plan timing stays sent.broadcasts u m (keeps.broadcasts.messages u m one.0.known)).packets
         (source_place plan (Carrying u m k)) u (carrying_read plan timing stays sent.broadcasts u m (keeps.broadcasts.messages u m one.0.known) k) refl refl shares)
@@ -328,17 +333,23 @@ module _ (plan : Plan) (timing : Timing) (stays : UnitPlan → Bool) (tells : De
     swapped : (x y : FlowFrames) → AreAlike x y → AreAlike y x
     swapped x y are = record { number = are.number; first = are.second; second = are.first; senders = sym are.senders; receivers = sym are.receivers }
 
+    -- of a single frame, or the first of a longer one
+    by_kind : (other q : ℕ) (second : Source) → (g : ℕ) × ((second ≡ Single g) ⊎ (second ≡ First g)) → IsFrameOf plan timing s held sent.broadcasts second other q
+        → ((g : ℕ) → IsSingleFrame plan timing s held g other q → Shares g)
+        → ((g : ℕ) → IsFirstFrame plan timing s held g other q → Shares (source_place plan (First g))) → Shares (source_place plan second)
+    by_kind other q second (g, either) two by_single by_first = elim either [
+      | inl is ↦
+          subst (λ (x : Source). Shares (source_place plan x)) (sym is) (by_single g (subst (λ (x : Source). IsFrameOf plan timing s held sent.broadcasts x other q) is two))
+      | inr is ↦
+          subst (λ (x : Source). Shares (source_place plan x)) (sym is) (by_first g (subst (λ (x : Source). IsFrameOf plan timing s held sent.broadcasts x other q) is two))
+    ]
+
     -- such a single frame is of the flow or a twin too
     shared_by : (f release p other q t : ℕ) (second : Source) → IsSingleFrame plan timing s held f release p → IsFrameOf plan timing s held sent.broadcasts second other q
         → IsQueuedAt s p t → IsQueuedAt s q t → s.ident p ≡ s.ident q → Shares f → Shares (source_place plan second)
     shared_by f release p other q t second one two at_p at_q same shares =
-        let (g, either) = no_other f p q t other second (of_single plan timing clean s held t (keeps.held_apart t) f release p one at_p) two at_q same in
-        elim either [
-          | inl single_one ↦
-              subst (λ (x : Source). Shares (source_place plan x)) (sym single_one) (by_single g (subst (λ (x : Source). IsFrameOf plan timing s held sent.broadcasts x other q) single_one two))
-          | inr first_one ↦
-              subst (λ (x : Source). Shares (source_place plan x)) (sym first_one) (by_first g (subst (λ (x : Source). IsFrameOf plan timing s held sent.broadcasts x other q) first_one two))
-        ]
+        by_kind other q second (no_other f p q t other second (of_single plan timing clean s held t (keeps.held_apart t) f release p one at_p) two at_q same) two
+        by_single by_first
       where
         by_single : (g : ℕ) → IsSingleFrame plan timing s held g other q → Shares g
         by_single g two = elim (one_or_alike plan timing clean s held t (keeps.held_apart t) stays f g release other p q one two at_p at_q same) [
@@ -357,13 +368,8 @@ module _ (plan : Plan) (timing : Timing) (stays : UnitPlan → Bool) (tells : De
         → IsFrameOf plan timing s held sent.broadcasts second other q → IsQueuedAt s p t → IsQueuedAt s q t → s.ident p ≡ s.ident q
         → Shares (source_place plan (First f)) → Shares (source_place plan second)
     first_shared_by f release p other q t second one two at_p at_q same shares =
-        let (g, either) = no_other f p q t other second (of_first plan timing clean s held t (keeps.held_apart t) f release p one at_p) two at_q same in
-        elim either [
-          | inl single_one ↦
-              subst (λ (x : Source). Shares (source_place plan x)) (sym single_one) (by_single g (subst (λ (x : Source). IsFrameOf plan timing s held sent.broadcasts x other q) single_one two))
-          | inr first_one ↦
-              subst (λ (x : Source). Shares (source_place plan x)) (sym first_one) (by_first g (subst (λ (x : Source). IsFrameOf plan timing s held sent.broadcasts x other q) first_one two))
-        ]
+        by_kind other q second (no_other f p q t other second (of_first plan timing clean s held t (keeps.held_apart t) f release p one at_p) two at_q same) two
+        by_single by_first
       where
         its : FlowFrames
         its = own plan timing stays f one.flow one.pace one.group one.its one.paced one.of
@@ -374,9 +380,9 @@ module _ (plan : Plan) (timing : Timing) (stays : UnitPlan → Bool) (tells : De
             alike_share (source_place plan (First f)) g its frames (behind f release p one) (there g other q two)
             (swapped frames its (single_or_first plan timing clean s held t (keeps.held_apart t) stays g f other release q p two one at_q at_p (sym same))) shares
 
-        is_told : (v : Option Selector) → one.group.when ≡ v → (w : Selector) × (one.group.when ≡ Some w)
-        is_told (Some w) is = (w, is)
-        is_told None is = absurd (elim (or_cases (eqb (source_place plan (First f)) i)
+        is_stated : (v : Option Selector) → one.group.when ≡ v → (w : Selector) × (one.group.when ≡ Some w)
+        is_stated (Some w) is = (w, is)
+        is_stated None is = absurd (elim (or_cases (eqb (source_place plan (First f)) i)
             (are_twins (planned_at (all plan timing stays) i) (planned_at (all plan timing stays) (source_place plan (First f)))) shares) [
               | inl same ↦
                   let place : source_place plan (First f) ≡ i = eqb-true (source_place plan (First f)) i same in
@@ -390,10 +396,10 @@ module _ (plan : Plan) (timing : Timing) (stays : UnitPlan → Bool) (tells : De
 
         by_first : (g : ℕ) → IsFirstFrame plan timing s held g other q → Shares (source_place plan (First g))
         by_first g two =
-            let (w, told) = is_told one.group.when refl in
+            let (w, stated) = is_stated one.group.when refl in
             alike_share (source_place plan (First f)) (source_place plan (First g)) its (own plan timing stays g two.flow two.pace two.group two.its two.paced two.of)
             (behind f release p one) (behind g other q two)
-            (firsts_alike plan timing clean s held t (keeps.held_apart t) stays f g release other p q one two at_p at_q same w told) shares
+            (firsts_alike plan timing clean s held t (keeps.held_apart t) stays f g release other p q one two at_p at_q same w stated) shares
 
     pub own_identifier : (p q t : ℕ) → p < s.count → q < s.count → t < s.now → planned p ≡ true
         → Shares (source_place plan (sent.source p)) → IsQueuedAt s p t → IsQueuedAt s q t → s.ident p ≡ s.ident q
@@ -442,5 +448,5 @@ module _ (plan : Plan) (timing : Timing) (stays : UnitPlan → Bool) (tells : De
 pub keeps_in_order : (plan : Plan) (timing : Timing) (stays : UnitPlan → Bool) → Clean plan → DecidesWhoStays plan stays
     → (s : Schedule) (planned : ℕ → Bool) (sent : FrameSources) (held : Held) (i : ℕ) → IsSingleFlow plan i → IsLegal s
     → KeepsToPlan plan timing s planned sent held → AreFramesOfPlan timing (frames_asked (asked_of timing plan stays)) s planned (origins_of plan sent) i
-keeps_in_order plan timing stays clean tells s planned sent held i single legal keeps =
-    keeps_premises plan timing stays tells clean s legal.queued_first planned sent held keeps i single
+keeps_in_order plan timing stays clean states s planned sent held i single legal keeps =
+    keeps_premises plan timing stays states clean s legal.queued_first planned sent held keeps i single

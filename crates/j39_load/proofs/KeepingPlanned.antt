@@ -1,6 +1,7 @@
 -- What a bus keeps on which all frames are planned, and on which each unit holds its planned address.
 use Rattle.std.proofs.Common.{◌≡◌, ◌≢◌, ℕ, ◌+◌, ◌*◌, ◌^◌, ◌<◌, ◌≤◌, ◌⊎◌, Bool, true, not, ◌&&◌, cond, ltb, nat_le, nat_lt, length, Option, Some}
 use Rattle.std.proofs.Common.{refl, sym, ap, ◌∙◌, subst, inl, inr, arith}
+use Rattle.std.proofs.Math.Nat.{mul-le-mul_left}
 use Rattle.std.proofs.lemmas.Bool.{cases_lt, lt-ltb, ltb-true, true≢false}
 use Rattle.std.proofs.lemmas.List.{length-map}
 use Rattle.std.proofs.lemmas.Option.{same_Some}
@@ -22,16 +23,17 @@ use Rattle.j39_findings.proofs.WhoStays.{placed}
 use Rattle.j39_timing.specs.AnyOrder.{Controllers}
 use Rattle.j39_timing.specs.QueueGroups.{unplanned_queued}
 use Rattle.j39_timing.specs.Rounds.{all_planned}
-use Rattle.j39_timing.specs.TimedFrames.{Schedule}
+use Rattle.j39_timing.specs.TimedFrames.{IsLegal, Schedule}
 use Rattle.j39_timing.specs.Traffic.{others_queued}
 use Rattle.j39_timing.proofs.Sums.{total-none}
 use Rattle.j39_world.specs.HeldAddresses.{ArePlannedApart}
 use Rattle.j39_load.specs.KeepsBroadcasts.{KeepsBroadcasts}
-use Rattle.j39_load.specs.KeepsPlan.{KeepsQueues, KeepsToPlan, KeptBus}
-use Rattle.j39_load.specs.Loads.{is_any}
+use Rattle.j39_load.specs.KeepsPlan.{CanBeKept, KeepsQueues, KeepsToPlan, KeptBus}
+use Rattle.j39_load.specs.Loads.{bits_per_ms, is_any}
 use Rattle.j39_load.specs.Ranks.{AreHeldApart}
 use Rattle.j39_load.specs.SentFrames.{Announcing, Broadcasts, Carrying, FrameSources, HasPeriodMs, Held, IsFrameOf, IsMsBehind, IsSentByUnit, IsSentEvery}
-use Rattle.j39_load.specs.SentFrames.{IsSingleFrame, IsWithinUnitMs, goes_to}
+use Rattle.j39_load.specs.SentFrames.{IsSingleFrame, IsWithinUnitMs, Source, goes_to}
+use Rattle.j39_load.proofs.Milliseconds.{in_ms_behind}
 use Rattle.j39_load.proofs.Slots.{slots, slots_any_order, slots_legal}
 
 -- where all is planned nothing else is queued
@@ -174,7 +176,43 @@ keeps_all plan timing apart s sent frames behind broadcasts = record {
       let none = none_other s all_planned (λ q. refl) (s.ident p) from to in omega (arith, none);
 }
 
--- these units send the frames, and each unit keeps order that the plan tells so of
+-- ---- frames of one source, so many bits apart
+
+abbrev pub of_one_source : Source → ℕ → FrameSources
+of_one_source source width = record { source = λ p. source; release = λ p. p * width; broadcasts = no_broadcasts }
+
+-- with room for so many milliseconds
+pub steps_behind : (timing : Timing) (ms width : ℕ) → ms * bits_per_ms timing.bitrate ≤ width → (p q : ℕ) → p < q
+    → IsMsBehind timing ms (p * width) (q * width)
+steps_behind timing ms width room p q less =
+    let more : width * (p + 1) ≤ width * q = mul-le-mul_left width (omega (arith, less)) in
+    in_ms_behind timing ms (p * width) (q * width) (omega (arith, more, room))
+
+module _ (plan : Plan) (timing : Timing) (apart : ArePlannedApart (units_of plan)) (f : ℕ) (flow : FlowPlan) (pace : Pace)
+    (its : slice_get plan.flows.items f ≡ Some flow) (paced : flow.pace ≡ Some pace) (source : Source) (width : ℕ)
+    (room : pace.period * bits_per_ms timing.bitrate ≤ width) (every : (ms : ℕ) → IsSentEvery plan source ms → HasPeriodMs plan f ms)
+    (to_one : ((u m : ℕ) → source ≡ Announcing u m → ⊥) × ((u m k : ℕ) → source ≡ Carrying u m k → ⊥)) (s : Schedule)
+    (frames : (p : ℕ) → p < s.count → IsFrameOf plan timing s (planned_held plan apart) no_broadcasts source (p * width) p) where
+  pub one_source_kept : KeepsToPlan plan timing s all_planned (of_one_source source width) (planned_held plan apart)
+  one_source_kept = keeps_all plan timing apart s (of_one_source source width) frames
+      (λ p q ms differ same is_every.
+      a_period_apart plan timing f flow pace its paced width (steps_behind timing pace.period width room) p q ms differ (every ms is_every))
+      (none_sent plan timing s all_planned (of_one_source source width) (λ u. refl) (λ p u m same. to_one.0 u m same) (λ p u m k same. to_one.1 u m k same))
+
+  pub source_can_be_kept : IsLegal s → CanBeKept plan timing source s.count
+  source_can_be_kept legal = record {
+    s = s;
+    planned = all_planned;
+    sent = of_one_source source width;
+    held = planned_held plan apart;
+    legal = legal;
+    keeps = one_source_kept;
+    frames = refl;
+    all_planned = λ p. refl;
+    of_source = λ p. refl;
+  }
+
+-- these units send the frames, and each unit keeps order that the plan reports so of
 abbrev pub planned_controllers : Plan → (ℕ → ℕ) → Controllers
 planned_controllers plan unit = record {
   unit = unit;

@@ -8,11 +8,11 @@ use Rattle.j39_network.specs.declared.plan.flow_plan.FlowPlan.{FlowPlan}
 use Rattle.j39_network.specs.declared.plan.group_plan.GroupPlan.{GroupPlan}
 use Rattle.j39_network.specs.declared.plan.timing.Timing.{Timing}
 use Rattle.j39_network.specs.declared.plan.unit_plan.UnitPlan.{UnitPlan}
-use Rattle.j39_load.specs.KeepsPlan.{packets_at, source_place, source_turn, turn_of_part, units_told}
+use Rattle.j39_load.specs.KeepsPlan.{packets_at, source_place, source_turn, turn_of_part, units_stated}
 use Rattle.j39_load.specs.SentFrames.{Held, IsFrameOf, IsPart, IsSessionFrame, IsSingleFrame, Part}
 use Rattle.j39_load.specs.SentFrames.{IsFirstFrame, Source}
 use Rattle.j39_load.specs.SentFrames.{Single, First, InSession, Asking}
-use Rattle.j39_load.proofs.PlacedFrames.{unit_told}
+use Rattle.j39_load.proofs.PlacedFrames.{unit_stated}
 use Rattle.j39_load.specs.KeepsBroadcasts.{IsMessageToAll}
 use Rattle.j39_load.specs.SentFrames.{Announcing, Broadcasts, Carrying}
 use Rattle.j39_load.proofs.SessionParts.{one_part}
@@ -49,10 +49,10 @@ module _ (plan : Plan) (timing : Timing) (stays : UnitPlan → Bool) where
     flow_first f flow r n its same = let below = slice_get_within plan.flows.items f flow its in omega (arith, same, below)
 
     single_first : (f r release p : ℕ) → IsSingleFrame plan timing s held f release p → f ≡ source_place plan (Asking r) → ⊥
-    single_first f r release p one same = flow_first f one.flow r (2 * units_told plan.flows.items units) one.its same
+    single_first f r release p one same = flow_first f one.flow r (2 * units_stated plan.flows.items units) one.its same
 
     session_first : (f r : ℕ) (part : Part) (release p : ℕ) → IsSessionFrame plan timing s held f part release p → f ≡ source_place plan (Asking r) → ⊥
-    session_first f r part release p one same = flow_first f one.flow r (2 * units_told plan.flows.items units) one.its same
+    session_first f r part release p one same = flow_first f one.flow r (2 * units_stated plan.flows.items units) one.its same
 
     -- between the two stand single frames of flows with long messages
     not_behind : (g f : ℕ) (flow : FlowPlan) → slice_get plan.flows.items g ≡ Some flow → g ≡ source_place plan (First f) → ⊥
@@ -79,22 +79,22 @@ module _ (plan : Plan) (timing : Timing) (stays : UnitPlan → Bool) where
     of_packets (Single f) u m k release p one below place = absurd (flow_first f one.flow 0 u one.its (place ∙ omega arith))
     of_packets (First f) u m k release p one below place = absurd (first_before f u release p one place)
     of_packets (InSession f part) u m k release p one below place = absurd (flow_first f one.flow 0 u one.its (place ∙ omega arith))
-    of_packets (Asking r) u m k release p one below place = absurd (let told = unit_told plan timing stays b u m (messages u m below) in omega (arith, place, told))
-    of_packets (Announcing v n) u m k release p one below place = absurd (let told = unit_told plan timing stays b u m (messages u m below) in omega (arith, place, told))
+    of_packets (Asking r) u m k release p one below place = absurd (let stated = unit_stated plan timing stays b u m (messages u m below) in omega (arith, place, stated))
+    of_packets (Announcing v n) u m k release p one below place = absurd (let stated = unit_stated plan timing stays b u m (messages u m below) in omega (arith, place, stated))
     of_packets (Carrying v n j) u m k release p one below place = (n, j, ap (λ (x : ℕ). Carrying x n j) (omega (arith, place)))
 
     -- and announcements behind them
     pub of_announcements : (a : Source) (u m release p : ℕ) → IsFrameOf plan timing s held b a release p → m < b.count u
         → source_place plan a ≡ source_place plan (Announcing u m) → (n : ℕ) × (a ≡ Announcing u n)
     of_announcements (Single f) u m release p one below place =
-        absurd (flow_first f one.flow (units_told plan.flows.items units) u one.its (place ∙ omega arith))
-    of_announcements (First f) u m release p one below place = absurd (first_before f (units_told plan.flows.items units + u) release p one place)
+        absurd (flow_first f one.flow (units_stated plan.flows.items units) u one.its (place ∙ omega arith))
+    of_announcements (First f) u m release p one below place = absurd (first_before f (units_stated plan.flows.items units + u) release p one place)
     of_announcements (InSession f part) u m release p one below place =
-        absurd (flow_first f one.flow (units_told plan.flows.items units) u one.its (place ∙ omega arith))
-    of_announcements (Asking r) u m release p one below place = absurd (let told = unit_told plan timing stays b u m (messages u m below) in omega (arith, place, told))
+        absurd (flow_first f one.flow (units_stated plan.flows.items units) u one.its (place ∙ omega arith))
+    of_announcements (Asking r) u m release p one below place = absurd (let stated = unit_stated plan timing stays b u m (messages u m below) in omega (arith, place, stated))
     of_announcements (Announcing v n) u m release p one below place = (n, ap (λ (x : ℕ). Announcing x n) (omega (arith, place)))
     of_announcements (Carrying v n j) u m release p one below place =
-        absurd (let told = unit_told plan timing stays b v n (messages v n one.0.known) in omega (arith, place, told))
+        absurd (let stated = unit_stated plan timing stays b v n (messages v n one.0.known) in omega (arith, place, stated))
 
     never_announced : (a : Source) (u m release p : ℕ) → ((n : ℕ) → a ≡ Announcing u n → ⊥) → IsFrameOf plan timing s held b a release p → m < b.count u
         → source_place plan a ≡ source_place plan (Announcing u m) → ⊥
@@ -114,11 +114,11 @@ module _ (plan : Plan) (timing : Timing) (stays : UnitPlan → Bool) where
     one_source (First f) (Single g) release other p q paced one two place turn = absurd (not_behind g f two.flow two.its (sym place))
     one_source (First f) (First g) release other p q paced one two place turn = ap First (omega (arith, place))
     one_source (First f) (InSession g part) release other p q paced one two place turn = absurd (not_behind g f two.flow two.its (sym place))
-    one_source (First f) (Asking r) release other p q paced one two place turn = absurd (first_before f (2 * units_told plan.flows.items units + r) release p one place)
+    one_source (First f) (Asking r) release other p q paced one two place turn = absurd (first_before f (2 * units_stated plan.flows.items units + r) release p one place)
     one_source (First f) (Announcing u m) release other p q paced one two place turn = absurd (never_announced (First f) u m release p (λ n is. cc) one two.known place)
     one_source (First f) (Carrying u m k) release other p q paced one two place turn = absurd (never_packet (First f) u m k release p (λ n j is. cc) one two.0.known place)
     one_source (InSession f part) (First g) release other p q paced one two place turn = absurd (not_behind f g one.flow one.its place)
-    one_source (Asking r) (First g) release other p q paced one two place turn = absurd (first_before g (2 * units_told plan.flows.items units + r) other q two (sym place))
+    one_source (Asking r) (First g) release other p q paced one two place turn = absurd (first_before g (2 * units_stated plan.flows.items units + r) other q two (sym place))
     one_source (Single f) (Asking r) release other p q paced one two place turn = absurd (single_first f r release p one place)
     one_source (InSession f part) (Single g) release other p q paced one two place turn =
         absurd (short_or_long g other release q p part two (subst (λ (h : ℕ). IsSessionFrame plan timing s held h part release p) place one))

@@ -21,7 +21,7 @@ use Rattle.j39_load.specs.SentFrames.{FrameSources, HasTime, Held, IsBroadcastFr
 use Rattle.j39_load.specs.SentFrames.{Single, First, InSession, Asking, Announcing, Carrying}
 use Rattle.j39_load.specs.Twins.{are_twins, is_same}
 use Rattle.j39_load.proofs.KeepingAnyOrder.{keeps_any}
-use Rattle.j39_load.proofs.KeepingFrames.{own_if_timed}
+use Rattle.j39_load.proofs.KnownFrames.{own_if_timed}
 use Rattle.j39_load.proofs.KeepingSources.{of_announcements, of_packets}
 use Rattle.j39_load.proofs.KeepingPlan.{premises_at}
 use Rattle.j39_load.proofs.PlacedFrames.{all, announcing_read, carrying_read, same_units, traffic, unit_asks}
@@ -65,7 +65,7 @@ numbered_by number u (Asking r) is = absurd is
 numbered_by number u (Announcing v m) is = sym is.1
 numbered_by number u (Carrying v m k) is = sym is.1
 
-module _ (plan : Plan) (timing : Timing) (stays : UnitPlan → Bool) (tells : DecidesWhoStays plan stays) (clean : Clean plan) (s : Schedule)
+module _ (plan : Plan) (timing : Timing) (stays : UnitPlan → Bool) (states : DecidesWhoStays plan stays) (clean : Clean plan) (s : Schedule)
     (queued_first : (p : ℕ) → p < s.count → s.queued p ≤ s.start p) (planned : ℕ → Bool) (sent : FrameSources) (held : Held)
     (keeps : KeepsToPlan plan timing s planned sent held) (turns : KeepsTurns s planned sent held) where
   -- what has such a number has this identifier
@@ -152,7 +152,7 @@ module _ (plan : Plan) (timing : Timing) (stays : UnitPlan → Bool) (tells : De
 
     in_turn : ComeInTurn timing (frames_asked (asked_of timing plan stays)) s planned (origins_of plan sent) i
     in_turn = record {
-      known = premises_at plan timing stays tells clean s queued_first planned sent held keeps i
+      known = premises_at plan timing stays states clean s queued_first planned sent held keeps i
           (λ p in_p is place. numbered_timed number u (sent.source p) (only p in_p is place).1) own;
       behind = behind;
       steady = steady;
@@ -161,7 +161,7 @@ module _ (plan : Plan) (timing : Timing) (stays : UnitPlan → Bool) (tells : De
     in_any_turn : (controllers : Controllers) → KeepsQueues plan timing s controllers planned sent
         → ComeInAnyOrder timing (frames_asked (asked_of timing plan stays)) s controllers planned (origins_of plan sent) i
     in_any_turn controllers queues = record {
-      known = keeps_any plan timing stays tells clean s queued_first planned sent held keeps controllers queues i in_turn.known;
+      known = keeps_any plan timing stays states clean s queued_first planned sent held keeps controllers queues i in_turn.known;
       behind = λ ordered. behind;
       steady = λ ordered. steady;
     }
@@ -223,9 +223,9 @@ module _ (plan : Plan) (timing : Timing) (stays : UnitPlan → Bool) (tells : De
 
     at_announcements : announcements_place (asked_of timing plan stays) u ≡ source_place plan (Announcing u m)
     at_announcements =
-        let told = same_units plan timing stays in
+        let stated = same_units plan timing stays in
         let flows = length-map plan.flows.items (load_of_flow timing plan stays) in
-        omega (arith, told, flows)
+        omega (arith, stated, flows)
 
     pub packets_in_turn : ComeInTurn timing (frames_asked (asked_of timing plan stays)) s planned (origins_of plan sent) (packets_place (asked_of timing plan stays) u)
     packets_in_turn = subst (ComeInTurn timing (frames_asked (asked_of timing plan stays)) s planned (origins_of plan sent)) (sym at_packets)
@@ -256,9 +256,9 @@ pub broadcasts_in_order : (plan : Plan) (timing : Timing) (stays : UnitPlan → 
     → KeepsToPlan plan timing s planned sent held → KeepsTurns s planned sent held
     → ComeInTurn timing (frames_asked (asked_of timing plan stays)) s planned (origins_of plan sent) (announcements_place (asked_of timing plan stays) u)
     × ComeInTurn timing (frames_asked (asked_of timing plan stays)) s planned (origins_of plan sent) (packets_place (asked_of timing plan stays) u)
-broadcasts_in_order plan timing stays clean tells s planned sent held u m below legal keeps turns = (
-  announcements_in_turn plan timing stays tells clean s legal.queued_first planned sent held keeps turns u m below,
-  packets_in_turn plan timing stays tells clean s legal.queued_first planned sent held keeps turns u m below,
+broadcasts_in_order plan timing stays clean states s planned sent held u m below legal keeps turns = (
+  announcements_in_turn plan timing stays states clean s legal.queued_first planned sent held keeps turns u m below,
+  packets_in_turn plan timing stays states clean s legal.queued_first planned sent held keeps turns u m below,
 )
 
 pub broadcasts_in_any_order : (plan : Plan) (timing : Timing) (stays : UnitPlan → Bool) → Clean plan → DecidesWhoStays plan stays
@@ -268,7 +268,7 @@ pub broadcasts_in_any_order : (plan : Plan) (timing : Timing) (stays : UnitPlan 
     → ComeInAnyOrder timing (frames_asked (asked_of timing plan stays)) s controllers planned (origins_of plan sent)
     (announcements_place (asked_of timing plan stays) u)
     × ComeInAnyOrder timing (frames_asked (asked_of timing plan stays)) s controllers planned (origins_of plan sent) (packets_place (asked_of timing plan stays) u)
-broadcasts_in_any_order plan timing stays clean tells s controllers planned sent held u m below legal keeps queues turns = (
-  announcements_in_any_turn plan timing stays tells clean s legal.queued_first planned sent held keeps turns u m below controllers queues,
-  packets_in_any_turn plan timing stays tells clean s legal.queued_first planned sent held keeps turns u m below controllers queues,
+broadcasts_in_any_order plan timing stays clean states s controllers planned sent held u m below legal keeps queues turns = (
+  announcements_in_any_turn plan timing stays states clean s legal.queued_first planned sent held keeps turns u m below controllers queues,
+  packets_in_any_turn plan timing stays states clean s legal.queued_first planned sent held keeps turns u m below controllers queues,
 )

@@ -86,12 +86,12 @@ module _ (plan : Plan) (timing : Timing) (apart : ArePlannedApart (units_of plan
       (none_sent plan timing bus all_planned sent (λ u. refl) (λ p u m. not_announced (first p) u m) (λ p u m k. not_carried (first p) u m k))
     where
       not_announced : (b : Bool) (v m : ℕ) → cond b (Single f) (Single g) ≡ Announcing v m → ⊥
-      not_announced true v m same = let told = same in cc
-      not_announced false v m same = let told = same in cc
+      not_announced true v m same = let stated = same in cc
+      not_announced false v m same = let stated = same in cc
 
       not_carried : (b : Bool) (v m k : ℕ) → cond b (Single f) (Single g) ≡ Carrying v m k → ⊥
-      not_carried true v m k same = let told = same in cc
-      not_carried false v m k same = let told = same in cc
+      not_carried true v m k same = let stated = same in cc
+      not_carried false v m k same = let stated = same in cc
 
   sent_by : (b : Bool) (v : ℕ) → IsSentByUnit plan (cond b (Single f) (Single g)) v → cond b flow.sender other.sender ≡ v
   sent_by true v from = ap (λ (h : FlowPlan). h.sender) (same_Some _ _ (sym its ∙ from.1)) ∙ from.2

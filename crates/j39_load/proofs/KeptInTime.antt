@@ -48,7 +48,7 @@ in_deadline timing period (Some deadline) ms is =
 
 module _ (plan : Plan) (timing : Timing) (stays : UnitPlan → Bool) (delays : List (Option Delay)) (asks : AsksOfBus plan timing stays delays)
     (none : load_findings timing (total_load timing (asked_of timing plan stays)) delays ≡ []) where
-  -- ---- what is told of a frame's flow
+  -- ---- what is reported of a frame's flow
 
   -- its delay, which is within the limit of its pace
   pub record HasBound (f : ℕ) (pace : Pace) : Type 0 where
@@ -60,7 +60,7 @@ module _ (plan : Plan) (timing : Timing) (stays : UnitPlan → Bool) (delays : L
   bound_of s held f release p one =
       let its_load : FlowLoad = load plan timing stays f one.flow one.pace one.group one.its one.paced one.of in
       let at = at_place plan timing stays f one.flow one.pace one.group one.its one.paced one.of in
-      let (bits, told, bound) = short_bounded plan timing stays delays asks none f its_load
+      let (bits, stated, bound) = short_bounded plan timing stays delays asks none f its_load
       (own plan timing stays f one.flow one.pace one.group one.its one.paced one.of) at
       (of_one_frame plan timing stays f one.flow one.pace one.group one.its one.paced one.of one.short) in
       let same : bound.load ≡ its_load = same_Some _ _ (same_Some _ _ (sym bound.its ∙ at)) in
@@ -86,13 +86,13 @@ module _ (plan : Plan) (timing : Timing) (stays : UnitPlan → Bool) (delays : L
           → IsWithinMs timing one.pace.period (sent.release p) (frame_end s p)
           × ((deadline : ℕ) → one.pace.deadline ≡ Some deadline → IsWithinMs timing deadline (sent.release p) (frame_end s p))
       its_own seen =
-          let told = bound_of s held f (sent.release p) p one in
+          let stated = bound_of s held f (sent.release p) p one in
           let period = in_period timing one.pace.period one.pace.deadline in
           let inside = least_inside timing one.pace.period in
-          let sum = told.bound.sum in
-          let limited = told.limited in
+          let sum = stated.bound.sum in
+          let limited = stated.limited in
           let shown = before_bits timing one.pace.period (sent.release p) s.now seen in
-          let ended = (in_time f told.bits single told.bound p in_p is (ap (source_place plan) source) (omega (arith, shown, limited, period, inside, sum))).1 in (
+          let ended = (in_time f stated.bits single stated.bound p in_p is (ap (source_place plan) source) (omega (arith, shown, limited, period, inside, sum))).1 in (
             in_ms timing one.pace.period (sent.release p) (frame_end s p) (omega (arith, ended, sum, limited, period, inside)),
             λ deadline written.
                 let first = in_deadline timing one.pace.period one.pace.deadline deadline written in

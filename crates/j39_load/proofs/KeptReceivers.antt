@@ -1,4 +1,4 @@
--- Where a time is told of long messages to all no receiver gives one of them up.
+-- Where a time is reported of long messages to all no receiver gives one of them up.
 use Rattle.std.proofs.Common.{◌≡◌, ℕ, ◌<◌, ◌≤◌, Bool, leb, if◌then◌else◌, List, [], get_or, Option, Some, None}
 use Rattle.std.proofs.Common.{refl, sym, ap, ◌∙◌, subst, arith, option_map}
 use Rattle.std.proofs.lemmas.Bool.{leb-true, lt-leb}
@@ -41,7 +41,7 @@ use Rattle.j39_load.proofs.StreamsBefore.{none_of_two}
 use Rattle.j39_load.proofs.WholeMessages.{deadlines_kept, packets_read}
 use Rattle.j39_timing.specs.Messages.{frame_end}
 
--- ---- where a time is told
+-- ---- where a time is reported
 
 -- how long packets of the unit wait: with the longest gap and their own length no longer than a receiver does
 record HasPause (timing : Timing) (asked : Asked) (buffering : Buffering) (u : ℕ) : Type 0 where
@@ -55,20 +55,20 @@ module _ (timing : Timing) (asked : Asked) (buffering : Buffering) (u : ℕ) whe
   by_load : (turn : Turn) (load : Option UnitLoad) → get_or asked.units u None ≡ load → IsTurnBy timing asked buffering u load (Some turn)
       → HasPause timing asked buffering u
   by_load turn None at is = absurd (none-some turn (sym is))
-  by_load turn (Some load) at (announced, sent, first, rest, told) = by_waits announced sent rest told
+  by_load turn (Some load) at (announced, sent, first, rest, stated) = by_waits announced sent rest stated
     where
       by_waits : (announced sent : Option ℕ) → IsWaitIn timing buffering (packets_place asked u) load.packets sent
           → Some turn ≡ known_turn timing load announced sent → HasPause timing asked buffering u
-      by_waits None sent rest told = absurd (none-some turn (sym told))
-      by_waits (Some a) None rest told = absurd (none-some turn (sym told))
-      by_waits (Some a) (Some wait) rest told =
-          let short = (cond_some (leb (packet_time timing load wait) (longest_pause timing)) (flow_turn timing load a wait) turn (sym told)).0 in
+      by_waits None sent rest stated = absurd (none-some turn (sym stated))
+      by_waits (Some a) None rest stated = absurd (none-some turn (sym stated))
+      by_waits (Some a) (Some wait) rest stated =
+          let short = (cond_some (leb (packet_time timing load wait) (longest_pause timing)) (flow_turn timing load a wait) turn (sym stated)).0 in
           record { load = load; at = at; wait = wait; is = rest; short = leb-true (packet_time timing load wait) (longest_pause timing) short }
 
   by_time : (broadcast : Broadcast) (whole : WholeTime) (bits : ℕ) (time : Option Turn) → IsTurn timing asked buffering u time
       → whole ≡ whole_time broadcast time → whole.bits ≡ Some bits → HasPause timing asked buffering u
-  by_time broadcast whole bits None is same told = absurd (none-some bits (sym (ap (λ (w : WholeTime). w.bits) same) ∙ told))
-  by_time broadcast whole bits (Some turn) is same told = by_load turn (get_or asked.units u None) refl is
+  by_time broadcast whole bits None is same stated = absurd (none-some bits (sym (ap (λ (w : WholeTime). w.bits) same) ∙ stated))
+  by_time broadcast whole bits (Some turn) is same stated = by_load turn (get_or asked.units u None) refl is
 
 abbrev sender_of : Messages → ℕ
 sender_of (Short frames) = 0
@@ -94,12 +94,12 @@ module _ (plan : Plan) (timing : Timing) (clean : Clean plan) (stays : UnitPlan 
       else long_messages timing plan.units.items stays flow pace group flow.to) (lt-leb group.most 8 long)
       ∙ ap (long_messages timing plan.units.items stays flow pace group) goes in
       let deadline : (broadcast_of timing flow pace group).deadline ≡ Some (bits_inside timing limit) = ap (option_map (bits_inside timing)) written in
-      let (whole, bits, told, each, within, is) = deadlines_kept plan timing stays delays asks none f (bits_inside timing limit) its_load
+      let (whole, bits, stated, each, within, is) = deadlines_kept plan timing stays delays asks none f (bits_inside timing limit) its_load
       (broadcast_of timing flow pace group) at messages deadline in
       let same : is.load ≡ its_load = same_Some _ _ (same_Some _ _ (sym is.its ∙ at)) in
       let sender : is.broadcast.sender ≡ flow.sender = ap sender_of (sym is.long ∙ (ap (λ (l : FlowLoad). l.messages) same ∙ messages)) in
       let (time, turn, total) = is.time in
-      (is.buffering, is.is, subst (HasPause timing asked is.buffering) sender (by_time timing asked is.buffering is.broadcast.sender is.broadcast whole bits time turn total is.told))
+      (is.buffering, is.is, subst (HasPause timing asked is.buffering) sender (by_time timing asked is.buffering is.broadcast.sender is.broadcast whole bits time turn total is.stated))
 
   not_given_up : AreNotGivenUp plan timing
   not_given_up s controllers planned sent held legal keeps queues turns f flow pace group limit its paced of long goes written p q m k in_q is source gap seen =

@@ -6,11 +6,13 @@ pub mod Attempts
 pub mod Before
 pub mod BoundedFlows
 pub mod Broadcasting
+pub mod QueueGroupFrames
 pub mod QueueGroupStreams
 pub mod DemandLaws
 pub mod Different
 pub mod EachFrames
 pub mod DamagedFirst
+pub mod DamagedPlaces
 mod FoundWaits
 pub mod KeepingAll
 pub mod KeepingAnyErrors
@@ -31,9 +33,11 @@ pub mod KeptDeadlines
 pub mod KeptInTime
 pub mod KeptReceivers
 pub mod KeptTimes
+pub mod KnownFrames
 pub mod LeastKnown
 pub mod LoadAnswers
 pub mod LosslessTransfers
+pub mod MessagesInTurn
 pub mod Milliseconds
 pub mod BufferingDelays
 pub mod OnceEach
@@ -48,7 +52,8 @@ pub mod SessionParts
 pub mod SharedIdentifiers
 pub mod Slots
 pub mod StreamsBefore
-pub mod ToldBytes
+pub mod ReportedBytes
+pub mod StatedPlaces
 pub mod TurnTimes
 pub mod ValuesInTime
 pub mod Vehicles

@@ -1,4 +1,4 @@
--- What is told of the load of a plan, by the calls that tell it.
+-- What is reported of the load of a plan, by the calls that report it.
 use Rattle.std.proofs.Common.{◌≡◌, Bool, ap, ◌∙◌, subst}
 use Rattle.j39_network.specs.declared.plan.Plan.{Plan}
 use Rattle.j39_network.specs.declared.plan.timing.Timing.{Timing}
@@ -16,13 +16,13 @@ pub answered : (plan : Plan) (timing : Timing) (stays : UnitPlan → Bool) (answ
     → AreFlowDelays answer.loads.timing (asked_in answer.loads) answer.delays.items
     → answer.findings.items ≡ all_findings plan timing (total_load answer.loads.timing (asked_in answer.loads)) answer.delays.items
     → IsLoadAnswer plan timing answer
-answered plan timing stays answer tells timed asked waits found =
+answered plan timing stays answer states timed asked waits found =
     let delays = answer.delays.items in
     let here = asked_in answer.loads in
     record {
       stays = stays;
       asks = record {
-        standing = tells;
+        standing = states;
         waits = subst (λ (a : Asked). AreFlowDelays timing a delays) asked (subst (λ (t : Timing). AreFlowDelays t here delays) timed waits);
       };
       timed = timed;

@@ -44,7 +44,7 @@ use Rattle.j39_world.specs.TransferSteps.{receiver_replies, sender_replies}
 use Rattle.j39_load.specs.declared.frames.messages.Messages.{Messages}
 use Rattle.j39_load.specs.Loads.{frames_to_all, frames_to_one, is_always_short, long_messages, of_unit}
 use Rattle.j39_load.specs.LosslessTransfers.{Sides, Frame, FromSender, FromReceiver, after_hearing, replies, data_sent, Exchange, Transfer}
-use Rattle.j39_load.specs.LosslessTransfers.{IsTransferred, IsReceiverOf, TakesFrames, TakeFramesTold, frames_told}
+use Rattle.j39_load.specs.LosslessTransfers.{IsTransferred, IsReceiverOf, TakesFrames, TakeFramesReported, frames_stated}
 
 -- ---- from where the two stand they can go on in one way
 
@@ -184,12 +184,12 @@ module _ (message : MessageParts) (long : IsSize (length message.bytes)) where
 
   -- the sender sends its next data packet, and the receiver takes it
   one_taken : (outcome : Outcome) (dest : Dest) (stage : Stage) (manner : Manner) (kind : ReceptionKind) (h granted last : ℕ)
-      (progress : Progress) (told : Heard) (count total : ℕ)
-      → takes_data manner (session kind h granted) (h + 1) ≡ (progress, told) → ((bytes : List ℕ) → bytes_at progress bytes ≡ bytes)
+      (progress : Progress) (stated : Heard) (count total : ℕ)
+      → takes_data manner (session kind h granted) (h + 1) ≡ (progress, stated) → ((bytes : List ℕ) → bytes_at progress bytes ≡ bytes)
       → after_packet dest (Sending (h + 1) last) ≡ stage → total ≡ suc count
-      → Ends message outcome (at dest stage manner progress (h + 1)) (map FromReceiver (receiver_replies told)) count
+      → Ends message outcome (at dest stage manner progress (h + 1)) (map FromReceiver (receiver_replies stated)) count
       → Ends message outcome (at dest (Sending (h + 1) last) manner (Open (session kind h granted)) h) [] total
-  one_taken outcome dest stage manner kind h granted last progress told count total takes kept after more ends =
+  one_taken outcome dest stage manner kind h granted last progress stated count total takes kept after more ends =
       let s : Sides = at dest (Sending (h + 1) last) manner (Open (session kind h granted)) h in
       let held : List ℕ = grown (Open (session kind h granted)) (next_data h) (take (7 * h) message.bytes) in
       let grows : held ≡ take (7 * (h + 1)) message.bytes = cond-true (h + 1 == h + 1) _ _ (eq-eqb (h + 1) (h + 1) refl) ∙ next_chunk message.bytes h in
@@ -201,7 +201,7 @@ module _ (message : MessageParts) (long : IsSize (length message.bytes)) where
       ap (λ (x : Progress × Heard). then (after_packet dest (Sending (h + 1) last)) x.0 (bytes_at x.0 held)) takes
       ∙ (ap (λ (bytes : List ℕ). then (after_packet dest (Sending (h + 1) last)) progress bytes) (kept held ∙ grows)
       ∙ ap (λ (x : Stage). then x progress (take (7 * (h + 1)) message.bytes)) after) in
-      one_data message outcome s (at dest stage manner progress (h + 1)) (next_data h) (map FromReceiver (receiver_replies told)) count total refl heard
+      one_data message outcome s (at dest stage manner progress (h + 1)) (next_data h) (map FromReceiver (receiver_replies stated)) count total refl heard
       (ap (λ (x : Progress × Heard). map FromReceiver (receiver_replies x.1)) takes) more ends
 
   module _ (manner : Manner) (kind : ReceptionKind) (h granted : ℕ) where
@@ -226,9 +226,9 @@ module _ (message : MessageParts) (long : IsSize (length message.bytes)) where
 
   -- ---- to all
 
-  broadcast_told : (manner : Manner) (r : Reception) → completed manner Broadcast r ≡ heards.Complete
-  broadcast_told (Answering window) r = refl
-  broadcast_told Listening r = refl
+  broadcast_stated : (manner : Manner) (r : Reception) → completed manner Broadcast r ≡ heards.Complete
+  broadcast_stated (Answering window) r = refl
+  broadcast_stated Listening r = refl
 
   broadcast_goes_on : (manner : Manner) (r : Reception) → going_on manner Broadcast r ≡ (Open r, heards.Nothing)
   broadcast_goes_on (Answering window) r = refl
@@ -242,7 +242,7 @@ module _ (message : MessageParts) (long : IsSize (length message.bytes)) where
   broadcasting manner zero h is =
       let last : h + 1 ≡ packets = omega (arith, is) in
       one_taken Sent All (Resting Sent) manner Broadcast h 0 packets (Complete message.pgn) heards.Complete 0 1
-      (takes_last manner Broadcast h 0 last ∙ ap (λ (x : Heard). (Complete message.pgn, x)) (broadcast_told manner (session Broadcast h 0)))
+      (takes_last manner Broadcast h 0 last ∙ ap (λ (x : Heard). (Complete message.pgn, x)) (broadcast_stated manner (session Broadcast h 0)))
       (λ bytes. refl) (cond-false (nat_lt (h + 1) packets) _ _ (le-ltb (h + 1) packets (omega (arith, last)))) refl
       (nothing_left message Sent (at All (Resting Sent) manner (Complete message.pgn) (h + 1)) refl
       (record { rests = refl; complete = refl; bytes = whole (h + 1) last }))
@@ -407,14 +407,14 @@ fewer a b w some le =
       | inr no_less ↦ no_less
     ]
 
-told_to : (timing : Timing) (units : List UnitPlan) (stays : UnitPlan → Bool) (flow : FlowPlan) (pace : Pace) (group : GroupPlan) (to : To)
+yielded_to : (timing : Timing) (units : List UnitPlan) (stays : UnitPlan → Bool) (flow : FlowPlan) (pace : Pace) (group : GroupPlan) (to : To)
     → (message : MessageParts) (receiver : Receiving) (frames : List Frame) (end : Sides) → IsSize (length message.bytes) → length message.bytes ≤ group.most
     → IsReceiverOf units to receiver → Transfer message to receiver frames end
-    → length frames ≤ frames_told (long_messages timing units stays flow pace group to)
-told_to timing units stays flow pace group tos.All message receiver frames end long most is goes =
+    → length frames ≤ frames_stated (long_messages timing units stays flow pace group to)
+yielded_to timing units stays flow pace group tos.All message receiver frames end long most is goes =
     let count : length frames ≡ frames_to_all (packets_of (length message.bytes)) = (to_all message receiver long).count_is frames end goes in
     omega (arith, count, most)
-told_to timing units stays flow pace group (tos.One v) message receiver frames end long most is goes =
+yielded_to timing units stays flow pace group (tos.One v) message receiver frames end long most is goes =
     let count : length frames ≡ frames_to_one units (packets_of (length message.bytes)) v =
     (to_one units v message receiver long is).count_is frames end goes in
     let window : ℕ = of_unit units (λ (unit : UnitPlan). unit.window) v in
@@ -424,9 +424,9 @@ told_to timing units stays flow pace group (tos.One v) message receiver frames e
     let grants = fewer (packets_of (length message.bytes)) (packets_of group.most) window some packets in
     omega (arith, count, packets, grants)
 
-pub told : (timing : Timing) (units : List UnitPlan) (stays : UnitPlan → Bool) (flow : FlowPlan) (pace : Pace) (group : GroupPlan)
-    → TakeFramesTold timing units stays flow pace group
-told timing units stays flow pace group message receiver frames end long most is goes =
+pub stated : (timing : Timing) (units : List UnitPlan) (stays : UnitPlan → Bool) (flow : FlowPlan) (pace : Pace) (group : GroupPlan)
+    → TakeFramesReported timing units stays flow pace group
+stated timing units stays flow pace group message receiver frames end long most is goes =
     let not_short : is_always_short group ≡ false = lt-leb group.most 8 (let above = long.above in omega (arith, above, most)) in
-    subst (λ (m : Messages). length frames ≤ frames_told m) (sym (cond-false (is_always_short group) _ _ not_short))
-    (told_to timing units stays flow pace group flow.to message receiver frames end long most is goes)
+    subst (λ (m : Messages). length frames ≤ frames_stated m) (sym (cond-false (is_always_short group) _ _ not_short))
+    (yielded_to timing units stays flow pace group flow.to message receiver frames end long most is goes)

@@ -235,8 +235,8 @@ window_apart timing ms a b behind =
 
 -- ---- true time
 
-pub told_in_time : (timing : Timing) (bits : ℕ) → bits * bit_time timing.bitrate * longest_million timing ≤ us_of_bits timing bits * million
-told_in_time timing bits = (div_ceil_times (bits * bit_time timing.bitrate * longest_million timing) million (omega arith)).0
+pub stated_in_time : (timing : Timing) (bits : ℕ) → bits * bit_time timing.bitrate * longest_million timing ≤ us_of_bits timing bits * million
+stated_in_time timing bits = (div_ceil_times (bits * bit_time timing.bitrate * longest_million timing) million (omega arith)).0
 
 -- ---- clocks that agree
 
@@ -274,8 +274,8 @@ agreed_inside timing ms none =
     let fast : longest_million timing ≡ million = omega (arith, none) in
     exact (bits_of_ms timing ms) (longest_million timing) million fast (omega arith)
 
-pub agreed_told : (timing : Timing) (bits : ℕ) → timing.drift ≡ 0 → us_of_bits timing bits ≡ bits * bit_time timing.bitrate
-agreed_told timing bits none =
+pub agreed_stated : (timing : Timing) (bits : ℕ) → timing.drift ≡ 0 → us_of_bits timing bits ≡ bits * bit_time timing.bitrate
+agreed_stated timing bits none =
     let fast : longest_million timing ≡ million = omega (arith, none) in
     exact_up (bits * bit_time timing.bitrate) (longest_million timing) million fast (omega arith)
 
@@ -391,7 +391,7 @@ few_a_second timing bits ms some =
     let slow = some_slow timing in
     suffices (1000 * bits * longest_million timing) (ms * shortest_million timing) (1050 * bits) (omega (arith, times, left, right)) (omega (arith, more, slow))
 
--- ---- a time that is told
+-- ---- a time that is reported
 
 inside_by : (bitrate : Bitrate) (f ms n : ℕ) → n * bit_time bitrate * f ≤ 1000 * ms * million → n * f ≤ ms * bits_per_ms bitrate * million
 inside_by Kbit125 f ms n most = omega (arith, most)
@@ -400,15 +400,15 @@ inside_by Kbit500 f ms n most = omega (arith, most)
 inside_by Mbit1 f ms n most = omega (arith, most)
 
 -- it is within so many milliseconds where its bits last no longer
-pub told_within : (timing : Timing) (bits ms : ℕ) → bits ≤ bits_inside timing ms → us_of_bits timing bits ≤ 1000 * ms
-told_within timing bits ms inside =
+pub reported_within : (timing : Timing) (bits ms : ℕ) → bits ≤ bits_inside timing ms → us_of_bits timing bits ≤ 1000 * ms
+reported_within timing bits ms inside =
     let most = in_ms timing ms 0 bits (omega (arith, inside)) in
     suffices (bits * bit_time timing.bitrate * longest_million timing) million (1000 * ms) (omega (arith, most)) (omega arith)
 
 -- and nowhere else
-pub within_told : (timing : Timing) (bits ms : ℕ) → us_of_bits timing bits ≤ 1000 * ms → bits ≤ bits_inside timing ms
-within_told timing bits ms told =
-    let low = told_in_time timing bits in
-    let more : us_of_bits timing bits * million ≤ 1000 * ms * million = mul-le-mul_right million told in
+pub within_stated : (timing : Timing) (bits ms : ℕ) → us_of_bits timing bits ≤ 1000 * ms → bits ≤ bits_inside timing ms
+within_stated timing bits ms stated =
+    let low = stated_in_time timing bits in
+    let more : us_of_bits timing bits * million ≤ 1000 * ms * million = mul-le-mul_right million stated in
     greatest (bits_of_ms timing ms * million) (longest_million timing) bits
     (inside_by timing.bitrate (longest_million timing) ms bits (omega (arith, low, more))) (some_fast timing)

@@ -1,4 +1,4 @@
--- What a plan asks of a bus is one: whoever tells who stays tells the same loads and the same delays. So do two plans whose units are alike.
+-- What a plan asks of a bus is one: whoever reports who stays reports the same loads and the same delays. So do two plans whose units are alike.
 use Rattle.std.proofs.Common.{◌≡◌, ℕ, ◌<◌, ◌≤◌, Bool, true, false, not, ◌&&◌, if◌then◌else◌, List, [], ◌∷◌, length, map, min, max, inl, inr, Option, Some, None}
 use Rattle.std.proofs.Common.{refl, sym, ap, ◌∙◌, subst, arith, option_map}
 use Rattle.std.proofs.lemmas.Bool.{cases_lt}
@@ -38,8 +38,8 @@ use Rattle.j39_load.specs.AnyQueues.{IsQueueGroupLevel, IsQueueGroupWait, IsBuff
 use Rattle.j39_load.specs.AnyQueues.{keep_order, leasts_of, may_be_passed, buffered, streams_with, least_unbounded, with_unplanned}
 use Rattle.j39_load.specs.Asked.{Asked, asked_by, asked_of, frames_asked}
 use Rattle.j39_load.specs.Broadcasts.{broadcast_frames, broadcasts_by, known_unit_load, least_packets, unit_loads_of}
-use Rattle.j39_load.specs.Delays.{HasDelayBy, IsDelay, IsDelayOf, IsDelayWithin, IsFrameDelay, IsLeastWait, IsShortDelay, IsTurnBy, IsWaitIn, IsWaitOf, IsWholeTime}
-use Rattle.j39_load.specs.Delays.{AreFlowDelays, announcements_place, any_delay, known_turn, need_of, packets_place, whole_time}
+use Rattle.j39_load.specs.Delays.{HasDelayBy, IsDelay, IsDelayOf, IsDelayWithin, IsFrameDelay, IsShortDelay, IsTurnBy, IsWaitIn, IsWaitOf, IsWholeTime}
+use Rattle.j39_load.specs.Delays.{AreFlowDelays, announcements_place, any_delay, blocking, known_turn, packets_place, streams_before, whole_time}
 use Rattle.j39_load.specs.Demands.{announcements_demand, demands_of, packets_demand}
 use Rattle.j39_load.specs.LoadFindings.{AsksOfBus}
 use Rattle.j39_load.specs.Loads.{any_unit, destination_at, flow_load, frames_to_one, greatest_address, group_ident, is_any, least_address, load_of_flow}
@@ -47,21 +47,22 @@ use Rattle.j39_load.specs.Loads.{loads_of, long_messages}
 use Rattle.j39_load.specs.Loads.{of_unit, packet_frames, packet_ident, session_ident, single_frames}
 use Rattle.j39_load.specs.RequestLoads.{load_of_request, request_ident, request_load, request_loads_of}
 use Rattle.j39_findings.specs.Standing.{DecidesWhoStays}
+use Rattle.j39_load.proofs.FoundWaits.{wait_among}
 use Rattle.j39_timing.specs.Traffic.{delay_of}
-use Rattle.j39_timing.specs.Waits.{NoShorterFits, need}
+use Rattle.j39_timing.specs.Waits.{Demand, NoShorterFits, need}
 use Rattle.j39_timing.specs.declared.stream.Stream.{Stream}
 use Rattle.j39_tp.specs.Chunks.{packets_of}
 
--- a statement is told in one way
-pub told_once : (stays other : Bool) (S : Type 0) → MatchBool stays S (¬ S) → MatchBool other S (¬ S) → stays ≡ other
-told_once true true S is another = refl
-told_once true false S is another = absurd (another is)
-told_once false true S is another = absurd (is another)
-told_once false false S is another = refl
+-- a statement is reported in one way
+pub stated_once : (stays other : Bool) (S : Type 0) → MatchBool stays S (¬ S) → MatchBool other S (¬ S) → stays ≡ other
+stated_once true true S is another = refl
+stated_once true false S is another = absurd (another is)
+stated_once false true S is another = absurd (is another)
+stated_once false false S is another = refl
 
 -- ---- loads
 
--- what a load sees of two units, where it is told of one by the first whether it stays, and of the other by the second
+-- what a load sees of two units, where it is reported of one by the first whether it stays, and of the other by the second
 pub record AreSeenAlike (stays other : UnitPlan → Bool) (unit box : UnitPlan) : Type 0 where
   pub address : box.address ≡ unit.address
   pub choice : is_arbitrary box.name ≡ is_arbitrary unit.name
@@ -257,8 +258,8 @@ module _ (plan vehicle : Plan) (timing : Timing) (stays other : UnitPlan → Boo
       asked_by (loads_of timing vehicle other) (unit_loads_of timing vehicle.units.items other (loads_of timing vehicle other)) asking)
       one_request_load
 
--- who stays is told in one way, and so is what a plan asks
-module _ (plan : Plan) (timing : Timing) (stays other : UnitPlan → Bool) (tells : DecidesWhoStays plan stays) (tell : DecidesWhoStays plan other) where
+-- who stays is reported in one way, and so is what a plan asks
+module _ (plan : Plan) (timing : Timing) (stays other : UnitPlan → Bool) (states : DecidesWhoStays plan stays) (report : DecidesWhoStays plan other) where
   seen : (v : ℕ) → AreBoth (AreSeenAlike stays other) (slice_get plan.units.items v) (slice_get plan.units.items v)
   seen v = go (slice_get plan.units.items v) refl where
     go : (o : Option UnitPlan) → slice_get plan.units.items v ≡ o → AreBoth (AreSeenAlike stays other) o o
@@ -268,28 +269,42 @@ module _ (plan : Plan) (timing : Timing) (stays other : UnitPlan → Bool) (tell
       choice = refl;
       window = refl;
       queue = refl;
-      standing = told_once (other unit) (stays unit) _ (tell v unit at) (tells v unit at);
+      standing = stated_once (other unit) (stays unit) _ (report v unit at) (states v unit at);
     }
 
   pub same_asked : asked_of timing plan stays ≡ asked_of timing plan other
   same_asked = asked_alike plan plan timing stays other seen refl refl refl refl
 
+-- ---- waits
+
+-- of two least waits none is less
+not_less : (demands : List Demand) (blocked : ℕ) (streams : List Stream) (wait other : ℕ) → need demands blocked streams wait ≤ wait
+    → NoShorterFits demands blocked streams other → other ≤ wait
+not_less demands blocked streams wait other demand_fits least = elim (cases_lt wait other) [
+  | inl below ↦ absurd (omega (arith, least wait below, demand_fits))
+  | inr above ↦ above
+]
+
+one_wait : (timing : Timing) (demands : List Demand) (streams : List Stream) (blocked : ℕ) (wait other : Option ℕ)
+    → IsWaitWith timing demands streams blocked wait → IsWaitWith timing demands streams blocked other → wait ≡ other
+one_wait timing demands streams blocked None None is another = refl
+one_wait timing demands streams blocked None (Some other) is another =
+    absurd (let below = another.0 in let demand_fits = another.1 in omega (arith, is other (omega arith)))
+one_wait timing demands streams blocked (Some wait) None is another =
+    absurd (let below = is.0 in let demand_fits = is.1 in omega (arith, another wait (omega arith)))
+one_wait timing demands streams blocked (Some wait) (Some other) is another =
+    let above = not_less demands blocked streams wait other is.1 another.2 in
+    let below = not_less demands blocked streams other wait another.1 is.2 in
+    ap Some (omega (arith, above, below))
+
 -- ---- delays
 
 module _ (timing : Timing) (all : List (Option FlowFrames)) (flow : ℕ) where
-  -- of two least waits none is less
-  not_less : (frames : FlowFrames) (wait other : ℕ) → need_of timing all flow frames wait ≤ wait → IsLeastWait timing all flow frames other
-      → other ≤ wait
-  not_less frames wait other demand_fits least = elim (cases_lt wait other) [
-    | inl below ↦ absurd (omega (arith, least wait below, demand_fits))
-    | inr above ↦ above
-  ]
-
   one_within : (frames : FlowFrames) (most bits more : ℕ) → IsDelayWithin timing all flow frames most bits → IsDelayWithin timing all flow frames most more
       → bits ≡ more
   one_within frames most bits more is another =
-      let above = not_less frames is.0 another.0 is.1.demand_fits another.2 in
-      let below = not_less frames another.0 is.0 another.1.demand_fits is.2 in
+      let above = not_less (demands_of all) (blocking timing frames.greatest_ident) (streams_before timing flow frames all) is.0 another.0 is.1.demand_fits another.2 in
+      let below = not_less (demands_of all) (blocking timing frames.greatest_ident) (streams_before timing flow frames all) another.0 is.0 another.1.demand_fits is.2 in
       let waits : is.0 ≡ another.0 = omega (arith, above, below) in
       is.3 ∙ ap (delay_of frames.stream) waits ∙ sym another.3
 
@@ -313,16 +328,6 @@ module _ (timing : Timing) (all : List (Option FlowFrames)) (flow : ℕ) where
   one_short_delay frames limit (Long count) other is another = absurd is
   one_short_delay frames limit (Whole whole) other is another = absurd is
 
-  one_wait : (frames : FlowFrames) (wait other : Option ℕ) → IsWaitOf timing all flow frames wait → IsWaitOf timing all flow frames other
-      → wait ≡ other
-  one_wait frames None None is another = refl
-  one_wait frames None (Some other) is another = absurd (let below = another.0 in let demand_fits = another.1 in omega (arith, is other (omega arith)))
-  one_wait frames (Some wait) None is another = absurd (let below = is.0 in let demand_fits = is.1 in omega (arith, another wait (omega arith)))
-  one_wait frames (Some wait) (Some other) is another =
-      let above = not_less frames wait other is.1 another.2 in
-      let below = not_less frames other wait another.1 is.2 in
-      ap Some (omega (arith, above, below))
-
 -- ---- frames of units that keep no order
 
 module _ (timing : Timing) (all : List (Option FlowFrames)) where
@@ -333,27 +338,11 @@ module _ (timing : Timing) (all : List (Option FlowFrames)) where
       let above = another.least level is.is in
       omega (arith, below, above)
 
-  one_least : (streams : List Stream) (blocking : ℕ) (wait other : Option ℕ) → IsWaitWith timing (demands_of all) streams blocking wait
-      → IsWaitWith timing (demands_of all) streams blocking other → wait ≡ other
-  one_least streams blocking None None is another = refl
-  one_least streams blocking None (Some other) is another = absurd (let below = another.0 in let demand_fits = another.1 in omega (arith, is other (omega arith)))
-  one_least streams blocking (Some wait) None is another = absurd (let below = is.0 in let demand_fits = is.1 in omega (arith, another wait (omega arith)))
-  one_least streams blocking (Some wait) (Some other) is another =
-      let above : other ≤ wait = not_before wait other is.1 another.2 in
-      let below : wait ≤ other = not_before other wait another.1 is.2 in
-      ap Some (omega (arith, above, below))
-    where
-      not_before : (a b : ℕ) → need (demands_of all) blocking streams a ≤ a → NoShorterFits (demands_of all) blocking streams b → b ≤ a
-      not_before a b demand_fits least = elim (cases_lt a b) [
-        | inl less ↦ absurd (omega (arith, least a less, demand_fits))
-        | inr above ↦ above
-      ]
-
   one_queue_group_wait : (own : FlowFrames) (wait other : Option ℕ) → IsQueueGroupWait timing (leasts_of all) all own wait
       → IsQueueGroupWait timing (leasts_of all) all own other → wait ≡ other
   one_queue_group_wait own wait other is another =
       let same = one_level (with_unplanned timing own) is.level another.level is.of_queue_group another.of_queue_group in
-      one_least (streams_with timing (leasts_of all) all (with_unplanned timing own) another.level) (blocking_with timing own) wait other
+      one_wait timing (demands_of all) (streams_with timing (leasts_of all) all (with_unplanned timing own) another.level) (blocking_with timing own) wait other
       (subst (λ (n : ℕ). IsWaitWith timing (demands_of all) (streams_with timing (leasts_of all) all (with_unplanned timing own) n) (blocking_with timing own) wait) same
       is.least_wait) another.least_wait
 
@@ -368,10 +357,10 @@ module _ (timing : Timing) (all : List (Option FlowFrames)) where
       go false is another = one_queue_group_wait f wait other is another
 
   one_waits : (waits others : List (Option ℕ)) → AreBufferingDelays timing all waits → AreBufferingDelays timing all others → waits ≡ others
-  one_waits waits others tell another =
-      ext_get_or None waits others (tell.count ∙ sym another.count)
-      (λ j below. let inside : j < length all = omega (arith, below, tell.count) in
-      one_buffering_delay (slice_index_or all j None) _ _ (tell.each j inside) (another.each j inside))
+  one_waits waits others report another =
+      ext_get_or None waits others (report.count ∙ sym another.count)
+      (λ j below. let inside : j < length all = omega (arith, below, report.count) in
+      one_buffering_delay (slice_index_or all j None) _ _ (report.each j inside) (another.each j inside))
 
   one_buffering : (buffering other : Buffering) → IsBuffering timing all buffering → IsBuffering timing all other → buffering ≡ other
   one_buffering buffering other is another =
@@ -398,7 +387,9 @@ module _ (timing : Timing) (asked : Asked) (buffering : Buffering) where
           ≡ slice_index_or buffering.waits place None)
           → wait ≡ other
       go true true is another = is ∙ sym another
-      go true false is another = one_wait timing buffering.frames place frames wait other is another
+      go true false is another = one_wait timing (demands_of buffering.frames) (streams_before timing place frames buffering.frames)
+          (blocking timing frames.greatest_ident) wait other (wait_among timing buffering.frames place frames wait is)
+          (wait_among timing buffering.frames place frames other another)
       go false passed is another = is ∙ sym another
 
   one_frame_delay : (flow : ℕ) (frames : FlowFrames) (limit : ℕ) (delay other : Delay) → IsFrameDelay timing buffering flow frames limit delay
@@ -430,28 +421,32 @@ module _ (timing : Timing) (asked : Asked) (buffering : Buffering) where
       is.2 ∙ ap (whole_time broadcast) (one_turn broadcast.sender (slice_index_or asked.units broadcast.sender None) is.0 another.0 is.1 another.1)
       ∙ sym another.2
 
+  -- of a long message to one unit it is reported how many frames it takes, and of one to all when it is whole
+  of_one : (flow : ℕ) (frames : FlowFrames) (limit : ℕ) (delay : Delay) → IsDelayOf timing asked buffering flow (ToOne frames) limit delay
+      → delay ≡ Long frames.stream.frames
+  of_one flow frames limit (Long count) is = ap Long is
+  of_one flow frames limit (Within bits) is = absurd is
+  of_one flow frames limit (Beyond bits) is = absurd is
+  of_one flow frames limit Late is = absurd is
+  of_one flow frames limit (Whole whole) is = absurd is
+
+  of_all : (flow : ℕ) (broadcast : Broadcast) (limit : ℕ) (delay : Delay) → IsDelayOf timing asked buffering flow (ToAll broadcast) limit delay
+      → (whole : WholeTime) × (delay ≡ Whole whole) × IsWholeTime timing asked buffering broadcast whole
+  of_all flow broadcast limit (Whole whole) is = (whole, refl, is)
+  of_all flow broadcast limit (Within bits) is = absurd is
+  of_all flow broadcast limit (Beyond bits) is = absurd is
+  of_all flow broadcast limit Late is = absurd is
+  of_all flow broadcast limit (Long count) is = absurd is
+
   one_delay : (flow : ℕ) (messages : Messages) (limit : ℕ) (delay other : Delay) → IsDelayOf timing asked buffering flow messages limit delay
       → IsDelayOf timing asked buffering flow messages limit other → delay ≡ other
   one_delay flow (Short frames) limit delay other is another =
       one_frame_delay flow frames limit delay other is another
-  one_delay flow (ToOne frames) limit (Long count) (Long more) is another = ap Long (is ∙ sym another)
-  one_delay flow (ToOne frames) limit (Long count) (Within bits) is another = absurd another
-  one_delay flow (ToOne frames) limit (Long count) (Beyond bits) is another = absurd another
-  one_delay flow (ToOne frames) limit (Long count) Late is another = absurd another
-  one_delay flow (ToOne frames) limit (Long count) (Whole whole) is another = absurd another
-  one_delay flow (ToOne frames) limit (Within bits) other is another = absurd is
-  one_delay flow (ToOne frames) limit (Beyond bits) other is another = absurd is
-  one_delay flow (ToOne frames) limit Late other is another = absurd is
-  one_delay flow (ToOne frames) limit (Whole whole) other is another = absurd is
-  one_delay flow (ToAll broadcast) limit (Whole whole) (Whole more) is another = ap Whole (one_whole_time broadcast whole more is another)
-  one_delay flow (ToAll broadcast) limit (Whole whole) (Within bits) is another = absurd another
-  one_delay flow (ToAll broadcast) limit (Whole whole) (Beyond bits) is another = absurd another
-  one_delay flow (ToAll broadcast) limit (Whole whole) Late is another = absurd another
-  one_delay flow (ToAll broadcast) limit (Whole whole) (Long count) is another = absurd another
-  one_delay flow (ToAll broadcast) limit (Within bits) other is another = absurd is
-  one_delay flow (ToAll broadcast) limit (Beyond bits) other is another = absurd is
-  one_delay flow (ToAll broadcast) limit Late other is another = absurd is
-  one_delay flow (ToAll broadcast) limit (Long count) other is another = absurd is
+  one_delay flow (ToOne frames) limit delay other is another = of_one flow frames limit delay is ∙ sym (of_one flow frames limit other another)
+  one_delay flow (ToAll broadcast) limit delay other is another =
+      let (whole, is_whole, time) = of_all flow broadcast limit delay is in
+      let (more, is_more, another_time) = of_all flow broadcast limit other another in
+      is_whole ∙ (ap Whole (one_whole_time broadcast whole more time another_time) ∙ sym is_more)
 
   one_known_delay : (flow : ℕ) (delay other : Option Delay) → HasDelayBy timing asked buffering flow delay → HasDelayBy timing asked buffering flow other
       → delay ≡ other
@@ -465,11 +460,11 @@ module _ (timing : Timing) (asked : Asked) (buffering : Buffering) where
 
 pub delays_same : (timing : Timing) (asked : Asked) (delays others : List (Option Delay)) → AreFlowDelays timing asked delays
     → AreFlowDelays timing asked others → delays ≡ others
-delays_same timing asked delays others tell another =
-    ext_get_or None delays others (tell.count ∙ sym another.count)
+delays_same timing asked delays others report another =
+    ext_get_or None delays others (report.count ∙ sym another.count)
     (λ flow below.
-    let (buffering, is, its) = tell.each flow below in
-    let (other, are, theirs) = another.each flow (omega (arith, below, tell.count, another.count)) in
+    let (buffering, is, its) = report.each flow below in
+    let (other, are, theirs) = another.each flow (omega (arith, below, report.count, another.count)) in
     let same = one_buffering timing (frames_asked asked) buffering other is are in
     one_known_delay timing asked other flow _ _
     (subst (λ (o : Buffering). HasDelayBy timing asked o flow (slice_index_or delays flow None)) same its) theirs)

@@ -22,7 +22,7 @@ use Rattle.j39_load.specs.declared.loads.request_load.RequestLoad.{RequestLoad}
 use Rattle.j39_load.specs.Asked.{Asked, asked_of, frames_asked, own_frames}
 use Rattle.j39_load.specs.Broadcasts.{broadcasts_by, known_unit_load, unit_loads_of}
 use Rattle.j39_load.specs.Damage.{damage_frames}
-use Rattle.j39_load.specs.KeepsPlan.{source_place, units_told}
+use Rattle.j39_load.specs.KeepsPlan.{source_place, units_stated}
 use Rattle.j39_load.specs.Loads.{flow_load, load_of_flow, loads_of, long_messages, packet_frames, single_frames}
 use Rattle.j39_load.specs.PlannedFrames.{traffic_of}
 use Rattle.j39_load.specs.RequestLoads.{load_of_request, request_load}
@@ -106,11 +106,11 @@ module _ (plan : Plan) (timing : Timing) (stays : UnitPlan → Bool) where
 
   -- ---- a request
 
-  pub same_units : length asked.units ≡ units_told plan.flows.items units
+  pub same_units : length asked.units ≡ units_stated plan.flows.items units
   same_units = go plan.flows.items
     where
       go : (flows : List FlowPlan)
-          → length (unit_loads_of timing units stays (map (load_of_flow timing plan stays) flows)) ≡ units_told flows units
+          → length (unit_loads_of timing units stays (map (load_of_flow timing plan stays) flows)) ≡ units_stated flows units
       go [] = refl
       go (flow ∷ flows) = length-map-range_with_len
           (λ u. known_unit_load timing units stays u (broadcasts_by u (map (load_of_flow timing plan stays) (flow ∷ flows)))) 0 (length units)
@@ -128,9 +128,9 @@ module _ (plan : Plan) (timing : Timing) (stays : UnitPlan → Bool) where
 
     pub request_frames_read : get_or (frames_asked asked) (source_place plan (Asking r)) None ≡ Some in_request
     request_frames_read =
-        let told = same_units in
+        let stated = same_units in
         let flows = length-map plan.flows.items (load_of_flow timing plan stays) in
-        let place : source_place plan (Asking r) ≡ 2 * length asked.flows + (2 * length asked.units + r) = omega (arith, told, flows) in
+        let place : source_place plan (Asking r) ≡ 2 * length asked.flows + (2 * length asked.units + r) = omega (arith, stated, flows) in
         ap (λ (k : ℕ). get_or (frames_asked asked) k None) place
         ∙ request_read asked.flows asked.units asked.requests r request_asks request_at
 
@@ -143,10 +143,10 @@ module _ (plan : Plan) (timing : Timing) (stays : UnitPlan → Bool) where
       get_or-map-range_with_len (λ v. known_unit_load timing units stays v (broadcasts_by v (load ∷ loads))) 0 (length units) u u None below (omega arith)
       ∙ known_where_some u timing units stays (broadcasts_by u (load ∷ loads)) some
 
-  pub told_where_flows : (f : ℕ) (flow : FlowPlan) → slice_get plan.flows.items f ≡ Some flow → units_told plan.flows.items units ≡ length units
-  told_where_flows f flow its = go plan.flows.items its
+  pub stated_where_flows : (f : ℕ) (flow : FlowPlan) → slice_get plan.flows.items f ≡ Some flow → units_stated plan.flows.items units ≡ length units
+  stated_where_flows f flow its = go plan.flows.items its
     where
-      go : (flows : List FlowPlan) → slice_get flows f ≡ Some flow → units_told flows units ≡ length units
+      go : (flows : List FlowPlan) → slice_get flows f ≡ Some flow → units_stated flows units ≡ length units
       go [] at = absurd (none-some flow at)
       go (first ∷ flows) at = refl
 
@@ -158,8 +158,8 @@ module _ (plan : Plan) (timing : Timing) (stays : UnitPlan → Bool) where
     unit_planned = subst (λ (x : ℕ). x < length units) one.from
         (all_at (λ (g : FlowPlan). g.sender < length plan.units.items) plan.flows.items plan.flow_senders (b.flow u m) one.flow one.its)
 
-    pub unit_told : u < units_told plan.flows.items units
-    unit_told = let told = told_where_flows (b.flow u m) one.flow one.its in let below = unit_planned in omega (arith, told, below)
+    pub unit_stated : u < units_stated plan.flows.items units
+    unit_stated = let stated = stated_where_flows (b.flow u m) one.flow one.its in let below = unit_planned in omega (arith, stated, below)
 
     pub to_all_units : (load (b.flow u m) one.flow one.pace one.group one.its one.paced one.of).messages ≡ ToAll its_broadcast
     to_all_units =
@@ -198,7 +198,7 @@ module _ (plan : Plan) (timing : Timing) (stays : UnitPlan → Bool) where
 
     pub announcing_read : get_or (frames_asked asked) (source_place plan (Announcing u m)) None ≡ Some unit_asks.announcements
     announcing_read =
-        let told = same_units in
+        let stated = same_units in
         let flows = length-map plan.flows.items (load_of_flow timing plan stays) in
-        let place : source_place plan (Announcing u m) ≡ announcements_place asked u = omega (arith, told, flows) in
+        let place : source_place plan (Announcing u m) ≡ announcements_place asked u = omega (arith, stated, flows) in
         ap (λ (n : ℕ). get_or (frames_asked asked) n None) place ∙ announcements_read asked u unit_asks unit_read

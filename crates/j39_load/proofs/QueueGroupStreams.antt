@@ -11,7 +11,7 @@ use Rattle.j39_load.specs.Demands.{demands_of}
 use Rattle.j39_load.specs.LineLists.{lines_of_each}
 use Rattle.j39_load.specs.PlannedFrames.{queue_group_of, no_frames, planned_at, traffic_of}
 use Rattle.j39_load.proofs.DemandLaws.{demands_with_damage}
-use Rattle.j39_load.proofs.StreamsBefore.{taken_within, told_of_two}
+use Rattle.j39_load.proofs.StreamsBefore.{taken_within, stated_of_two}
 use Rattle.j39_timing.specs.QueueGroups.{QueueGroupDemandFits}
 use Rattle.j39_timing.specs.FrameBits.{longest_frame}
 use Rattle.j39_timing.specs.Sums.{total}
@@ -35,14 +35,14 @@ module _ (timing : Timing) (asked : List (Option FlowFrames)) (own : FlowFrames)
   abbrev has : ℕ → Bool
   has j = is_of_queue_group leasts own_too level (planned_at asked j)
 
-  abbrev tell : ℕ → Option FlowFrames → List Stream
-  tell j None = []
-  tell j (Some x) = if has j || ltb x.least_ident level then x.stream ∷ [] else []
+  abbrev report : ℕ → Option FlowFrames → List Stream
+  report j None = []
+  report j (Some x) = if has j || ltb x.least_ident level then x.stream ∷ [] else []
 
   abbrev taken : ℕ → ℕ
   taken j = cond (has j || ltb ((traffic_of all).least j) level) (lesser_share demands span ((traffic_of all).stream j)) 0
 
-  taken_most : (j : ℕ) (frames : Option FlowFrames) → get_or all j None ≡ frames → taken j ≤ sum_by (lesser_share demands span) (tell j frames)
+  taken_most : (j : ℕ) (frames : Option FlowFrames) → get_or all j None ≡ frames → taken j ≤ sum_by (lesser_share demands span) (report j frames)
   taken_most j None is = rw (is) (elim (has j || ltb 0 level) as (λ e. cond e (lesser_share demands span no_frames.stream) 0 ≤ sum_by (lesser_share demands span) []) [
     | true ↦ omega arith
     | false ↦ omega arith
@@ -53,19 +53,19 @@ module _ (timing : Timing) (asked : List (Option FlowFrames)) (own : FlowFrames)
         | false ↦ omega arith
       ])
 
-  -- of the frames that are asked for the same is told
-  same_told : (place : ℕ) (xs : List (Option FlowFrames)) → ((k : ℕ) → k < length xs → get_or xs k None ≡ get_or asked (place + k) None)
-      → lines_of_each tell place xs ≡ filter_map (stream_with leasts own_too level) xs
+  -- of the frames that are asked for the same is reported
+  same_stated : (place : ℕ) (xs : List (Option FlowFrames)) → ((k : ℕ) → k < length xs → get_or xs k None ≡ get_or asked (place + k) None)
+      → lines_of_each report place xs ≡ filter_map (stream_with leasts own_too level) xs
   unfolding lines_of_each
-  same_told place [] same = refl
-  same_told place (x ∷ xs) same =
-      let rest = same_told (place + 1) xs (λ k below. same (suc k) (omega (arith, below)) ∙ ap (λ (n : ℕ). get_or asked n None) (omega arith)) in
+  same_stated place [] same = refl
+  same_stated place (x ∷ xs) same =
+      let rest = same_stated (place + 1) xs (λ k below. same (suc k) (omega (arith, below)) ∙ ap (λ (n : ℕ). get_or asked n None) (omega arith)) in
       go x (same 0 (omega arith) ∙ ap (λ (n : ℕ). get_or asked n None) (omega arith)) rest
     where
       go : (frames : Option FlowFrames) → frames ≡ get_or asked place None
-          → lines_of_each tell (place + 1) xs ≡ filter_map (stream_with leasts own_too level) xs
-          → tell place frames
-          ++ lines_of_each tell (place + 1) xs ≡ cons_option (stream_with leasts own_too level frames) (filter_map (stream_with leasts own_too level) xs)
+          → lines_of_each report (place + 1) xs ≡ filter_map (stream_with leasts own_too level) xs
+          → report place frames
+          ++ lines_of_each report (place + 1) xs ≡ cons_option (stream_with leasts own_too level frames) (filter_map (stream_with leasts own_too level) xs)
       go None is rest = rest
       go (Some f) is rest =
           rw (sym is, rest) (elim (is_of_queue_group leasts own_too level f || ltb f.least_ident level)
@@ -76,13 +76,13 @@ module _ (timing : Timing) (asked : List (Option FlowFrames)) (own : FlowFrames)
           ])
 
   damage_most : (place : ℕ) (streams : List Stream)
-      → sum_by (lesser_share demands span) (lines_of_each tell place (map first_of_all streams)) ≤ sum_by (lesser_share demands span) streams
+      → sum_by (lesser_share demands span) (lines_of_each report place (map first_of_all streams)) ≤ sum_by (lesser_share demands span) streams
   unfolding lines_of_each
   damage_most place [] = omega arith
   damage_most place (stream ∷ streams) =
-      let first : sum_by (lesser_share demands span) (tell place (first_of_all stream)) ≤ lesser_share demands span stream = go (has place || ltb 0 level) in
+      let first : sum_by (lesser_share demands span) (report place (first_of_all stream)) ≤ lesser_share demands span stream = go (has place || ltb 0 level) in
       let rest = damage_most (place + 1) streams in
-      let parts = sum_by-append (lesser_share demands span) (tell place (first_of_all stream)) (lines_of_each tell (place + 1) (map first_of_all streams)) in
+      let parts = sum_by-append (lesser_share demands span) (report place (first_of_all stream)) (lines_of_each report (place + 1) (map first_of_all streams)) in
       let one = sum_by-cons (lesser_share demands span) stream streams in
       omega (arith, first, rest, parts, one)
     where
@@ -92,15 +92,15 @@ module _ (timing : Timing) (asked : List (Option FlowFrames)) (own : FlowFrames)
 
   pub queue_group_taken : total (length all) taken ≤ sum_by (lesser_share demands span) (streams_with timing leasts asked own_too level)
   queue_group_taken =
-      let whole = taken_within demands tell span taken all (λ k below. taken_most k (get_or all k None) refl) in
-      let two = ap (sum_by (lesser_share demands span)) (told_of_two tell 0 asked (damage_frames timing)) in
-      let parts = sum_by-append (lesser_share demands span) (lines_of_each tell 0 asked) (lines_of_each tell (0 + length asked) (damage_frames timing)) in
-      let same = ap (sum_by (lesser_share demands span)) (same_told 0 asked (λ k below. ap (λ (n : ℕ). get_or asked n None) (omega arith))) in
+      let whole = taken_within demands report span taken all (λ k below. taken_most k (get_or all k None) refl) in
+      let two = ap (sum_by (lesser_share demands span)) (stated_of_two report 0 asked (damage_frames timing)) in
+      let parts = sum_by-append (lesser_share demands span) (lines_of_each report 0 asked) (lines_of_each report (0 + length asked) (damage_frames timing)) in
+      let same = ap (sum_by (lesser_share demands span)) (same_stated 0 asked (λ k below. ap (λ (n : ℕ). get_or asked n None) (omega arith))) in
       let damage = damage_most (0 + length asked) (damage_streams timing) in
       let needed = sum_by-append (lesser_share demands span) (damage_streams timing) (filter_map (stream_with leasts own_too level) asked) in
       omega (arith, whole, two, parts, same, damage, needed)
 
--- the wait that is told has room
+-- the wait that is reported has room
 pub queue_group_fits : (timing : Timing) (asked : List (Option FlowFrames)) (own : FlowFrames) (level wait i : ℕ)
     → planned_at (asked ++ damage_frames timing) i ≡ own
     → need (demands_of asked) (blocking_with timing own) (streams_with timing (leasts_of asked) asked (with_unplanned timing own) level) wait ≤ wait

@@ -36,7 +36,7 @@ identifier-mono priority pgn d e s t destination source =
       | false ↦ omega arith
     ]
 
-module _ (plan : Plan) (stays : UnitPlan → Bool) (tells : DecidesWhoStays plan stays) (held : ℕ → ℕ) (by_plan : AreHeldByPlan plan held) where
+module _ (plan : Plan) (stays : UnitPlan → Bool) (states : DecidesWhoStays plan stays) (held : ℕ → ℕ) (by_plan : AreHeldByPlan plan held) where
   abbrev units : List UnitPlan
   units = plan.units.items
 
@@ -58,8 +58,8 @@ module _ (plan : Plan) (stays : UnitPlan → Bool) (tells : DecidesWhoStays plan
       let high : a ≤ 247 = leb-true a 247 two.1 in
       rw (moves) (omega (arith, low, high), omega (arith, low, high))
 
-  moves_where_told : (unit : UnitPlan) (S : Type 0) → MatchBool (stays unit) S (¬ S) → is_arbitrary unit.name ≡ true → ¬ S → may_move stays unit ≡ true
-  moves_where_told unit S it arbitrary leaves = elim (cases_Bool (stays unit)) [
+  moves_where_stated : (unit : UnitPlan) (S : Type 0) → MatchBool (stays unit) S (¬ S) → is_arbitrary unit.name ≡ true → ¬ S → may_move stays unit ≡ true
+  moves_where_stated unit S it arbitrary leaves = elim (cases_Bool (stays unit)) [
     | inl one ↦ absurd (leaves (subst (λ b. MatchBool b S (¬ S)) one it))
     | inr other ↦ and_from (is_arbitrary unit.name) (not (stays unit)) arbitrary (ap not other)
   ]
@@ -72,7 +72,7 @@ module _ (plan : Plan) (stays : UnitPlan → Bool) (tells : DecidesWhoStays plan
       let name : is_arbitrary (unit_at (units_of plan) u).name ≡ is_arbitrary unit.name = ap (λ (c : PlannedUnit). is_arbitrary c.name) its in
       rw (at) (elim (by_plan u below) [
         | inl planned ↦ planned_between unit (held u) (planned ∙ preferred)
-        | inr moved ↦ pool_between unit (held u) (moves_where_told unit (StaysBeside plan.strangers (units_of plan) u) (tells u unit at) (sym name ∙ moved.1) moved.2) moved.0
+        | inr moved ↦ pool_between unit (held u) (moves_where_stated unit (StaysBeside plan.strangers (units_of plan) u) (states u unit at) (sym name ∙ moved.1) moved.2) moved.0
       ])
 
   destination_between : (to : To) → ((v : ℕ) → to ≡ One v → v < length units)

@@ -143,16 +143,16 @@ module _ (plan : Plan) (timing : Timing) (stays : UnitPlan → Bool) (flow bits 
           omega (arith, sum, inside, limited));
     }
 
-    -- what is told of the stream at the flow's place is told of the flow
+    -- what is reported of the stream at the flow's place is reported of the flow
     of_flow : (pause from to : ℕ)
         → (to + ((traffic.stream flow).jitter + bound.wait) < s.now
         → IsNewestFresh s planned of flow (pause + delay_of (traffic.stream flow) bound.wait) (from + delay_of (traffic.stream flow) bound.wait)
         (to + delay_of (traffic.stream flow) bound.wait))
         → to + (bound.frames.stream.jitter + bound.wait) < s.now → IsNewestFresh s planned of flow (pause + bits) (from + bits) (to + bits)
-    of_flow pause from to told =
+    of_flow pause from to stated =
         subst (λ (b : ℕ). to + (bound.frames.stream.jitter + bound.wait) < s.now → IsNewestFresh s planned of flow (pause + b) (from + b) (to + b)) (sym bound.sum)
         (subst (λ (f : FlowFrames). to + (f.stream.jitter + bound.wait) < s.now
-        → IsNewestFresh s planned of flow (pause + delay_of f.stream bound.wait) (from + delay_of f.stream bound.wait) (to + delay_of f.stream bound.wait)) placed told)
+        → IsNewestFresh s planned of flow (pause + delay_of f.stream bound.wait) (from + delay_of f.stream bound.wait) (to + delay_of f.stream bound.wait)) placed stated)
 
 -- ---- needs
 

@@ -54,7 +54,7 @@ place_below units u v (Some unit) at is = by_queue unit.queue is
         let inside : u < length units = slice_get_within units u unit at in
         omega (arith, same, inside)
 
--- one of the places that may be told is this one
+-- one of the places that may be reported is this one
 end_below : (units : List UnitPlan) (u v : ℕ) → option_map_or (λ (x : ℕ). eqb x v) (any_unit units u) false ≡ true → v < length units
 end_below units u v is = place_below units u v (slice_get units u) refl is
 

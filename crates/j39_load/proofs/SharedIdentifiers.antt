@@ -23,14 +23,14 @@ use Rattle.j39_load.specs.SentFrames.{Broadcasts, Held, IsBroadcastFrame, IsFirs
 use Rattle.j39_load.specs.SentFrames.{RequestToSend, Packet, ClearToSend, EndAcknowledged}
 use Rattle.j39_load.specs.Twins.{are_twins, is_same}
 use Rattle.j39_load.proofs.Different as other_idents
-use Rattle.j39_load.proofs.KeepingFrames.{asking_ident, first_ident, one_to, single_ident}
+use Rattle.j39_load.proofs.KnownFrames.{asking_ident, first_ident, one_to, single_ident}
 use Rattle.j39_load.proofs.PlacedFrames.{own}
 use Rattle.j39_timing.specs.TimedFrames.{Schedule}
 use Rattle.j39_timing.specs.Traffic.{IsQueuedAt}
 
 -- ---- twins
 
--- two that are told of one number, by one unit
+-- two that are reported of one number, by one unit
 pub record AreAlike (a b : FlowFrames) : Type 0 where
   pub number : ℕ
   pub first : a.twin_ident ≡ Some number
@@ -120,12 +120,12 @@ module _ (plan : Plan) (clean : Clean plan) (named : ℕ → Bool) (address : �
   made_alike x y n m u v to other a b same =
       let first = apart.range u a.from_named in
       let second = apart.range v b.from_named in
-      let told = other_idents.tells a.priority b.priority n m (destination_at address to) (destination_at address other) (address u) (address v) a.page b.page
+      let stated = other_idents.states a.priority b.priority n m (destination_at address to) (destination_at address other) (address u) (address v) a.page b.page
       (other_idents.few plan clean named address apart to a.to_named) (other_idents.few plan clean named address apart other b.to_named) (omega (arith, first))
       (omega (arith, second)) a.low b.low (sym a.is ∙ (same ∙ b.is)) in (
-        told.1,
-        other_idents.one_unit plan clean named address apart u v a.from_named b.from_named told.2,
-        λ pdu1. other_idents.one_receiver plan clean named address apart to other a.to_named b.to_named (told.3 pdu1),
+        stated.1,
+        other_idents.one_unit plan clean named address apart u v a.from_named b.from_named stated.2,
+        λ pdu1. other_idents.one_receiver plan clean named address apart to other a.to_named b.to_named (stated.3 pdu1),
       )
 
   names_destination : (number : ℕ) → (number ≡ 60416) ⊎ (number ≡ 60160) → is_pdu2 number ≡ false
@@ -167,8 +167,8 @@ module _ (plan : Plan) (clean : Clean plan) (named : ℕ → Bool) (address : �
       to_one w z b.from b.to b.ends (to (ap is_pdu2 is ∙ names_destination b.number b.either))
     where
       to_one : (w z from : ℕ) (to : To) → ((from ≡ w) × (to ≡ One z)) ⊎ ((from ≡ z) × (to ≡ One w)) → ToAllUnits ≡ to → ⊥
-      to_one w z from to (inl ends) all = let told = all ∙ ends.1 in cc
-      to_one w z from to (inr ends) all = let told = all ∙ ends.1 in cc
+      to_one w z from to (inl ends) all = let stated = all ∙ ends.1 in cc
+      to_one w z from to (inr ends) all = let stated = all ∙ ends.1 in cc
 
   -- two of long messages to all are of one unit, and of one kind
   pub one_sends : (x y u v n k : ℕ) → IsMade named address x n u ToAllUnits → IsMade named address y k v ToAllUnits → x ≡ y → (n ≡ k) × (u ≡ v)
@@ -199,7 +199,7 @@ module _ (plan : Plan) (timing : Timing) (clean : Clean plan) (s : Schedule) (he
     page = omega (arith, is);
     low = λ _. omega (arith, is);
     from_named = one.sender_named t queued;
-    to_named = λ v goes. absurd (let told = goes in cc);
+    to_named = λ v goes. absurd (let stated = goes in cc);
     is = one.identifier t queued;
   }
   broadcast_made b number u m release p (inr is) one queued = record {
@@ -207,7 +207,7 @@ module _ (plan : Plan) (timing : Timing) (clean : Clean plan) (s : Schedule) (he
     page = omega (arith, is);
     low = λ _. omega (arith, is);
     from_named = one.sender_named t queued;
-    to_named = λ v goes. absurd (let told = goes in cc);
+    to_named = λ v goes. absurd (let stated = goes in cc);
     is = one.identifier t queued;
   }
 
@@ -391,9 +391,9 @@ module _ (plan : Plan) (timing : Timing) (clean : Clean plan) (s : Schedule) (he
       (two : IsFirstFrame plan timing s held g other q) → IsQueuedAt s p t → IsQueuedAt s q t → s.ident p ≡ s.ident q → (v : Selector) → one.group.when ≡ Some v
       → AreAlike (own plan timing stays f one.flow one.pace one.group one.its one.paced one.of)
       (own plan timing stays g two.flow two.pace two.group two.its two.paced two.of)
-  firsts_alike stays f g release other p q one two at_p at_q same v told =
+  firsts_alike stays f g release other p q one two at_p at_q same v stated =
       let a = of_first f release p one at_p in
       let b = of_first g other q two at_q in
       alike f g p q a b same stays one.pace two.pace
-      (other_idents.twins_if_told plan clean (held.named t) (held.address t) apart f g one.flow two.flow one.group two.group a.sends b.sends (idents f g p q a b same)
-      v told)
+      (other_idents.twins_if_stated plan clean (held.named t) (held.address t) apart f g one.flow two.flow one.group two.group a.sends b.sends (idents f g p q a b same)
+      v stated)

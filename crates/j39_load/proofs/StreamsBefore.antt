@@ -1,10 +1,10 @@
--- The streams that may go before frames take no more than what is told of their places.
+-- The streams that may go before frames take no more than what is reported of their places.
 use Rattle.std.proofs.Common.{◌≡◌, ℕ, zero, suc, ◌+◌, ◌<◌, ◌≤◌, Bool, true, false, not, cond, ◌&&◌, eqb, if◌then◌else◌, List, [], ◌∷◌, ◌++◌, length, take}
 use Rattle.std.proofs.Common.{get_or, map, sum_by, unwrap_or, Option, Some, None}
-use Rattle.std.proofs.Common.{refl, sym, ap, ◌∙◌, subst, arith, option_map, append_assoc}
-use Rattle.std.proofs.lemmas.List.{get_or_append_left, length-map, take_all}
+use Rattle.std.proofs.Common.{refl, sym, ap, ◌∙◌, subst, arith, append_assoc}
+use Rattle.std.proofs.lemmas.List.{get_or_append_left, take_all}
 use Rattle.std.proofs.lemmas.List.Sums.{sum_by-append, sum_by-cons}
-use Rattle.std.proofs.lemmas.Option.{same_Some, none-some, slice_get-map, slice_get_within, get_or_from_slice_get}
+use Rattle.std.proofs.lemmas.Option.{same_Some, none-some}
 use Rattle.std.specs.List.{slice_get}
 use Rattle.j39_network.specs.declared.plan.timing.Timing.{Timing}
 use Rattle.j39_load.specs.declared.frames.flow_frames.FlowFrames.{FlowFrames}
@@ -12,54 +12,55 @@ use Rattle.j39_load.specs.declared.loads.flow_load.FlowLoad.{FlowLoad}
 use Rattle.j39_load.specs.declared.frames.messages.Messages.TheVariants.{Short}
 use Rattle.j39_load.specs.declared.loads.request_load.RequestLoad.{RequestLoad}
 use Rattle.j39_load.specs.declared.loads.unit_load.UnitLoad.{UnitLoad}
-use Rattle.j39_load.specs.Asked.{all_frames, announcements_of_unit, frames_of_flow, frames_of_request, packets_of_unit, singles_of_flow}
+use Rattle.j39_load.specs.Asked.{all_frames, own_frames}
 use Rattle.j39_load.specs.Damage.{damage_frames, damage_streams, first_frames, first_of_all}
 use Rattle.j39_load.specs.Delays.{frames_before, going_before, streams_before}
 use Rattle.j39_load.specs.LineLists.{lines_of_each}
 use Rattle.j39_load.specs.PlannedFrames.{no_frames, planned_at}
 use Rattle.j39_load.specs.Twins.{may_precede}
+use Rattle.j39_load.proofs.AskedPlaces.{flow_read}
 use Rattle.j39_load.proofs.Before.{more}
 use Rattle.j39_timing.specs.Sums.{total}
 use Rattle.j39_timing.specs.Waits.{Demand, lesser_share}
 use Rattle.j39_timing.specs.declared.stream.Stream.{Stream}
 
--- ---- where nothing is told
+-- ---- where nothing is reported
 
 pub none_of_two : {X : Type 0} (xs ys : List X) → xs ++ ys ≡ [] → (xs ≡ []) × (ys ≡ [])
 none_of_two [] ys none = (refl, none)
 none_of_two (x ∷ xs) ys none = absurd (let some : suc (length (xs ++ ys)) ≡ 0 = ap length none in omega arith)
 
-pub told_nothing : {X Y : Type 0} (tell : ℕ → X → List Y) (place : ℕ) (xs : List X) → lines_of_each tell place xs ≡ [] → (k : ℕ) (x : X)
-    → slice_get xs k ≡ Some x → tell (place + k) x ≡ []
+pub stated_nothing : {X Y : Type 0} (report : ℕ → X → List Y) (place : ℕ) (xs : List X) → lines_of_each report place xs ≡ [] → (k : ℕ) (x : X)
+    → slice_get xs k ≡ Some x → report (place + k) x ≡ []
 unfolding lines_of_each
-told_nothing tell place [] none k x at = absurd (none-some x at)
-told_nothing tell place (first ∷ xs) none zero x at =
-    let head = (none_of_two (tell place first) (lines_of_each tell (place + 1) xs) none).0 in
-    ap (λ (n : ℕ). tell n x) (omega arith) ∙ ap (tell place) (sym (same_Some first x at)) ∙ head
-told_nothing tell place (first ∷ xs) none (suc k) x at =
-    let tail = (none_of_two (tell place first) (lines_of_each tell (place + 1) xs) none).1 in
-    ap (λ (n : ℕ). tell n x) (omega arith) ∙ told_nothing tell (place + 1) xs tail k x at
+stated_nothing report place [] none k x at = absurd (none-some x at)
+stated_nothing report place (first ∷ xs) none zero x at =
+    let head = (none_of_two (report place first) (lines_of_each report (place + 1) xs) none).0 in
+    ap (λ (n : ℕ). report n x) (omega arith) ∙ ap (report place) (sym (same_Some first x at)) ∙ head
+stated_nothing report place (first ∷ xs) none (suc k) x at =
+    let tail = (none_of_two (report place first) (lines_of_each report (place + 1) xs) none).1 in
+    ap (λ (n : ℕ). report n x) (omega arith) ∙ stated_nothing report (place + 1) xs tail k x at
 
 -- ---- the streams before
 
--- what each place takes is within what is told of it, and so is all of it
-module _ (demands : List Demand) (tell : ℕ → Option FlowFrames → List Stream) (span : ℕ) (taken : ℕ → ℕ) (all : List (Option FlowFrames))
-    (each : (k : ℕ) → k < length all → taken k ≤ sum_by (lesser_share demands span) (tell k (get_or all k None))) where
-  up_to : (k : ℕ) → k ≤ length all → total k taken ≤ sum_by (lesser_share demands span) (lines_of_each tell 0 (take k all))
+-- what each place takes is within what is reported of it, and so is all of it
+module _ (demands : List Demand) (report : ℕ → Option FlowFrames → List Stream) (span : ℕ) (taken : ℕ → ℕ) (all : List (Option FlowFrames))
+    (each : (k : ℕ) → k < length all → taken k ≤ sum_by (lesser_share demands span) (report k (get_or all k None))) where
+  up_to : (k : ℕ) → k ≤ length all → total k taken ≤ sum_by (lesser_share demands span) (lines_of_each report 0 (take k all))
   unfolding total
   up_to zero le = omega arith
   up_to (suc k) le =
-      let before : total k taken ≤ sum_by (lesser_share demands span) (lines_of_each tell 0 (take k all)) = up_to k (omega arith) in
-      let this : taken k ≤ sum_by (lesser_share demands span) (tell k (get_or all k None)) = each k (omega arith) in
-      let both : sum_by (lesser_share demands span) (lines_of_each tell 0 (take (k + 1) all))
-      ≡ sum_by (lesser_share demands span) (lines_of_each tell 0 (take k all)) + sum_by (lesser_share demands span) (tell k (get_or all k None)) =
-      ap (sum_by (lesser_share demands span)) (more tell k all None (omega arith))
-      ∙ sum_by-append (lesser_share demands span) (lines_of_each tell 0 (take k all)) (tell k (get_or all k None)) in
+      let before : total k taken ≤ sum_by (lesser_share demands span) (lines_of_each report 0 (take k all)) = up_to k (omega arith) in
+      let this : taken k ≤ sum_by (lesser_share demands span) (report k (get_or all k None)) = each k (omega arith) in
+      let both : sum_by (lesser_share demands span) (lines_of_each report 0 (take (k + 1) all))
+      ≡ sum_by (lesser_share demands span) (lines_of_each report 0 (take k all)) + sum_by (lesser_share demands span) (report k (get_or all k None)) =
+      ap (sum_by (lesser_share demands span)) (more report k all None (omega arith))
+      ∙ sum_by-append (lesser_share demands span) (lines_of_each report 0 (take k all)) (report k (get_or all k None)) in
       let next : k + 1 ≡ suc k = omega arith in
-      subst (λ (n : ℕ). total k taken + taken k ≤ sum_by (lesser_share demands span) (lines_of_each tell 0 (take n all))) next (omega (arith, before, this, both))
+      subst (λ (n : ℕ). total k taken + taken k ≤ sum_by (lesser_share demands span) (lines_of_each report 0 (take n all))) next (omega (arith, before, this, both))
 
-  pub taken_within : total (length all) taken ≤ sum_by (lesser_share demands span) (lines_of_each tell 0 all)
-  taken_within = subst (λ (xs : List (Option FlowFrames)). total (length all) taken ≤ sum_by (lesser_share demands span) (lines_of_each tell 0 xs))
+  pub taken_within : total (length all) taken ≤ sum_by (lesser_share demands span) (lines_of_each report 0 all)
+  taken_within = subst (λ (xs : List (Option FlowFrames)). total (length all) taken ≤ sum_by (lesser_share demands span) (lines_of_each report 0 xs))
       (take_all (length all) all (omega arith)) (up_to (length all) (omega arith))
 
 module _ (demands : List Demand) (all : List (Option FlowFrames)) (i : ℕ) (own : FlowFrames) (span : ℕ) where
@@ -86,15 +87,15 @@ module _ (demands : List Demand) (all : List (Option FlowFrames)) (i : ℕ) (own
   whole_taken : total (length all) taken ≤ sum_by (lesser_share demands span) (lines_of_each (going_before i own) 0 all)
   whole_taken = taken_within demands (going_before i own) span taken all (λ k below. taken_most k (get_or all k None) refl)
 
--- what is told of two lists, one after the other
-pub told_of_two : {X Y : Type 0} (tell : ℕ → X → List Y) (place : ℕ) (xs ys : List X)
-    → lines_of_each tell place (xs ++ ys) ≡ lines_of_each tell place xs ++ lines_of_each tell (place + length xs) ys
+-- what is reported of two lists, one after the other
+pub stated_of_two : {X Y : Type 0} (report : ℕ → X → List Y) (place : ℕ) (xs ys : List X)
+    → lines_of_each report place (xs ++ ys) ≡ lines_of_each report place xs ++ lines_of_each report (place + length xs) ys
 unfolding lines_of_each
-told_of_two tell place [] ys = ap (λ (n : ℕ). lines_of_each tell n ys) (omega arith)
-told_of_two tell place (x ∷ xs) ys =
-    ap (λ zs. tell place x ++ zs) (told_of_two tell (place + 1) xs ys)
-    ∙ ap (λ (n : ℕ). tell place x ++ (lines_of_each tell (place + 1) xs ++ lines_of_each tell n ys)) (omega arith)
-    ∙ sym (append_assoc (tell place x) (lines_of_each tell (place + 1) xs) (lines_of_each tell (place + length (x ∷ xs)) ys))
+stated_of_two report place [] ys = ap (λ (n : ℕ). lines_of_each report n ys) (omega arith)
+stated_of_two report place (x ∷ xs) ys =
+    ap (λ zs. report place x ++ zs) (stated_of_two report (place + 1) xs ys)
+    ∙ ap (λ (n : ℕ). report place x ++ (lines_of_each report (place + 1) xs ++ lines_of_each report n ys)) (omega arith)
+    ∙ sym (append_assoc (report place x) (lines_of_each report (place + 1) xs) (lines_of_each report (place + length (x ∷ xs)) ys))
 
 module _ (demands : List Demand) (i : ℕ) (own : FlowFrames) (span : ℕ) where
   damage_most : (place : ℕ) (streams : List Stream)
@@ -121,7 +122,7 @@ module _ (demands : List Demand) (i : ℕ) (own : FlowFrames) (span : ℕ) where
       ≤ sum_by (lesser_share demands span) (streams_before timing i own all)
   all_before timing all =
       let whole = whole_taken demands (all ++ damage_frames timing) i own span in
-      let two = ap (sum_by (lesser_share demands span)) (told_of_two (going_before i own) 0 all (damage_frames timing)) in
+      let two = ap (sum_by (lesser_share demands span)) (stated_of_two (going_before i own) 0 all (damage_frames timing)) in
       let parts = sum_by-append (lesser_share demands span) (lines_of_each (going_before i own) 0 all) (lines_of_each (going_before i own) (0 + length all) (damage_frames timing)) in
       let damage = damage_most (0 + length all) (damage_streams timing) in
       let needed = sum_by-append (lesser_share demands span) (damage_streams timing) (lines_of_each (going_before i own) 0 all) in
@@ -137,17 +138,7 @@ get_or_inside (y ∷ ys) (suc i) x is = let inside = get_or_inside ys i x is in 
 pub own_read : (flows : List (Option FlowLoad)) (units : List (Option UnitLoad)) (requests : List (Option RequestLoad)) (flow : ℕ) (load : FlowLoad)
     (frames : FlowFrames) → slice_get flows flow ≡ Some (Some load) → load.messages ≡ Short frames
     → get_or (all_frames flows units requests) flow None ≡ Some frames
-own_read flows units requests flow load frames its short =
-    let below = slice_get_within flows flow (Some load) its in
-    let front : get_or (all_frames flows units requests) flow None ≡ get_or (map frames_of_flow flows) flow None =
-    get_or_append_left (map frames_of_flow flows)
-    (map singles_of_flow flows ++ (map packets_of_unit units ++ (map announcements_of_unit units ++ map frames_of_request requests))) None flow
-    (omega (arith, below, length-map flows frames_of_flow)) in
-    let own : get_or (map frames_of_flow flows) flow None ≡ frames_of_flow (Some load) =
-    get_or_from_slice_get (map frames_of_flow flows) flow (frames_of_flow (Some load)) None
-    (slice_get-map frames_of_flow flows flow ∙ ap (option_map frames_of_flow) its) in
-    let its_frames : frames_of_flow (Some load) ≡ Some frames = rw (short) refl in
-    front ∙ own ∙ its_frames
+own_read flows units requests flow load frames its short = flow_read flows units requests flow load frames its (ap own_frames short)
 
 -- and so they do where what comes of damage stands behind all
 pub with_damage : (timing : Timing) (asked : List (Option FlowFrames)) (flow : ℕ) (frames : FlowFrames) → get_or asked flow None ≡ Some frames

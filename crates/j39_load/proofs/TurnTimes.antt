@@ -1,8 +1,7 @@
 -- The delays of flows by the turns of their units.
-use Rattle.std.proofs.Common.{◌≡◌, ℕ, ◌+◌, ◌<◌, List, [], ◌∷◌, ◌++◌, length, get_or, inl, inr, Option, None, sym, subst, ap, ◌∙◌, arith}
-use Rattle.std.proofs.Math.Seq.{get_or-append_seam}
+use Rattle.std.proofs.Common.{◌≡◌, ℕ, List, [], length, get_or, inl, inr, Option, None, sym, subst, arith}
 use Rattle.std.proofs.lemmas.Bool.{cases_lt}
-use Rattle.std.proofs.lemmas.List.{get_or_append_left, get_or_past}
+use Rattle.std.proofs.lemmas.List.{get_or_past}
 use Rattle.j39_network.specs.declared.plan.timing.Timing.{Timing}
 use Rattle.j39_load.specs.declared.waits.delay.Delay.{Delay}
 use Rattle.j39_load.specs.declared.waits.delay.Delay.TheVariants.{Within, Beyond, Late, Long, Whole}
@@ -15,28 +14,13 @@ use Rattle.j39_load.specs.Asked.{Asked}
 use Rattle.j39_load.specs.Delays.{IsDelayOf, IsTurn, IsTurnBy}
 use Rattle.j39_load.specs.inside.TurnTimes.{IsDelayBy, AreTurns, turn_at}
 
--- the turns of the first so many units, and of one more
-pub one_more : (timing : Timing) (asked : Asked) (buffering : Buffering) (turns : List (Option Turn)) (turn : Option Turn) (n : ℕ) → length turns ≡ n
-    → ((k : ℕ) → k < n → IsTurn timing asked buffering k (get_or turns k None)) → IsTurn timing asked buffering n turn → (k : ℕ) → k < n + 1
-    → IsTurn timing asked buffering k (get_or (turns ++ turn ∷ []) k None)
-one_more timing asked buffering turns turn n count told is k below = elim (cases_lt k n) [
-  | inl before ↦
-      subst (IsTurn timing asked buffering k) (sym (get_or_append_left turns (turn ∷ []) None k (omega (arith, before, count)))) (told k before)
-  | inr after ↦
-      let here : k ≡ n = omega arith in
-      let last : get_or (turns ++ turn ∷ []) n None ≡ turn =
-      ap (λ (m : ℕ). get_or (turns ++ turn ∷ []) m None) (sym count) ∙ get_or-append_seam turns turn [] None in
-      subst (λ (m : ℕ). IsTurn timing asked buffering m (get_or (turns ++ turn ∷ []) m None)) (sym here)
-      (subst (IsTurn timing asked buffering n) (sym last) is)
-]
-
-module _ (timing : Timing) (asked : Asked) (buffering : Buffering) (turns : List (Option Turn)) (tell : AreTurns timing asked buffering turns) where
+module _ (timing : Timing) (asked : Asked) (buffering : Buffering) (turns : List (Option Turn)) (report : AreTurns timing asked buffering turns) where
   -- also where there is no such unit
   at_unit : (u : ℕ) → IsTurn timing asked buffering u (turn_at turns u)
   at_unit u = elim (cases_lt u (length turns)) [
-    | inl inside ↦ tell.each u inside
+    | inl inside ↦ report.each u inside
     | inr past ↦
-        let none : get_or asked.units u None ≡ None = get_or_past asked.units u None (omega (arith, tell.count, past)) in
+        let none : get_or asked.units u None ≡ None = get_or_past asked.units u None (omega (arith, report.count, past)) in
         let no_turn : get_or turns u None ≡ None = get_or_past turns u None past in
         subst (λ (load : Option UnitLoad). IsTurnBy timing asked buffering u load (get_or turns u None)) (sym none) no_turn
   ]

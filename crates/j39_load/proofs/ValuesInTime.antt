@@ -30,7 +30,7 @@ use Rattle.j39_load.specs.SentFrames.{FrameSources}
 use Rattle.j39_load.specs.ValuesInTime.{AreValuesInTime, ArriveOn, IsValueInTime}
 use Rattle.j39_load.proofs.KeepingAnyOrder.{keeps_in_any_order}
 use Rattle.j39_load.proofs.KeepingPlan.{keeps_in_order}
-use Rattle.j39_load.proofs.Milliseconds.{before_bits, behind_bits, least_inside, told_in_time}
+use Rattle.j39_load.proofs.Milliseconds.{before_bits, behind_bits, least_inside, stated_in_time}
 use Rattle.j39_load.proofs.KeptInTime.{in_period}
 use Rattle.j39_load.proofs.ReadingInTime.{read_where_checked}
 use Rattle.j39_load.proofs.Sending.{in_order}
@@ -45,40 +45,40 @@ aged timing time clock pause within bits born last now sum near asked =
     let span : now - last ≡ bits = omega (arith, sum) in
     let same : (now - last) * bit_time timing.bitrate * longest_million timing ≡ bits * bit_time timing.bitrate * longest_million timing =
     ap (λ (n : ℕ). n * bit_time timing.bitrate * longest_million timing) span in
-    let told = told_in_time timing bits in
+    let stated = stated_in_time timing bits in
     let silent = (div_ceil_times (1000 * pause * longest_million timing) million (omega arith)).0 in
     let both : (us_of_unit_ms timing pause + us_of_bits timing bits) * million ≤ within * million = mul-le-mul_right million asked in
-    omega (arith, on, same, told, silent, both, near)
+    omega (arith, on, same, stated, silent, both, near)
 
--- the pace of a flow of which a load is told
+-- the pace of a flow of which a load is reported
 record IsPaceOf (timing : Timing) (flow : FlowPlan) (load : FlowLoad) : Type 0 where
   pub pace : Pace
   pub paced : flow.pace ≡ Some pace
   pub limit : load.limit ≡ time_limit timing pace
 
 module _ (plan : Plan) (timing : Timing) (stays : UnitPlan → Bool) (flow : FlowPlan) (load : FlowLoad) where
-  pace_told : (pace : Option Pace) (group : Option GroupPlan) → flow.pace ≡ pace → slice_get plan.groups.items flow.group ≡ group
+  pace_stated : (pace : Option Pace) (group : Option GroupPlan) → flow.pace ≡ pace → slice_get plan.groups.items flow.group ≡ group
       → load_of_flow timing plan stays flow ≡ Some load → IsPaceOf timing flow load
-  pace_told None group paced at is = absurd (none-some load (rw (paced) at is))
-  pace_told (Some pace) None paced at is = absurd (none-some load (rw (paced, at) at is))
-  pace_told (Some pace) (Some group) paced at is = record {
+  pace_stated None group paced at is = absurd (none-some load (rw (paced) at is))
+  pace_stated (Some pace) None paced at is = absurd (none-some load (rw (paced, at) at is))
+  pace_stated (Some pace) (Some group) paced at is = record {
     pace = pace;
     paced = paced;
     limit = ap (λ (l : FlowLoad). l.limit) (sym (same_Some _ load (rw (paced, at) at is)));
   }
 
-  -- where its messages are told to go in one frame they do
-  single_told : (pace : Pace) (group : GroupPlan) (frames : FlowFrames) → flow.pace ≡ Some pace → slice_get plan.groups.items flow.group ≡ Some group
+  -- where its messages are reported to go in one frame they do
+  single_stated : (pace : Pace) (group : GroupPlan) (frames : FlowFrames) → flow.pace ≡ Some pace → slice_get plan.groups.items flow.group ≡ Some group
       → load_of_flow timing plan stays flow ≡ Some load → load.messages ≡ Short frames → group.most ≤ 8
-  single_told pace group frames paced at is short =
+  single_stated pace group frames paced at is short =
       by_length (is_always_short group) flow.to refl (ap (λ (l : FlowLoad). l.messages) (same_Some _ load (rw (paced, at) at is)) ∙ short)
     where
       by_length : (b : Bool) (to : To) → is_always_short group ≡ b
           → (if b then Short (single_frames timing plan.units.items stays flow pace group) else long_messages timing plan.units.items stays flow pace group to)
           ≡ Short frames → group.most ≤ 8
       by_length true to fits same = leb-true group.most 8 fits
-      by_length false ToAllUnits fits same = absurd (let told = same in cc)
-      by_length false (One v) fits same = absurd (let told = same in cc)
+      by_length false ToAllUnits fits same = absurd (let stated = same in cc)
+      by_length false (One v) fits same = absurd (let stated = same in cc)
 
 module _ (plan : Plan) (timing : Timing) (clean : Clean plan) (stays : UnitPlan → Bool) (delays : List (Option Delay)) (asks : AsksOfBus plan timing stays delays)
     (need : NeedPlan) (within : ℕ) (read : IsNeedRead plan timing (asked_of timing plan stays) delays need within) where
@@ -89,7 +89,7 @@ module _ (plan : Plan) (timing : Timing) (clean : Clean plan) (stays : UnitPlan 
 
   its_pace : IsPaceOf timing read.fresh.flow read.fresh.bounded.load
   its_pace =
-      pace_told plan timing stays read.fresh.flow read.fresh.bounded.load read.fresh.flow.pace (slice_get plan.groups.items read.fresh.flow.group) refl refl
+      pace_stated plan timing stays read.fresh.flow read.fresh.bounded.load read.fresh.flow.pace (slice_get plan.groups.items read.fresh.flow.group) refl refl
       its_load
 
   -- its messages go in one frame
@@ -99,7 +99,7 @@ module _ (plan : Plan) (timing : Timing) (clean : Clean plan) (stays : UnitPlan 
     its = read.fresh.its;
     group = read.group;
     of = read.of;
-    short = single_told plan timing stays read.fresh.flow read.fresh.bounded.load its_pace.pace read.group read.fresh.bounded.frames its_pace.paced read.of
+    short = single_stated plan timing stays read.fresh.flow read.fresh.bounded.load its_pace.pace read.group read.fresh.bounded.frames its_pace.paced read.of
         its_load read.fresh.bounded.short;
   }
 

@@ -25,39 +25,39 @@ use Rattle.j39_load.specs.Ages.{old_needs}
 use Rattle.j39_load.specs.Asked.{Asked, asked_of, total_load}
 use Rattle.j39_load.specs.Delays.{AreFlowDelays}
 use Rattle.j39_load.specs.BusTimes.{timing_of, with_claims}
-use Rattle.j39_load.specs.LiveClaims.{claiming, claims_told, unplanned_of}
+use Rattle.j39_load.specs.LiveClaims.{claiming, claims_stated, unplanned_of}
 use Rattle.j39_load.specs.LoadFindings.{AreLoadFindings, AsksOfBus, all_findings, load_findings}
 use Rattle.j39_findings.specs.Standing.{DecidesWhoStays}
 use Rattle.j39_load.specs.VehicleLoads.{AreLoadsAlike, StandAlike}
-use Rattle.j39_load.proofs.OneLoad.{AreSeenAlike, asked_alike, told_once}
+use Rattle.j39_load.proofs.OneLoad.{AreSeenAlike, asked_alike, stated_once}
 use Rattle.j39_load.specs.inside.FewClaims.{few_unplanned}
 use Rattle.j39_network.specs.PlannedUnits.{units_of}
 use Rattle.j39_network.specs.Staying.{StaysBeside}
 use Rattle.j39_network.proofs.StayingBoxes.{stay_alike}
 
--- what is told of a unit is told of the box at its place, which is known by its NAME
-told_by : List UnitPlan → List UnitPlan → (UnitPlan → Bool) → UnitPlan → Bool
-told_by [] boxes stays x = false
-told_by (unit ∷ units) [] stays x = false
-told_by (unit ∷ units) (box ∷ boxes) stays x = if box.name == x.name then stays unit else told_by units boxes stays x
+-- what is reported of a unit is reported of the box at its place, which is known by its NAME
+stated_by : List UnitPlan → List UnitPlan → (UnitPlan → Bool) → UnitPlan → Bool
+stated_by [] boxes stays x = false
+stated_by (unit ∷ units) [] stays x = false
+stated_by (unit ∷ units) (box ∷ boxes) stays x = if box.name == x.name then stays unit else stated_by units boxes stays x
 
 abbrev HaveOwnNames : List UnitPlan → Type 0
 HaveOwnNames boxes = (i j : ℕ) (b c : UnitPlan) → i < j → slice_get boxes i ≡ Some b → slice_get boxes j ≡ Some c → b.name ≢ c.name
 
-told_at : (stays : UnitPlan → Bool) (units boxes : List UnitPlan) → HaveOwnNames boxes → (k : ℕ) (unit box : UnitPlan)
-    → slice_get units k ≡ Some unit → slice_get boxes k ≡ Some box → told_by units boxes stays box ≡ stays unit
-unfolding told_by
-told_at stays [] boxes own k unit box at_unit at_box = absurd (none-some _ at_unit)
-told_at stays (x ∷ units) [] own k unit box at_unit at_box = absurd (none-some _ at_box)
-told_at stays (x ∷ units) (y ∷ boxes) own zero unit box at_unit at_box =
+stated_at : (stays : UnitPlan → Bool) (units boxes : List UnitPlan) → HaveOwnNames boxes → (k : ℕ) (unit box : UnitPlan)
+    → slice_get units k ≡ Some unit → slice_get boxes k ≡ Some box → stated_by units boxes stays box ≡ stays unit
+unfolding stated_by
+stated_at stays [] boxes own k unit box at_unit at_box = absurd (none-some _ at_unit)
+stated_at stays (x ∷ units) [] own k unit box at_unit at_box = absurd (none-some _ at_box)
+stated_at stays (x ∷ units) (y ∷ boxes) own zero unit box at_unit at_box =
     let same : y ≡ box = same_Some _ _ at_box in
-    ap (λ (z : UnitPlan). if y.name == z.name then stays x else told_by units boxes stays z) (sym same)
-    ∙ ap (λ b. if b then stays x else told_by units boxes stays y) (eq-eqb y.name y.name refl) ∙ ap stays (same_Some _ _ at_unit)
-told_at stays (x ∷ units) (y ∷ boxes) own (suc k) unit box at_unit at_box = elim (cases_Bool (y.name == box.name)) [
+    ap (λ (z : UnitPlan). if y.name == z.name then stays x else stated_by units boxes stays z) (sym same)
+    ∙ ap (λ b. if b then stays x else stated_by units boxes stays y) (eq-eqb y.name y.name refl) ∙ ap stays (same_Some _ _ at_unit)
+stated_at stays (x ∷ units) (y ∷ boxes) own (suc k) unit box at_unit at_box = elim (cases_Bool (y.name == box.name)) [
   | inl same ↦ absurd (own zero (suc k) y box (omega arith) refl at_box (eqb-true y.name box.name same))
   | inr other ↦
-      ap (λ b. if b then stays x else told_by units boxes stays box) other
-      ∙ told_at stays units boxes (λ i j b c below first second. own (suc i) (suc j) b c (omega (arith, below)) first second) k unit box at_unit at_box
+      ap (λ b. if b then stays x else stated_by units boxes stays box) other
+      ∙ stated_at stays units boxes (λ i j b c below first second. own (suc i) (suc j) b c (omega (arith, below)) first second) k unit box at_unit at_box
 ]
 
 -- as many boxes claim as units
@@ -77,7 +77,7 @@ module _ (plan vehicle : Plan) (is : IsVehicleOf plan vehicle) (apart : AreDisti
   timing_alike =
       ap (option_map (with_claims vehicle)) is.timing ∙ ap (λ (f : Timing → Timing). option_map f plan.timing) same
     where
-      as_many : claims_told vehicle ≡ claims_told plan
+      as_many : claims_stated vehicle ≡ claims_stated plan
       as_many =
           let units = as_many_claim plan.units.items vehicle.units.items is.boxes in
           let strangers = is.strangers in
@@ -85,7 +85,7 @@ module _ (plan vehicle : Plan) (is : IsVehicleOf plan vehicle) (apart : AreDisti
 
       unplanned : (timing : Timing) → unplanned_of vehicle timing ≡ unplanned_of plan timing
       unplanned timing =
-          ap (λ (b : Bool). if b then max timing.unplanned (claims_told vehicle) else timing.unplanned) is.live
+          ap (λ (b : Bool). if b then max timing.unplanned (claims_stated vehicle) else timing.unplanned) is.live
           ∙ ap (λ (n : ℕ). if plan.live then max timing.unplanned n else timing.unplanned) as_many
 
       same : with_claims vehicle ≡ with_claims plan
@@ -108,9 +108,9 @@ module _ (plan vehicle : Plan) (is : IsVehicleOf plan vehicle) (apart : AreDisti
       alike.apart
 
   -- a statement and one that holds where it does
-  told_over : (told : Bool) (S R : Type 0) → (S → R) → (R → S) → MatchBool told S (¬ S) → MatchBool told R (¬ R)
-  told_over true S R there back is = there is
-  told_over false S R there back is = λ holds. is (back holds)
+  stated_over : (stated : Bool) (S R : Type 0) → (S → R) → (R → S) → MatchBool stated S (¬ S) → MatchBool stated R (¬ R)
+  stated_over true S R there back is = there is
+  stated_over false S R there back is = λ holds. is (back holds)
 
   beside : (u : ℕ) → StaysBeside plan.strangers (units_of plan) u → StaysBeside vehicle.strangers (units_of vehicle) u
   beside u stays =
@@ -121,20 +121,20 @@ module _ (plan vehicle : Plan) (is : IsVehicleOf plan vehicle) (apart : AreDisti
       ((stay_alike plan vehicle is apart).beside u).1 (subst (λ n. StaysBeside n (units_of vehicle) u) is.strangers stays)
 
   stand_alike : (stays : UnitPlan → Bool) → DecidesWhoStays plan stays → StandAlike plan vehicle stays
-  stand_alike stays tells = record {
-    told = told_by units boxes stays;
-    tells = λ u box at_box.
+  stand_alike stays states = record {
+    stated = stated_by units boxes stays;
+    states = λ u box at_box.
         let (unit, at_unit, of_box) = unit_of plan vehicle is apart u box at_box in
         subst (λ b. MatchBool b (StaysBeside vehicle.strangers (units_of vehicle) u) (¬ StaysBeside vehicle.strangers (units_of vehicle) u))
-        (sym (told_at stays units boxes own_names u unit box at_unit at_box))
-        (told_over (stays unit) _ _ (beside u) (alone u) (tells u unit at_unit));
-    same = λ u unit box at_unit at_box. told_at stays units boxes own_names u unit box at_unit at_box;
+        (sym (stated_at stays units boxes own_names u unit box at_unit at_box))
+        (stated_over (stays unit) _ _ (beside u) (alone u) (states u unit at_unit));
+    same = λ u unit box at_unit at_box. stated_at stays units boxes own_names u unit box at_unit at_box;
   }
 
-  module _ (stays told : UnitPlan → Bool) (tells : DecidesWhoStays plan stays) (tell : DecidesWhoStays vehicle told) where
-    seen : (v : ℕ) → AreBoth (AreSeenAlike stays told) (slice_get units v) (slice_get boxes v)
+  module _ (stays stated : UnitPlan → Bool) (states : DecidesWhoStays plan stays) (report : DecidesWhoStays vehicle stated) where
+    seen : (v : ℕ) → AreBoth (AreSeenAlike stays stated) (slice_get units v) (slice_get boxes v)
     seen v = go (slice_get units v) (slice_get boxes v) refl refl (both_at IsBoxOf units boxes is.boxes v) where
-      go : (o p : Option UnitPlan) → slice_get units v ≡ o → slice_get boxes v ≡ p → AreBoth IsBoxOf o p → AreBoth (AreSeenAlike stays told) o p
+      go : (o p : Option UnitPlan) → slice_get units v ≡ o → slice_get boxes v ≡ p → AreBoth IsBoxOf o p → AreBoth (AreSeenAlike stays stated) o p
       go None None at_unit at_box both = tt
       go None (Some box) at_unit at_box both = absurd both
       go (Some unit) None at_unit at_box both = absurd both
@@ -143,12 +143,12 @@ module _ (plan vehicle : Plan) (is : IsVehicleOf plan vehicle) (apart : AreDisti
         choice = box_chooses unit box both;
         window = both.window;
         queue = both.queue;
-        standing = told_once (told box) (stays unit) _ (tell v box at_box) (told_over (stays unit) _ _ (beside v) (alone v) (tells v unit at_unit));
+        standing = stated_once (stated box) (stays unit) _ (report v box at_box) (stated_over (stays unit) _ _ (beside v) (alone v) (states v unit at_unit));
       }
 
-    same_asked : (timing : Timing) → asked_of timing plan stays ≡ asked_of timing vehicle told
+    same_asked : (timing : Timing) → asked_of timing plan stays ≡ asked_of timing vehicle stated
     same_asked timing =
-        asked_alike plan vehicle timing stays told seen (AllZip-long IsBoxOf units boxes is.boxes) is.groups is.flows is.requests
+        asked_alike plan vehicle timing stays stated seen (AllZip-long IsBoxOf units boxes is.boxes) is.groups is.flows is.requests
 
   -- what is wrong with the same
   pub same_findings : (timing : Timing) (load : ℕ) (delays : List (Option Delay))
@@ -160,20 +160,20 @@ module _ (plan vehicle : Plan) (is : IsVehicleOf plan vehicle) (apart : AreDisti
       (sym is.needs)
 
   pub asks_alike : (timing : Timing) (stays : UnitPlan → Bool) (delays : List (Option Delay)) → AsksOfBus plan timing stays delays
-      → (told : UnitPlan → Bool) → DecidesWhoStays vehicle told → AsksOfBus vehicle timing told delays
-  asks_alike timing stays delays asks told tells = record {
-    standing = tells;
-    waits = subst (λ (asked : Asked). AreFlowDelays timing asked delays) (same_asked stays told asks.standing tells timing) asks.waits;
+      → (stated : UnitPlan → Bool) → DecidesWhoStays vehicle stated → AsksOfBus vehicle timing stated delays
+  asks_alike timing stays delays asks stated states = record {
+    standing = states;
+    waits = subst (λ (asked : Asked). AreFlowDelays timing asked delays) (same_asked stays stated asks.standing states timing) asks.waits;
   }
 
   findings_alike : (timing : Option Timing) (findings : List LoadFinding) → AreLoadFindings plan timing findings → AreLoadFindings vehicle timing findings
   findings_alike None findings are = are
   findings_alike (Some timing) findings (stays, delays, asks, are) =
       let there = stand_alike stays asks.standing in
-      let asked = same_asked stays there.told asks.standing there.tells timing in (
-        there.told,
+      let asked = same_asked stays there.stated asks.standing there.states timing in (
+        there.stated,
         delays,
-        asks_alike timing stays delays asks there.told there.tells,
+        asks_alike timing stays delays asks there.stated there.states,
         are ∙ same_findings timing (total_load timing (asked_of timing plan stays)) delays
             ∙ ap (λ (a : Asked). all_findings vehicle timing (total_load timing a) delays) asked,
       )
@@ -181,7 +181,7 @@ module _ (plan vehicle : Plan) (is : IsVehicleOf plan vehicle) (apart : AreDisti
   pub loads_alike : AreLoadsAlike plan vehicle
   loads_alike = record {
     standing = stand_alike;
-    asked = λ timing stays told tells tell. same_asked stays told tells tell timing;
+    asked = λ timing stays stated states report. same_asked stays stated states report timing;
     timing = timing_alike;
     findings = λ findings are. subst (λ (timing : Option Timing). AreLoadFindings vehicle timing findings) (sym timing_alike)
         (findings_alike (timing_of plan) findings are);

@@ -1,4 +1,4 @@
--- The times that are told of long messages to all bound when they are whole.
+-- The times that are reported of long messages to all bound when they are whole.
 use Rattle.std.proofs.Common.{◌≡◌, ℕ, zero, suc, ◌+◌, ◌*◌, ◌<◌, ◌≤◌, Bool, true, false, not, leb, if◌then◌else◌, List, [], ◌∷◌, ◌++◌, length, get_or, map, sum_by}
 use Rattle.std.proofs.Common.{Option, Some, None}
 use Rattle.std.proofs.Common.{refl, sym, ap, ◌∙◌, subst, inl, inr, arith}
@@ -38,10 +38,10 @@ use Rattle.j39_load.specs.LineLists.{lines_of_each}
 use Rattle.j39_load.specs.PlannedFrames.{AreAllOrdered, AreDeadlinesKept, AreMessagesOf, ArePlannedFramesInTime, AreTimesBounds, AreWholeInAnyOrder}
 use Rattle.j39_load.specs.PlannedFrames.{AreWholeOnEveryBus, AreWholeWithin, ComeInAnyOrder, ComeInTurn, IsOneTurn}
 use Rattle.j39_load.proofs.BoundedFlows.{all_in_order, delay_at, known_in_order, legal_in_order, never_whole, nothing_found, sent_in_any_order, short_bounded}
-use Rattle.j39_load.proofs.BoundedFlows.{told_of}
+use Rattle.j39_load.proofs.BoundedFlows.{stated_of}
 use Rattle.j39_load.proofs.PositivePeriods.{all_paced}
 use Rattle.j39_load.proofs.Sending.{all_sent}
-use Rattle.j39_load.proofs.StreamsBefore.{get_or_inside, none_of_two, told_nothing}
+use Rattle.j39_load.proofs.StreamsBefore.{get_or_inside, none_of_two, stated_nothing}
 use Rattle.j39_timing.specs.Messages.{LongMessage, time_of_message, time_of_messages}
 use Rattle.j39_timing.proofs.Messages.{messages_whole}
 
@@ -98,11 +98,11 @@ of_unit_load : (timing : Timing) (units : List UnitPlan) (stays : UnitPlan → B
     × (load.announcements.twin_ident ≡ None) × (load.packets.twin_ident ≡ None)
 of_unit_load timing units stays [] u load is = absurd (none-some load is)
 of_unit_load timing units stays (flow ∷ flows) u load is =
-    let tell : ℕ → Option UnitLoad = λ v. known_unit_load timing units stays v (broadcasts_by v (flow ∷ flows)) in
-    let inside : u < length (map tell (range_with_len 0 (length units))) = get_or_inside (map tell (range_with_len 0 (length units))) u load is in
-    let below : u < length units = omega (arith, inside, length-map-range_with_len tell 0 (length units)) in
+    let report : ℕ → Option UnitLoad = λ v. known_unit_load timing units stays v (broadcasts_by v (flow ∷ flows)) in
+    let inside : u < length (map report (range_with_len 0 (length units))) = get_or_inside (map report (range_with_len 0 (length units))) u load is in
+    let below : u < length units = omega (arith, inside, length-map-range_with_len report 0 (length units)) in
     by_broadcasts timing units stays u (broadcasts_by u (flow ∷ flows)) load
-    (sym (get_or-map-range_with_len tell 0 (length units) u u None below (omega arith)) ∙ is)
+    (sym (get_or-map-range_with_len report 0 (length units) u u None below (omega arith)) ∙ is)
 
 -- ---- where its frames stand
 
@@ -191,24 +191,24 @@ module _ (plan : Plan) (timing : Timing) (stays : UnitPlan → Bool) where
     by_load : (u late : ℕ) (turn : Turn) (load : Option UnitLoad) → get_or asked.units u None ≡ load → IsTurnBy timing asked buffering u load (Some turn)
         → AreWholeInAnyOrder timing asked u late (late + turn.time)
     by_load u late turn None its is = absurd (none-some turn (sym is))
-    by_load u late turn (Some load) its (announced, sent, first, rest, told) = by_waits announced sent first rest told
+    by_load u late turn (Some load) its (announced, sent, first, rest, stated) = by_waits announced sent first rest stated
       where
         by_waits : (announced sent : Option ℕ) → IsWaitIn timing buffering (announcements_place asked u) load.announcements announced
             → IsWaitIn timing buffering (packets_place asked u) load.packets sent → Some turn ≡ known_turn timing load announced sent
             → AreWholeInAnyOrder timing asked u late (late + turn.time)
-        by_waits None sent first rest told = absurd (none-some turn (sym told))
-        by_waits (Some a) None first rest told = absurd (none-some turn (sym told))
-        by_waits (Some a) (Some p) first rest told =
+        by_waits None sent first rest stated = absurd (none-some turn (sym stated))
+        by_waits (Some a) None first rest stated = absurd (none-some turn (sym stated))
+        by_waits (Some a) (Some p) first rest stated =
             let same : turn_time timing load a p ≡ turn.time =
-            ap (λ (t : Turn). t.time) (cond_some (leb (packet_time timing load p) (longest_pause timing)) (flow_turn timing load a p) turn (sym told)).1 in
+            ap (λ (t : Turn). t.time) (cond_some (leb (packet_time timing load p) (longest_pause timing)) (flow_turn timing load a p) turn (sym stated)).1 in
             subst (λ (n : ℕ). AreWholeInAnyOrder timing asked u late (late + n)) same (in_any_order u late load its a p first rest)
 
     by_time : (broadcast : Broadcast) (whole : WholeTime) (bits : ℕ) (turn : Option Turn)
         → IsTurnBy timing asked buffering broadcast.sender (get_or asked.units broadcast.sender None) turn → whole ≡ whole_time broadcast turn
         → whole.bits ≡ Some bits → AreWholeInAnyOrder timing asked broadcast.sender broadcast.jitter bits
-    by_time broadcast whole bits None is same told = absurd (none-some bits (sym (ap (λ (w : WholeTime). w.bits) same) ∙ told))
-    by_time broadcast whole bits (Some turn) is same told =
-        let sum : broadcast.jitter + turn.time ≡ bits = same_Some (broadcast.jitter + turn.time) bits (sym (ap (λ (w : WholeTime). w.bits) same) ∙ told) in
+    by_time broadcast whole bits None is same stated = absurd (none-some bits (sym (ap (λ (w : WholeTime). w.bits) same) ∙ stated))
+    by_time broadcast whole bits (Some turn) is same stated =
+        let sum : broadcast.jitter + turn.time ≡ bits = same_Some (broadcast.jitter + turn.time) bits (sym (ap (λ (w : WholeTime). w.bits) same) ∙ stated) in
         subst (λ (n : ℕ). AreWholeInAnyOrder timing asked broadcast.sender broadcast.jitter n) sum
         (by_load broadcast.sender broadcast.jitter turn (get_or asked.units broadcast.sender None) refl is)
 
@@ -229,8 +229,8 @@ module _ (plan : Plan) (timing : Timing) (stays : UnitPlan → Bool) where
     of_broadcast : (flow bits : ℕ) (load : FlowLoad) (broadcast : Broadcast) (whole : WholeTime) → slice_get asked.flows flow ≡ Some (Some load)
         → load.messages ≡ ToAll broadcast → IsWholeTime timing asked buffering broadcast whole → whole.bits ≡ Some bits
         → AreWholeWithin timing asked flow whole bits
-    of_broadcast flow bits load broadcast whole its long is told =
-        let bounds = by_time broadcast whole bits is.0 is.1 is.2 told in
+    of_broadcast flow bits load broadcast whole its long is stated =
+        let bounds = by_time broadcast whole bits is.0 is.1 is.2 stated in
         record {
           load = load;
           its = its;
@@ -239,7 +239,7 @@ module _ (plan : Plan) (timing : Timing) (stays : UnitPlan → Bool) where
           buffering = buffering;
           is = is_buffering;
           time = is;
-          told = told;
+          stated = stated;
           in_any_order = bounds;
           bounds = in_order broadcast.sender broadcast.jitter bits bounds;
         }
@@ -247,16 +247,16 @@ module _ (plan : Plan) (timing : Timing) (stays : UnitPlan → Bool) where
     of_messages : (flow bits : ℕ) (load : FlowLoad) (messages : Messages) (whole : WholeTime) → slice_get asked.flows flow ≡ Some (Some load)
         → load.messages ≡ messages → IsDelayOf timing asked buffering flow messages load.limit (Whole whole) → whole.bits ≡ Some bits
         → AreWholeWithin timing asked flow whole bits
-    of_messages flow bits load (Short frames) whole its long is told = absurd (never_whole timing buffering flow frames load.limit whole is)
-    of_messages flow bits load (ToOne frames) whole its long is told = absurd is
-    of_messages flow bits load (ToAll broadcast) whole its long is told = of_broadcast flow bits load broadcast whole its long is told
+    of_messages flow bits load (Short frames) whole its long is stated = absurd (never_whole timing buffering flow frames load.limit whole is)
+    of_messages flow bits load (ToOne frames) whole its long is stated = absurd is
+    of_messages flow bits load (ToAll broadcast) whole its long is stated = of_broadcast flow bits load broadcast whole its long is stated
 
   module _ (delays : List (Option Delay)) (asks : AsksOfBus plan timing stays delays) where
     pub times_bound : AreTimesBounds timing asked delays
-    times_bound flow bits whole at told =
+    times_bound flow bits whole at stated =
         let has = delay_at plan timing stays delays asks flow (Some (Whole whole)) at in
         let (buffering, buffering_delays, (load, its, is)) = has in
-        of_messages buffering buffering_delays flow bits load load.messages whole its refl is told
+        of_messages buffering buffering_delays flow bits load load.messages whole its refl is stated
 
     -- where it isn't late it is known, and within its deadline
     not_late : (limit : ℕ) (each : Bool) (bits : Option ℕ) → is_in_limit limit (if each then bits else None) ≡ true
@@ -271,8 +271,8 @@ module _ (plan : Plan) (timing : Timing) (stays : UnitPlan → Bool) where
       | inl in_it ↦ in_it
       | inr out ↦
           let late : is_whole_late whole ≡ true = rw (is) (ap not out) in
-          let told : LateFlow flow ∷ [] ≡ [] = sym (ap (λ (b : Bool). if b then LateFlow flow ∷ [] else []) late) ∙ none in
-          absurd (let some : 1 ≡ 0 = ap length told in omega arith)
+          let stated : LateFlow flow ∷ [] ≡ [] = sym (ap (λ (b : Bool). if b then LateFlow flow ∷ [] else []) late) ∙ none in
+          absurd (let some : 1 ≡ 0 = ap length stated in omega arith)
     ]
 
     pub deadlines_kept : load_findings timing (total_load timing asked) delays ≡ [] → AreDeadlinesKept timing asked delays
@@ -285,20 +285,20 @@ module _ (plan : Plan) (timing : Timing) (stays : UnitPlan → Bool) where
         go : lines_of_each without_period 0 delays ≡ [] → lines_of_each lateness 0 delays ≡ [] → (delay : Option Delay) → slice_get delays flow ≡ Some delay
             → (whole : WholeTime) × (bits : ℕ) × (slice_get delays flow ≡ Some (Some (Whole whole))) × (whole.each ≡ true) × (bits ≤ limit)
             × AreWholeWithin timing asked flow whole bits
-        go paced on_time None at = absurd (let told = told_nothing without_period 0 delays paced flow None at in
-            let some : 1 ≡ 0 = ap length told in omega arith)
-        go paced on_time (Some (Within bits)) at = absurd ((told_of plan timing stays delays asks flow load (ToAll broadcast) (Within bits) its long at).2)
-        go paced on_time (Some (Beyond bits)) at = absurd ((told_of plan timing stays delays asks flow load (ToAll broadcast) (Beyond bits) its long at).2)
-        go paced on_time (Some Late) at = absurd ((told_of plan timing stays delays asks flow load (ToAll broadcast) Late its long at).2)
-        go paced on_time (Some (Long count)) at = absurd ((told_of plan timing stays delays asks flow load (ToAll broadcast) (Long count) its long at).2)
+        go paced on_time None at = absurd (let stated = stated_nothing without_period 0 delays paced flow None at in
+            let some : 1 ≡ 0 = ap length stated in omega arith)
+        go paced on_time (Some (Within bits)) at = absurd ((stated_of plan timing stays delays asks flow load (ToAll broadcast) (Within bits) its long at).2)
+        go paced on_time (Some (Beyond bits)) at = absurd ((stated_of plan timing stays delays asks flow load (ToAll broadcast) (Beyond bits) its long at).2)
+        go paced on_time (Some Late) at = absurd ((stated_of plan timing stays delays asks flow load (ToAll broadcast) Late its long at).2)
+        go paced on_time (Some (Long count)) at = absurd ((stated_of plan timing stays delays asks flow load (ToAll broadcast) (Long count) its long at).2)
         go paced on_time (Some (Whole whole)) at =
-            let by_buffering = told_of plan timing stays delays asks flow load (ToAll broadcast) (Whole whole) its long at in
+            let by_buffering = stated_of plan timing stays delays asks flow load (ToAll broadcast) (Whole whole) its long at in
             let is : IsWholeTime timing asked by_buffering.0 broadcast whole = by_buffering.2 in
             let written : whole.limit ≡ Some limit = ap (λ (w : WholeTime). w.limit) is.2 ∙ deadline in
             let same : 0 + flow ≡ flow = omega arith in
-            let none_told : lateness flow (Some (Whole whole)) ≡ [] =
-            subst (λ (n : ℕ). lateness n (Some (Whole whole)) ≡ []) same (told_nothing lateness 0 delays on_time flow (Some (Whole whole)) at) in
-            let (each, (bits, known, within)) = not_late limit whole.each whole.bits (in_time flow whole limit written none_told) in
+            let none_stated : lateness flow (Some (Whole whole)) ≡ [] =
+            subst (λ (n : ℕ). lateness n (Some (Whole whole)) ≡ []) same (stated_nothing lateness 0 delays on_time flow (Some (Whole whole)) at) in
+            let (each, (bits, known, within)) = not_late limit whole.each whole.bits (in_time flow whole limit written none_stated) in
             (whole, bits, at, each, within, of_broadcast by_buffering.0 by_buffering.1 flow bits load broadcast whole its long is known)
 
 pub in_time_where_checked : (plan : Plan) (timing : Timing) → AreLoadFindings plan (Some timing) [] → ArePlannedFramesInTime plan timing

@@ -15,7 +15,7 @@ use Rattle.j39_load.specs.declared.findings.load_finding.LoadFinding.TheVariants
 use Rattle.j39_load.specs.Loads.{us_of_bits, us_of_unit_ms}
 use Rattle.j39_load.specs.LineLists.{lines_of_each}
 
--- the age of what a flow brings, in microseconds: that of one with a pause and with a delay that is told, which isn't sent as an answer
+-- the age of what a flow brings, in microseconds: that of one with a pause and with a delay that is reported, which isn't sent as an answer
 abbrev pub ages_of : Timing → FlowPlan → Option Delay → List ℕ
 ages_of timing flow (Some (Within bits)) =
     if flow.on_request then [] else option_map_or (λ pause. (us_of_unit_ms timing pause + us_of_bits timing bits) ∷ []) flow.pause []

@@ -157,7 +157,7 @@ pub record IsBuffering (timing : Timing) (all : List (Option FlowFrames)) (buffe
   pub frames : buffering.frames ≡ buffered buffering.waits all
   pub least_unbounded : buffering.least_unbounded ≡ least_unbounded buffering.waits all
 
--- one of those of which no wait is known may go before a frame of this identifier, so that nothing is told of how long it
+-- one of those of which no wait is known may go before a frame of this identifier, so that nothing is reported of how long it
 -- waits
 abbrev pub may_be_passed : Buffering → ℕ → Bool
 may_be_passed buffering ident = option_map_or (λ (n : ℕ). nat_lt n ident) buffering.least_unbounded false

@@ -1,4 +1,4 @@
--- What a plan asks of its bus, as a call tells it.
+-- What a plan asks of its bus, as a call answers it.
 use Rattle.j39_load.specs.declared.loads.Loads.{Loads}
 use Rattle.j39_load.specs.Asked.{Asked, asked_by}
 

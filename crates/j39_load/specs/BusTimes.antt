@@ -6,7 +6,7 @@ use Rattle.j39_network.specs.declared.plan.timing.Timing.{Timing}
 use Rattle.j39_load.specs.LiveClaims.{unplanned_of}
 use Rattle.j39_load.specs.inside.FewClaims.{few_unplanned}
 
--- its frames that aren't planned are so many more, and still no more than a plan can tell
+-- its frames that aren't planned are so many more, and still no more than a plan can report
 abbrev pub with_claims : Plan → Timing → Timing
 with_claims plan timing = record timing { unplanned = unplanned_of plan timing; unplanned_range = few_unplanned plan timing }
 

@@ -54,13 +54,13 @@ pub record IsNeedFresh (plan : Plan) (timing : Timing) (asked : Asked) (delays :
   pub fresh : (silent : ℕ) → AreAllOrdered (frames_asked asked)
       → IsFreshOnEveryBus timing asked place silent bounded.frames.stream bounded.wait bits
 
--- so it is of each need of a plan that asks for an age: whoever tells who stays tells the same
+-- so it is of each need of a plan that asks for an age: whoever reports who stays reports the same
 abbrev pub AreNeedsFresh : Plan → Timing → Type 0
 AreNeedsFresh plan timing = (stays : UnitPlan → Bool) × (delays : List (Option Delay)) × AsksOfBus plan timing stays delays
     × ((n : ℕ) (need : NeedPlan) (within : ℕ) → slice_get plan.needs.items n ≡ Some need → need.within ≡ Some within
     → IsNeedFresh plan timing (asked_of timing plan stays) delays need (1000 * within))
 
--- and each age that is told of a need is one, whether the need asks for less or not
+-- and each age that is reported of a need is one, whether the need asks for less or not
 abbrev pub AreNeedAgesBounds : Plan → Timing → Asked → List (Option Delay) → Type 0
 AreNeedAgesBounds plan timing asked delays = (n : ℕ) (need : NeedPlan) (age : ℕ) → slice_get plan.needs.items n ≡ Some need
     → least_age timing plan.requests.items plan.flows.items delays need ≡ Some age → IsNeedFresh plan timing asked delays need age

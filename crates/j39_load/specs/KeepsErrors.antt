@@ -31,9 +31,9 @@ begins_within timing ms d from e =
 abbrev pub attempts_within : Timing → ℕ → Damaged → ℕ → ℕ
 attempts_within timing ms d from = total d.count (λ e. cond (begins_within timing ms d from e) 1 0)
 
--- attempts are damaged as seldom as the plan tells, in the order of their places
+-- attempts are damaged as seldom as the plan reports, in the order of their places
 pub record KeepsErrors (timing : Timing) (rate : ErrorRate) (s : Schedule) (d : Damaged) (planned : ℕ → Bool) (sent : FrameSources) : Type 0 where
-  pub told : timing.errors ≡ Some rate
+  pub stated : timing.errors ≡ Some rate
   pub in_order : (e f : ℕ) → e ≤ f → f < d.count → d.begin e ≤ d.begin f
   -- at most `count` of them begin in any `every` milliseconds
   pub seldom : (from : ℕ) → attempts_within timing rate.every d from ≤ rate.count
@@ -64,7 +64,7 @@ pub record KeepsErrorsInAnyOrder (plan : Plan) (timing : Timing) (s : Schedule) 
   -- what comes of damage is of a unit that keeps order
   pub own : ℕ
   pub in_order : controllers.keeps_order own ≡ true
-  -- no more frames that aren't planned are queued than are told while a frame of a message waits in which a unit without order takes part, also
+  -- no more frames that aren't planned are queued than are reported while a frame of a message waits in which a unit without order takes part, also
   -- while it waits for what comes of damage
   pub few_unplanned : (p from to u : ℕ) (unit : UnitPlan) → p < s.count → planned p ≡ true
       → TakesPart plan (sent.source p) u → slice_get plan.units.items u ≡ Some unit → unit.queue ≡ Any

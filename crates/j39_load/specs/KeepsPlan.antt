@@ -1,5 +1,5 @@
 -- What a bus keeps of a plan, in the plan's own words, where its planned frames are those of messages that go in one frame, of long messages to one
--- unit and to all, and of requests: no stream stands here, and nothing that is told of what a flow asks of the bus.
+-- unit and to all, and of requests: no stream stands here, and nothing that is reported of what a flow asks of the bus.
 use Rattle.std.specs.Prelude.{◌≡◌, ◌≢◌, ℕ, ◌+◌, ◌*◌, ◌^◌, ◌<◌, ◌≤◌, ◌⊎◌, Bool, true, false, List, [], ◌∷◌, length, Some}
 use Rattle.std.specs.List.{slice_get}
 use Rattle.std.specs.Option.{option_map_or}
@@ -23,7 +23,7 @@ use Rattle.j39_timing.specs.TimedFrames.{Schedule, IsLegal, Waits}
 use Rattle.j39_timing.specs.Traffic.{IsQueuedAt, PlannedFramesWait, others_queued}
 use Rattle.j39_tp.specs.Chunks.{packets_of}
 
--- the planned frames of a bus are those of flows and requests, and what else is on it keeps to what the plan tells of it
+-- the planned frames of a bus are those of flows and requests, and what else is on it keeps to what the plan reports of it
 pub record KeepsToPlan (plan : Plan) (timing : Timing) (s : Schedule) (planned : ℕ → Bool) (sent : FrameSources) (held : Held) : Type 0 where
   pub frames : (p : ℕ) → p < s.count → planned p ≡ true → IsFrameOf plan timing s held sent.broadcasts (sent.source p) (sent.release p) p
   -- the releases of two messages of a flow, of those that go in one frame and of the long ones, and of two requests, are a period apart, and a long
@@ -35,9 +35,9 @@ pub record KeepsToPlan (plan : Plan) (timing : Timing) (s : Schedule) (planned :
   -- each unit holds its planned address, or one of the pool if it has to move, and no two that are named hold one
   pub held_by_plan : (t : ℕ) → AreHeldByPlan plan (held.address t)
   pub held_apart : (t : ℕ) → AreHeldApart (held.named t) (held.address t)
-  -- a frame that is of none of them has eight bytes at most, and the priority that is told or a larger number; while a message of one frame is
+  -- a frame that is of none of them has eight bytes at most, and the priority that is reported or a larger number; while a message of one frame is
   -- queued too, or a frame of a long message to all, it has another identifier; and where this one is of a flow with messages of one frame alone, or of
-  -- a long message to all, no more of them go before it than are told
+  -- a long message to all, no more of them go before it than are reported
   pub others_length : (p : ℕ) → p < s.count → planned p ≡ false → s.bits p ≤ 160
   pub others_priority : (p : ℕ) → p < s.count → planned p ≡ false → timing.unplanned_priority * 2 ^ 26 ≤ s.ident p
   pub others_identifier : (p q t : ℕ) → p < s.count → q < s.count → t < s.now → planned p ≡ true → HasOwnIdentifier (sent.source p)
@@ -59,7 +59,7 @@ pub record KeepsQueues (plan : Plan) (timing : Timing) (s : Schedule) (controlle
       → TakesPart plan (sent.source p) u → slice_get plan.units.items u ≡ Some unit → unit.queue ≡ Any
       → IsQueuedAt s p t → IsQueuedAt s q t → s.ident p ≢ s.ident q
   -- while such a frame waits, and before as long as planned frames wait without a break, no more frames are queued that aren't planned than are
-  -- told, whatever their identifiers are
+  -- reported, whatever their identifiers are
   pub few_unplanned : (p from to u : ℕ) (unit : UnitPlan) → p < s.count → planned p ≡ true
       → TakesPart plan (sent.source p) u → slice_get plan.units.items u ≡ Some unit → unit.queue ≡ Any
       → to < s.now → Waits s p to
@@ -68,10 +68,10 @@ pub record KeepsQueues (plan : Plan) (timing : Timing) (s : Schedule) (controlle
 
 -- ---- streams
 
--- of a plan without flows nothing is told of its units
-abbrev pub units_told : List FlowPlan → List UnitPlan → ℕ
-units_told [] units = 0
-units_told (flow ∷ flows) units = length units
+-- of a plan without flows nothing is reported of its units
+abbrev pub units_stated : List FlowPlan → List UnitPlan → ℕ
+units_stated [] units = 0
+units_stated (flow ∷ flows) units = length units
 
 -- where the frames of a source stand among all that the plan asks for: flows at the first places, in as many behind them single frames of flows with
 -- long messages, then packets and announcements of units, and requests at the last ones
@@ -79,8 +79,8 @@ abbrev pub source_place : Plan → Source → ℕ
 source_place plan (Single f) = f
 source_place plan (First f) = length plan.flows.items + f
 source_place plan (InSession f part) = f
-source_place plan (Asking r) = 2 * length plan.flows.items + (2 * units_told plan.flows.items plan.units.items + r)
-source_place plan (Announcing u m) = 2 * length plan.flows.items + (units_told plan.flows.items plan.units.items + u)
+source_place plan (Asking r) = 2 * length plan.flows.items + (2 * units_stated plan.flows.items plan.units.items + r)
+source_place plan (Announcing u m) = 2 * length plan.flows.items + (units_stated plan.flows.items plan.units.items + u)
 source_place plan (Carrying u m k) = 2 * length plan.flows.items + u
 
 -- the packets of a flow's longest messages
@@ -151,7 +151,7 @@ pub record CanBeKept (plan : Plan) (timing : Timing) (source : Source) (n : ℕ)
   pub all_planned : (p : ℕ) → planned p ≡ true
   pub of_source : (p : ℕ) → sent.source p ≡ source
 
--- a bus with planned frames alone: it is legal, whether its units keep order or not, and keeps to all that the plan tells
+-- a bus with planned frames alone: it is legal, whether its units keep order or not, and keeps to all that the plan reports
 pub record KeptBus (plan : Plan) (timing : Timing) : Type 0 where
   pub s : Schedule
   pub controllers : Controllers

@@ -17,7 +17,7 @@ use Rattle.j39_timing.specs.TimedFrames.{Schedule}
 abbrev pub IsSentAs : Schedule → (ℕ → Bool) → FrameSources → Source → ℕ → Type 0
 IsSentAs s planned sent source p = (p < s.count) × (planned p ≡ true) × (sent.source p ≡ source)
 
--- each message is sent to its end, without a pause that is longer than the plan tells
+-- each message is sent to its end, without a pause that is longer than the plan reports
 pub record AreSentWhole (timing : Timing) (s : Schedule) (planned : ℕ → Bool) (sent : FrameSources) : Type 0 where
   -- where the announcement of a unit's message stands, and each of its packets
   pub announcement : ℕ → ℕ → ℕ

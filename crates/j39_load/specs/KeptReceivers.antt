@@ -15,7 +15,7 @@ use Rattle.j39_timing.specs.Messages.{frame_end}
 use Rattle.j39_timing.specs.TimedFrames.{Schedule}
 
 -- of a unit whose long messages to all have a deadline each packet has ended within 750 ms, by whatever clock, of the end of a frame behind which it is queued as soon
--- as the plan tells
+-- as the plan reports
 abbrev pub AreNotGivenUp : Plan → Timing → Type 0
 AreNotGivenUp plan timing = (s : Schedule) (controllers : Controllers) (planned : ℕ → Bool) (sent : FrameSources) (held : Held)
     → IsLegalInAnyOrder s controllers → KeepsToPlan plan timing s planned sent held → KeepsQueues plan timing s controllers planned sent

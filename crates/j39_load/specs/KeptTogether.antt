@@ -23,7 +23,7 @@ pub record CanBeKeptTogether (plan : Plan) (timing : Timing) (rate : ErrorRate) 
   pub planned : ℕ → Bool
   pub sent : FrameSources
   pub held : Held
-  -- it is legal, whether its units keep order or not, and keeps to all that the plan tells
+  -- it is legal, whether its units keep order or not, and keeps to all that the plan reports
   pub legal : IsLegalWithErrors s damaged
   pub any_order : IsLegalInAnyOrderWithErrors s controllers damaged
   pub keeps : KeepsToPlan plan timing s planned sent held

@@ -29,7 +29,7 @@ pub mod ReadInTime
 pub mod RequestLoads
 pub mod SentFrames
 pub mod SoundLoads
-pub mod ToldBytes
+pub mod ReportedBytes
 pub mod Twins
 pub mod ValuesInTime
 pub mod VehicleLoads

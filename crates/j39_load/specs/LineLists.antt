@@ -1,7 +1,7 @@
--- What is told at each place of a list.
+-- What is reported at each place of a list.
 use Rattle.std.specs.Prelude.{ℕ, ◌+◌, List, [], ◌∷◌, ◌++◌}
 
--- what is told of each of these, which stand from a place on
+-- what is reported of each of these, which stand from a place on
 unfoldable pub lines_of_each : {X Y : Type 0} → (ℕ → X → List Y) → ℕ → List X → List Y
-lines_of_each tell place [] = []
-lines_of_each tell place (x ∷ xs) = tell place x ++ lines_of_each tell (place + 1) xs
+lines_of_each report place [] = []
+lines_of_each report place (x ∷ xs) = report place x ++ lines_of_each report (place + 1) xs

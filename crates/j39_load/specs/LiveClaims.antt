@@ -10,9 +10,9 @@ abbrev pub claiming : List UnitPlan → ℕ
 claiming units = count_by (λ (unit : UnitPlan). unit.claims) units
 
 -- the claims of the plan's units and of strangers, and a request for them
-abbrev pub claims_told : Plan → ℕ
-claims_told plan = claiming plan.units.items + plan.strangers + 1
+abbrev pub claims_stated : Plan → ℕ
+claims_stated plan = claiming plan.units.items + plan.strangers + 1
 
 -- where the plan is live at least so many frames aren't planned
 abbrev pub unplanned_of : Plan → Timing → ℕ
-unplanned_of plan timing = if plan.live then max timing.unplanned (claims_told plan) else timing.unplanned
+unplanned_of plan timing = if plan.live then max timing.unplanned (claims_stated plan) else timing.unplanned

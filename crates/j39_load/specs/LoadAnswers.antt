@@ -1,4 +1,4 @@
--- What is told of the load of a plan: what it asks of its bus, how long its messages take, and what is wrong with it.
+-- What is reported of the load of a plan: what it asks of its bus, how long its messages take, and what is wrong with it.
 use Rattle.std.specs.Prelude.{◌≡◌, Bool}
 use Rattle.j39_network.specs.declared.plan.Plan.{Plan}
 use Rattle.j39_network.specs.declared.plan.timing.Timing.{Timing}
@@ -8,7 +8,7 @@ use Rattle.j39_load.specs.Asked.{asked_of, total_load}
 use Rattle.j39_load.specs.AskedLoads.{asked_in}
 use Rattle.j39_load.specs.LoadFindings.{AsksOfBus, all_findings}
 
--- this is told of a plan with this timing
+-- this is reported of a plan with this timing
 pub record IsLoadAnswer (plan : Plan) (timing : Timing) (answer : LoadAnswer) : Type 0 where
   pub stays : UnitPlan → Bool
   pub asks : AsksOfBus plan timing stays answer.delays.items

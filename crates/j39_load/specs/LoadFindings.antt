@@ -1,4 +1,4 @@
--- What is wrong with what the flows of a plan ask of its bus, in the order in which it is told: flows without a period, a load above the
+-- What is wrong with what the flows of a plan ask of its bus, in the order in which it is reported: flows without a period, a load above the
 -- bitrate, flows that aren't shown to be in time, and needs for what isn't shown to be young enough.
 use Rattle.std.specs.Prelude.{◌≡◌, ℕ, ◌<◌, Bool, false, not, nat_lt, if◌then◌else◌, List, [], ◌∷◌, ◌++◌, Option, Some, None}
 use Rattle.std.specs.Option.{option_map_or}
@@ -25,7 +25,7 @@ load_finding_number (Overload bits) = 17
 load_finding_number (LateFlow flow) = 18
 load_finding_number (NeedTooOld need) = 20
 
--- the flow at a place has no period, and so no delay is told of it
+-- the flow at a place has no period, and so no delay is reported of it
 abbrev pub without_period : ℕ → Option Delay → List LoadFinding
 without_period flow None = NoPeriod flow ∷ []
 without_period flow (Some delay) = []

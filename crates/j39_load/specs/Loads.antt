@@ -167,7 +167,7 @@ abbrev pub session_ident : Timing → (ℕ → ℕ) → FlowPlan → ℕ → ℕ
 session_ident timing held flow v = max (transport_ident timing connection_management (held v) (held flow.sender))
     (transport_ident timing connection_management (held flow.sender) (held v))
 
--- where the group is told by its data, the identifier that the flow's frames would have if each unit's address was its place: flows with one
+-- where the group is distinguished by its data, the identifier that the flow's frames would have if each unit's address was its place: flows with one
 -- such number are those whose frames have one identifier
 abbrev pub twin_ident : GroupPlan → FlowPlan → Option ℕ
 twin_ident group flow = option_map (λ _. group_ident (λ u. u) group flow) group.when

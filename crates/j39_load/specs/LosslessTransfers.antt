@@ -83,16 +83,16 @@ pub record TakesFrames (message : MessageParts) (to : To) (receiver : Receiving)
   pub count_is : (frames : List Frame) (end : Sides) → Transfer message to receiver frames end → length frames ≡ count
   pub arrives : (frames : List Frame) (end : Sides) → Transfer message to receiver frames end → IsTransferred message outcome end
 
--- ---- how many are told
+-- ---- how many are reported
 
--- of each message of a flow, whose messages are told so
-abbrev pub frames_told : Messages → ℕ
-frames_told (Short frames) = frames.stream.frames
-frames_told (ToOne frames) = frames.stream.frames
-frames_told (ToAll broadcast) = frames_to_all broadcast.packets
+-- of each message of a flow, whose messages are reported so
+abbrev pub frames_stated : Messages → ℕ
+frames_stated (Short frames) = frames.stream.frames
+frames_stated (ToOne frames) = frames.stream.frames
+frames_stated (ToAll broadcast) = frames_to_all broadcast.packets
 
--- no long message of a flow takes more than are told of the flow's messages
-abbrev pub TakeFramesTold : Timing → List UnitPlan → (UnitPlan → Bool) → FlowPlan → Pace → GroupPlan → Type 0
-TakeFramesTold timing units stays flow pace group = (message : MessageParts) (receiver : Receiving) (frames : List Frame) (end : Sides)
+-- no long message of a flow takes more than are reported of the flow's messages
+abbrev pub TakeFramesReported : Timing → List UnitPlan → (UnitPlan → Bool) → FlowPlan → Pace → GroupPlan → Type 0
+TakeFramesReported timing units stays flow pace group = (message : MessageParts) (receiver : Receiving) (frames : List Frame) (end : Sides)
     → IsSize (length message.bytes) → length message.bytes ≤ group.most → IsReceiverOf units flow.to receiver
-    → Transfer message flow.to receiver frames end → length frames ≤ frames_told (messages_of timing units stays flow pace group)
+    → Transfer message flow.to receiver frames end → length frames ≤ frames_stated (messages_of timing units stays flow pace group)

@@ -57,7 +57,7 @@ traffic_of all = record {
   are_twins = λ i j. are_twins (planned_at all i) (planned_at all j);
 }
 
--- what is of no planned flow has the priority that is told of it
+-- what is of no planned flow has the priority that is reported of it
 abbrev pub others_of : Timing → Others
 others_of timing = record { least = unplanned_idents timing; count = timing.unplanned }
 
@@ -83,7 +83,7 @@ pub record KeepToQueueGroup (timing : Timing) (s : Schedule) (planned : ℕ → 
   pub own_identifiers : (p q t : ℕ) → p < s.count → q < s.count → t < s.now → planned p ≡ true → queue_group.has (of.source p) ≡ true
       → IsQueuedAt s p t → IsQueuedAt s q t → s.ident p ≡ s.ident q → (planned q ≡ true) × (queue_group.has (of.source q) ≡ true)
   -- while a frame of the queue group waits, together with the time before in which it and what goes with it wait without a
-  -- break, no more frames that aren't planned are queued than are told, whatever their identifiers are
+  -- break, no more frames that aren't planned are queued than are reported, whatever their identifiers are
   pub few_unplanned : (p from to : ℕ) → p < s.count → planned p ≡ true → queue_group.has (of.source p) ≡ true → to < s.now → Waits s p to
       → QueueGroupWaits s planned of queue_group from to → unplanned_queued s planned from to ≤ timing.unplanned
 
@@ -92,11 +92,11 @@ pub record AreFramesInAnyOrder (timing : Timing) (all : List (Option FlowFrames)
     (planned : ℕ → Bool) (of : Origins) (i : ℕ) : Type 0 where
   -- as where all units keep order
   pub known : AreFramesOfPlan timing all s planned of i
-  -- what a unit sends that keeps no order is of a stream of which it is told
+  -- what a unit sends that keeps no order is of a stream of which it is reported
   pub of_unit : (p : ℕ) → p < s.count → planned p ≡ true → IsUnordered controllers p
       → are_of_unit (planned_at all (of.source p)) (controllers.unit p) ≡ true
   -- no frame of such a stream has an identifier above its last one: announcements, answers and packets have the priority
-  -- that is told
+  -- that is reported
   pub to_last : (p : ℕ) → p < s.count → planned p ≡ true → keep_order (planned_at all (of.source p)) ≡ false
       → s.ident p ≤ (planned_at all (of.source p)).last_ident
   -- where a stream of such a unit is the one that is judged, or may go before it, the bus keeps to its queue group
@@ -122,7 +122,7 @@ IsInTimeInAnyOrder timing all i frames wait = (s : Schedule) (controllers : Cont
     → IsLegalInAnyOrder s controllers → AreFramesInAnyOrder timing all s controllers planned of i
     → IsStreamInTime s planned of i frames.stream wait
 
--- the flow's messages go in one frame, and its delay is told by the least wait that has room; this is within its limit, and bounds its
+-- the flow's messages go in one frame, and its delay is reported by the least wait that has room; this is within its limit, and bounds its
 -- frames' time on every bus
 pub record IsBounded (timing : Timing) (asked : Asked) (flow bits : ℕ) : Type 0 where
   pub load : FlowLoad
@@ -152,7 +152,7 @@ pub record IsBoundedBeyond (timing : Timing) (asked : Asked) (flow bits : ℕ) :
   pub in_any_order : IsInTimeInAnyOrder timing (frames_asked asked) flow frames wait
   pub bounds : AreAllOrdered (frames_asked asked) → IsInTimeOnEveryBus timing (frames_asked asked) flow frames wait
 
--- each delay that is told is a bound
+-- each delay that is reported is a bound
 abbrev pub AreDelaysBounds : Timing → Asked → List (Option Delay) → Type 0
 AreDelaysBounds timing asked delays =
     (flow bits : ℕ) → slice_get delays flow ≡ Some (Some (Within bits)) → IsBounded timing asked flow bits
@@ -162,7 +162,7 @@ abbrev pub AreLateDelaysBounds : Timing → Asked → List (Option Delay) → Ty
 AreLateDelaysBounds timing asked delays =
     (flow bits : ℕ) → slice_get delays flow ≡ Some (Some (Beyond bits)) → IsBoundedBeyond timing asked flow bits
 
--- and one is told of each flow whose messages go in one frame
+-- and one is reported of each flow whose messages go in one frame
 abbrev pub AreShortFlowsBounded : Timing → Asked → List (Option Delay) → Type 0
 AreShortFlowsBounded timing asked delays = (flow : ℕ) (load : FlowLoad) (frames : FlowFrames) → slice_get asked.flows flow ≡ Some (Some load)
     → load.messages ≡ Short frames → (bits : ℕ) × (slice_get delays flow ≡ Some (Some (Within bits))) × IsBounded timing asked flow bits
@@ -231,16 +231,16 @@ pub record AreWholeWithin (timing : Timing) (asked : Asked) (flow : ℕ) (whole 
   pub buffering : Buffering
   pub is : IsBuffering timing (frames_asked asked) buffering
   pub time : IsWholeTime timing asked buffering broadcast whole
-  pub told : whole.bits ≡ Some bits
+  pub stated : whole.bits ≡ Some bits
   pub in_any_order : AreWholeInAnyOrder timing asked broadcast.sender broadcast.jitter bits
   pub bounds : AreAllOrdered (frames_asked asked) → AreWholeOnEveryBus timing asked broadcast.sender broadcast.jitter bits
 
--- each time that is told is a bound
+-- each time that is reported is a bound
 abbrev pub AreTimesBounds : Timing → Asked → List (Option Delay) → Type 0
 AreTimesBounds timing asked delays = (flow bits : ℕ) (whole : WholeTime)
     → slice_get delays flow ≡ Some (Some (Whole whole)) → whole.bits ≡ Some bits → AreWholeWithin timing asked flow whole bits
 
--- and where a deadline is written of long messages to all, one within it is told
+-- and where a deadline is written of long messages to all, one within it is reported
 abbrev pub AreDeadlinesKept : Timing → Asked → List (Option Delay) → Type 0
 AreDeadlinesKept timing asked delays = (flow limit : ℕ) (load : FlowLoad) (broadcast : Broadcast)
     → slice_get asked.flows flow ≡ Some (Some load) → load.messages ≡ ToAll broadcast → broadcast.deadline ≡ Some limit
@@ -251,7 +251,7 @@ AreDeadlinesKept timing asked delays = (flow limit : ℕ) (load : FlowLoad) (bro
 
 -- in time is a plan of which each flow has a delay that bounds it, within its limit, where its messages go in one
 -- frame, and a time that bounds it, within its deadline, where they are long ones to all and a deadline is written:
--- whoever tells who stays tells the same
+-- whoever reports who stays reports the same
 abbrev pub ArePlannedFramesInTime : Plan → Timing → Type 0
 ArePlannedFramesInTime plan timing = (stays : UnitPlan → Bool) × (delays : List (Option Delay)) × AsksOfBus plan timing stays delays
     × AreShortFlowsBounded timing (asked_of timing plan stays) delays

@@ -56,7 +56,7 @@ pub record IsShortFlow (plan : Plan) (named : ℕ → Bool) (place : ℕ) (flow 
   pub sender : named flow.sender ≡ true
   pub receiver : (v : ℕ) → flow.to ≡ One v → named v ≡ true
 
--- the groups of two flows are told by their data, and their frames have one identifier, whatever addresses the units hold
+-- the groups of two flows are distinguished by their data, and their frames have one identifier, whatever addresses the units hold
 pub record AreTwinFlows (group : GroupPlan) (flow : FlowPlan) (second : GroupPlan) (other : FlowPlan) : Type 0 where
   pub number : ℕ
   pub first_is : twin_ident group flow ≡ Some number

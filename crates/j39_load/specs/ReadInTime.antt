@@ -99,7 +99,7 @@ pub record IsNeedRead (plan : Plan) (timing : Timing) (asked : Asked) (delays : 
   pub in_order : (silent : ℕ) → AreAllOrdered (frames_asked asked)
       → AreReadOnEveryBus timing asked fresh.place group silent fresh.bounded.frames.stream fresh.bounded.wait fresh.bits
 
--- so it is of each need of a plan that asks for an age: whoever tells who stays tells the same
+-- so it is of each need of a plan that asks for an age: whoever reports who stays reports the same
 abbrev pub AreNeedsRead : Plan → Timing → Type 0
 AreNeedsRead plan timing = (stays : UnitPlan → Bool) × (delays : List (Option Delay)) × AsksOfBus plan timing stays delays
     × ((n : ℕ) (need : NeedPlan) (within : ℕ) → slice_get plan.needs.items n ≡ Some need → need.within ≡ Some within

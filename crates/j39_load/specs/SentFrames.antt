@@ -1,6 +1,6 @@
 -- A frame of what a plan has, in the plan's own words: of a flow's message that goes in one frame, also where others of the flow are long, of a long
 -- message to one unit or to all, or a request.
--- No stream stands here, and nothing that is told of what a flow asks of the bus.
+-- No stream stands here, and nothing that is reported of what a flow asks of the bus.
 use Rattle.std.specs.Prelude.{◌≡◌, ℕ, ◌+◌, ◌*◌, ◌<◌, ◌≤◌, ◌⊎◌, Bool, true, Some}
 use Rattle.std.specs.List.{slice_get}
 use Rattle.j39_id.specs.Ident.{identifier_of}

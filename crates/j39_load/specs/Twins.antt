@@ -1,4 +1,4 @@
--- Twins: frames of one unit that have one identifier, since what they carry is told apart by their data alone.
+-- Twins: frames of one unit that have one identifier, since what they carry is distinguished by their data alone.
 use Rattle.std.specs.Prelude.{ℕ, ◌==◌, Bool, false, not, ◌&&◌, ◌||◌, nat_lt, Option}
 use Rattle.std.specs.Option.{option_map_or}
 use Rattle.j39_load.specs.declared.frames.flow_frames.FlowFrames.{FlowFrames}

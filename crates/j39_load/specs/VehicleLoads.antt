@@ -10,17 +10,17 @@ use Rattle.j39_load.specs.BusTimes.{timing_of}
 use Rattle.j39_load.specs.LoadFindings.{AreLoadFindings}
 use Rattle.j39_findings.specs.Standing.{DecidesWhoStays}
 
--- of the vehicle the same is told, place by place
+-- of the vehicle the same is reported, place by place
 pub record StandAlike (plan vehicle : Plan) (stays : UnitPlan → Bool) : Type 0 where
-  pub told : UnitPlan → Bool
-  pub tells : DecidesWhoStays vehicle told
+  pub stated : UnitPlan → Bool
+  pub states : DecidesWhoStays vehicle stated
   pub same : (u : ℕ) (unit box : UnitPlan) → slice_get plan.units.items u ≡ Some unit → slice_get vehicle.units.items u ≡ Some box
-      → told box ≡ stays unit
+      → stated box ≡ stays unit
 
 -- the same is known of its bus, the same units stay, each flow, each unit and each request asks the same, and the same is wrong with it
 pub record AreLoadsAlike (plan vehicle : Plan) : Type 0 where
   pub timing : timing_of vehicle ≡ timing_of plan
   pub standing : (stays : UnitPlan → Bool) → DecidesWhoStays plan stays → StandAlike plan vehicle stays
-  pub asked : (timing : Timing) (stays told : UnitPlan → Bool) → DecidesWhoStays plan stays → DecidesWhoStays vehicle told
-      → asked_of timing plan stays ≡ asked_of timing vehicle told
+  pub asked : (timing : Timing) (stays stated : UnitPlan → Bool) → DecidesWhoStays plan stays → DecidesWhoStays vehicle stated
+      → asked_of timing plan stays ≡ asked_of timing vehicle stated
   pub findings : (findings : List LoadFinding) → AreLoadFindings plan (timing_of plan) findings → AreLoadFindings vehicle (timing_of vehicle) findings

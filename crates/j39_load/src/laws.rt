@@ -32,7 +32,7 @@ ghost use Rattle.j39_load.specs.LoadFindings.{AreLoadFindings, AsksOfBus, load_f
 ghost use Rattle.j39_load.specs.LongRuns.{IsLongRunLoad};
 ghost use Rattle.j39_load.specs.Loads.{bits_at_least, bits_at_most, bits_inside, bits_of_ms, frames_to_all};
 ghost use Rattle.j39_load.specs.Loads.{frames_to_one, group_ident, us_of_bits};
-ghost use Rattle.j39_load.specs.LosslessTransfers.{IsReceiverOf, TakeFramesTold, TakesFrames};
+ghost use Rattle.j39_load.specs.LosslessTransfers.{IsReceiverOf, TakeFramesReported, TakesFrames};
 ghost use Rattle.j39_load.specs.Asked.{asked_of, frames_asked, total_load};
 ghost use Rattle.j39_load.specs.PlannedFrames.{AreAllOrdered, AreDeadlinesKept, AreDelaysBounds, AreFramesInAnyOrder};
 ghost use Rattle.j39_load.specs.PlannedFrames.{AreFramesOfPlan, AreLateDelaysBounds, AreShortFlowsBounded};
@@ -45,7 +45,7 @@ ghost use Rattle.j39_load.specs.RequestLoads.{request_ident};
 ghost use Rattle.j39_load.specs.Clocks.{bit_time};
 ghost use Rattle.j39_load.specs.SentFrames.{First, FrameSources, Held, Single};
 ghost use Rattle.j39_findings.specs.Standing.{DecidesWhoStays};
-ghost use Rattle.j39_load.specs.ToldBytes.{IsToldOf, LeaveSelector};
+ghost use Rattle.j39_load.specs.ReportedBytes.{IsStatedOf, LeaveSelector};
 ghost use Rattle.j39_load.specs.ValuesInTime.{AreValuesInTime};
 ghost use Rattle.j39_load.specs.VehicleLoads.{AreLoadsAlike};
 ghost use Rattle.j39_timing.specs.AnyOrder.{Controllers, IsLegalInAnyOrder};
@@ -57,11 +57,11 @@ ghost use Rattle.j39_tp.specs.Receiver.{Receiving};
 ghost use Rattle.j39_tp.specs.declared.sending.outcome.Outcome.TheVariants.{Acked, Sent};
 ghost use Rattle.j39_world.specs.HeldAddresses.{ArePlannedApart};
 
-/// The delays of a plan bound the time of its frames. A delay that `Loads::delays` tells holds in every schedule whose
+/// The delays of a plan bound the time of its frames. A delay that `Loads::delays` reports holds in every schedule whose
 /// planned frames are those of the plan's flows, of which a flow without a period has none, whether units keep order or
 /// don't; and where each unit of the plan keeps it, in every legal schedule of such frames (`bounds`). So does one that
-/// is above the flow's deadline (`beyond`), an age that is told of a need, whatever the need asks for (`ages`), and a
-/// time in which long messages to all are whole (`whole`); and where `load_findings` finds nothing, it tells a delay of each
+/// is above the flow's deadline (`beyond`), an age that is reported of a need, whatever the need asks for (`ages`), and a
+/// time in which long messages to all are whole (`whole`); and where `load_findings` finds nothing, it reports a delay of each
 /// flow whose messages go in one frame, within the flow's limit (`short`), and a time of each flow with long messages
 /// to all of which a deadline is written, within this (`deadlines`). So it is of a plan in which `check_load` finds
 /// nothing (`checked`).
@@ -105,12 +105,12 @@ pub fn needed_values_are_read_in_time()
 
 /// Bytes of a flow's message that were written signal after signal can be of its group alone, where none of the signals
 /// in them has a bit of the group's selector: so whoever hears them reads them by this group.
-pub fn written_bytes_are_told()
+pub fn written_bytes_are_reported()
     ensures { (plan : Plans) → Clean plan → (f : ℕ) (flow : PlannedFlows) (group : PlannedGroups)
         → slice_get plan.flows.items f ≡ Some flow
         → slice_get plan.groups.items flow.group ≡ Some group → (bytes : List ℕ) → AreWritten group bytes
         → LeaveSelector group bytes
-        → IsToldOf plan flow group bytes }
+        → IsStatedOf plan flow group bytes }
 {}
 
 /// Of a plan whose units all keep order no frames are of a unit that keeps none: what is promised of every legal
@@ -122,9 +122,9 @@ pub fn plans_in_order()
 {}
 
 /// Where each unit holds its planned address, or one of 128 to 247 if it may choose and isn't one that stays, the
-/// identifiers of a flow's frames lie between the least and the greatest one that are told of the flow, and so do those
+/// identifiers of a flow's frames lie between the least and the greatest one that are reported of the flow, and so do those
 /// of a long message's packets, and of its sender's announcements and packets to all (`flows`); and that of a request
-/// lies between those that are told of it (`requests`).
+/// lies between those that are reported of it (`requests`).
 pub fn identifiers_lie_between()
     ensures flows { (plan : Plans) (timing : Timings) (stays : PlannedUnits → Bool) (held : ℕ → ℕ)
         → DecidesWhoStays plan stays → AreHeldByPlan plan held
@@ -205,7 +205,7 @@ pub fn plans_can_be_kept()
 
 /// And all of it at once: such a flow can be sent as late as its jitter allows, as often as one likes, where the first
 /// frame is damaged once, or waits for one that its unit leaves half sent, on a bus that keeps to the plan and to what it
-/// tells of damage, and that is legal whether its units keep order or not.
+/// reports of damage, and that is legal whether its units keep order or not.
 pub fn plans_can_be_kept_together()
     ensures { (plan : Plans) (timing : Timings) → ArePlannedApart (units_of plan)
         → (f : ℕ) (flow : PlannedFlows) (pace : PlannedPaces) (group : PlannedGroups)
@@ -266,11 +266,11 @@ pub fn long_messages_can_be_sent_whole()
         → CanBeSentWhole plan timing f flow.sender packets }
 {}
 
-/// A time in bits that is told is within so many milliseconds exactly where no more bits are told than last no longer
-/// (`told`). And where clocks agree (`drift` is 0) so many milliseconds have the bits of the bus's own, by whichever clock
-/// (`least`, `most`, `inside`), and a time that is told is that of its bits (`exact`).
+/// A time in bits that is reported is within so many milliseconds exactly where no more bits are reported than last no longer
+/// (`reported`). And where clocks agree (`drift` is 0) so many milliseconds have the bits of the bus's own, by whichever clock
+/// (`least`, `most`, `inside`), and a time that is reported is that of its bits (`exact`).
 pub fn clocks_are_counted()
-    ensures told { (timing : Timings) (bits ms : ℕ)
+    ensures stated { (timing : Timings) (bits ms : ℕ)
         → (us_of_bits timing bits ≤ 1000 * ms) ↔ (bits ≤ bits_inside timing ms) }
     ensures least { (timing : Timings) (ms : ℕ) → timing.drift ≡ 0 → bits_at_least timing ms ≡ bits_of_ms timing ms }
     ensures most { (timing : Timings) (ms : ℕ) → timing.drift ≡ 0 → bits_at_most timing ms ≡ bits_of_ms timing ms }
@@ -289,16 +289,16 @@ pub fn loads_hold_in_the_long_run()
 {}
 
 /// Of a clean plan, whatever is found of its load: on each bus that keeps to it in the plan's own words each frame of a
-/// flow each message of which goes in one frame has been sent within the time that is told of the flow from its release,
+/// flow each message of which goes in one frame has been sent within the time that is reported of the flow from its release,
 /// also where this is above the flow's deadline, whether units keep order or not.
-pub fn kept_plans_keep_told_times()
+pub fn kept_plans_keep_reported_times()
     ensures { (plan : Plans) (timing : Timings) (stays : PlannedUnits → Bool) (delays : List (Option Delays)) → Clean plan
         → AsksOfBus plan timing stays delays → AreTimesKept plan timing delays }
 {}
 
 /// Of a clean plan with whose load nothing is wrong either: on each bus that keeps to it in the plan's own words,
 /// whether units keep order or not, each frame has been sent within the period of its flow from its release, and within
-/// its deadline where one is written (`sound`). So it is where frames are damaged no more often than the plan tells,
+/// its deadline where one is written (`sound`). So it is where frames are damaged no more often than the plan reports,
 /// where all units keep order (`with_errors`) and where they do or don't (`damaged_in_any_order`).
 pub fn kept_plans_are_in_time()
     ensures sound { (plan : Plans) (timing : Timings) → Clean plan → AreLoadFindings plan (Some timing) []
@@ -335,7 +335,7 @@ pub fn kept_plans_bring_values_in_time()
 {}
 
 /// While units hold different addresses, frames of two flows of a clean plan between units that are on, each message of
-/// which goes in one frame, have two identifiers, unless both groups are told by their data: then they have one
+/// which goes in one frame, have two identifiers, unless both groups are distinguished by their data: then they have one
 /// wherever the units are (`flows`). And no request between units that are on has that of such a frame (`requests`).
 pub fn short_flows_have_different_identifiers()
     ensures flows { (plan : Plans) → Clean plan → (named : ℕ → Bool) (held : ℕ → ℕ) → AreHeldApart named held
@@ -353,15 +353,15 @@ pub fn short_flows_have_different_identifiers()
 /// receiver of the transport protocol hear each other's packets at once, a message to one unit is the request to send,
 /// its packets, a clear to send for each as many of them as the unit takes at once, and the acknowledgement of its end
 /// (`to_one`), and one to all its announcement and its packets (`to_all`); then both sides have ended, and the message
-/// has arrived. And no long message of a flow takes more than are told of the flow's messages (`told`).
-pub fn long_messages_take_the_frames_told()
+/// has arrived. And no long message of a flow takes more than are reported of the flow's messages (`reported`).
+pub fn long_messages_take_the_frames_reported()
     ensures to_one { (units : List PlannedUnits) (v : ℕ) (message : MessageParts) (receiver : Receiving)
         → IsSize (length message.bytes) → IsReceiverOf units (One v) receiver
         → TakesFrames message (One v) receiver (frames_to_one units (packets_of (length message.bytes)) v) Acked }
     ensures to_all { (message : MessageParts) (receiver : Receiving) → IsSize (length message.bytes)
         → TakesFrames message ToAllUnits receiver (frames_to_all (packets_of (length message.bytes))) Sent }
-    ensures told { (timing : Timings) (units : List PlannedUnits) (stays : PlannedUnits → Bool) (flow : PlannedFlows)
-        (pace : PlannedPaces) (group : PlannedGroups) → TakeFramesTold timing units stays flow pace group }
+    ensures stated { (timing : Timings) (units : List PlannedUnits) (stays : PlannedUnits → Bool) (flow : PlannedFlows)
+        (pace : PlannedPaces) (group : PlannedGroups) → TakeFramesReported timing units stays flow pace group }
 {}
 
 /// The plan of each vehicle asks the same of its bus, and the same is wrong with it, whatever the serial numbers of its

@@ -2,7 +2,7 @@
 ghost use Rattle.std.specs.Prelude.{◌≡◌, ◌≤◌, ◌+◌, length};
 ghost use Rattle.j39_id.specs.Limits.{unit_limit};
 ghost use Rattle.j39_load.specs.BusTimes.{timing_of, with_claims};
-ghost use Rattle.j39_load.specs.LiveClaims.{claiming, claims_told};
+ghost use Rattle.j39_load.specs.LiveClaims.{claiming, claims_stated};
 
 use j39_network::{Plan, Timing, UnitPlan};
 
@@ -22,8 +22,8 @@ fn claiming(units: &[UnitPlan]) -> u16
 }
 
 // The claims of the plan's units and of strangers, and a request for them.
-fn claims_told(plan: &Plan) -> u16
-    ensures claims { result ≡ claims_told plan.now }
+fn claims_stated(plan: &Plan) -> u16
+    ensures claims { result ≡ claims_stated plan.now }
     ensures few { result ≤ 249 }
 {
     claiming(plan.units.as_slice()) + u16::from(plan.strangers) + 1
@@ -38,7 +38,7 @@ fn with_claims(plan: &Plan, timing: Timing) -> Timing
     }
     Timing {
         bitrate: timing.bitrate,
-        unplanned: timing.unplanned.max(claims_told(plan)),
+        unplanned: timing.unplanned.max(claims_stated(plan)),
         unplanned_priority: timing.unplanned_priority,
         transport_priority: timing.transport_priority,
         broadcast_gap: timing.broadcast_gap,

@@ -1,12 +1,11 @@
 -- When a listener completes a message, and what it holds then.
-use Rattle.std.proofs.Common.{◌≡◌, ℕ, suc, ◌+◌, ◌==◌, ◌&&◌, nat_le, Bool, if◌then◌else◌, true, false, List, [], ◌∷◌, ◌++◌, length, All, zero, Option, Some}
+use Rattle.std.proofs.Common.{◌≡◌, ℕ, suc, ◌+◌, ◌==◌, ◌&&◌, nat_le, Bool, if◌then◌else◌, true, false, List, [], ◌∷◌, ◌++◌, length, All, Some}
 use Rattle.std.proofs.Common.{None, inl, inr, refl, sym, ap, ◌∙◌, arith}
-use Rattle.std.specs.List.{slice_get}
 use Rattle.std.proofs.lemmas.Bool.{cases_Bool}
 use Rattle.std.proofs.lemmas.List.Elements.{All-push}
 use Rattle.std.proofs.lemmas.Option.{none-some, same_Some}
 use Rattle.j39_tp.specs.Packets.{InRange}
-use Rattle.j39_tp.specs.Carried.{listened, receives_any, CompletesAt, Carried, AreInRange}
+use Rattle.j39_tp.specs.Carried.{listened, CompletesAt, Carried, AreInRange}
 use Rattle.j39_tp.specs.Chunks.{packets_of}
 use Rattle.j39_tp.specs.Receiver.{Receiving, receives, hears, is_complete, is_directed, pgn_at, takes_later}
 use Rattle.j39_tp.specs.declared.receiving.heard.Heard.{Heard}
@@ -19,10 +18,11 @@ use Rattle.j39_tp.specs.declared.receiving.progress.Progress.TheVariants.{Open, 
 use Rattle.j39_tp.specs.declared.receiving.reception.ReceptionKind.{ReceptionKind}
 use Rattle.j39_tp.specs.declared.receiving.reception.ReceptionKind.TheVariants.{Broadcast, Directed}
 use Rattle.j39_tp.specs.declared.receiving.reception.Reception.{Reception}
-use Rattle.j39_log.specs.inside.Listening.{completed_group, completes, after_all}
+use Rattle.j39_log.specs.PairListeners.{after_all, completed_group, completes}
 use Rattle.j39_log.specs.ReadText.{CarriesNone}
-use Rattle.j39_tp.proofs.Gathering.{last_received, told_last}
-use Rattle.j39_log.proofs.PairLists.{listened_front, after_more, slice_get_end, in_range}
+use Rattle.j39_tp.proofs.Gathering.{last_received, stated_last, last_stands}
+use Rattle.j39_log.proofs.PairLists.{listened_front, after_more, in_range}
+use Rattle.j39_tp.proofs.Hearing.{listens}
 
 -- ---- a listener replies nothing
 
@@ -54,26 +54,18 @@ silent (Complete group) (Abort reason pgn) replies = replies
 silent pr (Cts count first pgn) replies = replies
 silent pr (EndAck size pgn) replies = replies
 
-told_alone : (h : Heard) → (Replies h → ⊥) → is_complete h ≡ true → h ≡ heard.Complete
-told_alone heard.Complete none e = refl
-told_alone heard.Nothing none e = cc
-told_alone (heard.Reply p) none e = cc
-told_alone (heard.CompleteReply p) none e = absurd (none tt)
-told_alone heard.Closed none e = cc
+reported_alone : (h : Heard) → (Replies h → ⊥) → is_complete h ≡ true → h ≡ heard.Complete
+reported_alone heard.Complete none e = refl
+reported_alone heard.Nothing none e = cc
+reported_alone (heard.Reply p) none e = cc
+reported_alone (heard.CompleteReply p) none e = absurd (none tt)
+reported_alone heard.Closed none e = cc
 
 -- ---- places of a list
 
-same_manner : (s : Receiving) (o : Option Packet) → (receives_any s o).manner ≡ s.manner
-same_manner s None = refl
-same_manner s (Some p) = refl
-
-listens : (h : List Packet) (q : ℕ) → (listened h q).manner ≡ Listening
-listens h zero = refl
-listens h (suc q) = same_manner (listened h q) (slice_get h q) ∙ listens h q
-
 -- what a packet completes at the end of the list that it stands in
-told_there : (h : List Packet) (p : Packet) → completes (after_all h) p ≡ is_complete (hears Listening (listened (h ++ p ∷ []) (length h)).progress p).1
-told_there h p =
+reported_there : (h : List Packet) (p : Packet) → completes (after_all h) p ≡ is_complete (hears Listening (listened (h ++ p ∷ []) (length h)).progress p).1
+reported_there h p =
     let manner = listens h (length h) in
     let front = listened_front h (p ∷ []) (length h) (omega arith) in
     rw (front, manner) refl
@@ -89,13 +81,13 @@ pub carried_there : CompletedAreCarried → (h : List Packet) (p : Packet) (s af
     → after ≡ receives s p
     → All InRange h → InRange p → completes s p ≡ true → after.progress ≡ Complete group → after.bytes ≡ message
     → Carried (h ++ p ∷ []) (length h) group message
-carried_there law h p s after group message heard_all heard_one all fits told progress bytes =
-    let told_all : completes (after_all h) p ≡ true = ap (λ (r : Receiving). completes r p) (sym heard_all) ∙ told in
+carried_there law h p s after group message heard_all heard_one all fits stated progress bytes =
+    let reported_all : completes (after_all h) p ≡ true = ap (λ (r : Receiving). completes r p) (sym heard_all) ∙ stated in
     let here : listened (h ++ p ∷ []) (suc (length h)) ≡ after = after_more h p ∙ sym (heard_one ∙ ap (λ (r : Receiving). receives r p) heard_all) in
     law (h ++ p ∷ []) (length h) group message (in_range (h ++ p ∷ []) (All-push InRange h p all fits)) (record {
       packet = p;
-      stands = slice_get_end h p;
-      told = told_alone _ (silent (listened (h ++ p ∷ []) (length h)).progress p) (sym (told_there h p) ∙ told_all);
+      stands = last_stands h p;
+      stated = reported_alone _ (silent (listened (h ++ p ∷ []) (length h)).progress p) (sym (reported_there h p) ∙ reported_all);
       pgn_is = ap (λ (r : Receiving). r.progress) here ∙ progress;
       bytes_are = ap (λ (r : Receiving). r.bytes) here ∙ bytes;
     })
@@ -103,14 +95,14 @@ carried_there law h p s after group message heard_all heard_one all fits told pr
 -- where it completes none, the list carries none
 pub uncarried_there : CarriedAreCompleted → (h : List Packet) (p : Packet) (s : Receiving) → s ≡ after_all h → completes s p ≡ false
     → CarriesNone (h ++ p ∷ []) (length h)
-uncarried_there law h p s heard_all untold group message carried =
+uncarried_there law h p s heard_all unstated group message carried =
     let complete = law (h ++ p ∷ []) (length h) group message carried in
-    let same : complete.packet ≡ p = same_Some complete.packet p (sym complete.stands ∙ slice_get_end h p) in
-    let told : is_complete (hears Listening (listened (h ++ p ∷ []) (length h)).progress p).1 ≡ true =
-    ap (λ (q : Packet). is_complete (hears Listening (listened (h ++ p ∷ []) (length h)).progress q).1) (sym same) ∙ ap is_complete complete.told in
-    let told_all : completes (after_all h) p ≡ true = told_there h p ∙ told in
-    let untold_all : completes (after_all h) p ≡ false = ap (λ (r : Receiving). completes r p) (sym heard_all) ∙ untold in
-    cc (told_all, untold_all)
+    let same : complete.packet ≡ p = same_Some complete.packet p (sym complete.stands ∙ last_stands h p) in
+    let stated : is_complete (hears Listening (listened (h ++ p ∷ []) (length h)).progress p).1 ≡ true =
+    ap (λ (q : Packet). is_complete (hears Listening (listened (h ++ p ∷ []) (length h)).progress q).1) (sym same) ∙ ap is_complete complete.stated in
+    let reported_all : completes (after_all h) p ≡ true = reported_there h p ∙ stated in
+    let unreported_all : completes (after_all h) p ≡ false = ap (λ (r : Receiving). completes r p) (sym heard_all) ∙ unstated in
+    cc (reported_all, unreported_all)
 
 -- ---- the group of a message
 
@@ -118,25 +110,25 @@ uncarried_there law h p s heard_all untold group message carried =
 pub completed_there : (s : Receiving) (p : Packet) (group : ℕ) → completed_group s p ≡ Some group
     → (completes s p ≡ true) × ((receives s p).progress ≡ Complete group)
 completed_there s p group e = elim (cases_Bool (completes s p)) [
-  | inl told ↦
-      let l = told_last s.manner p s.progress told in
+  | inl stated ↦
+      let l = stated_last s.manner p s.progress stated in
       let after = last_received s p l.reception l.chunk l.open_is l.packet_is l.last in
       let found : Some l.reception.pgn ≡ Some group =
-      sym (ap pgn_at after.0) ∙ sym (ap (λ (b : Bool). if b then pgn_at (receives s p).progress else None) told) ∙ e in
-      (told, after.0 ∙ ap Complete (same_Some l.reception.pgn group found))
-  | inr untold ↦
-      let none : None ≡ Some group = sym (ap (λ (b : Bool). if b then pgn_at (receives s p).progress else None) untold) ∙ e in
+      sym (ap pgn_at after.0) ∙ sym (ap (λ (b : Bool). if b then pgn_at (receives s p).progress else None) stated) ∙ e in
+      (stated, after.0 ∙ ap Complete (same_Some l.reception.pgn group found))
+  | inr unstated ↦
+      let none : None ≡ Some group = sym (ap (λ (b : Bool). if b then pgn_at (receives s p).progress else None) unstated) ∙ e in
       absurd (none-some group none)
 ]
 
 -- and one that completes none
 pub uncompleted : (s : Receiving) (p : Packet) → completed_group s p ≡ None → completes s p ≡ false
 uncompleted s p e = elim (cases_Bool (completes s p)) [
-  | inl told ↦
-      let l = told_last s.manner p s.progress told in
+  | inl stated ↦
+      let l = stated_last s.manner p s.progress stated in
       let after = last_received s p l.reception l.chunk l.open_is l.packet_is l.last in
       let found : Some l.reception.pgn ≡ None =
-      sym (ap pgn_at after.0) ∙ sym (ap (λ (b : Bool). if b then pgn_at (receives s p).progress else None) told) ∙ e in
+      sym (ap pgn_at after.0) ∙ sym (ap (λ (b : Bool). if b then pgn_at (receives s p).progress else None) stated) ∙ e in
       absurd (none-some l.reception.pgn (sym found))
-  | inr untold ↦ untold
+  | inr unstated ↦ unstated
 ]

@@ -1,32 +1,33 @@
 -- What is kept for each two addresses, as it is given up for one address and each other one in turn.
 use Rattle.std.proofs.Common.{◌≡◌, ◌==◌, ◌&&◌, ◌||◌, ◌+◌, ◌<◌, ◌≤◌, ℕ, nat_lt, Bool, true, false, if◌then◌else◌, refl, sym, ap, ◌∙◌, arith}
+use Rattle.std.proofs.Math.Bool.{and-or_distrib_left, and_comm, or-false, or-true, or_assoc}
 use Rattle.std.proofs.lemmas.Bool.Decides.{nat_tests}
-use Rattle.j39_log.specs.inside.Listening.{is_of_pair, is_pair}
+use Rattle.j39_log.specs.PairListeners.{is_of_pair, is_pair}
+
+-- what two tests choose alike
+pub if_or : {A : Type 0} (a b : Bool) (f x : A) → (if a then f else (if b then f else x)) ≡ (if b || a then f else x)
+if_or a b f x = elim a as (λ a. (if a then f else (if b then f else x)) ≡ (if b || a then f else x)) [
+  | true ↦ sym (ap (λ (either : Bool). if either then f else x) (or-true b))
+  | false ↦ sym (ap (λ (either : Bool). if either then f else x) (or-false b))
+]
 
 merged : {A : Type 0} (a b c : Bool) (f x : A) → (if a then f else (if b then f else (if c then f else x))) ≡ (if c || (b || a) then f else x)
-merged a b true f x =
-    elim a as (λ a. (if a then f else (if b then f else f)) ≡ f) [ true ↦ refl | false ↦ elim b as (λ b. (if b then f else f) ≡ f) [ true ↦ refl | false ↦ refl ] ]
-merged a true false f x = elim a as (λ a. (if a then f else f) ≡ f) [ true ↦ refl | false ↦ refl ]
-merged a false false f x = refl
+merged {A} a b c f x =
+    ap (λ (other : A). if a then f else other) (if_or b c f x) ∙ if_or a (c || b) f x ∙ ap (λ (any : Bool). if any then f else x) (or_assoc c b a)
 
 lt_next : (d k : ℕ) → nat_lt d (k + 1) ≡ (nat_lt d k || k == d)
 lt_next d k = grind (arith, nat_tests)
 
+pub or_swap : (a b c d : Bool) → ((a || b) || (c || d)) ≡ ((a || c) || (b || d))
+or_swap true b c d = refl
+or_swap false true c d = sym (or-true c)
+or_swap false false c d = refl
+
 spread : (x y z u v w : Bool) → ((x && (y || z)) || (u && (v || w))) ≡ (((x && y) || (u && v)) || ((x && z) || (w && u)))
-spread true true z u v w = refl
-spread true false true true true w = refl
-spread true false true true false w = refl
-spread true false true false v w = refl
-spread true false false true true w = refl
-spread true false false true false true = refl
-spread true false false true false false = refl
-spread true false false false v true = refl
-spread true false false false v false = refl
-spread false y z true true w = refl
-spread false y z true false true = refl
-spread false y z true false false = refl
-spread false y z false v true = refl
-spread false y z false v false = refl
+spread x y z u v w =
+    ap (λ (b : Bool). b || (u && (v || w))) (and-or_distrib_left x y z)
+    ∙ ap (λ (b : Bool). ((x && y) || (x && z)) || b) (and-or_distrib_left u v w ∙ ap (λ (b : Bool). (u && v) || b) (and_comm u w))
+    ∙ or_swap (x && y) (x && z) (u && v) (w && u)
 
 all_reached : (s : ℕ) (k : ℕ) → s < 256 → 256 ≤ k → nat_lt s k ≡ true
 all_reached s k less past = grind (arith, nat_tests)

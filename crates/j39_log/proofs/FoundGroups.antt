@@ -1,19 +1,20 @@
 -- The group that is found for a number and a length.
-use Rattle.std.proofs.Common.{◌≡◌, ℕ, ◌<◌, true, nat_le, List, [], map, length, get_or, All, Option, Some, None, refl, sym, ap, subst, ◌∙◌}
+use Rattle.std.proofs.Common.{◌≡◌, ℕ, ◌<◌, ◌≤◌, Bool, true, nat_le, List, [], ◌∷◌, map, length, get_or, All, Option, Some, None, sym, ap, subst, ◌∙◌}
 use Rattle.std.proofs.Common.{Vec, Global, arith}
-use Rattle.std.specs.List.{HoldsAt}
+use Rattle.std.specs.List.{HoldsAt, position, slice_get}
 use Rattle.std.proofs.lemmas.Bool.{and_parts, leb-true}
 use Rattle.std.proofs.lemmas.List.Quantifiers.{position-Some}
-use Rattle.std.proofs.lemmas.Option.{slice_get-get_or}
+use Rattle.std.proofs.lemmas.Option.{get_or_from_slice_get, none-some, slice_get-get_or}
 use Rattle.std.proofs.lemmas.List.{get_or-map, length-map}
+use Rattle.j39_search.specs.ListPlaces.{ValueAt}
 use Rattle.j39_network.specs.declared.plan.Plan.{Plan}
 use Rattle.j39_network.specs.declared.plan.group_plan.GroupPlan.{GroupPlan}
 use Rattle.j39_network.specs.Lengths.{IsLengthOf}
-use Rattle.j39_log.specs.inside.Listening.{IsCatalogOf}
+use Rattle.j39_log.specs.inside.Catalogs.{IsCatalogOf}
 use Rattle.j39_log.specs.inside.ValueLines.{items_of, value_lines_of}
 use Rattle.j39_log.specs.declared.value_line.ValueLine.{ValueLine}
 use Rattle.j39_log.specs.LogFrames.{planned_group, is_planned_as, is_shared_as, planned}
-use Rattle.j39_log.specs.NamedReports.{NumberNames, named_report, named_reading_lines}
+use Rattle.j39_log.specs.NamedReports.{NumberNames, named_reading_lines}
 use Rattle.j39_network.specs.declared.plan.meaning.Meaning.{Meaning}
 use Rattle.j39_log.specs.declared.name_table.NameTable.{NameTable}
 use Rattle.j39_log.specs.declared.names.GroupNames.{GroupNames}
@@ -21,10 +22,8 @@ use Rattle.j39_log.specs.declared.names.PlanNames.{PlanNames}
 use Rattle.j39_log.specs.inside.NameTables.{AreGroupNames, AreNamesOf, lines_by, names_in, names_of_tables, value_names_of}
 use Rattle.j39_log.proofs.NamedLists.{reads_by}
 use Rattle.j39_log.proofs.Unnamed.{states_of}
-use Rattle.j39_log.specs.ReadText.{IsGroupReport}
 use Rattle.j39_id.specs.Ident.{pgn_of}
 use Rattle.j39_id.specs.declared.frame.Frame.{Frame}
-use Rattle.j39_id.specs.declared.ident.Ident.{Ident}
 use Rattle.j39_log.specs.declared.catalog.Catalog.{Catalog}
 
 -- at a place of a catalog stands what is written around the values of the signals of the group there
@@ -45,7 +44,7 @@ pub of_group : {A : Type 0} (f : GroupPlan → A) (groups : List GroupPlan) (pla
 of_group f groups place group value here at = sym (at group) ∙ ap f (here group)
 
 -- the place that is found is within the groups, and its group has messages of this length
-pub planned_there : (plan : Plan) (pgn : ℕ) (bytes : List ℕ) (place : ℕ) (group : GroupPlan) → planned plan pgn bytes ≡ Some place
+planned_there : (plan : Plan) (pgn : ℕ) (bytes : List ℕ) (place : ℕ) (group : GroupPlan) → planned plan pgn bytes ≡ Some place
     → HoldsAt (λ (g : GroupPlan). g ≡ group) plan.groups.items place → (place < length plan.groups.items) × IsLengthOf group (length bytes)
 planned_there plan pgn bytes place group found here =
     let at = position-Some (is_planned_as pgn bytes) plan.groups.items place group found in
@@ -55,14 +54,23 @@ planned_there plan pgn bytes place group found here =
     let most = and_parts (nat_le n group.most) _ least.1 in
     (at.0, (leb-true group.length n least.0, leb-true n group.most most.0))
 
--- its report is that of the place
-pub report_there : (plan : Plan) (place : ℕ) (group : GroupPlan) (i : Ident) (bytes : List ℕ) → place < length plan.groups.items
-    → HoldsAt (λ (g : GroupPlan). g ≡ group) plan.groups.items place → IsGroupReport plan (Some place) i bytes (named_report plan group i bytes)
-report_there plan place group i bytes less here = record {
-  value = group;
-  value_is = slice_get-get_or plan.groups.items place group less ∙ ap Some (here group);
-  meets = refl;
-}
+at_place : (test : GroupPlan → Bool) (groups : List GroupPlan) (place : ℕ) → position test groups ≡ Some place
+    → (group : GroupPlan) × (slice_get groups place ≡ Some group)
+at_place test [] place found = absurd (none-some place found)
+at_place test (g ∷ groups) place found =
+    (get_or (g ∷ groups) place g, slice_get-get_or (g ∷ groups) place g (position-Some test (g ∷ groups) place g found).0)
+
+-- so at the place stands a group that has no more bytes than these
+pub planned_group_at : (plan : Plan) (pgn : ℕ) (bytes : List ℕ) (place : ℕ) → planned plan pgn bytes ≡ Some place
+    → ValueAt (λ (group : GroupPlan). group.length ≤ length bytes) plan.groups.items place
+planned_group_at plan pgn bytes place found =
+    let groups : List GroupPlan = plan.groups.items in
+    let there = at_place (is_planned_as pgn bytes) groups place found in
+    record {
+      value = there.0;
+      value_is = there.1;
+      meets = (planned_there plan pgn bytes place there.0 found (λ d. get_or_from_slice_get groups place there.0 d there.1)).1.0;
+    }
 
 -- the group that is found for a frame's number and its bytes
 pub found_for : (plan : Plan) (f : Frame) (pgn : ℕ) (bytes : List ℕ) (place : Option ℕ) → pgn ≡ pgn_of f.ident → bytes ≡ f.payload.items

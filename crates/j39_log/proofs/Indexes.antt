@@ -10,7 +10,8 @@ use Rattle.std.proofs.lemmas.List.{get_or_append_left, length-append}
 use Rattle.std.proofs.lemmas.List.Elements.{All-push}
 use Rattle.j39_network.specs.declared.plan.group_plan.GroupPlan.{GroupPlan}
 use Rattle.j39_log.specs.declared.catalog.Span.{Span}
-use Rattle.j39_log.specs.inside.Listening.{IsIndex, IsSpanOf, extended, has_number}
+use Rattle.j39_log.specs.GroupSpans.{IsSpanOf, has_number}
+use Rattle.j39_log.specs.inside.Catalogs.{IsIndex, extended}
 use Rattle.j39_log.specs.LogFrames.{is_planned_as}
 
 -- ---- the first place

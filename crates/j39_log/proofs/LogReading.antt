@@ -24,21 +24,12 @@ within_more counts m n more within =
     }
 
 pub within_line : (old new : LineCounts) (m n : ℕ) → m < n → IsLineMore old new → AreWithin old m → AreWithin new n
-within_line old new m n more line within =
-    let frames = line.frames in
-    let skipped = line.skipped in
-    let bad = line.bad in
-    let elsewhere = line.elsewhere in
-    let few_frames = within.frames in
-    let few_skipped = within.skipped in
-    let few_bad = within.bad in
-    let few_elsewhere = within.elsewhere in
-    record {
-      frames = omega (arith, frames, few_frames, more);
-      skipped = omega (arith, skipped, few_skipped, more);
-      bad = omega (arith, bad, few_bad, more);
-      elsewhere = omega (arith, elsewhere, few_elsewhere, more);
-    }
+within_line old new m n more line within = record {
+  frames = omega (arith, line.frames, within.frames, more);
+  skipped = omega (arith, line.skipped, within.skipped, more);
+  bad = omega (arith, line.bad, within.bad, more);
+  elsewhere = omega (arith, line.elsewhere, within.elsewhere, more);
+}
 
 -- ---- lines after lines
 

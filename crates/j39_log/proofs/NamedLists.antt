@@ -1,8 +1,8 @@
 -- The lines of signals and records with names, one after another.
-use Rattle.std.proofs.Common.{◌≡◌, ℕ, suc, ◌+◌, ◌*◌, ◌<◌, Bool, true, false, if◌then◌else◌, List, [], ◌∷◌, ◌++◌, map, length, drop, get_or, Option, Some, None}
+use Rattle.std.proofs.Common.{◌≡◌, ℕ, ◌+◌, ◌<◌, ◌≤◌, Bool, true, false, if◌then◌else◌, List, [], ◌∷◌, ◌++◌, map, length, drop, get_or, Option, Some, None}
 use Rattle.std.proofs.Common.{refl, sym, ap, ◌∙◌, append_assoc, arith}
 use Rattle.std.specs.List.{filter, zip}
-use Rattle.std.proofs.lemmas.List.{drop_more, get_or-map, length-map}
+use Rattle.std.proofs.lemmas.List.{drop_all, drop_more, get_or-map, length-map}
 use Rattle.std.proofs.lemmas.Slice.Zip.{get_or-zip, length-zip}
 use Rattle.j39_signal.specs.Bits.{raw_of}
 use Rattle.j39_signal.specs.Parts.{SignalParts}
@@ -13,7 +13,7 @@ use Rattle.j39_network.specs.declared.plan.group_plan.GroupPlan.{GroupPlan}
 use Rattle.j39_log.specs.LogReports.{signal_state_text}
 use Rattle.j39_log.specs.LogReports as plain
 use Rattle.j39_log.specs.NamedReports.{HasNoMeanings, NamedSignal, NumberNames, meaning_names, named_lines, parameter_names, raw_text, named_reading_lines}
-use Rattle.j39_log.specs.NamedReports.{named_record_line, named_record_lines, named_record_signals, named_records_lines, named_signal_line, named_signal_lines}
+use Rattle.j39_log.specs.NamedReports.{named_record_line, named_record_lines, named_record_signals, named_signal_line, named_signal_lines}
 use Rattle.j39_log.specs.NamedReports.{named_single_signals, named_state_text}
 use Rattle.j39_log.specs.declared.name_table.NameTable.{NameTable}
 use Rattle.j39_log.specs.declared.names.GroupNames.{GroupNames}
@@ -31,6 +31,13 @@ named_at tables signals i s t count less signal table =
 pub named_count : (tables : List NameTable) (signals : List SignalParts) → length tables ≡ length signals
     → length (named_by tables signals) ≡ length signals
 named_count tables signals count = omega (arith, count, length-zip signals (map names_in tables), length-map tables names_in)
+
+-- behind the last signal there is none
+pub all_named : (tables : List NameTable) (signals : List SignalParts) (i : ℕ) → length tables ≡ length signals → length signals ≤ i
+    → drop i (named_by tables signals) ≡ []
+all_named tables signals i count past =
+    let same = named_count tables signals count in
+    drop_all i (named_by tables signals) (omega (arith, same, past))
 
 -- ---- signals
 
@@ -92,15 +99,6 @@ one_more_record_line parameters place behind signals bytes old new all i s less 
     ap (λ (xs : List NamedSignal). named_record_lines parameters place (named_record_signals behind xs) bytes) (drop_more signals i s less ∙ ap (λ (t : NamedSignal). t ∷ rest) (sym here))
     ∙ with_record s.0.repeated parameters place behind s (filter (λ (t : NamedSignal). t.0.repeated) rest) bytes in
     rw (written, append_assoc) (rw next at before)
-
--- one more record
-pub record_more : (parameters : NumberNames) (every n : ℕ) (signals : List NamedSignal) (bytes : List ℕ)
-    → named_records_lines parameters every (n + 1) signals bytes
-    ≡ named_records_lines parameters every n signals bytes ++ named_record_lines parameters (n + 1) (named_record_signals (every * n) signals) bytes
-unfolding named_records_lines
-record_more parameters every n signals bytes =
-    let next : n + 1 ≡ suc n = omega arith in
-    ap (λ (m : ℕ). named_records_lines parameters every m signals bytes) next
 
 -- ---- a group
 

@@ -7,6 +7,7 @@ use Rattle.std.proofs.lemmas.Iterator.Adapters.{position_from-zero}
 use Rattle.std.proofs.lemmas.Bool.{false≢true}
 use Rattle.std.proofs.lemmas.List.{append-nil}
 use Rattle.std.proofs.lemmas.List.Elements.{All-head, All-tail}
+use Rattle.std.proofs.Math.Bool.{and-true}
 use Rattle.j39_signal.specs.declared.kind.Kind.{Kind}
 use Rattle.j39_signal.specs.Parts.{SignalParts}
 use Rattle.j39_signal.specs.Selectors.{is_selected}
@@ -24,17 +25,13 @@ use Rattle.j39_log.specs.LogReports.{value_text}
 use Rattle.j39_log.specs.TextLines.{text_lines}
 use Rattle.j39_log.specs.OlderPlans.{GroupsAreFoundByNumber, IsOlderKind, SignalsAlone, ValuesAreShownWhole, has_number_and_length}
 
-and_all : (b : Bool) → (b && true) ≡ b
-and_all true = refl
-and_all false = refl
-
 shared : (group : GroupPlan) (pgn : ℕ) (bytes : List ℕ) → group.private ≡ false → group.when ≡ None → group.most ≡ group.length
     → is_planned_as pgn bytes group ≡ has_number_and_length pgn (length bytes) group
 shared group pgn bytes own any one =
     let n : ℕ = length bytes in
     ap (λ (b : Bool). (not b && group.pgn == pgn) && (nat_le group.length n && (nat_le n group.most && is_selected group.when bytes))) own
     ∙ ap (λ (w : Option Selector). group.pgn == pgn && (nat_le group.length n && (nat_le n group.most && is_selected w bytes))) any
-    ∙ ap (λ (b : Bool). group.pgn == pgn && (nat_le group.length n && b)) (and_all (nat_le n group.most))
+    ∙ ap (λ (b : Bool). group.pgn == pgn && (nat_le group.length n && b)) (and-true (nat_le n group.most))
     ∙ ap (λ (m : ℕ). group.pgn == pgn && (nat_le group.length n && nat_le n m)) one
     ∙ ap (λ (b : Bool). group.pgn == pgn && b) (same_length group.length n)
 

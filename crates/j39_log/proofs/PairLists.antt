@@ -1,18 +1,20 @@
 -- What a pair heard, packet after packet, and what its listener is then.
 use Rattle.std.proofs.Common.{◌≡◌, ℕ, zero, suc, ◌<◌, ◌≤◌, Bool, true, false, if◌then◌else◌, List, [], ◌∷◌, ◌++◌, length, All, Option}
-use Rattle.std.proofs.Common.{Some, None, refl, sym, ap, ◌∙◌, subst, arith, append_assoc, add-one, eq-eqb, ◌==◌, ◌&&◌, ◌||◌}
+use Rattle.std.proofs.Common.{Some, None, refl, sym, ap, ◌∙◌, subst, arith, append_assoc, add-one, eq-eqb, ◌==◌, ◌&&◌}
 use Rattle.std.specs.List.{slice_get}
 use Rattle.std.proofs.lemmas.List.{append-nil, length_push}
 use Rattle.std.proofs.lemmas.List.Elements.{All-head, All-tail, All-append, All-cons}
 use Rattle.std.proofs.lemmas.Option.{slice_get_within, get_or_from_slice_get}
+use Rattle.std.proofs.lemmas.Bool.{or_left}
 use Rattle.j39_id.specs.declared.frame.Frame.{Frame}
 use Rattle.j39_id.specs.declared.ident.Ident.{Ident}
 use Rattle.j39_tp.specs.Carried.{listened, AreInRange}
 use Rattle.j39_tp.specs.Packets.{InRange}
 use Rattle.j39_tp.specs.Receiver.{Receiving, receives}
 use Rattle.j39_tp.specs.declared.packet.Packet.{Packet}
-use Rattle.j39_log.specs.inside.Listening.{HaveHeard, AreAllInRange, IsInRange, ListenerRow, listener_of_pair, after_all}
+use Rattle.j39_log.specs.PairListeners.{AreAllInRange, HaveHeard, IsInRange, ListenerRow, after_all, listener_of_pair}
 use Rattle.j39_log.specs.LogPairs.{Seen, heard, heard_of, is_abort, is_heard_by}
+use Rattle.j39_tp.proofs.Gathering.{last_stands}
 
 -- ---- one more packet
 
@@ -20,10 +22,6 @@ slice_get_front : (h t : List Packet) (q : ℕ) → q < length h → slice_get (
 slice_get_front [] t q less = absurd (omega arith)
 slice_get_front (p ∷ h) t zero less = refl
 slice_get_front (p ∷ h) t (suc q) less = slice_get_front h t q (omega arith)
-
-pub slice_get_end : (h : List Packet) (p : Packet) → slice_get (h ++ p ∷ []) (length h) ≡ Some p
-slice_get_end [] p = refl
-slice_get_end (q ∷ h) p = slice_get_end h p
 
 pub listened_front : (h t : List Packet) (q : ℕ) → q ≤ length h → listened (h ++ t) q ≡ listened h q
 listened_front h t zero within = refl
@@ -36,7 +34,7 @@ listened_front h t (suc q) within =
 pub after_more : (h : List Packet) (p : Packet) → listened (h ++ p ∷ []) (suc (length h)) ≡ receives (after_all h) p
 after_more h p =
     let before : listened (h ++ p ∷ []) (length h) ≡ listened h (length h) = listened_front h (p ∷ []) (length h) (omega arith) in
-    let here : slice_get (h ++ p ∷ []) (length h) ≡ Some p = slice_get_end h p in
+    let here : slice_get (h ++ p ∷ []) (length h) ≡ Some p = last_stands h p in
     rw (before, here) refl
 
 after_all_more : (h : List Packet) (p : Packet) → after_all (h ++ p ∷ []) ≡ receives (after_all h) p
@@ -111,10 +109,6 @@ itself s t =
     let two = eq-eqb t t refl in
     rw (one, two) refl
 
-either : (a b : Bool) → a ≡ true → (a || b) ≡ true
-either true b e = refl
-either false b e = cc
-
 if_true : (b : Bool) (x y : Receiving) → b ≡ true → (if b then x else y) ≡ x
 if_true true x y e = refl
 if_true false x y e = cc
@@ -126,4 +120,4 @@ pub heard_itself : (old new : List ListenerRow) (i : Ident) (p : Packet)
 heard_itself old new i p turn =
     turn i.sa i.ps i.sa_range i.ps_range
     ∙ if_true (is_heard_by i.sa i.ps i p) (receives (listener_of_pair old i.sa i.ps) p) (listener_of_pair old i.sa i.ps)
-    (either (i.sa == i.sa && i.ps == i.ps) (is_abort p && (i.ps == i.sa && i.sa == i.ps)) (itself i.sa i.ps))
+    (or_left (i.sa == i.sa && i.ps == i.ps) (is_abort p && (i.ps == i.sa && i.sa == i.ps)) (itself i.sa i.ps))

@@ -1,7 +1,9 @@
 -- The lines of records, one after another.
 use Rattle.std.proofs.Common.{◌≡◌, ℕ, Some, suc, ◌+◌, ◌*◌, ◌<◌, Bool, true, false, if◌then◌else◌, List, [], ◌∷◌, ◌++◌, map, zero, All, length, drop, get_or, refl}
-use Rattle.std.proofs.Common.{sym, ap, subst, ◌∙◌, arith}
+use Rattle.std.proofs.Common.{sym, ap, subst, ◌∙◌, append_assoc, arith}
+use Rattle.std.specs.List.{HoldsAt}
 use Rattle.std.proofs.lemmas.Bool.{false≢true}
+use Rattle.std.proofs.lemmas.Option.{get_or_from_slice_get, slice_get_read}
 use Rattle.std.proofs.lemmas.List.Elements.{All-head, All-tail}
 use Rattle.std.proofs.lemmas.List.{append-nil, drop_more}
 use Rattle.j39_signal.specs.Bits.{raw_of}
@@ -11,7 +13,7 @@ use Rattle.j39_signal.specs.State.{state_of}
 use Rattle.j39_network.specs.Records.{record_count, record_signals, repeated_signals}
 use Rattle.j39_network.specs.declared.plan.group_plan.GroupPlan.{GroupPlan}
 use Rattle.j39_network.proofs.RecordCounts.{records_counted}
-use Rattle.j39_log.specs.LogReports.{record_line, record_lines, records_lines, signal_state_text}
+use Rattle.j39_log.specs.LogReports.{of_records, record_line, record_lines, signal_state_text}
 
 -- each record that is counted lies inside the message
 pub record_inside : (group : GroupPlan) (every bytes count place : ℕ) → group.every ≡ Some every → count ≡ record_count group bytes → place < count
@@ -48,7 +50,7 @@ with_first true place behind s rest bytes =
 with_first false place behind s rest bytes = refl
 
 -- the lines of a record from a signal on are those of this one and of the signals behind it
-pub record_from : (place behind : ℕ) (signals : List SignalParts) (bytes : List ℕ) (i : ℕ) (s : SignalParts) → i < length signals → s ≡ get_or signals i s
+record_from : (place behind : ℕ) (signals : List SignalParts) (bytes : List ℕ) (i : ℕ) (s : SignalParts) → i < length signals → s ≡ get_or signals i s
     → record_lines place (record_signals behind (drop i signals)) bytes
     ≡ record_lines place (record_signals behind (s ∷ [])) bytes ++ record_lines place (record_signals behind (drop (i + 1) signals)) bytes
 record_from place behind signals bytes i s less is =
@@ -56,13 +58,23 @@ record_from place behind signals bytes i s less is =
     (drop_more signals i s less ∙ ap (λ (t : SignalParts). t ∷ drop (i + 1) signals) (sym is))
     ∙ with_first s.repeated place behind s (repeated_signals (drop (i + 1) signals)) bytes
 
--- one more record
-pub record_more : (every n : ℕ) (signals : List SignalParts) (bytes : List ℕ)
-    → records_lines every (n + 1) signals bytes ≡ records_lines every n signals bytes ++ record_lines (n + 1) (record_signals (every * n) signals) bytes
-unfolding records_lines
-record_more every n signals bytes =
-    let next : n + 1 ≡ suc n = omega arith in
-    ap (λ (m : ℕ). records_lines every m signals bytes) next
+-- one more signal of a record is written
+pub one_more_signal : (place behind : ℕ) (signals : List SignalParts) (bytes old new all : List ℕ) (i : ℕ) (s : SignalParts) → i < length signals
+    → s ≡ get_or signals i s → new ≡ old ++ record_lines place (record_signals behind (s ∷ [])) bytes
+    → old ++ record_lines place (record_signals behind (drop i signals)) bytes ≡ all
+    → new ++ record_lines place (record_signals behind (drop (i + 1) signals)) bytes ≡ all
+one_more_signal place behind signals bytes old new all i s less here written before =
+    let rest : List ℕ = record_lines place (record_signals behind (drop (i + 1) signals)) bytes in
+    ap (λ (t : List ℕ). t ++ rest) written ∙ append_assoc old (record_lines place (record_signals behind (s ∷ [])) bytes) rest
+    ∙ sym (ap (λ (t : List ℕ). old ++ t) (record_from place behind signals bytes i s less here)) ∙ before
+
+-- one more record is written
+pub one_more_record : (lines : ℕ → List ℕ) (old text new : List ℕ) (n : ℕ) → text ≡ old ++ of_records lines n → new ≡ text ++ lines n
+    → new ≡ old ++ of_records lines (n + 1)
+unfolding of_records
+one_more_record lines old text new n before written =
+    let next : suc n ≡ n + 1 = omega arith in
+    written ∙ ap (λ (t : List ℕ). t ++ lines n) before ∙ append_assoc old (of_records lines n) (lines n) ∙ ap (λ (m : ℕ). old ++ of_records lines m) next
 
 -- what all signals of a record meet, each one that is repeated meets
 
@@ -76,7 +88,7 @@ tail_of : (P : SignalParts → Type 0) (n : ℕ) (b : Bool) (s : SignalParts) (r
 tail_of P n true s rest all = All-tail P (further n s) (map (further n) rest) all
 tail_of P n false s rest all = all
 
-pub at_record : (P : SignalParts → Type 0) (n : ℕ) (signals : List SignalParts) (i : ℕ) (s : SignalParts) → i < length signals → s ≡ get_or signals i s
+at_record : (P : SignalParts → Type 0) (n : ℕ) (signals : List SignalParts) (i : ℕ) (s : SignalParts) → i < length signals → s ≡ get_or signals i s
     → All P (record_signals n signals) → s.repeated ≡ true → P (further n s)
 at_record P n [] i s less is all repeated = absurd (omega arith)
 at_record P n (x ∷ rest) zero s less is all repeated =
@@ -84,3 +96,17 @@ at_record P n (x ∷ rest) zero s less is all repeated =
     subst (λ (t : SignalParts). P (further n t)) (sym is) (head_of P n x.repeated x (repeated_signals rest) first all)
 at_record P n (x ∷ rest) (suc i) s less is all repeated =
     at_record P n rest i s (omega (arith, less)) is (tail_of P n x.repeated x (repeated_signals rest) all) repeated
+
+-- the signal that is found at a place of a group stands at that of its layout
+pub stands_at : (laid signals : List SignalParts) (i : ℕ) (s : SignalParts) → laid ≡ signals → i < length signals → s ≡ get_or signals i s
+    → HoldsAt (λ (t : SignalParts). t ≡ s) laid i
+stands_at laid signals i s same less is = λ d.
+    ap (λ (xs : List SignalParts). get_or xs i d) same
+    ∙ get_or_from_slice_get signals i s d (slice_get_read signals (length signals) i s refl less is)
+
+-- and if it is repeated it lies inside the message in each record
+pub inside_at : (n behind : ℕ) (laid signals : List SignalParts) (i : ℕ) (s : SignalParts) → laid ≡ signals → i < length signals → s ≡ get_or signals i s
+    → All (IsInside n) (record_signals behind signals) → s.repeated ≡ true → HoldsAt (λ (t : SignalParts). IsInside n (further behind t)) laid i
+inside_at n behind laid signals i s same less is all repeated = λ d.
+    subst (λ (t : SignalParts). IsInside n (further behind t)) (sym (stands_at laid signals i s same less is d))
+    (at_record (IsInside n) behind signals i s less is all repeated)

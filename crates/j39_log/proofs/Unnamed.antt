@@ -1,12 +1,11 @@
 -- Plans without names.
-use Rattle.std.proofs.Common.{◌≡◌, ◌==◌, ℕ, zero, suc, ◌+◌, ◌*◌, Bool, true, false, if◌then◌else◌, ℤ, List, [], ◌∷◌, ◌++◌, map, length, get_or, Option, Some}
+use Rattle.std.proofs.Common.{◌≡◌, ◌==◌, ℕ, ◌+◌, Bool, true, false, if◌then◌else◌, ℤ, List, [], ◌∷◌, ◌++◌, map, length, get_or, Option, Some}
 use Rattle.std.proofs.Common.{None, All, refl, ap, ◌∙◌, arith}
 use Rattle.std.proofs.Math.Path.{fun_ext}
 use Rattle.std.specs.Prelude.{is_none, option_map, unsigned_abs}
 use Rattle.std.specs.List.{filter, find, list_all, zip}
-use Rattle.std.specs.Option.{option_map_or}
 use Rattle.std.proofs.lemmas.Bool.{and_parts, eqb-true}
-use Rattle.std.proofs.lemmas.List.{append-nil}
+use Rattle.std.proofs.lemmas.List.{append-nil, nil_from_length}
 use Rattle.std.proofs.lemmas.List.Elements.{All-cons, All-head, All-tail}
 use Rattle.j39_signal.specs.Bits.{raw_of}
 use Rattle.j39_signal.specs.Parts.{SignalParts}
@@ -16,15 +15,15 @@ use Rattle.j39_signal.specs.declared.kind.Kind.{Kind}
 use Rattle.j39_signal.specs.declared.kind.Kind.TheVariants.{Measured, Discrete, Raw, States, Signed, Dtc}
 use Rattle.j39_signal.specs.declared.state.State.{State}
 use Rattle.j39_signal.specs.declared.state.State.TheVariants.{Value, Specific, Reserved, Fault, Absent}
-use Rattle.j39_network.specs.Records.{record_count, record_signals, repeated_signals, single_signals, stands_once}
+use Rattle.j39_network.specs.Records.{record_signals, repeated_signals, single_signals, stands_once}
 use Rattle.j39_network.specs.declared.plan.Plan.{Plan}
 use Rattle.j39_network.specs.declared.plan.group_plan.GroupPlan.{GroupPlan}
 use Rattle.j39_network.specs.declared.plan.meaning.Meaning.{Meaning}
 use Rattle.j39_log.specs.LogReports as plain
 use Rattle.j39_log.specs.TextLines.{text_lines}
 use Rattle.j39_log.specs.NamedReports as named
-use Rattle.j39_log.specs.NamedReports.{HasNoMeanings, NamedSignal, NumberNames, Numbered, StatesAlone, all_numbered, first_names, is_numbered, meaning_names}
-use Rattle.j39_log.specs.NamedReports.{named_signals, numbered_as, numbered_signals, parameter_names, named_reading_lines}
+use Rattle.j39_log.specs.NamedReports.{HasNoMeanings, NamedSignal, NumberNames, Numbered, StatesAlone, all_numbered, is_numbered, meaning_names}
+use Rattle.j39_log.specs.NamedReports.{named_signals, numbered_as, parameter_names, named_reading_lines}
 use Rattle.j39_log.specs.inside.NameTables.{has_no_meaning, has_no_meanings}
 
 -- no number has a name
@@ -119,22 +118,13 @@ in_record : (behind : ℕ) (signals : List SignalParts) → named.named_record_s
 in_record behind signals =
     ap (map (λ (s : NamedSignal). (further behind s.0, s.1))) (repeats signals) ∙ moved behind (repeated_signals signals)
 
-records_alone : (every count : ℕ) (signals : List SignalParts) (bytes : List ℕ)
-    → named.named_records_lines nothing every count (unnamed signals) bytes ≡ plain.records_lines every count signals bytes
-unfolding named.named_records_lines plain.records_lines
-records_alone every zero signals bytes = refl
-records_alone every (suc behind) signals bytes =
-    ap (λ (t : List ℕ). t ++ named.named_record_lines nothing (behind + 1) (named.named_record_signals (every * behind) (unnamed signals)) bytes)
-    (records_alone every behind signals bytes)
-    ∙ ap (λ (t : List ℕ). plain.records_lines every behind signals bytes ++ t)
-    (ap (λ (l : List NamedSignal). named.named_record_lines nothing (behind + 1) l bytes) (in_record (every * behind) signals)
-    ∙ record_alone (behind + 1) (record_signals (every * behind) signals) bytes)
-
-all_alone : (group : GroupPlan) (every : Option ℕ) (signals : List SignalParts) (bytes : List ℕ)
-    → option_map_or (λ every. named.named_records_lines nothing every (record_count group (length bytes)) (unnamed signals) bytes) every []
-    ≡ option_map_or (λ every. plain.records_lines every (record_count group (length bytes)) signals bytes) every []
-all_alone group None signals bytes = refl
-all_alone group (Some every) signals bytes = records_alone every (record_count group (length bytes)) signals bytes
+records_alone : (group : GroupPlan) (n : ℕ) (signals : List SignalParts) (bytes : List ℕ)
+    → plain.lines_of_all_records (λ place behind. named.named_record_lines nothing place (named.named_record_signals behind (unnamed signals)) bytes) group n
+    ≡ plain.lines_of_all_records (λ place behind. plain.record_lines place (record_signals behind signals) bytes) group n
+records_alone group n signals bytes =
+    ap (λ (lines : ℕ → ℕ → List ℕ). plain.lines_of_all_records lines group n)
+    (fun_ext (λ place. fun_ext (λ behind. ap (λ (l : List NamedSignal). named.named_record_lines nothing place l bytes) (in_record behind signals)
+    ∙ record_alone place (record_signals behind signals) bytes)))
 
 pub reads_alone : (group : GroupPlan) (bytes : List ℕ)
     → named.named_lines nothing (unnamed group.signals.items) group bytes ≡ plain.reading_lines group bytes
@@ -145,9 +135,10 @@ reads_alone group bytes =
     let n : ℕ = length bytes in
     let first : named.named_signal_lines nothing (named.named_single_signals n (unnamed signals)) bytes ≡ plain.signal_lines (single_signals n signals) bytes =
     ap (λ (l : List NamedSignal). named.named_signal_lines nothing l bytes) (singles n signals) ∙ lines_alone (single_signals n signals) bytes in
-    ap (λ (t : List ℕ). t ++ (option_map_or (λ every. named.named_records_lines nothing every (record_count group (length bytes)) (unnamed signals) bytes) group.every []
+    ap (λ (t : List ℕ). t
+    ++ (plain.lines_of_all_records (λ place behind. named.named_record_lines nothing place (named.named_record_signals behind (unnamed signals)) bytes) group n
     ++ texts)) first
-    ∙ ap (λ (t : List ℕ). plain.signal_lines (single_signals n signals) bytes ++ (t ++ texts)) (all_alone group group.every signals bytes)
+    ∙ ap (λ (t : List ℕ). plain.signal_lines (single_signals n signals) bytes ++ (t ++ texts)) (records_alone group n signals bytes)
 
 -- ---- names
 
@@ -204,14 +195,10 @@ none_there : (o : Option ℕ) → is_none o ≡ true → o ≡ None
 none_there None is = refl
 none_there (Some n) is = cc
 
-nothing_there : {X : Type 0} (xs : List X) → length xs ≡ 0 → xs ≡ []
-nothing_there [] is = refl
-nothing_there (x ∷ xs) is = absurd (omega (arith, is))
-
 unnamed_meaning : (m : Meaning) → has_no_meaning m ≡ true → IsUnnamed m
 unnamed_meaning m is =
     let parts = and_parts (is_none m.spn) (length m.values.items == 0) is in
-    (none_there m.spn parts.0, nothing_there m.values.items (eqb-true (length m.values.items) 0 parts.1))
+    (none_there m.spn parts.0, nil_from_length m.values.items (eqb-true (length m.values.items) 0 parts.1))
 
 all_from : {X : Type 0} (p : X → Bool) (P : X → Type 0) (holds : (x : X) → p x ≡ true → P x) (xs : List X) → list_all p xs ≡ true → All P xs
 all_from p P holds [] is = λ k d below. absurd (omega arith)

@@ -1,10 +1,13 @@
+pub mod GroupSpans
 pub mod LineCounting
 pub mod LogFrames
 pub mod LogPairs
 pub mod LogReports
 pub mod NamedReports
 pub mod OlderPlans
+pub mod PairListeners
 pub mod ReadText
+pub mod ReportHeads
 pub mod ReportedLogs
 pub mod TextLines
 pub mod inside

@@ -12,7 +12,7 @@ use Rattle.j39_tp.specs.Packets.{ManagementReads, DataReads}
 use Rattle.j39_tp.specs.declared.packet.Packet.{Packet}
 use Rattle.j39_tp.specs.declared.packet.Packet.TheVariants.{Rts, Bam}
 
--- the group has this number, and isn't private: whose number a private one has, a log doesn't tell
+-- the group has this number, and isn't private: whose number a private one has, a log doesn't report
 abbrev pub is_shared_as : ℕ → GroupPlan → Bool
 is_shared_as pgn group = not group.private && group.pgn == pgn
 

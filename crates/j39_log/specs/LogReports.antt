@@ -84,16 +84,21 @@ unfoldable pub record_lines : ℕ → List SignalParts → List ℕ → List ℕ
 record_lines place [] bytes = []
 record_lines place (s ∷ rest) bytes = record_line place s (state_of s (raw_of bytes s)) ++ record_lines place rest bytes
 
--- what those of so many records read, one record after another
-unfoldable pub records_lines : ℕ → ℕ → List SignalParts → List ℕ → List ℕ
-records_lines every zero signals bytes = []
-records_lines every (suc behind) signals bytes =
-    records_lines every behind signals bytes ++ record_lines (behind + 1) (record_signals (every * behind) signals) bytes
+-- what so many records read, one after another: each so many records behind the first
+unfoldable pub of_records : (ℕ → List ℕ) → ℕ → List ℕ
+of_records lines zero = []
+of_records lines (suc behind) = of_records lines behind ++ lines behind
 
--- what the records of a group read that end inside these bytes
+abbrev pub lines_of_records : (ℕ → ℕ → List ℕ) → ℕ → ℕ → List ℕ
+lines_of_records lines every = of_records (λ behind. lines (behind + 1) (every * behind))
+
+-- what the records of a group read that end inside so many bytes, by what each one reads at its place
+abbrev pub lines_of_all_records : (ℕ → ℕ → List ℕ) → GroupPlan → ℕ → List ℕ
+lines_of_all_records lines group bytes = option_map_or (λ every. lines_of_records lines every (record_count group bytes)) group.every []
+
 unfoldable pub all_records_lines : GroupPlan → List ℕ → List ℕ
 all_records_lines group bytes =
-    option_map_or (λ every. records_lines every (record_count group (length bytes)) group.signals.items bytes) group.every []
+    lines_of_all_records (λ place behind. record_lines place (record_signals behind group.signals.items) bytes) group (length bytes)
 
 -- ---- a report
 

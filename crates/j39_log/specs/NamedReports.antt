@@ -1,5 +1,5 @@
 -- The lines that report a group of a plan, with the names that the plan has: of raw numbers of a signal, and of suspect parameters.
-use Rattle.std.specs.Prelude.{◌≡◌, ℕ, zero, suc, false, ◌+◌, ◌*◌, ◌/◌, ◌%◌, ◌^◌, not, ◌&&◌, ℤ, unsigned_abs, Bool, List, [], ◌∷◌, ◌++◌, ◌==◌, if◌then◌else◌}
+use Rattle.std.specs.Prelude.{◌≡◌, ℕ, false, ◌+◌, ◌/◌, ◌%◌, ◌^◌, not, ◌&&◌, ℤ, unsigned_abs, Bool, List, [], ◌∷◌, ◌++◌, ◌==◌, if◌then◌else◌}
 use Rattle.std.specs.Prelude.{length, map, All, Option, None, option_map, codes}
 use Rattle.std.specs.List.{filter, find, zip}
 use Rattle.std.specs.Option.{option_map_or}
@@ -12,7 +12,7 @@ use Rattle.j39_signal.specs.declared.kind.Kind.TheVariants.{Dtc}
 use Rattle.j39_signal.specs.State.{state_of, value_of}
 use Rattle.j39_signal.specs.declared.state.State.{State}
 use Rattle.j39_signal.specs.declared.state.State.TheVariants.{Value}
-use Rattle.j39_network.specs.Records.{record_count, stands_once}
+use Rattle.j39_network.specs.Records.{stands_once}
 use Rattle.j39_network.specs.declared.plan.Plan.{Plan}
 use Rattle.j39_network.specs.declared.plan.group_plan.GroupPlan.{GroupPlan}
 use Rattle.j39_network.specs.declared.plan.meaning.Meaning.{Meaning}
@@ -74,7 +74,7 @@ parameter_names plan = first_names (all_numbered plan.groups.items)
 unfoldable pub parameter_name_text : NumberNames → ℕ → List ℕ
 parameter_name_text parameters spn = option_map_or (λ name. codes " " ++ name) (parameters spn) []
 
--- what a trouble code says tells a suspect parameter
+-- what a trouble code says reports a suspect parameter
 abbrev pub has_parameter : ℕ → Bool
 has_parameter code = not (code == 0) && code / 2 ^ 31 % 2 == 0
 
@@ -125,17 +125,10 @@ named_single_signals bytes = filter (λ s. stands_once bytes s.0)
 abbrev pub named_record_signals : ℕ → List NamedSignal → List NamedSignal
 named_record_signals bytes signals = map (λ s. (further bytes s.0, s.1)) (filter (λ s. s.0.repeated) signals)
 
--- what those of so many records read, one record after another
-unfoldable pub named_records_lines : NumberNames → ℕ → ℕ → List NamedSignal → List ℕ → List ℕ
-named_records_lines parameters every zero signals bytes = []
-named_records_lines parameters every (suc behind) signals bytes =
-    named_records_lines parameters every behind signals bytes
-    ++ named_record_lines parameters (behind + 1) (named_record_signals (every * behind) signals) bytes
-
 -- what the records of a group read that end inside these bytes
 unfoldable pub all_named_records_lines : NumberNames → GroupPlan → List NamedSignal → List ℕ → List ℕ
 all_named_records_lines parameters group signals bytes =
-    option_map_or (λ every. named_records_lines parameters every (record_count group (length bytes)) signals bytes) group.every []
+    plain.lines_of_all_records (λ place behind. named_record_lines parameters place (named_record_signals behind signals) bytes) group (length bytes)
 
 -- what the signals of a group that aren't repeated and are there, its records and its texts read in these bytes, by these names
 unfoldable pub named_lines : NumberNames → List NamedSignal → GroupPlan → List ℕ → List ℕ

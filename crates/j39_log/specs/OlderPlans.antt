@@ -20,7 +20,7 @@ use Rattle.j39_text.specs.Texts.{field_text}
 abbrev pub has_number_and_length : ℕ → ℕ → GroupPlan → Bool
 has_number_and_length pgn bytes group = group.pgn == pgn && group.length == bytes
 
--- where no group is private or told by its data and each has one length, that of a frame or message is the first of its number and length
+-- where no group is private or distinguished by its data and each has one length, that of a frame or message is the first of its number and length
 abbrev pub GroupsAreFoundByNumber : Type 0
 GroupsAreFoundByNumber = (plan : Plan) (pgn : ℕ) (bytes : List ℕ) → HasNoPrivate plan → HasNoSelectors plan → HasOneLengthEach plan
     → planned plan pgn bytes ≡ position (has_number_and_length pgn (length bytes)) plan.groups.items

@@ -1,17 +1,18 @@
 //! What the read command reports of a log: the planned groups in its frames and messages, by addresses.
 ghost use Rattle.std.specs.Prelude.{◌≡◌, ℕ, List, [], ◌∷◌, ◌++◌, Option, Some, OnOk};
 ghost use Rattle.j39_tp.specs.Packets.{InRange};
-ghost use Rattle.j39_log.specs.inside.Listening.{AreAllInRange, HaveHeard, IsInRange};
+ghost use Rattle.j39_log.specs.PairListeners.{AreAllInRange, HaveHeard, IsInRange};
 ghost use Rattle.j39_log.specs.LogFrames.{IsHeardAs, planned};
 ghost use Rattle.j39_log.specs.LogPairs.{Seen};
 ghost use Rattle.j39_log.specs.ReadText.{IsFrameReport, IsGroupReport, counts_line};
 ghost use Rattle.j39_tp.specs.declared.packet.Packet.{Packet as APacket};
 
-use crate::group_report::write_report;
+use crate::group_report::write_group_line;
 use crate::groups::Groups;
 use crate::line_counts::LineCounts;
 use crate::listeners::{Listeners, listen};
 use crate::log_report::LogReport;
+use crate::readings::write_group_readings;
 use crate::transport::transport_packet;
 use j39_id::{Frame, Ident, read_frame};
 use j39_text::TextBuffer;
@@ -37,16 +38,8 @@ fn write_group(
     ensures { OnOk result ((piece : List ℕ) × IsGroupReport groups.now (Some place) ident bytes.now piece
         × (text.new ≡ text.old ++ piece)) }
 {
-    write_report(
-        text,
-        groups.group(place),
-        groups.head(place),
-        groups.names(place),
-        groups.lines(place),
-        groups.layout(place),
-        ident,
-        bytes,
-    )
+    write_group_line(text, groups.head(place), ident, bytes)?;
+    write_group_readings(text, groups, place, bytes)
 }
 
 // The report of a message, where a group is planned of its number and length.

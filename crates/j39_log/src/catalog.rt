@@ -1,6 +1,6 @@
 //! The layouts of a plan's groups, what their reports have in common, and where the groups of one number stand.
 ghost use Rattle.std.specs.Prelude.{◌≡◌, ◌≢◌, ◌<◌, List, [], ◌∷◌, ◌++◌, length, map, All, OnOk, OnErr, IfOk, IfErr};
-ghost use Rattle.j39_log.specs.inside.Listening.{extended, IsBadCatalog, IsCatalogOf, IsIndex};
+ghost use Rattle.j39_log.specs.inside.Catalogs.{IsBadCatalog, IsCatalogOf, IsIndex, extended};
 ghost use Rattle.j39_network.specs.PlannedGroups.{IsSendable, layout_of as parts_of};
 ghost use Rattle.j39_network.specs.declared.plan.group_plan.GroupPlan.{GroupPlan as APlannedGroup};
 

@@ -8,14 +8,14 @@ ghost use Rattle.j39_signal.specs.State.{state_of};
 ghost use Rattle.j39_network.specs.Records.{single_signals, stands_once};
 ghost use Rattle.j39_text.specs.Decimals.{quotient_text};
 ghost use Rattle.j39_text.specs.Texts.{field};
-ghost use Rattle.j39_log.specs.LogReports.{all_records_lines, group_line, reading_lines, signal_line, signal_lines};
+ghost use Rattle.j39_log.specs.LogReports.{reading_lines, signal_line, signal_lines};
 ghost use Rattle.j39_log.specs.inside.NameTables.{HasTables, lines_by};
-ghost use Rattle.j39_log.specs.inside.ReportHeads.{behind_head, report_head};
+ghost use Rattle.j39_log.specs.ReportHeads.{behind_head};
 ghost use Rattle.j39_log.specs.inside.ValueLines.{value_line_of, value_lines_of};
 
 use crate::named_lines::write_named;
 use crate::names::GroupNames;
-use crate::record_lines::write_records;
+use crate::record_lines::{NoNames, write_records};
 use crate::text_lines::write_texts;
 use crate::trouble_code::write_code_line;
 use crate::value_line::ValueLine;
@@ -159,9 +159,9 @@ pub fn write_digits(text: &mut TextBuffer, bytes: &[u8]) -> Result<(), AllocErro
     }
 }
 
-// The line of a report with this head.
-#[tactic(auto, unfolding(crate::specs::inside::ReportHeads::behind_head))]
-fn write_group_line(
+/// Writes who sent which bytes of a group to whom: the line of a report with this head.
+#[tactic(auto, unfolding(crate::specs::ReportHeads::behind_head))]
+pub(super) fn write_group_line(
     text: &mut TextBuffer,
     head: &[u8],
     ident: Ident,
@@ -179,7 +179,7 @@ fn write_group_line(
 }
 
 // The same by the states of the signals alone, as most plans have it.
-#[tactic(auto, unfolding(crate::specs::LogReports::reading_lines))]
+#[tactic(auto, unfolding(crate::specs::LogReports::reading_lines, crate::specs::LogReports::all_records_lines))]
 fn write_states(
     text: &mut TextBuffer,
     group: &GroupPlan,
@@ -193,7 +193,7 @@ fn write_states(
     ensures { OnOk result (text.new ≡ text.old ++ reading_lines group.now bytes.now) }
 {
     write_signals(text, group.signals.as_slice(), lines, layout, bytes)?;
-    write_records(text, group, layout, bytes)?;
+    write_records(text, &NoNames, group, layout, bytes)?;
     write_texts(text, group.texts.as_slice(), bytes)
 }
 
@@ -217,27 +217,4 @@ pub(super) fn write_readings(
         None => write_states(text, group, lines, layout, bytes),
         Some(names) => write_named(text, names, group, layout, bytes),
     }
-}
-
-/// Writes who sent which bytes of a group to whom, and what each of its signals, records and texts reads.
-pub(super) fn write_report(
-    text: &mut TextBuffer,
-    group: &GroupPlan,
-    head: &[u8],
-    names: Option<GroupNames<'_>>,
-    lines: &[ValueLine],
-    layout: &Layout,
-    ident: Ident,
-    bytes: &[u8],
-) -> Result<(), AllocError>
-    requires head { head.now ≡ report_head group.now }
-    requires signals { layout.now.signals ≡ group.now.signals.items }
-    requires names { HasTables group.now names }
-    requires lines { lines.now ≡ value_lines_of group.now }
-    requires bytes { layout.now.length ≤ length bytes.now }
-    ensures { OnOk result (text.new ≡ text.old
-        ++ (group_line group.now ident bytes.now ++ lines_by names.entry group.now bytes.now)) }
-{
-    write_group_line(text, head, ident, bytes)?;
-    write_readings(text, group, names, lines, layout, bytes)
 }

@@ -6,9 +6,10 @@ ghost use Rattle.j39_log.specs.LogFrames.{is_planned_as, planned};
 ghost use Rattle.j39_network.specs.PlanLimits.{group_limit};
 ghost use Rattle.j39_network.specs.declared.plan.flow_plan.FlowPlan.{FlowPlan as APlannedFlow};
 ghost use Rattle.j39_log.specs.inside.FirstFlows.{first_flow, is_flow_of};
-ghost use Rattle.j39_log.specs.inside.Listening.{HasAllOf, IsBadCatalog, IsSpanOf};
+ghost use Rattle.j39_log.specs.GroupSpans.{HasAllOf, IsSpanOf};
+ghost use Rattle.j39_log.specs.inside.Catalogs.{IsBadCatalog};
 ghost use Rattle.j39_log.specs.inside.NameTables.{AreGroupNames};
-ghost use Rattle.j39_log.specs.inside.ReportHeads.{report_head};
+ghost use Rattle.j39_log.specs.ReportHeads.{report_head};
 ghost use Rattle.j39_log.specs.inside.ValueLines.{value_lines_of};
 
 use crate::catalog::{Catalog, CatalogError, Span};
@@ -32,7 +33,7 @@ impl<'a> Model for Groups<'a> {
     ghost use Rattle.std.specs.FinSet as set;
     ghost use Rattle.std.specs.Ordering.{nat_cmp};
     ghost use Rattle.j39_network.specs.declared.plan.Plan.{Plan as Planned};
-    ghost use Rattle.j39_log.specs.inside.Listening.{IsCatalogOf};
+    ghost use Rattle.j39_log.specs.inside.Catalogs.{IsCatalogOf};
 
     ghost Value = { Planned };
 

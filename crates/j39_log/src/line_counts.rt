@@ -9,13 +9,13 @@ use std::alloc::AllocError;
 /// How many lines of a log there are of each sort. A line without a word is of none.
 #[derive(Clone, Copy, PartialEq, Eq)]
 pub struct LineCounts {
-    /// Those that are read as frames.
+    /// Lines that are read as frames.
     pub frames: u64,
-    /// Those of an 11-bit identifier.
+    /// Lines of an 11-bit identifier.
     pub skipped: u64,
-    /// Those that spell no frame, and those that are too long.
+    /// Lines that spell no frame, and lines that are too long.
     pub bad: u64,
-    /// Those of another interface than the log's.
+    /// Lines of another interface than the log's.
     pub elsewhere: u64,
 }
 

@@ -4,9 +4,8 @@ ghost use Rattle.std.specs.Prelude.{if◌then◌else◌};
 ghost use Rattle.j39_tp.specs.Packets.{is_announcement};
 ghost use Rattle.j39_tp.specs.Receiver.{fresh, message_of, receives};
 ghost use Rattle.j39_tp.specs.declared.receiving.manner.Manner.TheVariants.{Listening};
-ghost use Rattle.j39_log.specs.inside.Listening.{HasListener, completed_group, is_of_pair, is_pair, listener_at};
-ghost use Rattle.j39_log.specs.inside.Listening.{listener_in};
-ghost use Rattle.j39_log.specs.inside.Listening.{listener_of_pair, slots_at};
+ghost use Rattle.j39_log.specs.PairListeners.{HasListener, completed_group, is_of_pair, is_pair};
+ghost use Rattle.j39_log.specs.PairListeners.{listener_at, listener_in, listener_of_pair, slots_at};
 ghost use Rattle.j39_log.specs.LogPairs.{is_abort as aborts, is_heard_by};
 
 use j39_id::{Ident, Pgn};

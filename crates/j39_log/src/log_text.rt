@@ -14,6 +14,7 @@ use std::alloc::Global;
 ///
 /// The lines of the log are those that `read_frame` reads. Of a plan with a group that has no layout, or whose number
 /// is no group's, the first such group is named, and the log isn't read.
+#[inline(never)]
 pub fn read_text<S: Source, W: Sink>(
     alloc: Global,
     plan: &Plan,

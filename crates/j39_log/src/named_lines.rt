@@ -1,21 +1,18 @@
 //! The lines of signals and records where the plan has names.
-ghost use Rattle.std.specs.Prelude.{◌≡◌, ◌≤◌, ◌<◌, [], ◌++◌, if◌then◌else◌, length, true, Some, All, OnOk};
-ghost use Rattle.std.specs.List.{HoldsAt, zip};
-ghost use Rattle.j39_signal.specs.Places.{IsInside, further};
+ghost use Rattle.std.specs.Prelude.{◌≡◌, ◌≤◌, ◌<◌, [], ◌++◌, if◌then◌else◌, length, OnOk};
+ghost use Rattle.std.specs.List.{HoldsAt};
 ghost use Rattle.j39_signal.specs.Bits.{raw_of};
 ghost use Rattle.j39_signal.specs.State.{shown_of};
-ghost use Rattle.j39_network.specs.Records.{record_count, record_signals as plain_records, stands_once};
+ghost use Rattle.j39_network.specs.Records.{stands_once};
 ghost use Rattle.j39_log.specs.LogReports.{suspect_parameter as parameter_of};
-ghost use Rattle.j39_log.specs.NamedReports.{all_named_records_lines, named_code_text, named_lines};
-ghost use Rattle.j39_log.specs.NamedReports.{parameter_name_text, raw_text, named_record_line, named_record_lines};
-ghost use Rattle.j39_log.specs.NamedReports.{named_record_signals, named_records_lines, named_signal_line};
+ghost use Rattle.j39_log.specs.NamedReports.{named_code_text, named_lines, named_record_line, named_signal_line};
 ghost use Rattle.j39_log.specs.NamedReports.{named_signal_lines, named_single_signals, named_state_text};
-ghost use Rattle.j39_log.specs.NamedReports.{named_value_text};
+ghost use Rattle.j39_log.specs.NamedReports.{named_value_text, parameter_name_text, raw_text};
 ghost use Rattle.j39_log.specs.inside.NameTables.{named_by, names_in};
 
 use crate::name_table::NameTable;
 use crate::names::GroupNames;
-use crate::record_lines::{write_scaled, write_state};
+use crate::record_lines::{GroupRecord, RecordWriter, write_records, write_scaled, write_state};
 use crate::text_lines::write_texts;
 use crate::trouble_code::{suspect_parameter, write_code};
 use j39_network::{GroupPlan, stands_once};
@@ -23,7 +20,7 @@ use j39_signal::{Kind, Layout, Shown, Signal, State};
 use j39_text::TextBuffer;
 use std::alloc::AllocError;
 
-// Writes the name of the suspect parameter that a trouble code tells, behind a space.
+// Writes the name of the suspect parameter that a trouble code reports, behind a space.
 #[tactic(auto, unfolding(crate::specs::NamedReports::parameter_name_text))]
 fn write_parameter_name(
     text: &mut TextBuffer,
@@ -89,45 +86,59 @@ fn write_named_state(
     }
 }
 
-#[tactic(auto, unfolding(crate::specs::NamedReports::raw_text))]
-fn write_shown(
-    text: &mut TextBuffer,
-    values: &NameTable,
-    parameters: &NameTable,
-    signal: &Signal,
+// What a signal reads, and the names of its raw numbers and of suspect parameters.
+#[derive(Clone, Copy)]
+struct NamedReading<'a> {
+    signal: &'a Signal,
+    values: &'a NameTable,
+    parameters: &'a NameTable,
     shown: Shown,
-) -> Result<(), AllocError>
-    requires { shown ≡ shown_of signal.now shown.raw }
-    ensures { OnOk result (text.new ≡ text.old
-        ++ raw_text (names_in parameters.now) (signal.now, names_in values.now) shown.raw) }
-{
-    match values.get(shown.raw) {
-        Some(name) => {
-            write_scaled(text, signal, shown.value)?;
-            text.word(" = ")?;
-            text.bytes(name.as_slice())
-        }
-        None => write_named_state(text, parameters, signal, shown.state),
-    }
 }
 
-// The line of a signal of a group.
-#[tactic(auto, unfolding(crate::specs::NamedReports::named_signal_line))]
-fn write_signal(
-    text: &mut TextBuffer,
-    values: &NameTable,
-    parameters: &NameTable,
-    signal: &Signal,
-    shown: Shown,
-) -> Result<(), AllocError>
-    requires { shown ≡ shown_of signal.now shown.raw }
-    ensures { OnOk result (text.new ≡ text.old
-        ++ named_signal_line signal.now (raw_text (names_in parameters.now) (signal.now, names_in values.now) shown.raw)) }
-{
-    text.word("  ")?;
-    text.word(signal.label().as_str())?;
-    write_shown(text, values, parameters, signal, shown)?;
-    text.end_line()
+impl NamedReading<'_> {
+    #[tactic(auto, unfolding(crate::specs::NamedReports::raw_text))]
+    fn write_shown(&self, text: &mut TextBuffer) -> Result<(), AllocError>
+        requires { self.now.shown ≡ shown_of self.now.signal.now self.now.shown.raw }
+        ensures { OnOk result (text.new ≡ text.old
+            ++ raw_text (names_in self.now.parameters.now) (self.now.signal.now, names_in self.now.values.now) self.now.shown.raw) }
+    {
+        match self.values.get(self.shown.raw) {
+            Some(name) => {
+                write_scaled(text, self.signal, self.shown.value)?;
+                text.word(" = ")?;
+                text.bytes(name.as_slice())
+            }
+            None => write_named_state(text, self.parameters, self.signal, self.shown.state),
+        }
+    }
+
+    // The line of a signal of a group.
+    #[tactic(auto, unfolding(crate::specs::NamedReports::named_signal_line))]
+    fn write_signal(&self, text: &mut TextBuffer) -> Result<(), AllocError>
+        requires { self.now.shown ≡ shown_of self.now.signal.now self.now.shown.raw }
+        ensures { OnOk result (text.new ≡ text.old ++ named_signal_line self.now.signal.now
+            (raw_text (names_in self.now.parameters.now) (self.now.signal.now, names_in self.now.values.now) self.now.shown.raw)) }
+    {
+        text.word("  ")?;
+        text.word(self.signal.label().as_str())?;
+        self.write_shown(text)?;
+        text.end_line()
+    }
+
+    // The line of a signal in the record of a place.
+    #[tactic(auto, unfolding(crate::specs::NamedReports::named_record_line))]
+    fn write_line(&self, text: &mut TextBuffer, place: usize) -> Result<(), AllocError>
+        requires { self.now.shown ≡ shown_of self.now.signal.now self.now.shown.raw }
+        ensures { OnOk result (text.new ≡ text.old ++ named_record_line place self.now.signal.now
+            (raw_text (names_in self.now.parameters.now) (self.now.signal.now, names_in self.now.values.now) self.now.shown.raw)) }
+    {
+        text.word("  ")?;
+        text.word(self.signal.label().as_str())?;
+        text.field("[", place)?;
+        text.word("]")?;
+        self.write_shown(text)?;
+        text.end_line()
+    }
 }
 
 // That of the signal at place `i` of a layout, unless it is repeated or isn't there.
@@ -149,7 +160,13 @@ fn write_single(
 {
     if stands_once(signal, bytes.len()) {
         let shown = layout.show(bytes, i);
-        write_signal(text, values, parameters, signal, shown)
+        let reading = NamedReading {
+            signal,
+            values,
+            parameters,
+            shown,
+        };
+        reading.write_signal(text)
     } else {
         Ok(())
     }
@@ -185,138 +202,43 @@ fn write_signals(
     Ok(())
 }
 
-// The line of a signal in the record of a place.
-#[tactic(auto, unfolding(crate::specs::NamedReports::named_record_line))]
-fn write_line(
-    text: &mut TextBuffer,
-    place: usize,
-    values: &NameTable,
-    parameters: &NameTable,
-    signal: &Signal,
-    shown: Shown,
-) -> Result<(), AllocError>
-    requires { shown ≡ shown_of signal.now shown.raw }
-    ensures { OnOk result (text.new ≡ text.old
-        ++ named_record_line place signal.now (raw_text (names_in parameters.now) (signal.now, names_in values.now) shown.raw)) }
-{
-    text.word("  ")?;
-    text.word(signal.label().as_str())?;
-    text.field("[", place)?;
-    text.word("]")?;
-    write_shown(text, values, parameters, signal, shown)?;
-    text.end_line()
-}
+impl RecordWriter for GroupNames<'_> {
+    ghost use Rattle.std.specs.Prelude.{◌≡◌, length};
+    ghost use Rattle.j39_log.specs.NamedReports.{named_record_lines, named_record_signals};
+    ghost use Rattle.j39_log.specs.inside.NameTables.{named_by, names_in};
 
-// The signal at place `i` of a layout as it stands so many bytes further on, if it is repeated.
-fn write_repeated(
-    text: &mut TextBuffer,
-    place: usize,
-    values: &NameTable,
-    parameters: &NameTable,
-    layout: &Layout,
-    signal: &Signal,
-    i: usize,
-    bytes: &[u8],
-    behind: usize,
-) -> Result<(), AllocError>
-    requires place { i < length layout.now.signals }
-    requires at { HoldsAt (λ s. s ≡ signal.now) layout.now.signals i }
-    requires inside { signal.now.repeated ≡ true → IsInside (length bytes.now) (further behind signal.now) }
-    ensures { OnOk result (text.new ≡ text.old ++ (if signal.now.repeated
-        then named_record_line place signal.now (raw_text (names_in parameters.now) (signal.now, names_in values.now) (raw_of bytes.now (further behind signal.now)))
-        else [])) }
-{
-    if signal.is_repeated() {
-        let shown = layout.show_further(bytes, i, behind);
-        write_line(text, place, values, parameters, signal, shown)
-    } else {
+    ghost fits = { λ names signals. length names.values.now ≡ length signals };
+
+    ghost lines = { λ names signals bytes place behind. named_record_lines (names_in names.parameters.now) place
+        (named_record_signals behind (named_by names.values.now signals)) bytes };
+
+    fn write_record(
+        &self,
+        text: &mut TextBuffer,
+        record: GroupRecord<'_>,
+    ) -> Result<(), AllocError> {
+        let (values, signals) = (self.values, record.signals);
+        for (i, signal) in signals.iter().enumerate() {
+            let names = &values[i];
+            if signal.is_repeated() {
+                let shown = record.layout.show_further(record.bytes, i, record.behind);
+                let reading = NamedReading {
+                    signal,
+                    values: names,
+                    parameters: self.parameters,
+                    shown,
+                };
+                reading.write_line(text, record.place)?;
+            }
+        }
         Ok(())
-    }
-}
-
-// The record of a place, which stands so many bytes behind the first.
-fn write_record(
-    text: &mut TextBuffer,
-    place: usize,
-    values: &[NameTable],
-    parameters: &NameTable,
-    layout: &Layout,
-    signals: &[Signal],
-    bytes: &[u8],
-    behind: usize,
-) -> Result<(), AllocError>
-    requires signals { layout.now.signals ≡ signals.now }
-    requires names { length values.now ≡ length signals.now }
-    requires inside { All (IsInside (length bytes.now)) (plain_records behind signals.now) }
-    ensures { OnOk result (text.new ≡ text.old
-        ++ named_record_lines (names_in parameters.now) place (named_record_signals behind (named_by values.now signals.now)) bytes.now) }
-{
-    for (i, signal) in signals.iter().enumerate() {
-        write_repeated(
-            text, place, &values[i], parameters, layout, signal, i, bytes, behind,
-        )?;
-    }
-    Ok(())
-}
-
-fn write_all_records(
-    text: &mut TextBuffer,
-    values: &[NameTable],
-    parameters: &NameTable,
-    group: &GroupPlan,
-    every: u8,
-    layout: &Layout,
-    bytes: &[u8],
-) -> Result<(), AllocError>
-    requires signals { layout.now.signals ≡ group.now.signals.items }
-    requires names { length values.now ≡ length group.now.signals.items }
-    requires every { group.now.every ≡ Some every }
-    ensures { OnOk result (text.new ≡ text.old
-        ++ named_records_lines (names_in parameters.now) every (record_count group.now (length bytes.now))
-        (named_by values.now group.now.signals.items) bytes.now) }
-{
-    let signals = group.signals.as_slice();
-    let count = group.record_count(bytes.len());
-    for record in 0..count {
-        let behind = usize::from(every) * record;
-        write_record(
-            text,
-            record + 1,
-            values,
-            parameters,
-            layout,
-            signals,
-            bytes,
-            behind,
-        )?;
-    }
-    Ok(())
-}
-
-#[tactic(auto, unfolding(crate::specs::NamedReports::all_named_records_lines))]
-fn write_records(
-    text: &mut TextBuffer,
-    values: &[NameTable],
-    parameters: &NameTable,
-    group: &GroupPlan,
-    layout: &Layout,
-    bytes: &[u8],
-) -> Result<(), AllocError>
-    requires signals { layout.now.signals ≡ group.now.signals.items }
-    requires names { length values.now ≡ length group.now.signals.items }
-    ensures { OnOk result (text.new ≡ text.old
-        ++ all_named_records_lines (names_in parameters.now) group.now (named_by values.now group.now.signals.items) bytes.now) }
-{
-    match group.every {
-        None => Ok(()),
-        Some(every) => write_all_records(text, values, parameters, group, every, layout, bytes),
     }
 }
 
 /// Writes what the signals, the records and the texts of a group read, with the names that the plan has. Few plans have
 /// any, so this is no part of the code that writes a report without.
 #[inline(never)]
-#[tactic(auto, unfolding(crate::specs::NamedReports::named_lines))]
+#[tactic(auto, unfolding(crate::specs::NamedReports::named_lines, crate::specs::NamedReports::all_named_records_lines))]
 pub(crate) fn write_named(
     text: &mut TextBuffer,
     names: GroupNames<'_>,
@@ -330,15 +252,14 @@ pub(crate) fn write_named(
     ensures { OnOk result (text.new ≡ text.old
         ++ named_lines (names_in names.entry.parameters.now) (named_by names.entry.values.now group.now.signals.items) group.now bytes.now) }
 {
-    let (values, parameters) = (names.values, names.parameters);
     write_signals(
         text,
-        values,
-        parameters,
+        names.values,
+        names.parameters,
         group.signals.as_slice(),
         layout,
         bytes,
     )?;
-    write_records(text, values, parameters, group, layout, bytes)?;
+    write_records(text, &names, group, layout, bytes)?;
     write_texts(text, group.texts.as_slice(), bytes)
 }

@@ -1,9 +1,7 @@
 //! The lines of the records of a group.
-ghost use Rattle.std.specs.Prelude.{◌≡◌, ◌≤◌, ◌<◌, ◌+◌, ◌*◌, [], ◌∷◌, ◌++◌, length, true, Some, All, OnOk};
-ghost use Rattle.std.specs.List.{HoldsAt};
-ghost use Rattle.j39_signal.specs.Places.{IsInside, further};
-ghost use Rattle.j39_network.specs.Records.{record_count, record_signals};
-ghost use Rattle.j39_log.specs.LogReports.{all_records_lines, record_line, record_lines, records_lines, scaled_text};
+ghost use Rattle.std.specs.Prelude.{◌≡◌, ◌++◌, length, Some, OnOk};
+ghost use Rattle.j39_network.specs.Records.{record_count};
+ghost use Rattle.j39_log.specs.LogReports.{lines_of_all_records, lines_of_records, record_line, scaled_text};
 ghost use Rattle.j39_log.specs.LogReports.{signal_state_text, value_text};
 
 use crate::trouble_code::write_code;
@@ -71,84 +69,110 @@ fn write_line(
     text.end_line()
 }
 
-// The signal at place `i` of a layout as it stands so many bytes further on, if it is repeated.
-fn write_repeated(
-    text: &mut TextBuffer,
-    place: usize,
-    layout: &Layout,
-    signal: &Signal,
-    i: usize,
-    bytes: &[u8],
-    behind: usize,
-) -> Result<(), AllocError>
-    requires place { i < length layout.now.signals }
-    requires at { HoldsAt (λ s. s ≡ signal.now) layout.now.signals i }
-    requires inside { signal.now.repeated ≡ true → IsInside (length bytes.now) (further behind signal.now) }
-    ensures { OnOk result (text.new ≡ text.old
-        ++ record_lines place (record_signals behind (signal.now ∷ [])) bytes.now) }
-{
-    if signal.is_repeated() {
-        write_line(text, place, signal, layout.read_further(bytes, i, behind))
-    } else {
+/// A record of a message, which stands so many bytes behind the first.
+#[derive(Clone, Copy)]
+pub(crate) struct GroupRecord<'a> {
+    pub(crate) place: usize,
+    pub(crate) behind: usize,
+    pub(crate) layout: &'a Layout,
+    pub(crate) signals: &'a [Signal],
+    pub(crate) bytes: &'a [u8],
+}
+
+/// What writes the records of a group.
+pub(crate) trait RecordWriter {
+    ghost use Rattle.std.specs.Prelude.{◌≡◌, ◌++◌, ℕ, List, All, length, OnOk};
+    ghost use Rattle.j39_signal.specs.Parts.{SignalParts as ASignal};
+    ghost use Rattle.j39_signal.specs.Places.{IsInside};
+    ghost use Rattle.j39_network.specs.Records.{record_signals};
+
+    /// It writes of groups with these signals.
+    ghost fits: { Self → List ASignal → Type 0 };
+
+    /// This is written of the record of a place, so many bytes behind the first, where a message has these bytes.
+    ghost lines: { Self → List ASignal → List ℕ → ℕ → ℕ → List ℕ };
+
+    fn write_record(&self, text: &mut TextBuffer, record: GroupRecord<'_>) -> Result<(), AllocError>
+        requires signals { record.layout.now.signals ≡ record.signals.now }
+        requires fits { fits self.now record.signals.now }
+        requires inside { All (IsInside (length record.bytes.now)) (record_signals record.behind record.signals.now) }
+        ensures { let r = record.entry in OnOk result (text.new ≡ text.old ++ lines self.now r.signals.now r.bytes.now r.place r.behind) };
+}
+
+/// Writes records where the plan has no names.
+pub(crate) struct NoNames;
+
+impl RecordWriter for NoNames {
+    ghost use Rattle.j39_network.specs.Records.{record_signals};
+    ghost use Rattle.j39_log.specs.LogReports.{record_lines};
+
+    ghost fits = { λ _ _. Unit {0} };
+
+    ghost lines = { λ _ signals bytes place behind. record_lines place (record_signals behind signals) bytes };
+
+    fn write_record(
+        &self,
+        text: &mut TextBuffer,
+        record: GroupRecord<'_>,
+    ) -> Result<(), AllocError> {
+        let signals = record.signals;
+        for (i, signal) in signals.iter().enumerate() {
+            if signal.is_repeated() {
+                let state = record.layout.read_further(record.bytes, i, record.behind);
+                write_line(text, record.place, signal, state)?;
+            }
+        }
         Ok(())
     }
 }
 
-// The record of a place, which stands so many bytes behind the first.
-fn write_record(
-    text: &mut TextBuffer,
-    place: usize,
-    layout: &Layout,
-    signals: &[Signal],
-    bytes: &[u8],
-    behind: usize,
-) -> Result<(), AllocError>
-    requires signals { layout.now.signals ≡ signals.now }
-    requires inside { All (IsInside (length bytes.now)) (record_signals behind signals.now) }
-    ensures { OnOk result (text.new ≡ text.old ++ record_lines place (record_signals behind signals.now) bytes.now) }
-{
-    for (i, signal) in signals.iter().enumerate() {
-        write_repeated(text, place, layout, signal, i, bytes, behind)?;
-    }
-    Ok(())
-}
-
 // Few groups have records, so what writes them is no part of the code that writes a report.
 #[inline(never)]
-fn write_all_records(
+fn write_all_records<R: RecordWriter>(
     text: &mut TextBuffer,
+    writer: &R,
     group: &GroupPlan,
     every: u8,
     layout: &Layout,
     bytes: &[u8],
 ) -> Result<(), AllocError>
     requires signals { layout.now.signals ≡ group.now.signals.items }
+    requires fits { R.fits writer.now group.now.signals.items }
     requires every { group.now.every ≡ Some every }
     ensures { OnOk result (text.new ≡ text.old
-        ++ records_lines every (record_count group.now (length bytes.now)) group.now.signals.items bytes.now) }
+        ++ lines_of_records (R.lines writer.now group.now.signals.items bytes.now) every (record_count group.now (length bytes.now))) }
 {
     let signals = group.signals.as_slice();
     let count = group.record_count(bytes.len());
     for record in 0..count {
         let behind = usize::from(every) * record;
-        write_record(text, record + 1, layout, signals, bytes, behind)?;
+        let at = GroupRecord {
+            place: record + 1,
+            behind,
+            layout,
+            signals,
+            bytes,
+        };
+        writer.write_record(text, at)?;
     }
     Ok(())
 }
 
 /// Writes what the records of a group read that end inside the bytes.
-#[tactic(auto, unfolding(crate::specs::LogReports::all_records_lines))]
-pub(crate) fn write_records(
+pub(crate) fn write_records<R: RecordWriter>(
     text: &mut TextBuffer,
+    writer: &R,
     group: &GroupPlan,
     layout: &Layout,
     bytes: &[u8],
 ) -> Result<(), AllocError>
-    requires { layout.now.signals ≡ group.now.signals.items }
-    ensures { OnOk result (text.new ≡ text.old ++ all_records_lines group.now bytes.now) }
+    requires signals { layout.now.signals ≡ group.now.signals.items }
+    requires fits { R.fits writer.now group.now.signals.items }
+    ensures { OnOk result (text.new ≡ text.old
+        ++ lines_of_all_records (R.lines writer.now group.now.signals.items bytes.now) group.now (length bytes.now)) }
 {
     match group.every {
         None => Ok(()),
-        Some(every) => write_all_records(text, group, every, layout, bytes),
+        Some(every) => write_all_records(text, writer, group, every, layout, bytes),
     }
 }

@@ -1,6 +1,6 @@
 //! What the report of a group begins with, which is the same in each report of it.
 ghost use Rattle.std.specs.Prelude.{◌≡◌, ◌≢◌, [], map, IfOk, OnErr};
-ghost use Rattle.j39_log.specs.inside.ReportHeads.{report_head};
+ghost use Rattle.j39_log.specs.ReportHeads.{report_head};
 
 use j39_network::GroupPlan;
 use j39_text::TextBuffer;

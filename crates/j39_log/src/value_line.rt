@@ -51,7 +51,7 @@ fn value_line(alloc: Global, signal: &Signal) -> Result<ValueLine, AllocError>
     })
 }
 
-// Those of signals, in order.
+// The lines of the values of signals, in order.
 fn value_lines(alloc: Global, signals: &[Signal]) -> Result<Vec<ValueLine>, AllocError>
     ensures { IfOk result (λ lines. lines.items ≡ map value_line_of signals.now) }
 {
@@ -62,7 +62,7 @@ fn value_lines(alloc: Global, signals: &[Signal]) -> Result<Vec<ValueLine>, Allo
     Ok(lines)
 }
 
-/// Those of the signals of groups, in order.
+/// The lines of the values of each group's signals, in order.
 pub(crate) fn value_lines_of(
     alloc: Global,
     groups: &[GroupPlan],

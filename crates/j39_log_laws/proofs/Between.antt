@@ -16,7 +16,7 @@ use Rattle.j39_tp.specs.declared.packet.Packet.{Packet}
 use Rattle.j39_tp.specs.declared.packet.Packet.TheVariants.{Rts, Cts, EndAck, Bam, Abort, Dt}
 use Rattle.j39_tp.specs.declared.receiving.manner.Manner.TheVariants.{Answering}
 use Rattle.j39_claim.specs.declared.item.Item.{Item}
-use Rattle.j39_claim.specs.declared.item.Item.TheVariants.{Told}
+use Rattle.j39_claim.specs.declared.item.Item.TheVariants.{AddressClaimed}
 use Rattle.j39_claim.specs.declared.item.Say.{Say}
 use Rattle.j39_claim.specs.ClaimRule.{ClaimState, claim_of, said_by, started}
 use Rattle.j39_network.specs.declared.plan.Plan.{Plan}
@@ -52,14 +52,14 @@ use Rattle.j39_run_laws.proofs.Runs.Units.{in_units}
 use Rattle.j39_run_laws.proofs.Addresses.CleanUnits.{names_in_range}
 use Rattle.j39_follow.specs.Holders.{HoldsByFrames}
 use Rattle.j39_log_laws.specs.Between.{GoesToHolder, IsKnownAt, IsOfStep, IsSentBehind, IsSentBy, IsTransport, MessagesGoBetweenHolders, SendsTo}
-use Rattle.j39_log_laws.specs.Between.{tells_of_addresses}
-use Rattle.j39_log_laws.specs.Telling.{HaveOwnNumbers}
+use Rattle.j39_log_laws.specs.Between.{reports_of_addresses}
+use Rattle.j39_log_laws.specs.HolderReports.{HaveOwnNumbers}
 use Rattle.j39_log_laws.proofs.Ends.{HasEnds, IsEnd, IsFor, all_ends, begun_ends, sent_ends}
 use Rattle.j39_log_laws.proofs.Identifiers.{IsOther, carries_none, sent_as}
-use Rattle.j39_log_laws.proofs.Logs.{IsItemInRange, TellsNothing, silent_keep, split, tells_addresses, tells_nothing}
+use Rattle.j39_log_laws.proofs.Logs.{IsItemInRange, HoldsNothing, silent_keep, split, reports_addresses, holds_nothing}
 use Rattle.j39_log_laws.proofs.Replies.{GoesOnTo, late_answers, takers_answer}
 use Rattle.j39_log_laws.proofs.Standing.{preferred_below, said_held, source_below, turned_any}
-use Rattle.j39_log_laws.proofs.Telling.{AreTold, all_told, asking_below, first_below, flow_other, packet_group}
+use Rattle.j39_log_laws.proofs.HolderReports.{AreReported, all_stated, asking_below, first_below, flow_other, packet_group}
 use Rattle.j39_log_laws.proofs.UnitNames.{named}
 
 -- ---- lists
@@ -107,22 +107,22 @@ announcement_is : (d s : ℕ) (flow : Flow) (p : Packet) → IsMessageFrame (IsF
 announcement_is d s flow p = record { priority = 7; pgn = group_of p; group = inr (transports p); other = packet_group p; number = refl }
 
 module _ (IsGroup : ℕ → Type 0) (d s : ℕ) (less_d : d < 256) (less_s : s < 256) where
-  silent_message : (f : Frame) → IsMessageFrame IsGroup d s (sent_of f) → TellsNothing f
-  silent_message f m = tells_nothing f (carries_none f m.priority m.pgn d s m.other less_d less_s m.number)
+  silent_message : (f : Frame) → IsMessageFrame IsGroup d s (sent_of f) → HoldsNothing f
+  silent_message f m = holds_nothing f (carries_none f m.priority m.pgn d s m.other less_d less_s m.number)
 
-  silent_messages : (fs : List Frame) → AllByRecursion (IsMessageFrame IsGroup d s) (map sent_of fs) → AllByRecursion TellsNothing fs
+  silent_messages : (fs : List Frame) → AllByRecursion (IsMessageFrame IsGroup d s) (map sent_of fs) → AllByRecursion HoldsNothing fs
   silent_messages [] all = tt
   silent_messages (f ∷ fs) all = (silent_message f all.0, silent_messages fs all.1)
 
 -- ---- in a world of a run
 
-module _ (plan : Plan) (distinct : AreNamesDistinct (units_of plan)) (own : HaveOwnNumbers plan) (w : World) (told : AreTold plan w)
+module _ (plan : Plan) (distinct : AreNamesDistinct (units_of plan)) (own : HaveOwnNumbers plan) (w : World) (stated : AreReported plan w)
     (ends : HasEnds plan w) where
   abbrev name : ℕ → ℕ
   name u = (unit_at (units_of plan) u).name
 
   below : (u : ℕ) → address_of w.stations u < 256
-  below u = source_below (w.stations u) (told.standing.1 u)
+  below u = source_below (w.stations u) (stated.standing.1 u)
 
   destination_below : (to : To) → destination_of w.stations to < 256
   destination_below All = omega arith
@@ -130,7 +130,7 @@ module _ (plan : Plan) (distinct : AreNamesDistinct (units_of plan)) (own : Have
 
   -- by all frames up to one of a message
   is_at : (u : ℕ) → IsEnd w u → (log : List Frame) (f : Frame) (earlier : List Sent) → map sent_of log ≡ w.frames ++ earlier
-      → ((more : List Frame) → map sent_of more ≡ earlier → AllByRecursion TellsNothing (more ++ f ∷ []))
+      → ((more : List Frame) → map sent_of more ≡ earlier → AllByRecursion HoldsNothing (more ++ f ∷ []))
       → IsKnownAt plan w (log ++ f ∷ []) u (address_of w.stations u)
   is_at u is_end log f earlier e silent =
       let (on, (a, address)) = is_end.holding in
@@ -139,7 +139,7 @@ module _ (plan : Plan) (distinct : AreNamesDistinct (units_of plan)) (own : Have
       let row : s.0 ++ (s.1 ++ f ∷ []) ≡ log ++ f ∷ [] =
       sym (append_assoc s.0 s.1 (f ∷ [])) ∙ ap (λ (l : List Frame). l ++ f ∷ []) (sym s.2) in
       let holds : (unit_at (units_of plan) u).claims ≡ true → HoldsByFrames s.0 (name u) a =
-      λ claims. elim (told.tells s.0 s.3 u a claims on address) [
+      λ claims. elim (stated.are_reported s.0 s.3 u a claims on address) [
         | inl is ↦ is
         | inr (v, claim) ↦ absurd (is_end.unclaimed v a address claim)
       ] in
@@ -148,7 +148,7 @@ module _ (plan : Plan) (distinct : AreNamesDistinct (units_of plan)) (own : Have
       subst (IsKnownAt plan w (log ++ f ∷ []) u) same (record {
         on = on;
         holds = address;
-        told = λ claims. (name u, then claims, named plan distinct u (told.standing.0 u on));
+        stated = λ claims. (name u, then claims, named plan distinct u (stated.standing.0 u on));
       })
 
   between : (IsGroup : ℕ → Type 0) (u : ℕ) (to : To) → IsEnd w u → IsFor w to
@@ -161,8 +161,8 @@ module _ (plan : Plan) (distinct : AreNamesDistinct (units_of plan)) (own : Have
       let parts = all_parts (IsMessageFrame IsGroup d s) earlier (sent_of f) later all in
       let m = parts.1 in
       let i = sent_as f.ident m.priority m.pgn d s m.other (destination_below to) (below u) m.number in
-      let silent : (more : List Frame) → map sent_of more ≡ earlier → AllByRecursion TellsNothing (more ++ f ∷ []) =
-      λ more is. all_last TellsNothing more f
+      let silent : (more : List Frame) → map sent_of more ≡ earlier → AllByRecursion HoldsNothing (more ++ f ∷ []) =
+      λ more is. all_last HoldsNothing more f
       (silent_messages IsGroup d s (destination_below to) (below u) more (subst (AllByRecursion (IsMessageFrame IsGroup d s)) (sym is) parts.0))
       (silent_message IsGroup d s (destination_below to) (below u) f m) in
       let source : IsKnownAt plan w (log ++ f ∷ []) u f.ident.sa =
@@ -171,7 +171,7 @@ module _ (plan : Plan) (distinct : AreNamesDistinct (units_of plan)) (own : Have
     where
       goes : (pgn : ℕ) → (is_pdu2 pgn ≡ true → is_pdu2 (pgn_of f.ident) ≡ true) → (x : To) → IsFor w x
           → (is_pdu2 pgn ≡ false → f.ident.ps ≡ destination_of w.stations x)
-          → ((more : List Frame) → map sent_of more ≡ earlier → AllByRecursion TellsNothing (more ++ f ∷ []))
+          → ((more : List Frame) → map sent_of more ≡ earlier → AllByRecursion HoldsNothing (more ++ f ∷ []))
           → GoesToHolder plan w (log ++ f ∷ []) x f.ident
       goes pgn undirected All held directed silent = elim (cases_Bool (is_pdu2 pgn)) [
         | inl two ↦ or_left (is_pdu2 (pgn_of f.ident)) (f.ident.ps == global_address) (undirected two)
@@ -206,26 +206,26 @@ module _ (plan : Plan) (distinct : AreNamesDistinct (units_of plan)) (own : Have
         between IsGroup u to holding for log f sent.earlier sent.later sent.log_is
         (all_of (IsMessageFrame IsGroup (destination_of w.stations to) (address_of w.stations u)) all)
 
-  -- a unit's that tells of addresses
+  -- a unit's that reports of addresses
   module _ (u : ℕ) (unit : is_unit plan u ≡ true) (held : Option ℕ) (source : source_of held < 256) (items : List Item)
       (range : AllByRecursion IsItemInRange items) where
-    abbrev TellsOf : Sent → Type 0
-    TellsOf x = (g : Frame) → sent_of g ≡ x → tells_of_addresses g ≡ true
+    abbrev ReportsOf : Sent → Type 0
+    ReportsOf x = (g : Frame) → sent_of g ≡ x → reports_of_addresses g ≡ true
 
-    all_tell : AllByRecursion TellsOf (map (frame_of (name u) held) items)
-    all_tell = all_map (frame_of (name u) held) IsItemInRange TellsOf
-        (λ item less g e. tells_addresses (name u) (names_in_range plan u (in_units plan u unit)) held source g item less e) items range
+    all_report : AllByRecursion ReportsOf (map (frame_of (name u) held) items)
+    all_report = all_map (frame_of (name u) held) IsItemInRange ReportsOf
+        (λ item less g e. reports_addresses (name u) (names_in_range plan u (in_units plan u unit)) held source g item less e) items range
 
-    tells : (after : World) (log : List Frame) (f : Frame) → IsSentBehind w after log f
-        → after.frames ≡ w.frames ++ map (frame_of (name u) held) items → tells_of_addresses f ≡ true
-    tells after log f sent is =
-        (all_parts TellsOf sent.earlier (sent_of f) sent.later
-        (all_of after log f sent (map (frame_of (name u) held) items) is TellsOf all_tell)).1 f refl
+    are_reported : (after : World) (log : List Frame) (f : Frame) → IsSentBehind w after log f
+        → after.frames ≡ w.frames ++ map (frame_of (name u) held) items → reports_of_addresses f ≡ true
+    are_reported after log f sent is =
+        (all_parts ReportsOf sent.earlier (sent_of f) sent.later
+        (all_of after log f sent (map (frame_of (name u) held) items) is ReportsOf all_report)).1 f refl
 
   -- ---- each step
 
   abbrev Goes : Step → World → Type 0
-  Goes step after = (log : List Frame) (f : Frame) → IsSentBehind w after log f → tells_of_addresses f ≡ false
+  Goes step after = (log : List Frame) (f : Frame) → IsSentBehind w after log f → reports_of_addresses f ≡ false
       → (u : ℕ) × (to : To) × IsSentBy plan w step u to × IsOfStep plan step f.ident × IsKnownAt plan w (log ++ f ∷ []) u f.ident.sa
       × GoesToHolder plan w (log ++ f ∷ []) to f.ident
 
@@ -250,11 +250,11 @@ module _ (plan : Plan) (distinct : AreNamesDistinct (units_of plan)) (own : Have
       let less = preferred_below plan u unit in
       let source : source_of (now u).address < 256 =
       subst (λ (c : ClaimState). source_of c.address < 256) (sym (changed_here w.stations u (started (unit_at (units_of plan) u)))) (omega (arith, less)) in
-      absurd (true≢false (sym (tells u unit (now u).address source (first_items (unit_at (units_of plan) u))
+      absurd (true≢false (sym (are_reported u unit (now u).address source (first_items (unit_at (units_of plan) u))
       (first_below (unit_at (units_of plan) u) less) after log f sent
       (ap (λ (x : World). x.frames) e)) ∙ other))
 
-  item_below : (o : Option ℕ) → ((a : ℕ) → o ≡ Some a → a < 254) → IsItemInRange (Told (claim_of o))
+  item_below : (o : Option ℕ) → ((a : ℕ) → o ≡ Some a → a < 254) → IsItemInRange (AddressClaimed (claim_of o))
   item_below None less = tt
   item_below (Some a) less = less a refl
 
@@ -262,14 +262,14 @@ module _ (plan : Plan) (distinct : AreNamesDistinct (units_of plan)) (own : Have
   ask u allowed after e log f sent other =
       let (known, more) = none_refuses plan w (Ask u) allowed in
       let held = (w.stations u).address in
-      absurd (true≢false (sym (tells u (not-false _ known) held (below u) (asking_items (said_by (unit_at (units_of plan) u) (claim_of held)))
-      (asking_below (unit_at (units_of plan) u) (claim_of held) (item_below held (told.standing.1 u))) after log f sent (ap (λ (x : World). x.frames) e)) ∙ other))
+      absurd (true≢false (sym (are_reported u (not-false _ known) held (below u) (asking_items (said_by (unit_at (units_of plan) u) (claim_of held)))
+      (asking_below (unit_at (units_of plan) u) (claim_of held) (item_below held (stated.standing.1 u))) after log f sent (ap (λ (x : World). x.frames) e)) ∙ other))
 
   give : (u v : ℕ) → is_unit plan v ≡ true → (list : List Item) (after : World) → GivenFrom (units_of plan) w u v list after → Goes (Give u v) after
   give u v unit [] after never log f sent other = absurd never
   give u v unit (item ∷ rest) after (says, s, reacts, e) log f sent other =
       let now = changed w.stations v s in
-      let holds = turned_any (unit_at (units_of plan) v) (w.stations v) (name u) item says s reacts (told.standing.1 v) in
+      let holds = turned_any (unit_at (units_of plan) v) (w.stations v) (name u) item says s reacts (stated.standing.1 v) in
       let source : source_of (now v).address < 256 =
       subst (λ (c : ClaimState). source_of c.address < 256) (sym (changed_here w.stations v s)) (source_below s holds) in
       let range : AllByRecursion IsItemInRange (answer_items says) =
@@ -277,7 +277,7 @@ module _ (plan : Plan) (distinct : AreNamesDistinct (units_of plan)) (own : Have
         | inl silent ↦ subst (λ (o : Option Say). AllByRecursion IsItemInRange (answer_items o)) (sym silent) tt
         | inr said ↦ subst (λ (o : Option Say). AllByRecursion IsItemInRange (answer_items o)) (sym said) (item_below s.address holds, tt)
       ] in
-      absurd (true≢false (sym (tells v unit (now v).address source (answer_items says) range after log f sent (ap (λ (x : World). x.frames) e)) ∙ other))
+      absurd (true≢false (sym (are_reported v unit (now v).address source (answer_items says) range after log f sent (ap (λ (x : World). x.frames) e)) ∙ other))
 
   begin : (k : ℕ) (bytes : List ℕ) (o : Option Flow) → slice_get (flows_of plan) k ≡ o → begin_refusal plan.live (count_of plan) w o bytes ≡ None
       → (after : World) → BeginsAt (count_of plan) w k o bytes after → (log : List Frame) (f : Frame) → IsSentBehind w after log f
@@ -410,7 +410,7 @@ module _ (plan : Plan) (distinct : AreNamesDistinct (units_of plan)) (own : Have
   goes_between_holders step after log f follows =
       elim (refusal plan w step)
       as (λ (o : Option StepError). refusal plan w step ≡ o → MatchBool (is_some o) (after ≡ w) (StepsTo plan w step after)
-      → IsSentBehind w after log f → tells_of_addresses f ≡ false
+      → IsSentBehind w after log f → reports_of_addresses f ≡ false
       → (u : ℕ) × (to : To) × IsSentBy plan w step u to × IsOfStep plan step f.ident × IsKnownAt plan w (log ++ f ∷ []) u f.ident.sa
       × GoesToHolder plan w (log ++ f ∷ []) to f.ident) [
         | Some e ↦ λ _ same. same_frames step after (ap (λ (x : World). x.frames) same) log f
@@ -419,4 +419,4 @@ module _ (plan : Plan) (distinct : AreNamesDistinct (units_of plan)) (own : Have
 
 pub messages_go : (plan : Plan) → KeepsEnds plan → AreNamesDistinct (units_of plan) → HaveOwnNumbers plan → Always plan (MessagesGoBetweenHolders plan)
 messages_go plan keeps distinct own steps w run =
-    goes_between_holders plan distinct own w (all_told plan distinct own steps w run) (all_ends plan keeps steps w run)
+    goes_between_holders plan distinct own w (all_stated plan distinct own steps w run) (all_ends plan keeps steps w run)

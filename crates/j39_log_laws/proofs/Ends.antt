@@ -15,7 +15,7 @@ use Rattle.j39_network.specs.declared.plan.to.To.TheVariants.{All, One}
 use Rattle.j39_network.specs.declared.steps.Step.{Step}
 use Rattle.j39_network.specs.declared.steps.Step.TheVariants.{Up, Down, Give, Ask, Begin, Send, Emit, Take, Lose, LateSender, LateReceiver, Rest}
 use Rattle.j39_claim.specs.declared.item.Item.{Item}
-use Rattle.j39_claim.specs.declared.item.Item.TheVariants.{Told}
+use Rattle.j39_claim.specs.declared.item.Item.TheVariants.{AddressClaimed}
 use Rattle.j39_claim.specs.declared.item.Say.TheVariants.{Claim}
 use Rattle.j39_findings.specs.Findings.{Clean}
 use Rattle.j39_claim.specs.ClaimRule.{off, started}
@@ -64,7 +64,7 @@ AreEndsHolding stations u (Some s) = IsHolding stations u × IsForHolding statio
 -- and no claim of that address is undelivered to it
 pub record IsEnd (w : World) (u : ℕ) : Type 0 where
   pub holding : IsHolding w.stations u
-  pub unclaimed : (v a : ℕ) → (w.stations u).address ≡ Some a → ¬ Contains (w.claims v u) (Told (Claim a))
+  pub unclaimed : (v a : ℕ) → (w.stations u).address ≡ Some a → ¬ Contains (w.claims v u) (AddressClaimed (Claim a))
 
 abbrev pub IsFor : World → To → Type 0
 IsFor w All = Unit {0}
@@ -106,7 +106,7 @@ after_heard stations v u p (Some s) ends = ends
 
 module _ (plan : Plan) (quiet : plan.live ≡ false) where
   module _ (w : World) (kept : IsKeptNamed plan w) (old : (u : ℕ) → AreEndsHolding w.stations u (w.sessions u)) where
-    -- while a message is sent no unit is switched, and none tells or hears of addresses
+    -- while a message is sent no unit is switched, and none reports or hears of addresses
     claims_keep : (step : Step) → IsOfClaims step → refusal plan w step ≡ None → (now : Stations) (u : ℕ) (o : Option Outgoing) → w.sessions u ≡ o
         → AreEndsHolding now u o
     claims_keep step of allowed now u None is = tt
@@ -127,7 +127,7 @@ module _ (plan : Plan) (quiet : plan.live ≡ false) where
         → (new : World) → BeginsAt (count_of plan) w f o bytes new → EndsAfter new
     begins_at f None bytes allowed new never = absurd never
     begins_at f (Some flow) bytes allowed new e =
-        let (sendable, (on, (told, (addressed, (free, rest))))) = none_hold (begin_refusals plan.live (count_of plan) w (Some flow) bytes) allowed in
+        let (sendable, (on, (stated, (addressed, (free, rest))))) = none_hold (begin_refusals plan.live (count_of plan) w (Some flow) bytes) allowed in
         subst EndsAfter (sym e)
         (session_changed flow.sender (Some (outgoing (count_of plan) w.stations f flow bytes))
         (begin_ends w.stations flow.sender flow.to (not-false _ on) (not-false _ addressed)))
@@ -180,9 +180,9 @@ module _ (plan : Plan) (quiet : plan.live ≡ false) where
     -- where nothing is undelivered who holds an address is an end
     is_end : ((s t : ℕ) → w.claims s t ≡ []) → (u : ℕ) → IsHolding w.stations u → IsEnd w u
     is_end heard u holding =
-        record { holding = holding; unclaimed = λ v a is claim. nothing_there a (subst (λ (xs : List Item). Contains xs (Told (Claim a))) (heard v u) claim) }
+        record { holding = holding; unclaimed = λ v a is claim. nothing_there a (subst (λ (xs : List Item). Contains xs (AddressClaimed (Claim a))) (heard v u) claim) }
       where
-        nothing_there : (a : ℕ) → Contains [] (Told (Claim a)) → ⊥
+        nothing_there : (a : ℕ) → Contains [] (AddressClaimed (Claim a)) → ⊥
         nothing_there a (k, inside, at) = absurd (omega (arith, inside))
 
     is_for : ((s t : ℕ) → w.claims s t ≡ []) → (to : To) → IsForHolding w.stations to → IsFor w to
@@ -201,9 +201,9 @@ module _ (plan : Plan) (quiet : plan.live ≡ false) where
       sender = λ u s is. is_end (heard_while u s is) u (at_session u s is).0;
       receiver = λ u v s is one _. is_end (heard_while u s is) v (subst (IsForHolding w.stations) one (at_session u s is).1);
       flow = λ u s is. subst (IsOfFlow plan u) is ((all_of_flows plan steps w run).sessions u);
-      can_send = λ f flow planned on addressed told.
+      can_send = λ f flow planned on addressed stated.
           let order = (all_named plan steps w run).kept.transfers.order in
-          let heard = delivered_at plan w.stations w.claims w.sessions order told quiet in
+          let heard = delivered_at plan w.stations w.claims w.sessions order stated quiet in
           let hold = begin_ends w.stations flow.sender flow.to on addressed in
           (is_end heard flow.sender hold.0, is_for heard flow.to hold.1);
     }
@@ -215,7 +215,7 @@ module _ (plan : Plan) (clean : Clean plan) (alone : AreEndsAlone plan) (steps :
   undisturbed_end u is = record {
     holding = (is.on, ((unit_at (units_of plan) u).preferred, is.held));
     unclaimed = λ v a at claim. is.unclaimed v
-        (subst (λ k. Contains (w.claims v u) (Told (Claim k))) (same_Some a (unit_at (units_of plan) u).preferred (sym at ∙ is.held)) claim);
+        (subst (λ k. Contains (w.claims v u) (AddressClaimed (Claim k))) (same_Some a (unit_at (units_of plan) u).preferred (sym at ∙ is.held)) claim);
   }
 
   ends_on : (f : ℕ) (flow : Flow) → slice_get (flows_of plan) f ≡ Some flow → (to : To) → flow.to ≡ to → at_ends (is_on w.stations) flow.sender to ≡ true
@@ -235,7 +235,7 @@ module _ (plan : Plan) (clean : Clean plan) (alone : AreEndsAlone plan) (steps :
         sender = λ u s is. undisturbed_end u (ends.sender u s is);
         receiver = λ u v s is one among. undisturbed_end v (ends.receiver u v s is one (among live));
         flow = λ u s is. subst (IsOfFlow plan u) is ((all_of_flows plan steps w run).sessions u);
-        can_send = λ f flow planned on addressed told. ends_on f flow planned flow.to refl on;
+        can_send = λ f flow planned on addressed stated. ends_on f flow planned flow.to refl on;
       }
 
   -- an end is alone, so that it stays what it is
@@ -268,15 +268,15 @@ all_ends plan (inr clean) steps w run = elim (cases_Bool plan.live) [
 pub begun_ends : (plan : Plan) (w : World) → HasEnds plan w → (f : ℕ) (flow : Flow) (bytes : List ℕ) → slice_get (flows_of plan) f ≡ Some flow
     → begin_refusal plan.live (count_of plan) w (Some flow) bytes ≡ None → IsEnd w flow.sender × IsFor w flow.to
 begun_ends plan w ends f flow bytes planned allowed =
-    let (sendable, (on, (told, (addressed, (free, rest))))) = none_hold (begin_refusals plan.live (count_of plan) w (Some flow) bytes) allowed in
-    ends.can_send f flow planned (not-false _ on) (not-false _ addressed) told
+    let (sendable, (on, (stated, (addressed, (free, rest))))) = none_hold (begin_refusals plan.live (count_of plan) w (Some flow) bytes) allowed in
+    ends.can_send f flow planned (not-false _ on) (not-false _ addressed) stated
 
 -- a Send that isn't
 pub sent_ends : (plan : Plan) (w : World) → HasEnds plan w → (f : ℕ) (flow : Flow) (bytes : List ℕ) → slice_get (flows_of plan) f ≡ Some flow
     → send_refusal plan.live (count_of plan) w (Some flow) bytes ≡ None → IsEnd w flow.sender × IsFor w flow.to
 sent_ends plan w ends f flow bytes planned allowed =
-    let (sendable, (on, (told, (addressed, (free, rest))))) = none_hold (send_refusals plan.live (count_of plan) w (Some flow) bytes) allowed in
-    ends.can_send f flow planned (not-false _ on) (not-false _ addressed) told
+    let (sendable, (on, (stated, (addressed, (free, rest))))) = none_hold (send_refusals plan.live (count_of plan) w (Some flow) bytes) allowed in
+    ends.can_send f flow planned (not-false _ on) (not-false _ addressed) stated
 
 -- ---- what this says of a world
 

@@ -3,7 +3,7 @@ use Rattle.std.proofs.Common.{◌≡◌, ◌⊎◌, ℕ, zero, suc, ◌<◌, ◌
 use Rattle.std.proofs.Common.{Option, Some, None, inl, inr, refl, sym, ap, subst, ◌∙◌, arith, get_or, eq-eqb, eqb-true}
 use Rattle.std.specs.List.{position, slice_get}
 use Rattle.std.specs.Option.{option_or}
-use Rattle.std.proofs.lemmas.Bool.{and_parts, true≢false}
+use Rattle.std.proofs.lemmas.Bool.{and_parts, true≢false, and_from}
 use Rattle.std.proofs.lemmas.List.Quantifiers.{position-Some}
 use Rattle.std.proofs.lemmas.Option.{get_or_from_slice_get, slice_get-get_or, slice_get_within, none-some, same_Some}
 use Rattle.j39_network.specs.declared.plan.Plan.{Plan}
@@ -99,15 +99,11 @@ fit_parts g sent flow e =
     let second = and_parts (is_unit sent.sender flow.sender) (reaches flow.to sent.aim sent.unaddressed) first.1 in
     record { group = eqb-true flow.group g first.0; sender = same_unit sent.sender flow.sender second.0; reached = second.1 }
 
-pub both : (a b : Bool) → a ≡ true → b ≡ true → (a && b) ≡ true
-both true b e d = d
-both false b e d = absurd (true≢false (sym e))
-
 pub fit_whole : (g : ℕ) (sent : Sending) (flow : FlowPlan) → flow.group ≡ g → sent.sender ≡ Some flow.sender
     → reaches flow.to sent.aim sent.unaddressed ≡ true → fits g sent flow ≡ true
 fit_whole g sent flow group from reached =
-    both (flow.group == g) (is_unit sent.sender flow.sender && reaches flow.to sent.aim sent.unaddressed) (eq-eqb flow.group g group)
-    (both (is_unit sent.sender flow.sender) (reaches flow.to sent.aim sent.unaddressed) (unit_itself sent.sender flow.sender from) reached)
+    and_from (flow.group == g) (is_unit sent.sender flow.sender && reaches flow.to sent.aim sent.unaddressed) (eq-eqb flow.group g group)
+    (and_from (is_unit sent.sender flow.sender) (reaches flow.to sent.aim sent.unaddressed) (unit_itself sent.sender flow.sender from) reached)
 
 -- two that one message reaches go to the same, or it names no receiver
 pub same_receivers : (a b : To) (aim : Aim) (unaddressed : Bool) → reaches a aim unaddressed ≡ true → reaches b aim unaddressed ≡ true

@@ -5,11 +5,11 @@ pub mod Identifiers
 pub mod Logged
 pub mod Logs
 pub mod Makes
-pub mod NamesTold
+pub mod NamesReported
 pub mod Replies
 pub mod SentFrames
 pub mod Standing
-pub mod Telling
-pub mod ToldFlows
+pub mod HolderReports
+pub mod ReportedFlows
 pub mod UnitNames
 pub mod VehicleRuns

@@ -25,16 +25,16 @@ use Rattle.j39_world.specs.TransferSteps.{BeginsAt, SendsAt, LostFrom, TakenFrom
 use Rattle.j39_world.specs.World.{World, all_off}
 use Rattle.j39_run_laws.proofs.Runs.Always.{always_with}
 use Rattle.j39_log_laws.specs.Between.{AreJoined, ComesTo, EachGoesBetweenUnits, GoesToHolder, IsOfStep, IsSentBehind, IsSentBy, StandsBehind}
-use Rattle.j39_log_laws.specs.Telling.{HaveOwnNumbers}
+use Rattle.j39_log_laws.specs.HolderReports.{HaveOwnNumbers}
 use Rattle.j39_log_laws.proofs.Between.{step_goes}
 use Rattle.j39_log_laws.proofs.Ends.{HasEnds, all_ends}
 use Rattle.j39_log_laws.proofs.Logs.{split}
-use Rattle.j39_log_laws.proofs.Telling.{AreTold, all_told}
+use Rattle.j39_log_laws.proofs.HolderReports.{AreReported, all_stated}
 
 -- ---- where a frame of a log stands
 
 -- among those of the first list, or behind them among those of the second
-place : (xs ys : List Sent) (before : List Frame) (f : Frame) (behind : List Frame) → map sent_of (before ++ f ∷ behind) ≡ xs ++ ys
+pub place : (xs ys : List Sent) (before : List Frame) (f : Frame) (behind : List Frame) → map sent_of (before ++ f ∷ behind) ≡ xs ++ ys
     → ((front : List Frame) × (map sent_of (before ++ f ∷ front) ≡ xs))
     ⊎ ((earlier : List Sent) × (later : List Sent) × (map sent_of before ≡ xs ++ earlier) × (ys ≡ earlier ++ sent_of f ∷ later))
 place [] ys before f behind e = inr (map sent_of before, map sent_of behind, refl, sym e ∙ map-append sent_of before (f ∷ behind))
@@ -101,7 +101,7 @@ module _ (plan : Plan) (w : World) where
 comes_to : (plan : Plan) (w : World) (log : List Frame) (to : To) (i : Ident) → GoesToHolder plan w log to i → ComesTo plan log to i
 comes_to plan w log All i goes = goes
 comes_to plan w log (One v) i (a, at, inl two) = inl two
-comes_to plan w log (One v) i (a, at, inr same) = inr (subst (λ (k : ℕ). StandsBehind plan log v k) (sym same) at.told)
+comes_to plan w log (One v) i (a, at, inr same) = inr (subst (λ (k : ℕ). StandsBehind plan log v k) (sym same) at.stated)
 
 -- whoever sends by a step, a flow joins it with those that this is for
 joins : (plan : Plan) (w : World) (step : Step) (u : ℕ) (to : To) (i : Ident) → IsSentBy plan w step u to → IsOfStep plan step i → AreJoined plan u to i
@@ -123,7 +123,7 @@ joins plan w (Lose x y) u to i never group = absurd never
 joins plan w (Rest x) u to i never group = absurd never
 
 -- by a step from a world of which this is known
-logged_keep : (plan : Plan) → AreNamesDistinct (units_of plan) → HaveOwnNumbers plan → (w : World) → AreTold plan w × HasEnds plan w
+logged_keep : (plan : Plan) → AreNamesDistinct (units_of plan) → HaveOwnNumbers plan → (w : World) → AreReported plan w × HasEnds plan w
     → EachGoesBetweenUnits plan w → (step : Step) → refusal plan w step ≡ None → (new : World) → StepsTo plan w step new → EachGoesBetweenUnits plan new
 logged_keep plan distinct own w known each step allowed new leads before f behind e other =
     let (added, is) = grows plan w step new leads in
@@ -138,15 +138,15 @@ logged_keep plan distinct own w known each step allowed new leads before f behin
             sender = u;
             to = to;
             joined = joins plan w step u to f.ident by group;
-            comes = source.told;
+            comes = source.stated;
             goes = comes_to plan w (before ++ f ∷ []) to f.ident goes;
           }
     ]
 
 pub each_goes : (plan : Plan) → KeepsEnds plan → AreNamesDistinct (units_of plan) → HaveOwnNumbers plan → Always plan (EachGoesBetweenUnits plan)
 each_goes plan keeps distinct own =
-    always_with plan (λ w. AreTold plan w × HasEnds plan w) (EachGoesBetweenUnits plan)
-    (λ steps w run. (all_told plan distinct own steps w run, all_ends plan keeps steps w run)) (logged_keep plan distinct own) none_at_first
+    always_with plan (λ w. AreReported plan w × HasEnds plan w) (EachGoesBetweenUnits plan)
+    (λ steps w run. (all_stated plan distinct own steps w run, all_ends plan keeps steps w run)) (logged_keep plan distinct own) none_at_first
   where
     none_at_first : EachGoesBetweenUnits plan all_off
     none_at_first [] f behind e other = absurd (cc e)

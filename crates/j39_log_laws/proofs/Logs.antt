@@ -1,4 +1,4 @@
--- What the frames of claims and requests tell, one after another.
+-- What the frames of claims and requests report, one after another.
 use Rattle.std.proofs.Common.{◌≡◌, ◌≢◌, ◌⊎◌, ℕ, suc, ◌<◌, ◌^◌, ◌==◌, ◌&&◌, ◌||◌, Bool, true, false, List, [], ◌∷◌, ◌++◌, length, map, Option}
 use Rattle.std.proofs.Common.{inl, inr, refl, sym, ap, subst, ◌∙◌, arith, append_assoc, eq-eqb}
 use Rattle.std.specs.Int.{w64, to_le_bytes, from_le_bytes}
@@ -11,13 +11,13 @@ use Rattle.j39_id.specs.Ident.{pgn_of}
 use Rattle.j39_id.specs.Services.{address_claimed, request}
 use Rattle.j39_id.specs.declared.frame.Frame.{Frame}
 use Rattle.j39_claim.specs.declared.item.Item.{Item}
-use Rattle.j39_claim.specs.declared.item.Item.TheVariants.{Told, Request}
+use Rattle.j39_claim.specs.declared.item.Item.TheVariants.{AddressClaimed, Request}
 use Rattle.j39_claim.specs.declared.item.Say.TheVariants.{Claim, Cannot}
 use Rattle.j39_id.specs.FrameMeaning.{carries_name, name_in, requests_group}
 use Rattle.j39_world.specs.Sent.{Sent, frame_of, sent_of, source_of}
 use Rattle.j39_follow.specs.Holders.{Claims, HoldsByFrames, TakesFrom, ClaimsOrCannot}
 use Rattle.j39_follow.proofs.Addresses.Holding.{holds_new, holds_on}
-use Rattle.j39_log_laws.specs.Between.{tells_of_addresses}
+use Rattle.j39_log_laws.specs.Between.{reports_of_addresses}
 use Rattle.j39_log_laws.proofs.Identifiers.{carries_none, claim_ident, pgn_there, request_ident}
 
 -- ---- lists
@@ -32,37 +32,37 @@ split {A} {B} f (x ∷ xs) (y ∷ ys) zs e =
     let r = split f xs ys zs tail in
     (x ∷ r.0, r.1, ap (λ (l : List A). x ∷ l) r.2, rw (head, r.3) refl, r.4)
 
--- ---- frames that tell of no NAME
+-- ---- frames that report of no NAME
 
-abbrev pub TellsNothing : Frame → Type 0
-TellsNothing f = (name : ℕ) → ¬ ClaimsOrCannot f name
+abbrev pub HoldsNothing : Frame → Type 0
+HoldsNothing f = (name : ℕ) → ¬ ClaimsOrCannot f name
 
 both_false : (b x y : Bool) → b ≡ false → ((b && x) || (b && y)) ≡ false
 both_false b x y e = rw e refl
 
-pub tells_nothing : (f : Frame) → carries_name f ≡ false → TellsNothing f
-tells_nothing f none name tells =
-    true≢false (sym tells.either ∙ both_false (carries_name f) (is_address f.ident.sa) (f.ident.sa == null_address) none)
+pub holds_nothing : (f : Frame) → carries_name f ≡ false → HoldsNothing f
+holds_nothing f none name are_reported =
+    true≢false (sym are_reported.either ∙ both_false (carries_name f) (is_address f.ident.sa) (f.ident.sa == null_address) none)
 
-claim_told : (f : Frame) (name a : ℕ) → Claims f name a → ClaimsOrCannot f name
-claim_told f name a c = record { either = rw c.claim refl; name_is = c.name_is }
+claim_reported : (f : Frame) (name a : ℕ) → Claims f name a → ClaimsOrCannot f name
+claim_reported f name a c = record { either = rw c.claim refl; name_is = c.name_is }
 
-takes_nothing : (f : Frame) (name a : ℕ) → TellsNothing f → ¬ TakesFrom name a f
-takes_nothing f name a nothing (inl tells) = nothing name tells
-takes_nothing f name a nothing (inr claim) = nothing claim.0 (claim_told f claim.0 a claim.1)
+takes_nothing : (f : Frame) (name a : ℕ) → HoldsNothing f → ¬ TakesFrom name a f
+takes_nothing f name a nothing (inl are_reported) = nothing name are_reported
+takes_nothing f name a nothing (inr claim) = nothing claim.0 (claim_reported f claim.0 a claim.1)
 
 -- they take no address
-pub silent_keep : (log more : List Frame) (name a : ℕ) → AllByRecursion TellsNothing more → HoldsByFrames log name a → HoldsByFrames (log ++ more) name a
+pub silent_keep : (log more : List Frame) (name a : ℕ) → AllByRecursion HoldsNothing more → HoldsByFrames log name a → HoldsByFrames (log ++ more) name a
 silent_keep log [] name a all holds = subst (λ (l : List Frame). HoldsByFrames l name a) (sym (append-nil log)) holds
 silent_keep log (f ∷ more) name a all holds =
     subst (λ (l : List Frame). HoldsByFrames l name a) (append_assoc log (f ∷ []) more)
     (silent_keep (log ++ f ∷ []) more name a all.1 (holds_on log f name a holds (takes_nothing f name a all.0)))
 
--- ---- what one item tells
+-- ---- what one item reports
 
 -- an address that is claimed is one that a unit can hold
 abbrev pub IsItemInRange : Item → Type 0
-IsItemInRange (Told (Claim a)) = a < null_address
+IsItemInRange (AddressClaimed (Claim a)) = a < null_address
 IsItemInRange _ = Unit {0}
 
 module _ (name : ℕ) (range : name < 2 ^ 64) (held : Option ℕ) (source : source_of held < 256) where
@@ -77,7 +77,7 @@ module _ (name : ℕ) (range : name < 2 ^ 64) (held : Option ℕ) (source : sour
       (and_from (pgn_of f.ident == address_claimed) (length f.payload.items == 8) (eq-eqb (pgn_of f.ident) address_claimed pgn)
       (eq-eqb (length f.payload.items) 8 eight))
 
-  pub claims_it : (f : Frame) (a : ℕ) → a < null_address → sent_of f ≡ frame_of name held (Told (Claim a)) → Claims f name a
+  pub claims_it : (f : Frame) (a : ℕ) → a < null_address → sent_of f ≡ frame_of name held (AddressClaimed (Claim a)) → Claims f name a
   claims_it f a less e =
       let i = claim_ident f.ident a (omega arith) (ap (λ (s : Sent). s.identifier) e) in
       let has = carries f _ e i.edp (pgn_there f.ident i.edp i.dp i.pf) in
@@ -88,36 +88,36 @@ module _ (name : ℕ) (range : name < 2 ^ 64) (held : Option ℕ) (source : sour
       }
 
   -- another unit keeps its address, unless it is the one that is claimed
-  pub keeps : (f : Frame) (item : Item) (other a : ℕ) → IsItemInRange item → other ≢ name → item ≢ Told (Claim a)
+  pub keeps : (f : Frame) (item : Item) (other a : ℕ) → IsItemInRange item → other ≢ name → item ≢ AddressClaimed (Claim a)
       → sent_of f ≡ frame_of name held item → ¬ TakesFrom other a f
-  keeps f (Told (Claim b)) other a less apart unlike e (inl tells) =
-      apart (sym tells.name_is ∙ carried f _ e)
-  keeps f (Told (Claim b)) other a less apart unlike e (inr claim) =
+  keeps f (AddressClaimed (Claim b)) other a less apart unlike e (inl are_reported) =
+      apart (sym are_reported.name_is ∙ carried f _ e)
+  keeps f (AddressClaimed (Claim b)) other a less apart unlike e (inr claim) =
       let here : b ≡ a = sym (claims_it f b less e).source_is ∙ claim.1.source_is in
-      unlike (ap (λ (k : ℕ). Told (Claim k)) here)
-  keeps f (Told Cannot) other a less apart unlike e (inl tells) = apart (sym tells.name_is ∙ carried f _ e)
-  keeps f (Told Cannot) other a less apart unlike e (inr claim) =
+      unlike (ap (λ (k : ℕ). AddressClaimed (Claim k)) here)
+  keeps f (AddressClaimed Cannot) other a less apart unlike e (inl are_reported) = apart (sym are_reported.name_is ∙ carried f _ e)
+  keeps f (AddressClaimed Cannot) other a less apart unlike e (inr claim) =
       let i = claim_ident f.ident 254 (omega arith) (ap (λ (s : Sent). s.identifier) e) in
       let sa = i.sa in
       let below = ltb-true f.ident.sa null_address (and_parts (carries_name f) (is_address f.ident.sa) claim.1.claim).1 in
       absurd (omega (arith, sa, below))
   keeps f Request other a less apart unlike e takes =
-      takes_nothing f other a (tells_nothing f (carries_none f 6 59904 255 (source_of held)
+      takes_nothing f other a (holds_nothing f (carries_none f 6 59904 255 (source_of held)
       (record { range = omega arith; low = λ _. refl; unlike = λ (same : 59904 ≡ 60928). absurd (omega (arith, same)) })
       (omega arith) source (ap (λ (s : Sent). s.identifier) e))) takes
 
-  -- ---- what several tell
+  -- ---- what several report
 
-  same_claim : (item : Item) (a : ℕ) → (item ≡ Told (Claim a)) ⊎ (item ≢ Told (Claim a))
-  same_claim (Told (Claim b)) a = elim (cases_eq b a) [
-    | inl same ↦ inl (ap (λ (k : ℕ). Told (Claim k)) same)
+  same_claim : (item : Item) (a : ℕ) → (item ≡ AddressClaimed (Claim a)) ⊎ (item ≢ AddressClaimed (Claim a))
+  same_claim (AddressClaimed (Claim b)) a = elim (cases_eq b a) [
+    | inl same ↦ inl (ap (λ (k : ℕ). AddressClaimed (Claim k)) same)
     | inr other ↦ inr (λ e. other cc)
   ]
-  same_claim (Told Cannot) a = inr (λ e. cc)
+  same_claim (AddressClaimed Cannot) a = inr (λ e. cc)
   same_claim Request a = inr (λ e. cc)
 
   pub others : (log more : List Frame) (items : List Item) (other a : ℕ) → other ≢ name → AllByRecursion IsItemInRange items
-      → map sent_of more ≡ map (frame_of name held) items → HoldsByFrames log other a → HoldsByFrames (log ++ more) other a ⊎ Contains items (Told (Claim a))
+      → map sent_of more ≡ map (frame_of name held) items → HoldsByFrames log other a → HoldsByFrames (log ++ more) other a ⊎ Contains items (AddressClaimed (Claim a))
   others log [] [] other a apart all e holds = inl (subst (λ (l : List Frame). HoldsByFrames l other a) (sym (append-nil log)) holds)
   others log [] (item ∷ items) other a apart all e holds = absurd (cc e)
   others log (f ∷ more) [] other a apart all e holds = absurd (cc e)
@@ -135,30 +135,30 @@ module _ (name : ℕ) (range : name < 2 ^ 64) (held : Option ℕ) (source : sour
       ]
 
   -- the unit itself holds what it claims last
-  pub claimed : (log more : List Frame) (a : ℕ) → a < null_address → map sent_of more ≡ frame_of name held (Told (Claim a)) ∷ []
+  pub claimed : (log more : List Frame) (a : ℕ) → a < null_address → map sent_of more ≡ frame_of name held (AddressClaimed (Claim a)) ∷ []
       → HoldsByFrames (log ++ more) name a
   claimed log [] a less e = absurd (cc e)
   claimed log (f ∷ []) a less e =
-      let head : sent_of f ≡ frame_of name held (Told (Claim a)) = cc in
+      let head : sent_of f ≡ frame_of name held (AddressClaimed (Claim a)) = cc in
       holds_new log f name a (claims_it f a less head)
   claimed log (f ∷ g ∷ more) a less e = absurd (cc e)
 
   pub asked : (log more : List Frame) (item : Item) (a : ℕ) → a < null_address
-      → map sent_of more ≡ frame_of name held item ∷ frame_of name held (Told (Claim a)) ∷ [] → HoldsByFrames (log ++ more) name a
+      → map sent_of more ≡ frame_of name held item ∷ frame_of name held (AddressClaimed (Claim a)) ∷ [] → HoldsByFrames (log ++ more) name a
   asked log [] item a less e = absurd (cc e)
   asked log (f ∷ more) item a less e =
-      let tail : map sent_of more ≡ frame_of name held (Told (Claim a)) ∷ [] = cc in
+      let tail : map sent_of more ≡ frame_of name held (AddressClaimed (Claim a)) ∷ [] = cc in
       subst (λ (l : List Frame). HoldsByFrames l name a) (append_assoc log (f ∷ []) more) (claimed (log ++ f ∷ []) more a less tail)
 
-  -- each tells of addresses
-  pub tells_addresses : (f : Frame) (item : Item) → IsItemInRange item → sent_of f ≡ frame_of name held item → tells_of_addresses f ≡ true
-  tells_addresses f (Told (Claim a)) less e =
+  -- each reports of addresses
+  pub reports_addresses : (f : Frame) (item : Item) → IsItemInRange item → sent_of f ≡ frame_of name held item → reports_of_addresses f ≡ true
+  reports_addresses f (AddressClaimed (Claim a)) less e =
       let i = claim_ident f.ident a (omega arith) (ap (λ (s : Sent). s.identifier) e) in
       or_left (carries_name f) (requests_group f) (carries f _ e i.edp (pgn_there f.ident i.edp i.dp i.pf))
-  tells_addresses f (Told Cannot) less e =
+  reports_addresses f (AddressClaimed Cannot) less e =
       let i = claim_ident f.ident 254 (omega arith) (ap (λ (s : Sent). s.identifier) e) in
       or_left (carries_name f) (requests_group f) (carries f _ e i.edp (pgn_there f.ident i.edp i.dp i.pf))
-  tells_addresses f Request less e =
+  reports_addresses f Request less e =
       let i = request_ident f.ident (source_of held) source (ap (λ (s : Sent). s.identifier) e) in
       let three : length f.payload.items ≡ 3 = ap (λ (s : Sent). length s.payload) e in
       or_right (carries_name f) (requests_group f)

@@ -28,12 +28,12 @@ use Rattle.j39_world.specs.SentTransfers.{address_of, destination_of, group_of, 
 use Rattle.j39_world.specs.TransferSteps.{BeginsAt, SendsAt, first_frame}
 use Rattle.j39_world.specs.World.{World}
 use Rattle.j39_world.specs.declared.flow.Flow.{Flow}
-use Rattle.j39_log_laws.specs.Between.{IsSentBehind, IsTransport, tells_of_addresses}
-use Rattle.j39_log_laws.specs.Telling.{HaveOwnNumbers}
+use Rattle.j39_log_laws.specs.Between.{IsSentBehind, IsTransport, reports_of_addresses}
+use Rattle.j39_log_laws.specs.HolderReports.{HaveOwnNumbers}
 use Rattle.j39_log_laws.proofs.Between.{transports}
 use Rattle.j39_log_laws.proofs.Identifiers.{sent_as}
 use Rattle.j39_log_laws.proofs.Standing.{source_below}
-use Rattle.j39_log_laws.proofs.Telling.{AreTold, packet_group}
+use Rattle.j39_log_laws.proofs.HolderReports.{AreReported, packet_group}
 
 -- ---- the frame that a step sends
 
@@ -66,9 +66,9 @@ pub record IsInFrame (flow : Flow) (bytes : List ℕ) (f : Frame) : Type 0 where
   pub selected : is_selected flow.when bytes ≡ true
   pub short : is_short (length bytes) ≡ true
 
-module _ (plan : Plan) (w : World) (told : AreTold plan w) where
+module _ (plan : Plan) (w : World) (stated : AreReported plan w) where
   pub below : (u : ℕ) → address_of w.stations u < 256
-  below u = source_below (w.stations u) (told.standing.1 u)
+  below u = source_below (w.stations u) (stated.standing.1 u)
 
   pub destination_below : (to : To) → destination_of w.stations to < 256
   destination_below ToAll = omega arith
@@ -155,10 +155,10 @@ pub no_transport : (n : ℕ) → is_service n ≡ false → ¬ IsTransport n
 no_transport n own (inl e) = true≢false (sym (ap is_service e) ∙ own)
 no_transport n own (inr e) = true≢false (sym (ap is_service e) ∙ own)
 
-pub tells_nothing : (f : Frame) → is_service (pgn_of f.ident) ≡ false → tells_of_addresses f ≡ false
-tells_nothing f own =
-    false_from_ne_true (tells_of_addresses f) (λ tells.
-    elim (or_cases (carries_name f) (requests_group f) tells) [
+pub holds_nothing : (f : Frame) → is_service (pgn_of f.ident) ≡ false → reports_of_addresses f ≡ false
+holds_nothing f own =
+    false_from_ne_true (reports_of_addresses f) (λ are_reported.
+    elim (or_cases (carries_name f) (requests_group f) are_reported) [
       | inl name ↦
           let number = (and_parts (pgn_of f.ident == address_claimed) (length f.payload.items == 8)
           (and_parts (f.ident.edp == 0) (pgn_of f.ident == address_claimed && length f.payload.items == 8) name).1).0 in

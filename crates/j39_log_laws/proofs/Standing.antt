@@ -5,7 +5,7 @@ use Rattle.std.specs.Bool.{MatchBool}
 use Rattle.std.proofs.lemmas.Option.{same_Some}
 use Rattle.j39_id.specs.Addresses.{in_pool, null_address}
 use Rattle.j39_claim.specs.declared.item.Item.{Item}
-use Rattle.j39_claim.specs.declared.item.Item.TheVariants.{Told, Request}
+use Rattle.j39_claim.specs.declared.item.Item.TheVariants.{AddressClaimed, Request}
 use Rattle.j39_claim.specs.declared.item.Say.{Say}
 use Rattle.j39_claim.specs.declared.item.Say.TheVariants.{Claim, Cannot}
 use Rattle.j39_claim.specs.ClaimRule.{Answers, ClaimState, PlannedUnit, Reacts, claim_of, off, started}
@@ -24,7 +24,7 @@ use Rattle.j39_findings.proofs.WhoStays.{placed}
 
 -- either it says nothing and holds what it held, which the item doesn't claim, or it says what it then holds
 abbrev pub IsSilentTurn : ClaimState → Item → Option Say → ClaimState → Type 0
-IsSilentTurn s item says new = (says ≡ None) × (new.address ≡ s.address) × ((a : ℕ) → s.address ≡ Some a → item ≢ Told (Claim a))
+IsSilentTurn s item says new = (says ≡ None) × (new.address ≡ s.address) × ((a : ℕ) → s.address ≡ Some a → item ≢ AddressClaimed (Claim a))
 
 abbrev pub IsSaidTurn : ClaimState → Option Say → ClaimState → Type 0
 IsSaidTurn s says new =
@@ -33,10 +33,10 @@ IsSaidTurn s says new =
 some_none : {A : Type 0} (a : ℕ) → None ≡ Some a → A
 some_none a e = absurd (cc e)
 
-claimed_same : (a b : ℕ) → Told (Claim a) ≡ Told (Claim b) → a ≡ b
+claimed_same : (a b : ℕ) → AddressClaimed (Claim a) ≡ AddressClaimed (Claim b) → a ≡ b
 claimed_same a b e = cc
 
-cannot_claim : (a : ℕ) → Told Cannot ≢ Told (Claim a)
+cannot_claim : (a : ℕ) → AddressClaimed Cannot ≢ AddressClaimed (Claim a)
 cannot_claim a e = cc
 
 pub turn : (p : PlannedUnit) (s : ClaimState) (n : ℕ) (item : Item) (says : Option Say) (new : ClaimState) → Answers p s n item says new
@@ -46,10 +46,10 @@ turn p s n Request says new answers =
       answers.0 ∙ sym (ap (λ (t : ClaimState). Some (claim_of t.address)) answers.1),
       λ a e. inl (sym (ap (λ (t : ClaimState). t.address) answers.1) ∙ e),
     )
-turn p s n (Told Cannot) says new answers =
+turn p s n (AddressClaimed Cannot) says new answers =
     inl (answers.0, ap (λ (t : ClaimState). t.address) answers.1, λ a has same. cannot_claim a same)
-turn p s n (Told (Claim c)) says new answers =
-    claim_cases p s n c says new (IsSilentTurn s (Told (Claim c)) says new ⊎ IsSaidTurn s says new)
+turn p s n (AddressClaimed (Claim c)) says new answers =
+    claim_cases p s n c says new (IsSilentTurn s (AddressClaimed (Claim c)) says new ⊎ IsSaidTurn s says new)
     (λ has below lost. elim lost [
       | inl moves ↦
           let (b, arbitrary, free, said, is) = moves in

@@ -1,4 +1,4 @@
--- What the log of a run of a vehicle tells by its own plan it tells by the plan of its type.
+-- What the log of a run of a vehicle reports by its own plan it reports by the plan of its type.
 use Rattle.std.proofs.Common.{◌≡◌, ℕ, zero, suc, true, false, List, [], ◌∷◌, ◌++◌, map, inl, inr}
 use Rattle.std.proofs.Common.{refl, sym, ap, subst, ◌∙◌, arith, append_assoc}
 use Rattle.std.specs.FinSet.{FinSet}
@@ -33,16 +33,17 @@ use Rattle.j39_world.specs.Run.{Follows}
 use Rattle.j39_world.specs.Sent.{Sent, sent_of}
 use Rattle.j39_world.specs.World.{World}
 use Rattle.j39_follow.specs.Contests.{frames_of}
-use Rattle.j39_follow.specs.VehicleLogs.{IsOfVehicle, TellOfVehicle}
-use Rattle.j39_follow.proofs.Vehicles.Parties.{TellAll}
+use Rattle.j39_follow.specs.VehicleLogs.{IsOfVehicle, ReportOfVehicle}
+use Rattle.j39_follow.proofs.Vehicles.Parties.{ReportAll}
 use Rattle.j39_follow.proofs.Vehicles.Reports.{same_report}
-use Rattle.j39_follow.proofs.Vehicles.Units.{of_box, tell_alike, unit_kept}
+use Rattle.j39_follow.proofs.Vehicles.Units.{of_box, report_alike, unit_kept}
 use Rattle.j39_log_laws.specs.Between.{AreJoined, ComesTo, EachGoesBetweenUnits, GoesToHolder, HasNumberOf, IsBetweenUnits, IsKnownAt, IsOfFlow}
 use Rattle.j39_log_laws.specs.Between.{IsOfStep, IsSentBy, MessagesGoBetweenHolders, SendsTo, StandsBehind}
-use Rattle.j39_log_laws.specs.Telling.{HaveOwnNumbers}
-use Rattle.j39_log_laws.specs.ToldFlows.{AreToldAsBegun, EachClaims, LooksLike, untimed}
-use Rattle.j39_log_laws.specs.VehicleRuns.{AreVehiclesToldAsBegun, FramesTellOfVehicle, VehicleMessagesGoBetweenHolders}
-use Rattle.j39_log_laws.proofs.NamesTold.{AreNamed, IsUnitName, TellsUnit}
+use Rattle.j39_log_laws.specs.HolderReports.{HaveOwnNumbers}
+use Rattle.j39_log_laws.specs.ReportedFlows.{AreReportedAsBegun, EachClaims, LooksLike, untimed}
+use Rattle.j39_log_laws.specs.VehicleRuns.{AreVehiclesReportedAsBegun, FramesReportOfVehicle, VehicleMessagesGoBetweenHolders}
+use Rattle.j39_log_laws.proofs.NamesReported.{AreNamed, IsUnitName, ReportsUnit}
+use Rattle.j39_log_laws.proofs.ReportedFlows.{frames_untimed}
 
 -- ---- lists
 
@@ -53,10 +54,6 @@ all_split P (x ∷ xs) y ys all = all_split P xs y ys all.1
 all_front : {X : Type 0} (P : X → Type 0) (xs ys : List X) → AllByRecursion P (xs ++ ys) → AllByRecursion P xs
 all_front P [] ys all = tt
 all_front P (x ∷ xs) ys all = (all.0, all_front P xs ys all.1)
-
-frames_untimed : (frames : List Frame) → frames_of (untimed frames) ≡ frames
-frames_untimed [] = refl
-frames_untimed (f ∷ frames) = ap (λ (t : List Frame). f ∷ t) (frames_untimed frames)
 
 claims_at : (kept other : FinSet nat_cmp) (units boxes : List UnitPlan) → AllZip IsBoxOf units boxes → (u : ℕ)
     → (unit_at (map (planned_unit other) boxes) u).claims ≡ (unit_at (map (planned_unit kept) units) u).claims
@@ -161,7 +158,7 @@ module _ (plan vehicle : Plan) (is : IsVehicleOf plan vehicle) (apart : AreDisti
       (who.0, who.1, unit_kept plan vehicle is apart who.0 u who.2)
 
   known : (w : World) (log : List Frame) (u a : ℕ) → IsKnownAt vehicle w log u a → IsKnownAt plan w log u a
-  known w log u a at = record { on = at.on; holds = at.holds; told = stands log u a at.told }
+  known w log u a at = record { on = at.on; holds = at.holds; stated = stands log u a at.stated }
 
   goes_to : (w : World) (log : List Frame) (to : To) (i : Ident) → GoesToHolder vehicle w log to i → GoesToHolder plan w log to i
   goes_to w log ToAll i goes = goes
@@ -200,17 +197,17 @@ module _ (plan vehicle : Plan) (is : IsVehicleOf plan vehicle) (apart : AreDisti
       subst (IsOfVehicle plan vehicle) (sym (ap (λ p. p.name) b.2) ∙ same) (of_box plan vehicle is apart v b.0 b.1)
 
   -- frames whose form was sent by units of the vehicle
-  tell_so : (log : List Frame) → AllByRecursion (TellsUnit vehicle) (map sent_of log) → TellOfVehicle plan vehicle log
-  tell_so log all before f behind row name tells =
+  report_so : (log : List Frame) → AllByRecursion (ReportsUnit vehicle) (map sent_of log) → ReportOfVehicle plan vehicle log
+  report_so log all before f behind row name are_reported =
       let parted : map sent_of log ≡ map sent_of before ++ sent_of f ∷ map sent_of behind =
       ap (map sent_of) row ∙ map-append sent_of before (f ∷ behind) in
-      of_units name (all_split (TellsUnit vehicle) (map sent_of before) (sent_of f) (map sent_of behind)
-      (subst (AllByRecursion (TellsUnit vehicle)) parted all) f refl name tells)
+      of_units name (all_split (ReportsUnit vehicle) (map sent_of before) (sent_of f) (map sent_of behind)
+      (subst (AllByRecursion (ReportsUnit vehicle)) parted all) f refl name are_reported)
 
-  pub frames_tell_so : (w : World) → AreNamed vehicle w → FramesTellOfVehicle plan vehicle w
-  frames_tell_so w named log of = tell_so log (subst (AllByRecursion (TellsUnit vehicle)) (sym of) named.each)
+  pub frames_report_so : (w : World) → AreNamed vehicle w → FramesReportOfVehicle plan vehicle w
+  frames_report_so w named log of = report_so log (subst (AllByRecursion (ReportsUnit vehicle)) (sym of) named.each)
 
-  -- ---- flows that are told
+  -- ---- flows that are reported
 
   looks_so : (group f other : ℕ) → LooksLike vehicle group f other → LooksLike plan group f other
   looks_so group f other l = record {
@@ -231,18 +228,18 @@ module _ (plan vehicle : Plan) (is : IsVehicleOf plan vehicle) (apart : AreDisti
     ];
   }
 
-  pub told_so : (w : World) → AreToldAsBegun vehicle w → ((step : Step) (after : World) → Follows vehicle w step after → AreNamed vehicle after)
-      → AreVehiclesToldAsBegun plan vehicle w
-  told_so w told named step after log f front group flow text follows sent report =
+  pub reported_so : (w : World) → AreReportedAsBegun vehicle w → ((step : Step) (after : World) → Follows vehicle w step after → AreNamed vehicle after)
+      → AreVehiclesReportedAsBegun plan vehicle w
+  reported_so w stated named step after log f front group flow text follows sent report =
       let frames : List Frame = log ++ f ∷ [] in
       let sent_so : map sent_of frames ++ sent.later ≡ after.frames =
       ap (λ (t : List Sent). t ++ sent.later) (map-append sent_of log (f ∷ []) ∙ ap (λ (t : List Sent). t ++ sent_of f ∷ []) sent.log_is)
       ∙ append_assoc (w.frames ++ sent.earlier) (sent_of f ∷ []) sent.later ∙ append_assoc w.frames sent.earlier (sent_of f ∷ sent.later) ∙ sym sent.sent in
-      let all : AllByRecursion (TellsUnit vehicle) (map sent_of frames) =
-      all_front (TellsUnit vehicle) (map sent_of frames) sent.later
-      (subst (AllByRecursion (TellsUnit vehicle)) (sym sent_so) (named step after follows).each) in
-      let tells : TellAll (IsOfVehicle plan vehicle) (frames_of (untimed frames)) =
-      subst (TellAll (IsOfVehicle plan vehicle)) (sym (frames_untimed frames)) (tell_so frames all) in
-      let there = same_report (IsOfVehicle plan vehicle) plan vehicle (tell_alike plan vehicle is apart) (untimed frames) tells front _ _ text report in
-      let (k, other, begun, found, looks) = told step after log f front group flow text follows sent there in
+      let all : AllByRecursion (ReportsUnit vehicle) (map sent_of frames) =
+      all_front (ReportsUnit vehicle) (map sent_of frames) sent.later
+      (subst (AllByRecursion (ReportsUnit vehicle)) (sym sent_so) (named step after follows).each) in
+      let are_reported : ReportAll (IsOfVehicle plan vehicle) (frames_of (untimed frames)) =
+      subst (ReportAll (IsOfVehicle plan vehicle)) (sym (frames_untimed frames)) (report_so frames all) in
+      let there = same_report (IsOfVehicle plan vehicle) plan vehicle (report_alike plan vehicle is apart) (untimed frames) are_reported front _ _ text report in
+      let (k, other, begun, found, looks) = stated step after log f front group flow text follows sent there in
       (k, other, begun, found, looks_so group k other looks)

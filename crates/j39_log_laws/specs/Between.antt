@@ -23,7 +23,7 @@ use Rattle.j39_world.specs.World.{World}
 use Rattle.j39_follow.specs.FollowReports.{is_to_all}
 use Rattle.j39_follow.specs.Who.{IsWho}
 use Rattle.j39_follow.specs.declared.address.who.Who.TheVariants.{Holder}
-use Rattle.j39_log_laws.specs.Telling.{IsLogOf}
+use Rattle.j39_log_laws.specs.HolderReports.{IsLogOf}
 
 -- ---- who sends, and for whom
 
@@ -88,15 +88,15 @@ pub record EndsKeepAddresses (plan : Plan) (w : World) : Type 0 where
 
 -- ---- their addresses
 
--- these frames tell that the unit stands behind the address, if it claims
+-- these frames report that the unit stands behind the address, if it claims
 abbrev pub StandsBehind : Plan → List Frame → ℕ → ℕ → Type 0
 StandsBehind plan log u a = (unit_at (units_of plan) u).claims ≡ true → IsWho plan log a (Holder u)
 
--- the unit is on and holds the address, and these frames tell so, if it claims
+-- the unit is on and holds the address, and these frames report so, if it claims
 pub record IsKnownAt (plan : Plan) (w : World) (log : List Frame) (u a : ℕ) : Type 0 where
   pub on : (w.stations u).on ≡ true
   pub holds : (w.stations u).address ≡ Some a
-  pub told : StandsBehind plan log u a
+  pub stated : StandsBehind plan log u a
 
 -- what is for all goes to all; what is for one unit goes to its address, unless its identifier names none (PDU2)
 abbrev pub GoesToHolder : Plan → World → List Frame → To → Ident → Type 0
@@ -113,15 +113,15 @@ pub record IsSentBehind (before after : World) (log : List Frame) (f : Frame) : 
   pub sent : after.frames ≡ before.frames ++ (earlier ++ sent_of f ∷ later)
 
 -- it claims an address or can't, or asks for a group
-abbrev pub tells_of_addresses : Frame → Bool
-tells_of_addresses f = carries_name f || requests_group f
+abbrev pub reports_of_addresses : Frame → Bool
+reports_of_addresses f = carries_name f || requests_group f
 
 -- each other frame that a step sends is of the flow's group or a transport frame; it comes from the address of the unit that sends it and
--- goes to that of the unit that it is for, and the frames up to it tell that these units hold them
+-- goes to that of the unit that it is for, and the frames up to it report that these units hold them
 abbrev pub MessagesGoBetweenHolders : Plan → World → Type 0
 MessagesGoBetweenHolders plan w =
     (step : Step) (after : World) (log : List Frame) (f : Frame)
-    → Follows plan w step after → IsSentBehind w after log f → tells_of_addresses f ≡ false
+    → Follows plan w step after → IsSentBehind w after log f → reports_of_addresses f ≡ false
     → (u : ℕ) × (to : To) × IsSentBy plan w step u to × IsOfStep plan step f.ident × IsKnownAt plan w (log ++ f ∷ []) u f.ident.sa
     × GoesToHolder plan w (log ++ f ∷ []) to f.ident
 
@@ -140,7 +140,7 @@ ComesTo plan log All i = is_to_all i ≡ true
 ComesTo plan log (One v) i = (is_pdu2 (pgn_of i) ≡ true) ⊎ StandsBehind plan log v i.ps
 
 -- a unit stands behind the address from which it comes, and it goes to all, or to a unit that stands behind the address to which it goes;
--- of a unit that never claims the frames tell nothing
+-- of a unit that never claims the frames report nothing
 pub record IsBetweenUnits (plan : Plan) (log : List Frame) (i : Ident) : Type 0 where
   pub sender : ℕ
   pub to : To
@@ -148,8 +148,8 @@ pub record IsBetweenUnits (plan : Plan) (log : List Frame) (i : Ident) : Type 0 
   pub comes : StandsBehind plan log sender i.sa
   pub goes : ComesTo plan log to i
 
--- so it is of each frame that was sent so far and doesn't tell of addresses, by the frames up to it
+-- so it is of each frame that was sent so far and doesn't report of addresses, by the frames up to it
 abbrev pub EachGoesBetweenUnits : Plan → World → Type 0
 EachGoesBetweenUnits plan w =
-    (before : List Frame) (f : Frame) (behind : List Frame) → IsLogOf w (before ++ f ∷ behind) → tells_of_addresses f ≡ false
+    (before : List Frame) (f : Frame) (behind : List Frame) → IsLogOf w (before ++ f ∷ behind) → reports_of_addresses f ≡ false
     → IsBetweenUnits plan (before ++ f ∷ []) f.ident

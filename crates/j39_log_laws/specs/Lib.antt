@@ -1,6 +1,6 @@
 pub mod Between
 pub mod KeepsEnds
-pub mod Telling
-pub mod ToldFlows
+pub mod HolderReports
+pub mod ReportedFlows
 pub mod VehicleRuns
 pub mod Makes

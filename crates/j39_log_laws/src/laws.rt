@@ -12,9 +12,9 @@ ghost use Rattle.j39_network.specs.Staying.{IsAloneThere};
 ghost use Rattle.j39_world.specs.World.{World, all_off};
 ghost use Rattle.j39_log_laws.specs.Between.{EachGoesBetweenUnits, EndsKeepAddresses, MessagesGoBetweenHolders};
 ghost use Rattle.j39_log_laws.specs.Makes.{KindsAreOfFields};
-ghost use Rattle.j39_log_laws.specs.Telling.{EachIsTold, FramesTellHolders, HaveOwnNumbers, IsHolderTold};
-ghost use Rattle.j39_log_laws.specs.ToldFlows.{AreToldAsBegun, EachClaims};
-ghost use Rattle.j39_log_laws.specs.VehicleRuns.{AreVehiclesToldAsBegun, FramesTellOfVehicle};
+ghost use Rattle.j39_log_laws.specs.HolderReports.{EachIsReported, FramesReportHolders, HaveOwnNumbers, IsHolderReported};
+ghost use Rattle.j39_log_laws.specs.ReportedFlows.{AreReportedAsBegun, EachClaims};
+ghost use Rattle.j39_log_laws.specs.VehicleRuns.{AreVehiclesReportedAsBegun, FramesReportOfVehicle};
 ghost use Rattle.j39_log_laws.specs.VehicleRuns.{VehicleMessagesGoBetweenHolders};
 ghost use Rattle.j39_findings.specs.Findings.{Clean};
 ghost use Rattle.j39_network.specs.Kinds.{AreDistinctUnits};
@@ -23,24 +23,24 @@ ghost use Rattle.j39_network.specs.VehiclePlans.{IsVehicleOf};
 /// In every world of every run of a plan whose NAMEs differ and that plans none of the network's own groups, with all
 /// lawful choices: by the frames sent so far the NAME of each unit that is on holds its address, or a claim of that
 /// address is undelivered to it.
-pub fn frames_tell_holders()
+pub fn frames_report_holders()
     ensures { (plan : Plans) (steps : List Steps) (w : World) → AreNamesDistinct (units_of plan) → HaveOwnNumbers plan
-        → Run plan all_off steps w → FramesTellHolders plan w }
+        → Run plan all_off steps w → FramesReportHolders plan w }
 {}
 
-/// So they tell the holder of each such address where no claim is undelivered (`quiet`), and of a plan that isn't live
-/// while a unit sends a message (`sending`). Of a plan without findings they always tell the holder of an address at
+/// So they report the holder of each such address where no claim is undelivered (`quiet`), and of a plan that isn't live
+/// while a unit sends a message (`sending`). Of a plan without findings they always report the holder of an address at
 /// which a unit is alone (`alone`).
-pub fn quiet_frames_tell_holders()
+pub fn quiet_frames_report_holders()
     ensures quiet { (plan : Plans) (steps : List Steps) (w : World) → AreNamesDistinct (units_of plan)
         → HaveOwnNumbers plan
-        → Run plan all_off steps w → IsQuiet w.claims → EachIsTold plan w }
+        → Run plan all_off steps w → IsQuiet w.claims → EachIsReported plan w }
     ensures sending { (plan : Plans) (steps : List Steps) (w : World) → plan.live ≡ false
         → AreNamesDistinct (units_of plan) → HaveOwnNumbers plan
-        → Run plan all_off steps w → IsSending w → EachIsTold plan w }
+        → Run plan all_off steps w → IsSending w → EachIsReported plan w }
     ensures alone { (plan : Plans) (steps : List Steps) (w : World) → Clean plan → AreNamesDistinct (units_of plan)
         → HaveOwnNumbers plan
-        → Run plan all_off steps w → (u : ℕ) → IsAloneThere plan.keep_free (units_of plan) u → IsHolderTold plan w u }
+        → Run plan all_off steps w → (u : ℕ) → IsAloneThere plan.keep_free (units_of plan) u → IsHolderReported plan w u }
 {}
 
 /// In every world of every run of a plan that isn't live, or that has no findings: while a unit is
@@ -53,7 +53,7 @@ pub fn ends_keep_addresses()
 {}
 
 /// In every world of every run of such a plan whose NAMEs differ and that plans none of the network's own groups, each
-/// frame that a step sends, unless it tells of addresses, comes from the address of the unit that sends it, and goes to
+/// frame that a step sends, unless it reports of addresses, comes from the address of the unit that sends it, and goes to
 /// all, or to the address of the unit that it is for: these are the ends of the message that it is of. By the frames up
 /// to it the two units hold these addresses. So in the log of a run units of the plan stand behind both addresses of
 /// each such frame.
@@ -68,21 +68,21 @@ pub fn messages_go_between_holders()
 
 /// In every world of every run of a plan without findings whose units all claim, with all lawful choices: where
 /// `follow` reports a frame that a step sends as a group's message in one frame, by the log of all frames up to it,
-/// this step began or sent it, byte for byte, by the flow that it is told with, or by one of the same unit and group
+/// this step began or sent it, byte for byte, by the flow that it is reported with, or by one of the same unit and group
 /// that looks like it in one frame.
-pub fn single_frames_are_told_as_begun()
+pub fn single_frames_are_reported_as_begun()
     ensures { (plan : Plans) (steps : List Steps) (w : World) → Clean plan → EachClaims plan → Run plan all_off steps w
-        → AreToldAsBegun plan w }
+        → AreReportedAsBegun plan w }
 {}
 
 /// In every world of every run of a vehicle, with all lawful choices, where no two units of the plan of its type may be
-/// one: the log of its frames tells of no other box of a unit than the vehicle's. What is said above of its messages by
+/// one: the log of its frames reports of no other box of a unit than the vehicle's. What is said above of its messages by
 /// its own plan, in which each unit has the serial number of its box, is so by the plan of its type, by which the log
 /// is followed.
-pub fn types_tell_runs_of_vehicles()
+pub fn types_stand_for_runs_of_vehicles()
     ensures names { (plan vehicle : Plans) (steps : List Steps) (w : World) → IsVehicleOf plan vehicle
         → AreDistinctUnits plan → HaveOwnNumbers plan
-        → Run vehicle all_off steps w → FramesTellOfVehicle plan vehicle w }
+        → Run vehicle all_off steps w → FramesReportOfVehicle plan vehicle w }
     ensures sent { (plan vehicle : Plans) (steps : List Steps) (w : World) → IsVehicleOf plan vehicle
         → AreDistinctUnits plan → KeepsEnds plan
         → HaveOwnNumbers plan → Run vehicle all_off steps w → VehicleMessagesGoBetweenHolders plan vehicle w }
@@ -91,7 +91,7 @@ pub fn types_tell_runs_of_vehicles()
         → HaveOwnNumbers plan → Run vehicle all_off steps w → EachGoesBetweenUnits plan w }
     ensures begun { (plan vehicle : Plans) (steps : List Steps) (w : World) → IsVehicleOf plan vehicle → Clean plan
         → EachClaims plan
-        → Run vehicle all_off steps w → AreVehiclesToldAsBegun plan vehicle w }
+        → Run vehicle all_off steps w → AreVehiclesReportedAsBegun plan vehicle w }
 {}
 
 /// Two NAMEs are of one kind exactly where all their fields are the same but the identity number.

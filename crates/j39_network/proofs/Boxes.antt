@@ -19,7 +19,7 @@ turned u v (kinds, inl same) = (sym kinds, inl (sym same))
 turned u v (kinds, inr (inl any)) = (sym kinds, inr (inr any))
 turned u v (kinds, inr (inr any)) = (sym kinds, inr (inl any))
 
--- units at two places of a plan in which all are told apart
+-- units at two places of a plan in which all are distinguished
 pub apart_at : (plan : Plan) → AreDistinctUnits plan → (i j : ℕ) (u v : UnitPlan) → slice_get plan.units.items i ≡ Some u
     → slice_get plan.units.items j ≡ Some v → i ≢ j → ¬ MayBeOne u v
 apart_at plan apart i j u v first second other one = elim (cases_lt i j) [
@@ -39,11 +39,11 @@ same_choice m n same =
 kinds_ordered : (m n : ℕ) → kind_of_name m < kind_of_name n → m < n
 kinds_ordered m n less = elim (cases_lt m n) [ inl is ↦ is | inr above ↦ let h = shr_mono 21 above in absurd (omega (arith, less, h)) ]
 
-less_told : (m n : ℕ) → m < n → nat_lt m n ≡ true
-less_told m n less = (Decides-ltb m n).1 less
+less_reported : (m n : ℕ) → m < n → nat_lt m n ≡ true
+less_reported m n less = (Decides-ltb m n).1 less
 
-above_told : (m n : ℕ) → n < m → nat_lt m n ≡ false
-above_told m n less = elim (cases_Bool (nat_lt m n)) [
+above_reported : (m n : ℕ) → n < m → nat_lt m n ≡ false
+above_reported m n less = elim (cases_Bool (nat_lt m n)) [
   | inl below ↦ let h = (Decides-ltb m n).0 below in absurd (omega (arith, h, less))
   | inr is ↦ is
 ]
@@ -69,7 +69,7 @@ same_order u v b c apart first second = elim (cases_lt (kind_of_name u.name) (ki
       let boxes : kind_of_name b.name < kind_of_name c.name = omega (arith, below, first.name.0, second.name.0) in
       let less = kinds_ordered b.name c.name boxes in
       record {
-        order = less_told _ _ less ∙ sym (less_told _ _ (kinds_ordered u.name v.name below));
+        order = less_reported _ _ less ∙ sym (less_reported _ _ (kinds_ordered u.name v.name below));
         apart = λ same. absurd (omega (arith, less, same));
       }
   | inr least ↦ elim (cases_lt (kind_of_name v.name) (kind_of_name u.name)) [
@@ -77,7 +77,7 @@ same_order u v b c apart first second = elim (cases_lt (kind_of_name u.name) (ki
         let boxes : kind_of_name c.name < kind_of_name b.name = omega (arith, below, first.name.0, second.name.0) in
         let less = kinds_ordered c.name b.name boxes in
         record {
-          order = above_told _ _ less ∙ sym (above_told _ _ (kinds_ordered v.name u.name below));
+          order = above_reported _ _ less ∙ sym (above_reported _ _ (kinds_ordered v.name u.name below));
           apart = λ same. absurd (omega (arith, less, same));
         }
     | inr most ↦

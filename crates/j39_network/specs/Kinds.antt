@@ -1,4 +1,4 @@
--- What a plan tells of the boxes that its units are. The identity number of a NAME, its bits 0 to 20, is each box's own serial number
+-- What a plan reports of the boxes that its units are. The identity number of a NAME, its bits 0 to 20, is each box's own serial number
 -- (SAE J1939-81, NAME fields), and a unit may be of any.
 use Rattle.std.specs.Prelude.{◌≡◌, ℕ, ◌/◌, ◌^◌, ◌⊎◌, Bool, true, ◌&&◌, ◌||◌, ◌==◌}
 use Rattle.j39_search.specs.ListPlaces.{PairAt}

@@ -1,4 +1,4 @@
-//! What a plan tells of the boxes that its units are.
+//! What a plan reports of the boxes that its units are.
 ghost use Rattle.std.specs.Prelude.{◌≡◌};
 ghost use Rattle.j39_network.specs.Kinds.{kind_of_name, may_be_one};
 

@@ -49,7 +49,7 @@ pub struct Plan {
     /// Whether messages and single frames begin at any time, also while units claim, and units go off in the midst of a
     /// message.
     pub live: bool,
-    /// What is known of the bus itself, where its load and its delays are to be told.
+    /// What is known of the bus itself, where its load and its delays are to be reported.
     pub timing: Option<Timing>,
     pub units: Vec<UnitPlan>,
     pub groups: Vec<GroupPlan>,

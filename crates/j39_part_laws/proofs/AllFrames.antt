@@ -134,49 +134,49 @@ pub record IsAskedBy (b : Broadcast) (l : UnitLoad) : Type 0 where
   pub flows : 1 ≤ l.flows
   pub packets : b.packets ≤ l.all_packets
 
-module _ (at : Places) (part whole : Plan) (is : IsPartAt at part whole) (good : HasGoodNumbers whole) (stays told : UnitPlan → Bool)
-    (decides : DecidesWhoStays whole stays) (tells_who : DecidesWhoStays part told) (timing : Timing) where
+module _ (at : Places) (part whole : Plan) (is : IsPartAt at part whole) (good : HasGoodNumbers whole) (stays reported : UnitPlan → Bool)
+    (decides : DecidesWhoStays whole stays) (reports_who : DecidesWhoStays part reported) (timing : Timing) where
   abbrev ls : List (Option FlowLoad)
-  ls = loads_of timing part told
+  ls = loads_of timing part reported
 
   abbrev ks : List (Option FlowLoad)
   ks = loads_of timing whole stays
 
   pub flows_some : AreSome at.flow (LoadsAlike at) ls ks
-  flows_some = some_map (IsFlowThere at) (LoadsAlike at) (load_of_flow timing part told) (load_of_flow timing whole stays) at.flow part.flows.items whole.flows.items
-      is.flows (flow_alike at part whole is good stays told decides tells_who timing)
+  flows_some = some_map (IsFlowThere at) (LoadsAlike at) (load_of_flow timing part reported) (load_of_flow timing whole stays) at.flow part.flows.items whole.flows.items
+      is.flows (flow_alike at part whole is good stays reported decides reports_who timing)
 
   pub flows_sub : IsSub (LoadsAlike at) ls ks
   flows_sub = sub_of (LoadsAlike at) ls ks at.flow flows_some.rises flows_some.each
 
-  pub requests_some : AreSome at.request (RequestsAlike at) (request_loads_of timing part told) (request_loads_of timing whole stays)
-  requests_some = some_map (IsRequestThere at) (RequestsAlike at) (load_of_request timing part.units.items told) (load_of_request timing whole.units.items stays)
-      at.request part.requests.items whole.requests.items is.requests (request_there at part whole is stays told decides tells_who timing)
+  pub requests_some : AreSome at.request (RequestsAlike at) (request_loads_of timing part reported) (request_loads_of timing whole stays)
+  requests_some = some_map (IsRequestThere at) (RequestsAlike at) (load_of_request timing part.units.items reported) (load_of_request timing whole.units.items stays)
+      at.request part.requests.items whole.requests.items is.requests (request_there at part whole is stays reported decides reports_who timing)
 
   units_from : (xs ys : List (Option FlowLoad)) → IsSub (LoadsAlike at) xs ys → ((u : ℕ) → All HasPackets (broadcasts_by u ys))
-      → AreSome at.unit (UnitsAlike at) (unit_loads_of timing part.units.items told xs) (unit_loads_of timing whole.units.items stays ys)
+      → AreSome at.unit (UnitsAlike at) (unit_loads_of timing part.units.items reported xs) (unit_loads_of timing whole.units.items stays ys)
   units_from [] ys sub paced = some_none (UnitsAlike at) at.unit is.units.rises (unit_loads_of timing whole.units.items stays ys)
   units_from (x ∷ xs) [] sub paced = absurd sub
   units_from (x ∷ xs) (y ∷ ys) sub paced = record { rises = is.units.rises; each = each }
     where
       here : ℕ → Option UnitLoad
-      here u = known_unit_load timing part.units.items told u (broadcasts_by u (x ∷ xs))
+      here u = known_unit_load timing part.units.items reported u (broadcasts_by u (x ∷ xs))
 
       there : ℕ → Option UnitLoad
       there u = known_unit_load timing whole.units.items stays u (broadcasts_by u (y ∷ ys))
 
-      each : (i : ℕ) (l : Option UnitLoad) → slice_get (each_unit_load timing part.units.items told (x ∷ xs)) i ≡ Some l
+      each : (i : ℕ) (l : Option UnitLoad) → slice_get (each_unit_load timing part.units.items reported (x ∷ xs)) i ≡ Some l
           → ValueAt (UnitsAlike at l) (each_unit_load timing whole.units.items stays (y ∷ ys)) (at.unit i)
       each i l its =
           let size : length (map here (range_with_len 0 (length part.units.items))) ≡ length part.units.items =
           length-map-range_with_len here 0 (length part.units.items) in
           let sum : length (map there (range_with_len 0 (length whole.units.items))) ≡ length whole.units.items =
           length-map-range_with_len there 0 (length whole.units.items) in
-          let below = slice_get_within (each_unit_load timing part.units.items told (x ∷ xs)) i l its in
+          let below = slice_get_within (each_unit_load timing part.units.items reported (x ∷ xs)) i l its in
           let within : i < length part.units.items = omega (arith, below, size) in
-          let (unit, at_i) = unit_at_place at part whole is stays told decides tells_who i within in
+          let (unit, at_i) = unit_at_place at part whole is stays reported decides reports_who i within in
           let inside : at.unit i < length whole.units.items =
-          slice_get_within whole.units.items (at.unit i) unit (there_too at part whole is stays told decides tells_who i unit at_i) in
+          slice_get_within whole.units.items (at.unit i) unit (there_too at part whole is stays reported decides reports_who i unit at_i) in
           let few = part.unit_count in
           let few_there = whole.unit_count in
           let is_l : here i ≡ l =
@@ -187,13 +187,13 @@ module _ (at : Places) (part whole : Plan) (is : IsPartAt at part whole) (good :
             value_is = slice_get-get_or (map there (range_with_len 0 (length whole.units.items))) (at.unit i) None (omega (arith, inside, sum))
                 ∙ ap Some (get_or-map-range_with_len there 0 (length whole.units.items) (at.unit i) (at.unit i) None inside (omega arith));
             meets = subst (λ o. UnitsAlike at o (there (at.unit i))) is_l
-                (unit_there at part whole is stays told decides tells_who timing i within (omega (arith, within, few)) (omega (arith, inside, few_there))
+                (unit_there at part whole is stays reported decides reports_who timing i within (omega (arith, within, few)) (omega (arith, inside, few_there))
                 (broadcasts_by i (x ∷ xs)) (broadcasts_by (at.unit i) (y ∷ ys))
-                (broadcasts_there at part whole is stays told decides tells_who timing i (x ∷ xs) (y ∷ ys) sub) (paced (at.unit i)));
+                (broadcasts_there at part whole is stays reported decides reports_who timing i (x ∷ xs) (y ∷ ys) sub) (paced (at.unit i)));
           }
 
   abbrev pub lus : List (Option UnitLoad)
-  lus = unit_loads_of timing part.units.items told ls
+  lus = unit_loads_of timing part.units.items reported ls
 
   abbrev pub kus : List (Option UnitLoad)
   kus = unit_loads_of timing whole.units.items stays ks
@@ -202,7 +202,7 @@ module _ (at : Places) (part whole : Plan) (is : IsPartAt at part whole) (good :
   units_some = units_from ls ks flows_sub (λ u. broadcasts_paced u ks (every_flow timing whole stays))
 
   abbrev lrs : List (Option RequestLoad)
-  lrs = request_loads_of timing part told
+  lrs = request_loads_of timing part reported
 
   abbrev krs : List (Option RequestLoad)
   krs = request_loads_of timing whole stays
@@ -221,7 +221,7 @@ module _ (at : Places) (part whole : Plan) (is : IsPartAt at part whole) (good :
   abbrev pub frames_place : ℕ → ℕ
   frames_place = joined at.flow behind_place (length (map frames_of_flow ls)) (length (map frames_of_flow ks))
 
-  pub frames_some : AreSome frames_place (FramesAlike at) (frames_asked (asked_of timing part told)) (frames_asked (asked_of timing whole stays))
+  pub frames_some : AreSome frames_place (FramesAlike at) (frames_asked (asked_of timing part reported)) (frames_asked (asked_of timing whole stays))
   frames_some =
       let R = FramesAlike at in
       some_append R at.flow behind_place _ _ _ _
@@ -230,12 +230,12 @@ module _ (at : Places) (part whole : Plan) (is : IsPartAt at part whole) (good :
       (some_map (LoadsAlike at) R singles_of_flow singles_of_flow at.flow ls ks flows_some (λ i l k here alike. singles_there at l k alike))
       (some_append R at.unit requests_place _ _ _ _
       (some_map (UnitsAlike at) R packets_of_unit packets_of_unit at.unit lus kus units_some
-      (λ i l k here alike. packets_there at part whole is stays told decides tells_who timing l k alike))
+      (λ i l k here alike. packets_there at part whole is stays reported decides reports_who timing l k alike))
       (some_append R at.unit at.request _ _ _ _
       (some_map (UnitsAlike at) R announcements_of_unit announcements_of_unit at.unit lus kus units_some
-      (λ i l k here alike. announcements_there at part whole is stays told decides tells_who timing l k alike))
+      (λ i l k here alike. announcements_there at part whole is stays reported decides reports_who timing l k alike))
       (some_map (RequestsAlike at) R frames_of_request frames_of_request at.request lrs krs requests_some
-      (λ i l k here alike. asked_there at part whole is stays told decides tells_who timing l k alike)))))
+      (λ i l k here alike. asked_there at part whole is stays reported decides reports_who timing l k alike)))))
 
   -- ---- where the frames of a unit's broadcasts stand
 
@@ -285,7 +285,7 @@ module _ (at : Places) (part whole : Plan) (is : IsPartAt at part whole) (good :
       ∙ ap (λ k. length (map frames_of_flow ks) + (length (map singles_of_flow ks) + (length (map packets_of_unit kus) + k))) four
       ∙ omega (arith, fw, sw, pw)
 
-  pub packets_at : (u : ℕ) (l : UnitLoad) → slice_get lus u ≡ Some (Some l) → slice_get (frames_asked (asked_of timing part told)) (2 * length ls + u) ≡ Some (Some l.packets)
+  pub packets_at : (u : ℕ) (l : UnitLoad) → slice_get lus u ≡ Some (Some l) → slice_get (frames_asked (asked_of timing part reported)) (2 * length ls + u) ≡ Some (Some l.packets)
   packets_at u l its =
       let f = length-map ls frames_of_flow in
       let s = length-map ls singles_of_flow in
@@ -293,11 +293,11 @@ module _ (at : Places) (part whole : Plan) (is : IsPartAt at part whole) (good :
       let read = append_read (map frames_of_flow ls) (map singles_of_flow ls ++ (map packets_of_unit lus ++ back)) (length (map singles_of_flow ls) + u) (Some l.packets)
       (append_read (map singles_of_flow ls) (map packets_of_unit lus ++ back) u (Some l.packets)
       (append_front (map packets_of_unit lus) back u (Some l.packets) (slice_get-map packets_of_unit lus u ∙ ap (option_map packets_of_unit) its))) in
-      subst (λ k. slice_get (frames_asked (asked_of timing part told)) k ≡ Some (Some l.packets))
+      subst (λ k. slice_get (frames_asked (asked_of timing part reported)) k ≡ Some (Some l.packets))
       (let e : length (map frames_of_flow ls) + (length (map singles_of_flow ls) + u) ≡ 2 * length ls + u = omega (arith, f, s) in e) read
 
   pub announcements_at : (u : ℕ) (l : UnitLoad) → slice_get lus u ≡ Some (Some l)
-      → slice_get (frames_asked (asked_of timing part told)) (2 * length ls + (length lus + u)) ≡ Some (Some l.announcements)
+      → slice_get (frames_asked (asked_of timing part reported)) (2 * length ls + (length lus + u)) ≡ Some (Some l.announcements)
   announcements_at u l its =
       let f = length-map ls frames_of_flow in
       let s = length-map ls singles_of_flow in
@@ -310,7 +310,7 @@ module _ (at : Places) (part whole : Plan) (is : IsPartAt at part whole) (good :
       (append_read (map packets_of_unit lus) (map announcements_of_unit lus ++ map frames_of_request lrs) u (Some l.announcements)
       (append_front (map announcements_of_unit lus) (map frames_of_request lrs) u (Some l.announcements)
       (slice_get-map announcements_of_unit lus u ∙ ap (option_map announcements_of_unit) its)))) in
-      subst (λ k. slice_get (frames_asked (asked_of timing part told)) k ≡ Some (Some l.announcements))
+      subst (λ k. slice_get (frames_asked (asked_of timing part reported)) k ≡ Some (Some l.announcements))
       (let e : length (map frames_of_flow ls) + (length (map singles_of_flow ls) + (length (map packets_of_unit lus) + u)) ≡ 2 * length ls + (length lus + u) =
       omega (arith, f, s, p) in e) read
 
@@ -337,15 +337,15 @@ module _ (at : Places) (part whole : Plan) (is : IsPartAt at part whole) (good :
       among (x ∷ xs) zero at = front (broadcast_by u x) (broadcasts_by u xs) (ap (broadcast_by u) (same_Some x load at) ∙ its_b)
       among (x ∷ xs) (suc i) at = behind (broadcast_by u x) (broadcasts_by u xs) (among xs i at)
 
-      known : (bs : List Broadcast) → IsOneOf b bs → (l : UnitLoad) × (known_unit_load timing part.units.items told u bs ≡ Some l) × IsAskedBy b l
+      known : (bs : List Broadcast) → IsOneOf b bs → (l : UnitLoad) × (known_unit_load timing part.units.items reported u bs ≡ Some l) × IsAskedBy b l
       known [] (some, packets) = absurd (omega (arith, some))
-      known (c ∷ cs) (some, packets) = (unit_load timing part.units.items told u (c ∷ cs), refl, record { flows = some; packets = packets })
+      known (c ∷ cs) (some, packets) = (unit_load timing part.units.items reported u (c ∷ cs), refl, record { flows = some; packets = packets })
 
       go : (xs : List (Option FlowLoad)) → slice_get xs f ≡ Some load
-          → (l : UnitLoad) × (slice_get (unit_loads_of timing part.units.items told xs) u ≡ Some (Some l)) × IsAskedBy b l
+          → (l : UnitLoad) × (slice_get (unit_loads_of timing part.units.items reported xs) u ≡ Some (Some l)) × IsAskedBy b l
       go [] at = absurd (no_value f load at)
       go (x ∷ xs) at =
-          let here : ℕ → Option UnitLoad = λ v. known_unit_load timing part.units.items told v (broadcasts_by v (x ∷ xs)) in
+          let here : ℕ → Option UnitLoad = λ v. known_unit_load timing part.units.items reported v (broadcasts_by v (x ∷ xs)) in
           let size = length-map-range_with_len here 0 (length part.units.items) in
           let (l, is_l, by_b) = known (broadcasts_by u (x ∷ xs)) (among (x ∷ xs) f at) in (
             l,

@@ -87,14 +87,14 @@ module _ (unit : ℕ → ℕ) (Twins : ℕ → ℕ → Type 0) (one_twin : (m n 
   one_unbounded k y at none =
       least_sub (y.least_ident ∷ []) (lines_of_each (unbounded_at ws) 0 others) single y.least_ident refl
     where
-      tell : ℕ → FlowFrames → List ℕ
-      tell p f = f.least_ident ∷ []
+      report : ℕ → FlowFrames → List ℕ
+      report p f = f.least_ident ∷ []
 
-      one : lines_of_each tell 0 (y ∷ []) ≡ y.least_ident ∷ []
+      one : lines_of_each report 0 (y ∷ []) ≡ y.least_ident ∷ []
       one = refl
 
       its : (i : ℕ) (f : FlowFrames) → slice_get (y ∷ []) i ≡ Some f
-          → ValueAt (λ z. IsSub IsNoLess (tell (0 + i) f) (unbounded_at ws (0 + (k + i)) z)) others (k + i)
+          → ValueAt (λ z. IsSub IsNoLess (report (0 + i) f) (unbounded_at ws (0 + (k + i)) z)) others (k + i)
       its zero f is_f =
           let same : y ≡ f = same_Some y f is_f in
           let there : k + 0 ≡ k = omega arith in
@@ -114,7 +114,7 @@ module _ (unit : ℕ → ℕ) (Twins : ℕ → ℕ → Type 0) (one_twin : (m n 
 
       single : IsSub IsNoLess (y.least_ident ∷ []) (lines_of_each (unbounded_at ws) 0 others)
       single = subst (λ l. IsSub IsNoLess l (lines_of_each (unbounded_at ws) 0 others)) one
-          (sub_lines IsNoLess tell (unbounded_at ws) (y ∷ []) others (λ i. k + i) 0 0 (λ i j below. omega (arith, below)) its)
+          (sub_lines IsNoLess report (unbounded_at ws) (y ∷ []) others (λ i. k + i) 0 0 (λ i j below. omega (arith, below)) its)
 
   -- ---- frames at the end of their buffering delays
 
@@ -239,16 +239,16 @@ module _ (unit : ℕ → ℕ) (Twins : ℕ → ℕ → Type 0) (one_twin : (m n 
 
       short_no_later : (limit : ℕ) (d e : Delay) → IsShortDelay timing (buffered vs all) i own limit d → IsShortDelay busy (buffered ws others) (place i) there limit e
           → IsNoLater (Some d) (Some e)
-      short_no_later limit (Long n) e here told = absurd here
-      short_no_later limit (Whole n) e here told = absurd here
-      short_no_later limit d (Long n) here told = absurd told
-      short_no_later limit d (Whole n) here told = absurd told
-      short_no_later limit d Late here told = (d, refl)
-      short_no_later limit (Within a) (Within b) here told = (a, refl, shorter limit limit a b here told)
+      short_no_later limit (Long n) e here reported = absurd here
+      short_no_later limit (Whole n) e here reported = absurd here
+      short_no_later limit d (Long n) here reported = absurd reported
+      short_no_later limit d (Whole n) here reported = absurd reported
+      short_no_later limit d Late here reported = (d, refl)
+      short_no_later limit (Within a) (Within b) here reported = (a, refl, shorter limit limit a b here reported)
       short_no_later limit (Beyond a) (Within b) here (w, room, least_w, is_b) = absurd (some_here limit limit w (omega arith) room here.0)
       short_no_later limit Late (Within b) here (w, room, least_w, is_b) = absurd (some_here limit limit w (omega arith) room here.0)
-      short_no_later limit (Within a) (Beyond b) here told = (a, inl refl, shorter limit there.stream.period a b here told.1)
-      short_no_later limit (Beyond a) (Beyond b) here told = (a, inr refl, shorter own.stream.period there.stream.period a b here.1 told.1)
+      short_no_later limit (Within a) (Beyond b) here reported = (a, inl refl, shorter limit there.stream.period a b here reported.1)
+      short_no_later limit (Beyond a) (Beyond b) here reported = (a, inr refl, shorter own.stream.period there.stream.period a b here.1 reported.1)
       short_no_later limit Late (Beyond b) here (never, (w, room, least_w, is_b)) =
           let period = ap (λ (s : _). s.period) same in
           absurd (some_here own.stream.period there.stream.period w (omega (arith, period)) room here.1)
@@ -312,11 +312,11 @@ module _ (unit : ℕ → ℕ) (Twins : ℕ → ℕ → Type 0) (one_twin : (m n 
   pub frame_no_later : (bp bw : Buffering) → IsBuffering timing all bp → IsBuffering busy others bw → bp.waits ≡ vs → bw.waits ≡ ws
       → (i : ℕ) (x y : FlowFrames) → slice_get all i ≡ Some (Some x) → AreFrames unit Twins x y → x.stream ≡ y.stream → (limit : ℕ) (d e : Delay)
       → IsFrameDelay timing bp i x limit d → IsFrameDelay busy bw (place i) y limit e → IsNoLater (Some d) (Some e)
-  frame_no_later bp bw is_p is_w waits_p waits_w i x y at alike same limit d e told there = elim (cases_Bool (keep_order x)) [
+  frame_no_later bp bw is_p is_w waits_p waits_w i x y at alike same limit d e reported there = elim (cases_Bool (keep_order x)) [
     | inr unordered ↦
         let there_un = same_order unit Twins one_twin x y alike ∙ unordered in
         let is_d : d ≡ any_delay x limit (slice_index_or vs i None) =
-        subst (λ zs. d ≡ any_delay x limit (slice_index_or zs i None)) waits_p (in_any timing bp i x d unordered told) in
+        subst (λ zs. d ≡ any_delay x limit (slice_index_or zs i None)) waits_p (in_any timing bp i x d unordered reported) in
         let is_e : e ≡ any_delay y limit (slice_index_or ws (place i) None) =
         subst (λ zs. e ≡ any_delay y limit (slice_index_or zs (place i) None)) waits_w (in_any busy bw (place i) y e there_un there) in
         subst (λ k. IsNoLater (Some k) (Some e)) (sym is_d) (subst (λ k. IsNoLater (Some (any_delay x limit (slice_index_or vs i None))) (Some k)) (sym is_e)
@@ -336,7 +336,7 @@ module _ (unit : ℕ → ℕ) (Twins : ℕ → ℕ → Type 0) (one_twin : (m n 
               let short_p : IsShortDelay timing bp.frames i x limit d =
               subst (λ t. MatchBool t (d ≡ Late) (IsShortDelay timing bp.frames i x limit d)) unpassed_p
               (subst (λ t. MatchBool t (MatchBool (may_be_passed bp x.greatest_ident) (d ≡ Late) (IsShortDelay timing bp.frames i x limit d))
-              (d ≡ any_delay x limit (slice_index_or bp.waits i None))) keeps told) in
+              (d ≡ any_delay x limit (slice_index_or bp.waits i None))) keeps reported) in
               short_no_later x y alike there_keeps passed i same limit d e
               (subst (λ fs. IsShortDelay timing fs i x limit d) (is_p.frames ∙ ap (λ zs. buffered zs all) waits_p) short_p)
               (subst (λ fs. IsShortDelay busy fs (place i) y limit e) (is_w.frames ∙ ap (λ zs. buffered zs others) waits_w) short)
@@ -360,17 +360,17 @@ module _ (unit : ℕ → ℕ) (Twins : ℕ → ℕ → Type 0) (one_twin : (m n 
             | inr open_way ↦ inr (open_way, subst (λ t. MatchBool t (c ≡ Late) (IsShortDelay bus buffering.frames k f limit c)) open_way inner)
           ]
 
-  -- ---- any frames, as far as their waits are told
+  -- ---- any frames, as far as their waits are reported
 
   pub wait_in_no_later : (bp bw : Buffering) → IsBuffering timing all bp → IsBuffering busy others bw → bp.waits ≡ vs → bw.waits ≡ ws
       → (i : ℕ) (x y : FlowFrames) → slice_get all i ≡ Some (Some x) → AreFrames unit Twins x y → (v : Option ℕ) (b : ℕ)
       → IsWaitIn timing bp i x v → IsWaitIn busy bw (place i) y (Some b) → (a : ℕ) × (v ≡ Some a) × (a ≤ b)
-  wait_in_no_later bp bw is_p is_w waits_p waits_w i x y at alike v b told there = elim (cases_Bool (keep_order x)) [
+  wait_in_no_later bp bw is_p is_w waits_p waits_w i x y at alike v b reported there = elim (cases_Bool (keep_order x)) [
     | inr unordered ↦
         let there_un = same_order unit Twins one_twin x y alike ∙ unordered in
         let known = in_any busy bw (place i) y (Some b) there_un there in
         let (a, is_a, below) = known_here i (Some x) at b (subst (λ zs. slice_index_or zs (place i) None ≡ Some b) waits_w (sym known)) in
-        (a, in_any timing bp i x v unordered told ∙ subst (λ zs. slice_index_or zs i None ≡ Some a) (sym waits_p) is_a, below)
+        (a, in_any timing bp i x v unordered reported ∙ subst (λ zs. slice_index_or zs i None ≡ Some a) (sym waits_p) is_a, below)
     | inl keeps ↦
         let there_keeps = same_order unit Twins one_twin x y alike ∙ keeps in
         let (unpassed, wait) = in_order busy bw (place i) y b there_keeps there in
@@ -384,7 +384,7 @@ module _ (unit : ℕ → ℕ) (Twins : ℕ → ℕ → Type 0) (one_twin : (m n 
         let wait_p : IsWaitOf timing bp.frames i x v =
         subst (λ t. MatchBool t (v ≡ None) (IsWaitOf timing bp.frames i x v)) unpassed_p
         (subst (λ t. MatchBool t (MatchBool (may_be_passed bp x.greatest_ident) (v ≡ None) (IsWaitOf timing bp.frames i x v))
-        (v ≡ slice_index_or bp.waits i None)) keeps told) in
+        (v ≡ slice_index_or bp.waits i None)) keeps reported) in
         wait_no_later x y alike there_keeps passed i v b
         (subst (λ fs. IsWaitOf timing fs i x v) (is_p.frames ∙ ap (λ zs. buffered zs all) waits_p) wait_p)
         (subst (λ fs. IsWaitOf busy fs (place i) y (Some b)) (is_w.frames ∙ ap (λ zs. buffered zs others) waits_w) wait)

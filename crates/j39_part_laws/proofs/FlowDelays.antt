@@ -1,4 +1,4 @@
--- A delay that is told of the whole bounds its flow's in the part.
+-- A delay that is reported of the whole bounds its flow's in the part.
 use Rattle.std.proofs.Common.{◌≡◌, ℕ, ◌<◌, ◌≤◌, Bool, List, ◌++◌, length, map, Option, Some, None, option_map, refl, sym, ◌∙◌, ap, subst}
 use Rattle.std.specs.List.{slice_get}
 use Rattle.std.proofs.lemmas.Option.{same_Some, slice_get-map}
@@ -82,8 +82,8 @@ turn_within f g p q n a b k m some flows has packets first later =
     }
 
 still_keeps_up : (unit : ℕ → ℕ) (b c : Broadcast) → AreBroadcast unit b c → (s t : Turn) → IsTurnWithin b.packets s t → keeps_up c t ≡ true → keeps_up b s ≡ true
-still_keeps_up unit b c alike s t within told =
-    let (in_period, soon) = and_parts (nat_le t.time c.apart) (nat_le (c.jitter + t.time) (c.apart + own_time c t)) told in
+still_keeps_up unit b c alike s t within reported =
+    let (in_period, soon) = and_parts (nat_le t.time c.apart) (nat_le (c.jitter + t.time) (c.apart + own_time c t)) reported in
     let low = leb-true t.time c.apart in_period in
     let next = leb-true (c.jitter + t.time) (c.apart + own_time c t) soon in
     let own : own_time c t ≡ t.announcement + b.packets * t.packet = ap (λ (n : ℕ). t.announcement + n * t.packet) alike.packets in
@@ -95,29 +95,29 @@ still_keeps_up unit b c alike s t within told =
     (le-leb (b.jitter + s.time) (b.apart + own_time b s) (omega (arith, next, own, others, apart, late)))
 
 module _ (at : Places) (part whole : Plan) (is : IsPartAt at part whole) (good : HasGoodNumbers whole) (timing : Timing) (unplanned : ℕ) (range : unplanned ≤ 1000) (busier : timing.unplanned ≤ unplanned)
-    (stays told : UnitPlan → Bool)
-    (decides : DecidesWhoStays whole stays) (tells_who : DecidesWhoStays part told) where
+    (stays reported : UnitPlan → Bool)
+    (decides : DecidesWhoStays whole stays) (reports_who : DecidesWhoStays part reported) where
   abbrev busy : Timing
   busy = counting timing unplanned range
 
   abbrev ls : List (Option FlowLoad)
-  ls = loads_of timing part told
+  ls = loads_of timing part reported
 
   abbrev lus_here : List (Option UnitLoad)
-  lus_here = (asked_of timing part told).units
+  lus_here = (asked_of timing part reported).units
 
   abbrev asked : Asked
-  asked = asked_of timing part told
+  asked = asked_of timing part reported
 
   abbrev asked_there : Asked
   asked_there = asked_of timing whole stays
 
   abbrev place : ℕ → ℕ
-  place = frames_place at part whole is good stays told decides tells_who timing
+  place = frames_place at part whole is good stays reported decides reports_who timing
 
   all_some : AreSome place (AreFramesWhere at.unit (AreTwinNumbers at) (Always at.unit (AreTwinNumbers at) (one_twin at))) (frames_asked asked) (frames_asked asked_there)
   all_some = some_counted at (Always at.unit (AreTwinNumbers at) (one_twin at)) place (frames_asked asked) (frames_asked asked_there)
-      (frames_some at part whole is good stays told decides tells_who timing)
+      (frames_some at part whole is good stays reported decides reports_who timing)
 
   -- a flow's own frames stand at its place
   own_at : (f : ℕ) (l : FlowLoad) (x : FlowFrames) → slice_get ls f ≡ Some (Some l) → l.messages ≡ Short x → slice_get (frames_asked asked) f ≡ Some (Some x)
@@ -129,7 +129,7 @@ module _ (at : Places) (part whole : Plan) (is : IsPartAt at part whole) (good :
       (is_w : IsBuffering busy (frames_asked asked_there) bw) where
     load_there : (o k : Option FlowLoad) → slice_get ls f ≡ Some o → slice_get asked_there.flows (at.flow f) ≡ Some k → LoadsAlike at o k
     load_there o k at_o at_k =
-        let its = (flows_some at part whole is good stays told decides tells_who timing).each f o at_o in
+        let its = (flows_some at part whole is good stays reported decides reports_who timing).each f o at_o in
         let same : its.value ≡ k = same_Some its.value k (sym its.value_is ∙ at_k) in
         subst (LoadsAlike at o) same its.meets
 
@@ -146,26 +146,26 @@ module _ (at : Places) (part whole : Plan) (is : IsPartAt at part whole) (good :
     turn_by u packets few l at_l some has tp tw (Some k) alike (ap_here, sp, wa, ws, is_p_turn) (Some aw, Some sw, wa_there, ws_there, is_w_turn) t known =
         let (a, is_a, a_less) = wait_in_no_later at.unit (AreTwinNumbers at) (one_twin at) timing unplanned range busier (frames_asked asked) (frames_asked asked_there) place all_some bp.waits bw.waits
         is_p.bounded is_w.bounded bp bw is_p is_w refl refl (2 * length ls + (length lus_here + u)) l.announcements k.announcements
-        (announcements_at at part whole is good stays told decides tells_who timing u l at_l) alike.announcements.0 ap_here aw wa
-        (subst (λ p. IsWaitIn busy bw p k.announcements (Some aw)) (sym (announcements_place_there at part whole is good stays told decides tells_who timing u few)) wa_there) in
+        (announcements_at at part whole is good stays reported decides reports_who timing u l at_l) alike.announcements.0 ap_here aw wa
+        (subst (λ p. IsWaitIn busy bw p k.announcements (Some aw)) (sym (announcements_place_there at part whole is good stays reported decides reports_who timing u few)) wa_there) in
         let (s, is_s, s_less) = wait_in_no_later at.unit (AreTwinNumbers at) (one_twin at) timing unplanned range busier (frames_asked asked) (frames_asked asked_there) place all_some bp.waits bw.waits
         is_p.bounded is_w.bounded bp bw is_p is_w refl refl (2 * length ls + u) l.packets k.packets
-        (packets_at at part whole is good stays told decides tells_who timing u l at_l) alike.packets.0 sp sw ws
-        (subst (λ p. IsWaitIn busy bw p k.packets (Some sw)) (sym (packets_place_there at part whole is good stays told decides tells_who timing u few)) ws_there) in
+        (packets_at at part whole is good stays reported decides reports_who timing u l at_l) alike.packets.0 sp sw ws
+        (subst (λ p. IsWaitIn busy bw p k.packets (Some sw)) (sym (packets_place_there at part whole is good stays reported decides reports_who timing u few)) ws_there) in
         let bits = alike.packets.0.bits in
         let first_bits = alike.announcements.0.bits in
         let one : packet_time timing l s ≤ packet_time timing k sw = omega (arith, s_less, bits) in
         elim (cases_Bool (nat_le (packet_time timing k sw) (longest_pause timing))) [
           | inr over ↦ absurd (none-some t (sym (is_w_turn ∙ ap (λ b. if b then Some (flow_turn timing k aw sw) else None) over) ∙ known))
           | inl within ↦
-              let told_w : flow_turn timing k aw sw ≡ t =
+              let reported_w : flow_turn timing k aw sw ≡ t =
               same_Some _ t (sym (is_w_turn ∙ ap (λ b. if b then Some (flow_turn timing k aw sw) else None) within) ∙ known) in
               let low = leb-true (packet_time timing k sw) (longest_pause timing) within in
               let fits : nat_le (packet_time timing l s) (longest_pause timing) ≡ true = le-leb (packet_time timing l s) (longest_pause timing) (omega (arith, one, low)) in (
                 flow_turn timing l a s,
                 is_p_turn ∙ ap (λ o. known_turn timing l o sp) is_a ∙ ap (λ o. known_turn timing l (Some a) o) is_s
                     ∙ ap (λ b. if b then Some (flow_turn timing l a s) else None) fits,
-                subst (λ x. IsTurnWithin packets (flow_turn timing l a s) x) told_w
+                subst (λ x. IsTurnWithin packets (flow_turn timing l a s) x) reported_w
                     (turn_within l.flows k.flows l.all_packets k.all_packets packets (a + l.announcements.stream.bits) (aw + k.announcements.stream.bits)
                     (packet_time timing l s) (packet_time timing k sw) some alike.flows has alike.all_packets (omega (arith, a_less, first_bits)) one),
               )
@@ -175,12 +175,12 @@ module _ (at : Places) (part whole : Plan) (is : IsPartAt at part whole) (good :
         → IsWholeTime timing asked bp b v → IsWholeTime busy asked_there bw c w → IsWholeNoLater v w
     whole_no_later l at_l b c to_all alike v w (tp, turn_p, is_v) (tw, turn_w, is_w_time) =
         let (flow, flow_at) = value_at part.flows.items f below in
-        let is_l : load_of_flow timing part told flow ≡ Some l =
-        same_Some _ (Some l) (sym (slice_get-map (load_of_flow timing part told) part.flows.items f ∙ ap (option_map (load_of_flow timing part told)) flow_at) ∙ at_l) in
-        let within = flow_sender at part whole is good stays told decides tells_who timing f flow flow_at l is_l b to_all in
-        let (unit, at_u, by_b) = unit_asks at part whole is good stays told decides tells_who timing f b.sender (Some l) b at_l
+        let is_l : load_of_flow timing part reported flow ≡ Some l =
+        same_Some _ (Some l) (sym (slice_get-map (load_of_flow timing part reported) part.flows.items f ∙ ap (option_map (load_of_flow timing part reported)) flow_at) ∙ at_l) in
+        let within = flow_sender at part whole is good stays reported decides reports_who timing f flow flow_at l is_l b to_all in
+        let (unit, at_u, by_b) = unit_asks at part whole is good stays reported decides reports_who timing f b.sender (Some l) b at_l
         (ap (broadcast_from b.sender) to_all ∙ ap (λ t. if t then Some b else None) (eq-eqb b.sender b.sender refl)) within in
-        let its = (units_some at part whole is good stays told decides tells_who timing).each b.sender (Some unit) at_u in
+        let its = (units_some at part whole is good stays reported decides reports_who timing).each b.sender (Some unit) at_u in
         let few = slice_get_within lus_here b.sender (Some unit) at_u in
         let known = turn_by b.sender b.packets few unit at_u by_b.flows by_b.packets tp tw its.value its.meets
         (subst (λ o. IsTurnBy timing asked bp b.sender o tp) (get_or_from_slice_get lus_here b.sender (Some unit) None at_u) turn_p)
@@ -189,25 +189,25 @@ module _ (at : Places) (part whole : Plan) (is : IsPartAt at part whole) (good :
         record {
           frames = ap (λ (x : WholeTime). x.frames) is_v ∙ ap frames_to_all (sym alike.packets) ∙ sym (ap (λ (x : WholeTime). x.frames) is_w_time);
           limit = ap (λ (x : WholeTime). x.limit) is_v ∙ sym alike.deadline ∙ sym (ap (λ (x : WholeTime). x.limit) is_w_time);
-          bits = λ n told_n. later tw known n (sym (ap (λ (x : WholeTime). x.bits) is_w_time) ∙ told_n) (ap (λ (x : WholeTime). x.bits) is_v);
-          each = λ told_each. ap (λ (x : WholeTime). x.each) is_v ∙ each_here tw known (sym (ap (λ (x : WholeTime). x.each) is_w_time) ∙ told_each);
+          bits = λ n reported_n. later tw known n (sym (ap (λ (x : WholeTime). x.bits) is_w_time) ∙ reported_n) (ap (λ (x : WholeTime). x.bits) is_v);
+          each = λ reported_each. ap (λ (x : WholeTime). x.each) is_v ∙ each_here tw known (sym (ap (λ (x : WholeTime). x.each) is_w_time) ∙ reported_each);
         }
       where
         later : (t : Option Turn) → IsKnownTurn b.packets tp t → (n : ℕ) → option_map (λ (x : Turn). c.jitter + x.time) t ≡ Some n
             → v.bits ≡ option_map (λ (x : Turn). b.jitter + x.time) tp → (m : ℕ) × (v.bits ≡ Some m) × (m ≤ n)
-        later None known n told_n is_bits = absurd (none-some n told_n)
-        later (Some t) known n told_n is_bits =
+        later None known n reported_n is_bits = absurd (none-some n reported_n)
+        later (Some t) known n reported_n is_bits =
             let (m, is_m, within_t) = known t refl in
-            let same = same_Some (c.jitter + t.time) n told_n in
+            let same = same_Some (c.jitter + t.time) n reported_n in
             let late = alike.jitter in
             let less = within_t.time in
             (b.jitter + m.time, is_bits ∙ ap (option_map (λ (x : Turn). b.jitter + x.time)) is_m, omega (arith, same, late, less))
 
         each_here : (t : Option Turn) → IsKnownTurn b.packets tp t → option_map_or (keeps_up c) t false ≡ true → option_map_or (keeps_up b) tp false ≡ true
-        each_here None known told_each = absurd (false≢true told_each)
-        each_here (Some t) known told_each =
+        each_here None known reported_each = absurd (false≢true reported_each)
+        each_here (Some t) known reported_each =
             let (m, is_m, within_t) = known t refl in
-            ap (λ o. option_map_or (keeps_up b) o false) is_m ∙ still_keeps_up at.unit b c alike m t within_t told_each
+            ap (λ o. option_map_or (keeps_up b) o false) is_m ∙ still_keeps_up at.unit b c alike m t within_t reported_each
 
     by_to_one : (x y : FlowFrames) → x.stream ≡ y.stream → (limit high : ℕ) (d e : Delay) → IsDelayOf timing asked bp f (ToOne x) limit d
         → IsDelayOf busy asked_there bw (at.flow f) (ToOne y) high e → IsNoLater (Some d) (Some e)
@@ -239,7 +239,7 @@ module _ (at : Places) (part whole : Plan) (is : IsPartAt at part whole) (good :
         frame_no_later at.unit (AreTwinNumbers at) (one_twin at) timing unplanned range busier (frames_asked asked) (frames_asked asked_there) place all_some bp.waits bw.waits
         is_p.bounded is_w.bounded bp bw is_p is_w refl refl f x y (own_at f l x its short) alike.0 alike.1 k.limit d e
         (subst (λ n. IsFrameDelay timing bp f x n d) limit here)
-        (subst (λ n. IsFrameDelay busy bw n y k.limit e) (sym (flow_place at part whole is good timing stays told decides tells_who f below)) there)
+        (subst (λ n. IsFrameDelay busy bw n y k.limit e) (sym (flow_place at part whole is good timing stays reported decides reports_who f below)) there)
     by_messages l k its limit (ToOne x) (ToOne y) to_one alike d e here there = by_to_one x y alike.1 l.limit k.limit d e here there
     by_messages l k its limit (ToAll b) (ToAll c) to_all alike d e here there = by_to_all l its b c to_all alike l.limit k.limit d e here there
     by_messages l k its limit (Short x) (ToOne y) short alike d e here there = absurd alike
@@ -257,7 +257,7 @@ module _ (at : Places) (part whole : Plan) (is : IsPartAt at part whole) (good :
         let alike = load_there (Some l) (Some k) at_l at_k in
         by_messages l k at_l alike.limit l.messages k.messages refl alike.messages d e here there
 
-  pub delays_no_later : DelaysNoLater at part whole timing busy told stays
+  pub delays_no_later : DelaysNoLater at part whole timing busy reported stays
   delays_no_later f below here there (bp, is_p, by_p) has_there =
       let (bw, is_w, by_w) = subst (λ a. HasDelay busy a (at.flow f) there) (same_asked timing unplanned range whole stays) has_there in
       no_later f below bp bw is_p is_w here there by_p by_w

@@ -63,8 +63,8 @@ LoadsAlike at None (Some k) = ⊥
 LoadsAlike at (Some l) None = ⊥
 LoadsAlike at (Some l) (Some k) = LoadAlike at l k
 
-module _ (at : Places) (part whole : Plan) (is : IsPartAt at part whole) (good : HasGoodNumbers whole) (stays told : UnitPlan → Bool)
-    (decides : DecidesWhoStays whole stays) (tells_who : DecidesWhoStays part told) (timing : Timing) where
+module _ (at : Places) (part whole : Plan) (is : IsPartAt at part whole) (good : HasGoodNumbers whole) (stays reported : UnitPlan → Bool)
+    (decides : DecidesWhoStays whole stays) (reports_who : DecidesWhoStays part reported) (timing : Timing) where
   abbrev us : List UnitPlan
   us = part.units.items
 
@@ -125,18 +125,18 @@ module _ (at : Places) (part whole : Plan) (is : IsPartAt at part whole) (good :
         )
 
     sender_any : any_unit ws there.sender ≡ option_map at.unit (any_unit us flow.sender)
-    sender_any = ap (any_unit ws) stands.sender ∙ any_in at part whole is stays told decides tells_who flow.sender among.sender_in
+    sender_any = ap (any_unit ws) stands.sender ∙ any_in at part whole is stays reported decides reports_who flow.sender among.sender_in
 
     least_ident : (priority pgn : ℕ) → identifier_of priority pgn (destination_at (of_unit ws (least_address stays)) there.to) (of_unit ws (least_address stays) there.sender)
-        ≤ identifier_of priority pgn (destination_at (of_unit us (least_address told)) flow.to) (of_unit us (least_address told) flow.sender)
-    least_ident priority pgn = rw (stands.to, stands.sender) (least_ident_in at part whole is stays told decides tells_who priority pgn flow.sender flow.to among)
+        ≤ identifier_of priority pgn (destination_at (of_unit us (least_address reported)) flow.to) (of_unit us (least_address reported) flow.sender)
+    least_ident priority pgn = rw (stands.to, stands.sender) (least_ident_in at part whole is stays reported decides reports_who priority pgn flow.sender flow.to among)
 
     greatest_ident : (priority pgn : ℕ)
-        → identifier_of priority pgn (destination_at (of_unit us (greatest_address told)) flow.to) (of_unit us (greatest_address told) flow.sender)
+        → identifier_of priority pgn (destination_at (of_unit us (greatest_address reported)) flow.to) (of_unit us (greatest_address reported) flow.sender)
         ≤ identifier_of priority pgn (destination_at (of_unit ws (greatest_address stays)) there.to) (of_unit ws (greatest_address stays) there.sender)
-    greatest_ident priority pgn = rw (stands.to, stands.sender) (greatest_ident_in at part whole is stays told decides tells_who priority pgn flow.sender flow.to among)
+    greatest_ident priority pgn = rw (stands.to, stands.sender) (greatest_ident_in at part whole is stays reported decides reports_who priority pgn flow.sender flow.to among)
 
-    single_alike : Alike at (single_frames timing us told flow pace group) (single_frames timing ws stays there pace group)
+    single_alike : Alike at (single_frames timing us reported flow pace group) (single_frames timing ws stays there pace group)
     single_alike = record {
       frames = omega arith;
       bits = refl;
@@ -146,11 +146,11 @@ module _ (at : Places) (part whole : Plan) (is : IsPartAt at part whole) (good :
       least = least_ident group.priority group.pgn;
       greatest = greatest_ident group.priority group.pgn;
       last = greatest_ident group.priority group.pgn;
-      below = few_ident group.priority group.pgn _ _ group.priority_range page (destination_few at part whole is stays told decides tells_who flow.to)
-          (greatest_few at part whole is stays told decides tells_who flow.sender);
+      below = few_ident group.priority group.pgn _ _ group.priority_range page (destination_few at part whole is stays reported decides reports_who flow.to)
+          (greatest_few at part whole is stays reported decides reports_who flow.sender);
       sender = sender_any;
       receiver = refl;
-      few_sender = any_few at part whole is stays told decides tells_who flow.sender among.sender_in;
+      few_sender = any_few at part whole is stays reported decides reports_who flow.sender among.sender_in;
       few_receiver = λ u its. absurd (none-some u its);
       twin = flow_twin;
       want = tt;
@@ -160,37 +160,37 @@ module _ (at : Places) (part whole : Plan) (is : IsPartAt at part whole) (good :
     module _ (v : ℕ) (in_units : v < length us) (packets : ℕ) where
       same_window : of_unit us (λ unit. unit.window) v ≡ of_unit ws (λ unit. unit.window) (at.unit v)
       same_window =
-          let (unit, here) = unit_at_place at part whole is stays told decides tells_who v in_units in
-          rw (here, there_too at part whole is stays told decides tells_who v unit here) refl
+          let (unit, here) = unit_at_place at part whole is stays reported decides reports_who v in_units in
+          rw (here, there_too at part whole is stays reported decides reports_who v unit here) refl
 
-      packets_same : (packet_frames timing us told flow v pace packets).stream ≡ (packet_frames timing ws stays there (at.unit v) pace packets).stream
+      packets_same : (packet_frames timing us reported flow v pace packets).stream ≡ (packet_frames timing ws stays there (at.unit v) pace packets).stream
       packets_same = ap (λ w. record {
         frames = 2 + packets + div_ceil packets w;
         period = bits_at_least timing pace.period;
-        bits = (packet_frames timing us told flow v pace packets).stream.bits;
+        bits = (packet_frames timing us reported flow v pace packets).stream.bits;
         jitter = bits_at_most timing pace.period + bits_at_most timing pace.jitter;
         wanted = None;
       }) same_window
 
-      session_last : (packet_frames timing us told flow v pace packets).last_ident ≤ (packet_frames timing ws stays there (at.unit v) pace packets).last_ident
+      session_last : (packet_frames timing us reported flow v pace packets).last_ident ≤ (packet_frames timing ws stays there (at.unit v) pace packets).last_ident
       session_last =
-          let receiver = greatest_in at part whole is stays told decides tells_who v in_units in
-          let sender : of_unit us (greatest_address told) flow.sender ≤ of_unit ws (greatest_address stays) there.sender =
-          rw (stands.sender) (greatest_in at part whole is stays told decides tells_who flow.sender among.sender_in) in
+          let receiver = greatest_in at part whole is stays reported decides reports_who v in_units in
+          let sender : of_unit us (greatest_address reported) flow.sender ≤ of_unit ws (greatest_address stays) there.sender =
+          rw (stands.sender) (greatest_in at part whole is stays reported decides reports_who flow.sender among.sender_in) in
           let asks = ident-mono timing.transport_priority 60416 _ _ _ _ receiver sender in
           let answers = ident-mono timing.transport_priority 60416 _ _ _ _ sender receiver in
           omega (arith, asks, answers)
 
-      session_few : (packet_frames timing us told flow v pace packets).last_ident ≤ 2 ^ 29
+      session_few : (packet_frames timing us reported flow v pace packets).last_ident ≤ 2 ^ 29
       session_few =
-          let receiver = greatest_few at part whole is stays told decides tells_who v in
-          let sender = greatest_few at part whole is stays told decides tells_who flow.sender in
+          let receiver = greatest_few at part whole is stays reported decides reports_who v in
+          let sender = greatest_few at part whole is stays reported decides reports_who flow.sender in
           let urgent = timing.transport_priority_range in
           let asks = few_ident timing.transport_priority 60416 _ _ urgent (omega arith) receiver sender in
           let answers = few_ident timing.transport_priority 60416 _ _ urgent (omega arith) sender receiver in
           omega (arith, asks, answers)
 
-      packets_alike : Alike at (packet_frames timing us told flow v pace packets) (packet_frames timing ws stays there (at.unit v) pace packets)
+      packets_alike : Alike at (packet_frames timing us reported flow v pace packets) (packet_frames timing ws stays there (at.unit v) pace packets)
       packets_alike = record {
         frames = let same = ap (λ (s : _). s.frames) packets_same in omega (arith, same);
         bits = refl;
@@ -202,9 +202,9 @@ module _ (at : Places) (part whole : Plan) (is : IsPartAt at part whole) (good :
         last = session_last;
         below = session_few;
         sender = sender_any;
-        receiver = any_in at part whole is stays told decides tells_who v in_units;
-        few_sender = any_few at part whole is stays told decides tells_who flow.sender among.sender_in;
-        few_receiver = any_few at part whole is stays told decides tells_who v in_units;
+        receiver = any_in at part whole is stays reported decides reports_who v in_units;
+        few_sender = any_few at part whole is stays reported decides reports_who flow.sender among.sender_in;
+        few_receiver = any_few at part whole is stays reported decides reports_who v in_units;
         twin = λ m its. absurd (none-some m its);
         want = tt;
       }
@@ -223,22 +223,22 @@ module _ (at : Places) (part whole : Plan) (is : IsPartAt at part whole) (good :
     }
 
     long_alike : (to : To) → ((v : ℕ) → to ≡ One v → v < length us)
-        → MessagesAlike at (long_messages timing us told flow pace group to) (long_messages timing ws stays there pace group (to_in at to))
+        → MessagesAlike at (long_messages timing us reported flow pace group to) (long_messages timing ws stays there pace group (to_in at to))
     long_alike ToAllUnits known = broadcast_alike
     long_alike (One v) known = (packets_alike v (known v refl) (packets_of group.most), packets_same v (known v refl) (packets_of group.most))
 
-    messages_alike : MessagesAlike at (messages_of timing us told flow pace group) (messages_of timing ws stays there pace group)
+    messages_alike : MessagesAlike at (messages_of timing us reported flow pace group) (messages_of timing ws stays there pace group)
     messages_alike = elim (is_always_short group) as (λ b. MessagesAlike at
-        (if b then Short (single_frames timing us told flow pace group) else long_messages timing us told flow pace group flow.to)
+        (if b then Short (single_frames timing us reported flow pace group) else long_messages timing us reported flow pace group flow.to)
         (if b then Short (single_frames timing ws stays there pace group) else long_messages timing ws stays there pace group there.to)) [
           | true ↦ (single_alike, refl)
-          | false ↦ subst (λ t. MessagesAlike at (long_messages timing us told flow pace group flow.to) (long_messages timing ws stays there pace group t))
+          | false ↦ subst (λ t. MessagesAlike at (long_messages timing us reported flow pace group flow.to) (long_messages timing ws stays there pace group t))
               (sym stands.to) (long_alike flow.to among.receiver_in)
         ]
 
-    singles_alike : SinglesAlike at (singles_of timing us told flow pace group) (singles_of timing ws stays there pace group)
+    singles_alike : SinglesAlike at (singles_of timing us reported flow pace group) (singles_of timing ws stays there pace group)
     singles_alike = elim (not (is_always_short group) && has_short group) as (λ b. SinglesAlike at
-        (if b then Some (single_frames timing us told flow pace group) else None) (if b then Some (single_frames timing ws stays there pace group) else None)) [
+        (if b then Some (single_frames timing us reported flow pace group) else None) (if b then Some (single_frames timing ws stays there pace group) else None)) [
           | true ↦ (single_alike, refl)
           | false ↦ tt
         ]
@@ -254,12 +254,12 @@ module _ (at : Places) (part whole : Plan) (is : IsPartAt at part whole) (good :
     load_same (ToAll b) (ToOne y) alike period = absurd alike
     load_same (ToAll b) (ToAll c) alike period = refl
 
-    load_alike : LoadAlike at (flow_load timing us told flow pace group) (flow_load timing ws stays there pace group)
+    load_alike : LoadAlike at (flow_load timing us reported flow pace group) (flow_load timing ws stays there pace group)
     load_alike = record {
       messages = messages_alike;
       singles = singles_alike;
       limit = refl;
-      bits = load_same (messages_of timing us told flow pace group) (messages_of timing ws stays there pace group) messages_alike pace.period;
+      bits = load_same (messages_of timing us reported flow pace group) (messages_of timing ws stays there pace group) messages_alike pace.period;
     }
 
   group_is : (i : ℕ) (flow : FlowPlan) → slice_get part.flows.items i ≡ Some flow → (group : GroupPlan) × (slice_get part.groups.items flow.group ≡ Some group)
@@ -267,36 +267,36 @@ module _ (at : Places) (part whole : Plan) (is : IsPartAt at part whole) (good :
       (all_at (λ (f : FlowPlan). f.group < length part.groups.items) part.flows.items part.flow_groups i flow here)
 
   pub flow_alike : (i : ℕ) (flow there : FlowPlan) → slice_get part.flows.items i ≡ Some flow → IsFlowThere at flow there
-      → LoadsAlike at (load_of_flow timing part told flow) (load_of_flow timing whole stays there)
+      → LoadsAlike at (load_of_flow timing part reported flow) (load_of_flow timing whole stays there)
   flow_alike i flow there here stands = go flow.pace refl
     where
-      go : (pace : Option Pace) → flow.pace ≡ pace → LoadsAlike at (load_of_flow timing part told flow) (load_of_flow timing whole stays there)
+      go : (pace : Option Pace) → flow.pace ≡ pace → LoadsAlike at (load_of_flow timing part reported flow) (load_of_flow timing whole stays there)
       go None none = rw (stands.pace, none) tt
       go (Some pace) paced =
           let (group, sent) = group_is i flow here in
           let other = is.groups.each flow.group group sent in
           let number = number_of flow.group group sent in
           rw (stands.pace, paced, stands.group, sent, other.value_is)
-          (subst (LoadAlike at (flow_load timing us told flow pace group)) (same_load group other.value other.meets timing ws stays there pace)
+          (subst (LoadAlike at (flow_load timing us reported flow pace group)) (same_load group other.value other.meets timing ws stays there pace)
           (load_alike flow there stands (among_flow i flow here) pace group number.0 number.1))
 
   -- the unit of a long message to all is one of the part's
-  pub flow_sender : (i : ℕ) (flow : FlowPlan) → slice_get part.flows.items i ≡ Some flow → (l : FlowLoad) → load_of_flow timing part told flow ≡ Some l
+  pub flow_sender : (i : ℕ) (flow : FlowPlan) → slice_get part.flows.items i ≡ Some flow → (l : FlowLoad) → load_of_flow timing part reported flow ≡ Some l
       → (b : Broadcast) → l.messages ≡ ToAll b → b.sender < length us
   flow_sender i flow here l is_l b to_all = go flow.pace refl
     where
       F : Pace → Option FlowLoad
-      F pace = option_map (flow_load timing us told flow pace) (slice_get part.groups.items flow.group)
+      F pace = option_map (flow_load timing us reported flow pace) (slice_get part.groups.items flow.group)
 
       inj : (x y : Broadcast) → ToAll x ≡ ToAll y → x ≡ y
       inj x y same = cc
 
-      by_to : (pace : Pace) (group : GroupPlan) (to : To) → long_messages timing us told flow pace group to ≡ ToAll b → flow.sender ≡ b.sender
+      by_to : (pace : Pace) (group : GroupPlan) (to : To) → long_messages timing us reported flow pace group to ≡ ToAll b → flow.sender ≡ b.sender
       by_to pace group ToAllUnits same = ap (λ (x : Broadcast). x.sender) (inj (broadcast_of timing flow pace group) b same)
       by_to pace group (One v) same = cc
 
       by_short : (pace : Pace) (group : GroupPlan) (short : Bool)
-          → (if short then Short (single_frames timing us told flow pace group) else long_messages timing us told flow pace group flow.to) ≡ ToAll b → flow.sender ≡ b.sender
+          → (if short then Short (single_frames timing us reported flow pace group) else long_messages timing us reported flow pace group flow.to) ≡ ToAll b → flow.sender ≡ b.sender
       by_short pace group true same = cc
       by_short pace group false same = by_to pace group flow.to same
 
@@ -304,8 +304,8 @@ module _ (at : Places) (part whole : Plan) (is : IsPartAt at part whole) (good :
       go None none = absurd (none-some l (sym (ap (option_and_then F) none) ∙ is_l))
       go (Some pace) paced =
           let (group, sent) = group_is i flow here in
-          let same : flow_load timing us told flow pace group ≡ l =
-          same_Some _ l (sym (ap (option_and_then F) paced ∙ ap (option_map (flow_load timing us told flow pace)) sent) ∙ is_l) in
+          let same : flow_load timing us reported flow pace group ≡ l =
+          same_Some _ l (sym (ap (option_and_then F) paced ∙ ap (option_map (flow_load timing us reported flow pace)) sent) ∙ is_l) in
           let sender = by_short pace group (is_always_short group) (ap (λ (x : FlowLoad). x.messages) same ∙ to_all) in
           subst (λ n. n < length us) sender (among_flow i flow here).sender_in
 

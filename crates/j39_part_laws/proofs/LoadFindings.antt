@@ -15,7 +15,7 @@ use Rattle.j39_load.specs.Ages.{is_in_limit, old_needs, oldness}
 use Rattle.j39_load.specs.Asked.{asked_of, total_load}
 use Rattle.j39_load.specs.BusTimes.{timing_of, with_claims}
 use Rattle.j39_load.specs.LineLists.{lines_of_each}
-use Rattle.j39_load.specs.LiveClaims.{claims_told, unplanned_of}
+use Rattle.j39_load.specs.LiveClaims.{claims_stated, unplanned_of}
 use Rattle.j39_load.specs.LoadFindings.{all_findings, AreLoadFindings, AsksOfBus, is_whole_late, lateness, load_findings, overload, time_of_each, without_period}
 use Rattle.j39_load.specs.Loads.{bits_of_second, load_of_flow}
 use Rattle.j39_load.specs.declared.findings.load_finding.LoadFinding.{LoadFinding}
@@ -36,39 +36,39 @@ use Rattle.j39_part_laws.proofs.Sublists.{sub_of_some}
 
 -- ---- lists of lines
 
--- what is told at some place
-pub record IsToldAt {X Y : Type 0} (tell : ℕ → X → List Y) (place : ℕ) (xs : List X) (line : Y) : Type 0 where
+-- what is reported at some place
+pub record IsReportedAt {X Y : Type 0} (report : ℕ → X → List Y) (place : ℕ) (xs : List X) (line : Y) : Type 0 where
   pub k : ℕ
   pub value : X
   pub value_is : slice_get xs k ≡ Some value
-  pub told : Contains (tell (place + k) value) line
+  pub reported : Contains (report (place + k) value) line
 
-pub told_at : {X Y : Type 0} (tell : ℕ → X → List Y) (place : ℕ) (xs : List X) (line : Y) → Contains (lines_of_each tell place xs) line → IsToldAt tell place xs line
+pub reported_at : {X Y : Type 0} (report : ℕ → X → List Y) (place : ℕ) (xs : List X) (line : Y) → Contains (lines_of_each report place xs) line → IsReportedAt report place xs line
 unfolding lines_of_each
-told_at tell place [] line found = let none = found.1 in absurd (omega (arith, none))
-told_at tell place (x ∷ xs) line found = elim (Contains-append_cases (tell place x) (lines_of_each tell (place + 1) xs) line found) [
+reported_at report place [] line found = let none = found.1 in absurd (omega (arith, none))
+reported_at report place (x ∷ xs) line found = elim (Contains-append_cases (report place x) (lines_of_each report (place + 1) xs) line found) [
   | inl here ↦
       let same : place ≡ place + 0 = omega arith in
-      record { k = 0; value = x; value_is = refl; told = subst (λ n. Contains (tell n x) line) same here }
+      record { k = 0; value = x; value_is = refl; reported = subst (λ n. Contains (report n x) line) same here }
   | inr later ↦
-      let its = told_at tell (place + 1) xs line later in
+      let its = reported_at report (place + 1) xs line later in
       let same : place + 1 + its.k ≡ place + suc its.k = omega arith in
-      record { k = suc its.k; value = its.value; value_is = its.value_is; told = subst (λ n. Contains (tell n its.value) line) same its.told }
+      record { k = suc its.k; value = its.value; value_is = its.value_is; reported = subst (λ n. Contains (report n its.value) line) same its.reported }
 ]
 
-pub line_told : {X Y : Type 0} (tell : ℕ → X → List Y) (place : ℕ) (xs : List X) (k : ℕ) (x : X) (line : Y) → slice_get xs k ≡ Some x
-    → Contains (tell (place + k) x) line → Contains (lines_of_each tell place xs) line
+pub line_reported : {X Y : Type 0} (report : ℕ → X → List Y) (place : ℕ) (xs : List X) (k : ℕ) (x : X) (line : Y) → slice_get xs k ≡ Some x
+    → Contains (report (place + k) x) line → Contains (lines_of_each report place xs) line
 unfolding lines_of_each
-line_told tell place [] k x line at told = absurd (no_value k x at)
-line_told tell place (y ∷ ys) zero x line at told =
+line_reported report place [] k x line at reported = absurd (no_value k x at)
+line_reported report place (y ∷ ys) zero x line at reported =
     let same : place + 0 ≡ place = omega arith in
     let is_y : x ≡ y = sym (same_Some y x at) in
-    Contains-append_left (tell place y) (lines_of_each tell (place + 1) ys) line
-    (subst (λ z. Contains (tell place z) line) is_y (subst (λ n. Contains (tell n x) line) same told))
-line_told tell place (y ∷ ys) (suc k) x line at told =
+    Contains-append_left (report place y) (lines_of_each report (place + 1) ys) line
+    (subst (λ z. Contains (report place z) line) is_y (subst (λ n. Contains (report n x) line) same reported))
+line_reported report place (y ∷ ys) (suc k) x line at reported =
     let same : place + suc k ≡ place + 1 + k = omega arith in
-    Contains-append_right (tell place y) (lines_of_each tell (place + 1) ys) line
-    (line_told tell (place + 1) ys k x line at (subst (λ n. Contains (tell n x) line) same told))
+    Contains-append_right (report place y) (lines_of_each report (place + 1) ys) line
+    (line_reported report (place + 1) ys k x line at (subst (λ n. Contains (report n x) line) same reported))
 
 pub one_of : {Y : Type 0} (x y : Y) → Contains (x ∷ []) y → x ≡ y
 one_of x y (zero, below, is) = is
@@ -116,10 +116,10 @@ late_here : (f : ℕ) (v : WholeTime) (finding : LoadFinding) → Contains (late
 late_here f v finding found = go (is_whole_late v) refl found
   where
     go : (b : Bool) → is_whole_late v ≡ b → Contains (if b then LateFlow f ∷ [] else []) finding → is_whole_late v ≡ true
-    go true is_b told = is_b
-    go false is_b told = absurd (none_of finding told)
+    go true is_b reported = is_b
+    go false is_b reported = absurd (none_of finding reported)
 
--- only a late flow is told
+-- only a late flow is reported
 pub of_late : (f : ℕ) (d : Option Delay) (finding : LoadFinding) → Contains (lateness f d) finding → finding ≡ LateFlow f
 of_late f None finding found = absurd (none_of finding found)
 of_late f (Some Late) finding found = sym (one_of (LateFlow f) finding found)
@@ -129,8 +129,8 @@ of_late f (Some (Long n)) finding found = absurd (none_of finding found)
 of_late f (Some (Whole w)) finding found = go (is_whole_late w) found
   where
     go : (b : Bool) → Contains (if b then LateFlow f ∷ [] else []) finding → finding ≡ LateFlow f
-    go true told = sym (one_of (LateFlow f) finding told)
-    go false told = absurd (none_of finding told)
+    go true reported = sym (one_of (LateFlow f) finding reported)
+    go false reported = absurd (none_of finding reported)
 
 late_there : (f g : ℕ) (here there : Option Delay) → IsNoLater here there → (finding : LoadFinding) → Contains (lateness f here) finding
     → Contains (lateness g there) (LateFlow g)
@@ -165,8 +165,8 @@ of_overload timing load finding found = go (nat_lt (bits_of_second timing.bitrat
   where
     go : (b : Bool) → nat_lt (bits_of_second timing.bitrate) load ≡ b → Contains (if b then Overload load ∷ [] else []) finding
         → (bits_of_second timing.bitrate < load) × (finding ≡ Overload load)
-    go true above told = (ltb-true (bits_of_second timing.bitrate) load above, sym (one_of (Overload load) finding told))
-    go false above told = absurd (none_of finding told)
+    go true above reported = (ltb-true (bits_of_second timing.bitrate) load above, sym (one_of (Overload load) finding reported))
+    go false above reported = absurd (none_of finding reported)
 
 overload_there : (timing : Timing) (load : ℕ) → bits_of_second timing.bitrate < load → Contains (overload timing load) (Overload load)
 overload_there timing load above = subst (λ b. Contains (if b then Overload load ∷ [] else []) (Overload load))
@@ -174,7 +174,7 @@ overload_there timing load above = subst (λ b. Contains (if b then Overload loa
 
 -- ---- claims
 
-claiming_there : (at : Places) (part whole : Plan) → IsPartAt at part whole → claims_told part ≤ claims_told whole
+claiming_there : (at : Places) (part whole : Plan) → IsPartAt at part whole → claims_stated part ≤ claims_stated whole
 claiming_there at part whole is =
     let claims : (UnitPlan → ℕ) = λ unit. cond unit.claims 1 0 in
     let units = sum-no-more IsSame claims claims (λ x y same. let equal = ap claims same in omega (arith, equal)) part.units.items whole.units.items
@@ -185,42 +185,42 @@ claiming_there at part whole is =
 pub unplanned_there : (at : Places) (part whole : Plan) → IsPartAt at part whole → (timing : Timing) → unplanned_of part timing ≤ unplanned_of whole timing
 unplanned_there at part whole is timing =
     let claims = claiming_there at part whole is in
-    subst (λ live. (if part.live then max timing.unplanned (claims_told part) else timing.unplanned)
-    ≤ (if live then max timing.unplanned (claims_told whole) else timing.unplanned)) is.live (either part.live claims)
+    subst (λ live. (if part.live then max timing.unplanned (claims_stated part) else timing.unplanned)
+    ≤ (if live then max timing.unplanned (claims_stated whole) else timing.unplanned)) is.live (either part.live claims)
   where
-    either : (live : Bool) → claims_told part ≤ claims_told whole
-        → (if live then max timing.unplanned (claims_told part) else timing.unplanned) ≤ (if live then max timing.unplanned (claims_told whole) else timing.unplanned)
+    either : (live : Bool) → claims_stated part ≤ claims_stated whole
+        → (if live then max timing.unplanned (claims_stated part) else timing.unplanned) ≤ (if live then max timing.unplanned (claims_stated whole) else timing.unplanned)
     either true claims = omega (arith, claims)
     either false claims = omega arith
 
 -- ---- all of them
 
--- what is told of a need is that it is too old
+-- what is reported of a need is that it is too old
 pub of_old : (timing : Timing) (plan : Plan) (delays : List (Option Delay)) (finding : LoadFinding)
     → Contains (old_needs timing plan.requests.items plan.flows.items delays plan.needs.items) finding → (d : ℕ) × (finding ≡ NeedTooOld d)
 of_old timing plan delays finding found =
-    let its = told_at (oldness timing plan.requests.items plan.flows.items delays) 0 plan.needs.items finding found in
-    (0 + its.k, go (0 + its.k) its.value its.told)
+    let its = reported_at (oldness timing plan.requests.items plan.flows.items delays) 0 plan.needs.items finding found in
+    (0 + its.k, go (0 + its.k) its.value its.reported)
   where
     if_old : (k : ℕ) (b : Bool) → Contains (if b then NeedTooOld k ∷ [] else []) finding → finding ≡ NeedTooOld k
-    if_old k true told = sym (one_of (NeedTooOld k) finding told)
-    if_old k false told = absurd (none_of finding told)
+    if_old k true reported = sym (one_of (NeedTooOld k) finding reported)
+    if_old k false reported = absurd (none_of finding reported)
 
     within : (k : ℕ) (F : ℕ → Bool) (o : Option ℕ) → Contains (option_map_or (λ n. if F n then NeedTooOld k ∷ [] else []) o []) finding → finding ≡ NeedTooOld k
-    within k F None told = absurd (none_of finding told)
-    within k F (Some n) told = if_old k (F n) told
+    within k F None reported = absurd (none_of finding reported)
+    within k F (Some n) reported = if_old k (F n) reported
 
     go : (k : ℕ) (need : NeedPlan) → Contains (oldness timing plan.requests.items plan.flows.items delays k need) finding → finding ≡ NeedTooOld k
-    go k need told = within k _ need.within told
+    go k need reported = within k _ need.within reported
 
 module _ (at : Places) (part whole : Plan) (is : IsPartAt at part whole) (good : HasGoodNumbers whole) (timing : Timing) (unplanned : ℕ) (range : unplanned ≤ 1000)
-    (busier : timing.unplanned ≤ unplanned) (told stays : UnitPlan → Bool) (ds es : List (Option Delay)) (here : AsksOfBus part timing told ds)
+    (busier : timing.unplanned ≤ unplanned) (reported stays : UnitPlan → Bool) (ds es : List (Option Delay)) (here : AsksOfBus part timing reported ds)
     (there : AsksOfBus whole (counting timing unplanned range) stays es) where
   abbrev busy : Timing
   busy = counting timing unplanned range
 
   abbrev load_here : ℕ
-  load_here = total_load timing (asked_of timing part told)
+  load_here = total_load timing (asked_of timing part reported)
 
   abbrev load_there : ℕ
   load_there = total_load busy (asked_of busy whole stays)
@@ -233,7 +233,7 @@ module _ (at : Places) (part whole : Plan) (is : IsPartAt at part whole) (good :
   delay_there f d at_f =
       let below = slice_get_within ds f d at_f in
       let count = here.waits.count in
-      let flows = length-map part.flows.items (load_of_flow timing part told) in
+      let flows = length-map part.flows.items (load_of_flow timing part reported) in
       let within : f < length part.flows.items = omega (arith, below, count, flows) in
       let (flow, is_flow) = value_at part.flows.items f within in
       let stands = is.flows.each f flow is_flow in
@@ -245,33 +245,33 @@ module _ (at : Places) (part whole : Plan) (is : IsPartAt at part whole) (good :
         slice_index_or es (at.flow f) None,
         slice_get-get_or es (at.flow f) None among,
         subst (λ x. IsNoLater x (slice_index_or es (at.flow f) None)) is_d
-            (delays_no_later at part whole is good timing unplanned range busier stays told there.standing here.standing f within
+            (delays_no_later at part whole is good timing unplanned range busier stays reported there.standing here.standing f within
             (slice_index_or ds f None) (slice_index_or es (at.flow f) None) (here.waits.each f below) (there.waits.each (at.flow f) among)),
         within,
       )
 
   unpaced_found : (finding : LoadFinding) → Contains (lines_of_each without_period 0 ds) finding → IsFoundThere at part all_there finding
   unpaced_found finding found =
-      let its = told_at without_period 0 ds finding found in
-      let (none, is_it) = of_unpaced (0 + its.k) its.value finding its.told in
+      let its = reported_at without_period 0 ds finding found in
+      let (none, is_it) = of_unpaced (0 + its.k) its.value finding its.reported in
       let (e, at_e, no_later, inside) = delay_there its.k its.value its.value_is in
       let no_delay = unpaced_there e (subst (λ d. IsNoLater d e) none no_later) in
       let zero_there : 0 + at.flow its.k ≡ at.flow its.k = omega arith in
       let zero_here : 0 + its.k ≡ its.k = omega arith in
-      let told_there : Contains (without_period (0 + at.flow its.k) e) (NoPeriod (at.flow its.k)) =
+      let reported_there : Contains (without_period (0 + at.flow its.k) e) (NoPeriod (at.flow its.k)) =
       subst (λ x. Contains (without_period (0 + at.flow its.k) x) (NoPeriod (at.flow its.k))) (sym no_delay)
       (subst (λ n. Contains (NoPeriod n ∷ []) (NoPeriod (at.flow its.k))) (sym zero_there) (itself (NoPeriod (at.flow its.k)))) in
       subst (IsFoundThere at part all_there) (sym (is_it ∙ ap NoPeriod zero_here)) (
         inside,
         Contains-append_left (load_findings busy load_there es) (old_needs busy whole.requests.items whole.flows.items es whole.needs.items) (NoPeriod (at.flow its.k))
             (Contains-append_left (lines_of_each without_period 0 es) (overload busy load_there ++ lines_of_each lateness 0 es) (NoPeriod (at.flow its.k))
-            (line_told without_period 0 es (at.flow its.k) e (NoPeriod (at.flow its.k)) at_e told_there)),
+            (line_reported without_period 0 es (at.flow its.k) e (NoPeriod (at.flow its.k)) at_e reported_there)),
       )
 
   overload_found : (finding : LoadFinding) → Contains (overload timing load_here) finding → IsFoundThere at part all_there finding
   overload_found finding found =
       let (above, is_it) = of_overload timing load_here finding found in
-      let more = (ask_no_more at part whole is good timing stays told there.standing here.standing unplanned range busier).load in
+      let more = (ask_no_more at part whole is good timing stays reported there.standing here.standing unplanned range busier).load in
       subst (IsFoundThere at part all_there) (sym is_it) (
         load_there,
         more,
@@ -283,18 +283,18 @@ module _ (at : Places) (part whole : Plan) (is : IsPartAt at part whole) (good :
 
   late_found : (finding : LoadFinding) → Contains (lines_of_each lateness 0 ds) finding → IsFoundThere at part all_there finding
   late_found finding found =
-      let its = told_at lateness 0 ds finding found in
-      let is_it = of_late (0 + its.k) its.value finding its.told in
+      let its = reported_at lateness 0 ds finding found in
+      let is_it = of_late (0 + its.k) its.value finding its.reported in
       let (e, at_e, no_later, inside) = delay_there its.k its.value its.value_is in
       let zero_there : at.flow its.k ≡ 0 + at.flow its.k = omega arith in
       let zero_here : 0 + its.k ≡ its.k = omega arith in
-      let late = late_there (0 + its.k) (at.flow its.k) its.value e no_later finding its.told in
+      let late = late_there (0 + its.k) (at.flow its.k) its.value e no_later finding its.reported in
       subst (IsFoundThere at part all_there) (sym (is_it ∙ ap LateFlow zero_here)) (
         inside,
         Contains-append_left (load_findings busy load_there es) (old_needs busy whole.requests.items whole.flows.items es whole.needs.items) (LateFlow (at.flow its.k))
             (Contains-append_right (lines_of_each without_period 0 es) (overload busy load_there ++ lines_of_each lateness 0 es) (LateFlow (at.flow its.k))
             (Contains-append_right (overload busy load_there) (lines_of_each lateness 0 es) (LateFlow (at.flow its.k))
-            (line_told lateness 0 es (at.flow its.k) e (LateFlow (at.flow its.k)) at_e
+            (line_reported lateness 0 es (at.flow its.k) e (LateFlow (at.flow its.k)) at_e
             (subst (λ n. Contains (lateness n e) (LateFlow (at.flow its.k))) zero_there late)))),
       )
 
@@ -315,10 +315,10 @@ module _ (at : Places) (part whole : Plan) (is : IsPartAt at part whole) (good :
   by_timing : (o : Option Timing) → AreLoadFindings part (option_map (with_claims part) o) here → AreLoadFindings whole (option_map (with_claims whole) o) there
       → (finding : LoadFinding) → Contains here finding → IsFoundThere at part there finding
   by_timing None none_here none_there finding found = absurd (none_of finding (subst (λ l. Contains l finding) none_here found))
-  by_timing (Some timing) (told, ds, asks, is_here) (stays, es, asks_there, is_there) finding found =
+  by_timing (Some timing) (reported, ds, asks, is_here) (stays, es, asks_there, is_there) finding found =
       subst (λ l. IsFoundThere at part l finding) (sym is_there)
       (found_there at part whole is good (with_claims part timing) (unplanned_of whole timing) (few_unplanned whole timing) (unplanned_there at part whole is timing)
-      told stays ds es asks asks_there finding (subst (λ l. Contains l finding) is_here found))
+      reported stays ds es asks asks_there finding (subst (λ l. Contains l finding) is_here found))
 
 pub are_found_there : (at : Places) (part whole : Plan) → IsPartAt at part whole → HasGoodNumbers whole → AreFoundThere at part whole
 unfolding timing_of

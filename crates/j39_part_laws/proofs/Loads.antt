@@ -73,35 +73,35 @@ request_bits at None k alike = omega arith
 request_bits at (Some l) None alike = absurd alike
 request_bits at (Some l) (Some k) alike = let same = alike.2 in omega (arith, same)
 
-module _ (at : Places) (part whole : Plan) (is : IsPartAt at part whole) (good : HasGoodNumbers whole) (timing : Timing) (stays told : UnitPlan → Bool)
-    (decides : DecidesWhoStays whole stays) (tells_who : DecidesWhoStays part told) where
-  load_no_more : total_load timing (asked_of timing part told) ≤ total_load timing (asked_of timing whole stays)
+module _ (at : Places) (part whole : Plan) (is : IsPartAt at part whole) (good : HasGoodNumbers whole) (timing : Timing) (stays reported : UnitPlan → Bool)
+    (decides : DecidesWhoStays whole stays) (reports_who : DecidesWhoStays part reported) where
+  load_no_more : total_load timing (asked_of timing part reported) ≤ total_load timing (asked_of timing whole stays)
   load_no_more =
       let flows = sum-no-more (LoadsAlike at) _ _ (flow_bits at) _ _
-      (sub_of_some at.flow (LoadsAlike at) _ _ (flows_some at part whole is good stays told decides tells_who timing)) in
+      (sub_of_some at.flow (LoadsAlike at) _ _ (flows_some at part whole is good stays reported decides reports_who timing)) in
       let units = sum-no-more (UnitsAlike at) _ _ (unit_bits at) _ _
-      (sub_of_some at.unit (UnitsAlike at) _ _ (units_some at part whole is good stays told decides tells_who timing)) in
+      (sub_of_some at.unit (UnitsAlike at) _ _ (units_some at part whole is good stays reported decides reports_who timing)) in
       let requests = sum-no-more (RequestsAlike at) _ _ (request_bits at) _ _
-      (sub_of_some at.request (RequestsAlike at) _ _ (requests_some at part whole is good stays told decides tells_who timing)) in
+      (sub_of_some at.request (RequestsAlike at) _ _ (requests_some at part whole is good stays reported decides reports_who timing)) in
       omega (arith, flows, units, requests)
 
-  pub flow_place : (f : ℕ) → f < length part.flows.items → frames_place at part whole is good stays told decides tells_who timing f ≡ at.flow f
+  pub flow_place : (f : ℕ) → f < length part.flows.items → frames_place at part whole is good stays reported decides reports_who timing f ≡ at.flow f
   flow_place f below =
-      let loads = length-map part.flows.items (load_of_flow timing part told) in
-      let frames = length-map (map (load_of_flow timing part told) part.flows.items) frames_of_flow in
-      rw (lt-ltb f (length (map frames_of_flow (map (load_of_flow timing part told) part.flows.items))) (omega (arith, below, loads, frames))) refl
+      let loads = length-map part.flows.items (load_of_flow timing part reported) in
+      let frames = length-map (map (load_of_flow timing part reported) part.flows.items) frames_of_flow in
+      rw (lt-ltb f (length (map frames_of_flow (map (load_of_flow timing part reported) part.flows.items))) (omega (arith, below, loads, frames))) refl
 
   pub ask_no_more : (unplanned : ℕ) (range : unplanned ≤ 1000) → timing.unplanned ≤ unplanned
-      → AskNoMore at part whole timing (counting timing unplanned range) told stays
+      → AskNoMore at part whole timing (counting timing unplanned range) reported stays
   ask_no_more unplanned range busier =
-      let are = frames_some at part whole is good stays told decides tells_who timing in
-      subst (AskNoMoreThan at (length part.flows.items) timing (counting timing unplanned range) (asked_of timing part told))
+      let are = frames_some at part whole is good stays reported decides reports_who timing in
+      subst (AskNoMoreThan at (length part.flows.items) timing (counting timing unplanned range) (asked_of timing part reported))
       (sym (same_asked timing unplanned range whole stays))
       (record {
-        place = frames_place at part whole is good stays told decides tells_who timing;
+        place = frames_place at part whole is good stays reported decides reports_who timing;
         rises = are.rises;
         of_flow = flow_place;
-        waits = waits at timing unplanned range busier (frames_asked (asked_of timing part told)) (frames_asked (asked_of timing whole stays))
-            (frames_place at part whole is good stays told decides tells_who timing) are;
+        waits = waits at timing unplanned range busier (frames_asked (asked_of timing part reported)) (frames_asked (asked_of timing whole stays))
+            (frames_place at part whole is good stays reported decides reports_who timing) are;
         load = load_no_more;
       })

@@ -17,7 +17,7 @@ use Rattle.j39_network.specs.declared.plan.to.To.{To}
 use Rattle.j39_network.specs.declared.plan.to.To.TheVariants.{All as ToAllUnits, One}
 use Rattle.j39_network.specs.declared.plan.unit_plan.UnitPlan.{UnitPlan}
 use Rattle.j39_load.specs.Loads.{any_unit, destination_at, greatest_address, is_any, least_address, may_move, of_unit}
-use Rattle.j39_load.proofs.Different.{tells}
+use Rattle.j39_load.proofs.Different.{states}
 use Rattle.j39_part_laws.specs.PlanParts.{IsPartAt, Places, to_in}
 use Rattle.j39_part_laws.proofs.Places.{same_there, value_at}
 use Rattle.j39_part_laws.proofs.Staying.{stay_there}
@@ -83,15 +83,15 @@ module _ (at : Places) where
   one_twin m n o one other =
       let s = one.among.sender_in in
       let t = other.among.sender_in in
-      let told = tells one.priority other.priority one.pgn other.pgn (destination_at (λ u. u) one.to) (destination_at (λ u. u) other.to) one.sender other.sender
+      let reported = states one.priority other.priority one.pgn other.pgn (destination_at (λ u. u) one.to) (destination_at (λ u. u) other.to) one.sender other.sender
       one.page other.page (few_to one.to one.among.receiver_in) (few_to other.to other.among.receiver_in) (omega (arith, s)) (omega (arith, t)) one.low other.low
       (sym one.first ∙ other.first) in
       one.second
-      ∙ same_ident one.priority other.priority one.pgn other.pgn _ _ _ _ told.0 told.1 (ap at.unit told.2)
-      (λ pdu1. ap (λ to. destination_at (λ u. u) (to_in at to)) (one_to one.to other.to one.among.receiver_in other.among.receiver_in (told.3 pdu1)))
+      ∙ same_ident one.priority other.priority one.pgn other.pgn _ _ _ _ reported.0 reported.1 (ap at.unit reported.2)
+      (λ pdu1. ap (λ to. destination_at (λ u. u) (to_in at to)) (one_to one.to other.to one.among.receiver_in other.among.receiver_in (reported.3 pdu1)))
       ∙ sym other.second
 
-  module _ (part whole : Plan) (is : IsPartAt at part whole) (stays told : UnitPlan → Bool) (decides : DecidesWhoStays whole stays) (tells_who : DecidesWhoStays part told) where
+  module _ (part whole : Plan) (is : IsPartAt at part whole) (stays reported : UnitPlan → Bool) (decides : DecidesWhoStays whole stays) (reports_who : DecidesWhoStays part reported) where
     -- ---- units
 
     abbrev us : List UnitPlan
@@ -107,9 +107,9 @@ module _ (at : Places) where
     there_too u unit here = same_there at.unit us ws is.units u unit here
 
     -- one that may move in the part may move in the whole
-    still_moves : (u : ℕ) (unit : UnitPlan) → slice_get us u ≡ Some unit → may_move told unit ≡ true → may_move stays unit ≡ true
+    still_moves : (u : ℕ) (unit : UnitPlan) → slice_get us u ≡ Some unit → may_move reported unit ≡ true → may_move stays unit ≡ true
     still_moves u unit here moves =
-        let parts = and_parts (is_arbitrary unit.name) (not (told unit)) moves in
+        let parts = and_parts (is_arbitrary unit.name) (not (reported unit)) moves in
         and_from (is_arbitrary unit.name) (not (stays unit)) parts.0 (elim (cases_Bool (stays unit)) [
           | inr leaves ↦ ap not leaves
           | inl settled ↦
@@ -117,16 +117,16 @@ module _ (at : Places) where
               subst (λ b. MatchBool b (StaysBeside whole.strangers (units_of whole) (at.unit u)) (¬ StaysBeside whole.strangers (units_of whole) (at.unit u))) settled
               (decides (at.unit u) unit (there_too u unit here)) in
               let stays_here = (stay_there at part whole is).beside u (slice_get_within us u unit here) there in
-              absurd (not_told (told unit) refl parts.1 stays_here)
+              absurd (not_reported (reported unit) refl parts.1 stays_here)
         ])
       where
-        not_told : (b : Bool) → told unit ≡ b → not (told unit) ≡ true → StaysBeside part.strangers (units_of part) u → ⊥
-        not_told true it moves stays_here = false≢true (sym (ap not it) ∙ moves)
-        not_told false it moves stays_here =
-            subst (λ b. MatchBool b (StaysBeside part.strangers (units_of part) u) (¬ StaysBeside part.strangers (units_of part) u)) it (tells_who u unit here) stays_here
+        not_reported : (b : Bool) → reported unit ≡ b → not (reported unit) ≡ true → StaysBeside part.strangers (units_of part) u → ⊥
+        not_reported true it moves stays_here = false≢true (sym (ap not it) ∙ moves)
+        not_reported false it moves stays_here =
+            subst (λ b. MatchBool b (StaysBeside part.strangers (units_of part) u) (¬ StaysBeside part.strangers (units_of part) u)) it (reports_who u unit here) stays_here
 
-    least_of_unit : (u : ℕ) (unit : UnitPlan) → slice_get us u ≡ Some unit → least_address stays unit ≤ least_address told unit
-    least_of_unit u unit here = elim (cases_Bool (may_move told unit)) [
+    least_of_unit : (u : ℕ) (unit : UnitPlan) → slice_get us u ≡ Some unit → least_address stays unit ≤ least_address reported unit
+    least_of_unit u unit here = elim (cases_Bool (may_move reported unit)) [
       | inl moves ↦ rw (moves, still_moves u unit here moves) (omega arith)
       | inr settled ↦ rw (settled) (either (may_move stays unit))
     ]
@@ -135,8 +135,8 @@ module _ (at : Places) where
         either true = omega arith
         either false = omega arith
 
-    greatest_of_unit : (u : ℕ) (unit : UnitPlan) → slice_get us u ≡ Some unit → greatest_address told unit ≤ greatest_address stays unit
-    greatest_of_unit u unit here = elim (cases_Bool (may_move told unit)) [
+    greatest_of_unit : (u : ℕ) (unit : UnitPlan) → slice_get us u ≡ Some unit → greatest_address reported unit ≤ greatest_address stays unit
+    greatest_of_unit u unit here = elim (cases_Bool (may_move reported unit)) [
       | inl moves ↦ rw (moves, still_moves u unit here moves) (omega arith)
       | inr settled ↦ rw (settled) (either (may_move stays unit))
     ]
@@ -145,28 +145,28 @@ module _ (at : Places) where
         either true = omega arith
         either false = omega arith
 
-    pub least_in : (u : ℕ) → u < length us → of_unit ws (least_address stays) (at.unit u) ≤ of_unit us (least_address told) u
+    pub least_in : (u : ℕ) → u < length us → of_unit ws (least_address stays) (at.unit u) ≤ of_unit us (least_address reported) u
     least_in u within =
         let (unit, here) = unit_at_place u within in
         rw (here, there_too u unit here) (least_of_unit u unit here)
 
-    pub greatest_in : (u : ℕ) → u < length us → of_unit us (greatest_address told) u ≤ of_unit ws (greatest_address stays) (at.unit u)
+    pub greatest_in : (u : ℕ) → u < length us → of_unit us (greatest_address reported) u ≤ of_unit ws (greatest_address stays) (at.unit u)
     greatest_in u within =
         let (unit, here) = unit_at_place u within in
         rw (here, there_too u unit here) (greatest_of_unit u unit here)
 
-    pub greatest_few : (u : ℕ) → of_unit us (greatest_address told) u ≤ 255
+    pub greatest_few : (u : ℕ) → of_unit us (greatest_address reported) u ≤ 255
     greatest_few u = go (slice_get us u)
       where
         either : (b : Bool) (n : ℕ) → n < 254 → (if b then max n 247 else n) ≤ 255
         either true n few = omega (arith, few)
         either false n few = omega (arith, few)
 
-        go : (o : Option UnitPlan) → option_map_or (greatest_address told) o 0 ≤ 255
+        go : (o : Option UnitPlan) → option_map_or (greatest_address reported) o 0 ≤ 255
         go None = omega arith
-        go (Some unit) = either (may_move told unit) unit.address unit.address_range
+        go (Some unit) = either (may_move reported unit) unit.address unit.address_range
 
-    pub destination_few : (to : To) → destination_at (of_unit us (greatest_address told)) to ≤ 255
+    pub destination_few : (to : To) → destination_at (of_unit us (greatest_address reported)) to ≤ 255
     destination_few ToAllUnits = omega arith
     destination_few (One v) = greatest_few v
 
@@ -192,24 +192,24 @@ module _ (at : Places) where
         either false is_it = absurd (none-some v is_it)
 
     least_to : (to : To) → ((v : ℕ) → to ≡ One v → v < length us)
-        → destination_at (of_unit ws (least_address stays)) (to_in at to) ≤ destination_at (of_unit us (least_address told)) to
+        → destination_at (of_unit ws (least_address stays)) (to_in at to) ≤ destination_at (of_unit us (least_address reported)) to
     least_to ToAllUnits known = omega arith
     least_to (One v) known = least_in v (known v refl)
 
     greatest_to : (to : To) → ((v : ℕ) → to ≡ One v → v < length us)
-        → destination_at (of_unit us (greatest_address told)) to ≤ destination_at (of_unit ws (greatest_address stays)) (to_in at to)
+        → destination_at (of_unit us (greatest_address reported)) to ≤ destination_at (of_unit ws (greatest_address stays)) (to_in at to)
     greatest_to ToAllUnits known = omega arith
     greatest_to (One v) known = greatest_in v (known v refl)
 
     -- from a unit to another one or to all
     pub least_ident_in : (priority pgn u : ℕ) (to : To) → IsAmong (length us) to u
         → identifier_of priority pgn (destination_at (of_unit ws (least_address stays)) (to_in at to)) (of_unit ws (least_address stays) (at.unit u))
-        ≤ identifier_of priority pgn (destination_at (of_unit us (least_address told)) to) (of_unit us (least_address told) u)
+        ≤ identifier_of priority pgn (destination_at (of_unit us (least_address reported)) to) (of_unit us (least_address reported) u)
     least_ident_in priority pgn u to among =
         ident-mono priority pgn _ _ _ _ (least_to to among.receiver_in) (least_in u among.sender_in)
 
     pub greatest_ident_in : (priority pgn u : ℕ) (to : To) → IsAmong (length us) to u
-        → identifier_of priority pgn (destination_at (of_unit us (greatest_address told)) to) (of_unit us (greatest_address told) u)
+        → identifier_of priority pgn (destination_at (of_unit us (greatest_address reported)) to) (of_unit us (greatest_address reported) u)
         ≤ identifier_of priority pgn (destination_at (of_unit ws (greatest_address stays)) (to_in at to)) (of_unit ws (greatest_address stays) (at.unit u))
     greatest_ident_in priority pgn u to among =
         ident-mono priority pgn _ _ _ _ (greatest_to to among.receiver_in) (greatest_in u among.sender_in)

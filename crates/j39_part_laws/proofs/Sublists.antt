@@ -47,27 +47,27 @@ sub_of_some place Stands some all are = sub_of Stands some all place are.rises a
 pub more_meet : {A B : Type 0} (R : A → B → Type 0) (P : A → Type 0) (Q : B → Type 0) → ((x : A) (y : B) → R x y → P x → Q y)
     → ((y : B) → Q y ⊎ ¬ Q y) → (xs : List A) (ys : List B) → IsSub R xs ys → (m : ℕ) → SoManyMeet P xs m
     → (n : ℕ) × (m ≤ n) × SoManyMeet Q ys n
-more_meet R P Q over tell [] [] sub m many = (0, omega (arith, many), refl)
-more_meet R P Q over tell [] (y ∷ ys) sub m many =
-    let rest = more_meet R P Q over tell [] ys tt m many in
-    elim (tell y) [
+more_meet R P Q over report [] [] sub m many = (0, omega (arith, many), refl)
+more_meet R P Q over report [] (y ∷ ys) sub m many =
+    let rest = more_meet R P Q over report [] ys tt m many in
+    elim (report y) [
       | inl meets ↦ let below = rest.1 in (rest.0 + 1, omega (arith, below), inl (meets, (rest.0, refl, rest.2)))
       | inr fails ↦ (rest.0, rest.1, inr (fails, rest.2))
     ]
-more_meet R P Q over tell (x ∷ xs) [] sub m many = absurd sub
-more_meet R P Q over tell (x ∷ xs) (y ∷ ys) (inr later) m many =
-    let rest = more_meet R P Q over tell (x ∷ xs) ys later m many in
-    elim (tell y) [
+more_meet R P Q over report (x ∷ xs) [] sub m many = absurd sub
+more_meet R P Q over report (x ∷ xs) (y ∷ ys) (inr later) m many =
+    let rest = more_meet R P Q over report (x ∷ xs) ys later m many in
+    elim (report y) [
       | inl meets ↦ let below = rest.1 in (rest.0 + 1, omega (arith, below), inl (meets, (rest.0, refl, rest.2)))
       | inr fails ↦ (rest.0, rest.1, inr (fails, rest.2))
     ]
-more_meet R P Q over tell (x ∷ xs) (y ∷ ys) (inl (stands, left)) m (inl (meets, (k, one_more, many))) =
-    let rest = more_meet R P Q over tell xs ys left k many in
+more_meet R P Q over report (x ∷ xs) (y ∷ ys) (inl (stands, left)) m (inl (meets, (k, one_more, many))) =
+    let rest = more_meet R P Q over report xs ys left k many in
     let below = rest.1 in
     (rest.0 + 1, omega (arith, below, one_more), inl (over x y stands meets, (rest.0, refl, rest.2)))
-more_meet R P Q over tell (x ∷ xs) (y ∷ ys) (inl (stands, left)) m (inr (none, many)) =
-    let rest = more_meet R P Q over tell xs ys left m many in
-    elim (tell y) [
+more_meet R P Q over report (x ∷ xs) (y ∷ ys) (inl (stands, left)) m (inr (none, many)) =
+    let rest = more_meet R P Q over report xs ys left m many in
+    elim (report y) [
       | inl meets ↦ let below = rest.1 in (rest.0 + 1, omega (arith, below), inl (meets, (rest.0, refl, rest.2)))
       | inr fails ↦ (rest.0, rest.1, inr (fails, rest.2))
     ]
@@ -122,16 +122,16 @@ pub sub_same : {A : Type 0} (R : A → A → Type 0) → (xs : List A) → ((i :
 sub_same R [] each = tt
 sub_same R (x ∷ xs) each = inl (each 0 x refl, sub_same R xs (λ i y at. each (suc i) y at))
 
--- what is told of each, by its place
-pub sub_lines : {A B C D : Type 0} (S : C → D → Type 0) (tell : ℕ → A → List C) (told : ℕ → B → List D) (xs : List A) (ys : List B) (place : ℕ → ℕ) (d e : ℕ)
+-- what is reported of each, by its place
+pub sub_lines : {A B C D : Type 0} (S : C → D → Type 0) (report : ℕ → A → List C) (reported : ℕ → B → List D) (xs : List A) (ys : List B) (place : ℕ → ℕ) (d e : ℕ)
     → ((i j : ℕ) → i < j → place i < place j)
-    → ((i : ℕ) (x : A) → slice_get xs i ≡ Some x → ValueAt (λ y. IsSub S (tell (d + i) x) (told (e + place i) y)) ys (place i))
-    → IsSub S (lines_of_each tell d xs) (lines_of_each told e ys)
+    → ((i : ℕ) (x : A) → slice_get xs i ≡ Some x → ValueAt (λ y. IsSub S (report (d + i) x) (reported (e + place i) y)) ys (place i))
+    → IsSub S (lines_of_each report d xs) (lines_of_each reported e ys)
 unfolding lines_of_each
-sub_lines S tell told [] ys place d e rises each = tt
-sub_lines S tell told (x ∷ xs) [] place d e rises each = let there = each 0 x refl in absurd (no_value (place 0) there.value there.value_is)
-sub_lines {B = B} S tell told (x ∷ xs) (y ∷ ys) place d e rises each = first (place 0) refl
-    (λ here. sub_lines S tell told xs ys (λ i. place (suc i) - 1) (d + 1) (e + 1)
+sub_lines S report reported [] ys place d e rises each = tt
+sub_lines S report reported (x ∷ xs) [] place d e rises each = let there = each 0 x refl in absurd (no_value (place 0) there.value there.value_is)
+sub_lines {B = B} S report reported (x ∷ xs) (y ∷ ys) place d e rises each = first (place 0) refl
+    (λ here. sub_lines S report reported xs ys (λ i. place (suc i) - 1) (d + 1) (e + 1)
     (λ i j below. let more = rises 0 (suc i) (omega arith) in let rise = rises (suc i) (suc j) (omega (arith, below)) in omega (arith, more, rise))
     (λ i w at. let more = rises 0 (suc i) (omega arith) in let its = each (suc i) w at in
     let near : d + suc i ≡ d + 1 + i = omega arith in
@@ -139,17 +139,17 @@ sub_lines {B = B} S tell told (x ∷ xs) (y ∷ ys) place d e rises each = first
     record {
       value = its.value;
       value_is = behind y ys (place (suc i)) its.value (omega (arith, more)) its.value_is;
-      meets = subst (λ k. IsSub S (tell k w) (told (e + 1 + (place (suc i) - 1)) its.value)) near
-          (subst (λ k. IsSub S (tell (d + suc i) w) (told k its.value)) far its.meets);
+      meets = subst (λ k. IsSub S (report k w) (reported (e + 1 + (place (suc i) - 1)) its.value)) near
+          (subst (λ k. IsSub S (report (d + suc i) w) (reported k its.value)) far its.meets);
     }))
-    (λ later. sub_lines S tell told (x ∷ xs) ys (λ i. place i - 1) d (e + 1)
+    (λ later. sub_lines S report reported (x ∷ xs) ys (λ i. place i - 1) d (e + 1)
     (λ i j below. let low = at_least i later in let rise = rises i j below in omega (arith, low, rise))
     (λ i w at. let low = at_least i later in let its = each i w at in
     let far : e + place i ≡ e + 1 + (place i - 1) = omega (arith, low) in
     record {
       value = its.value;
       value_is = behind y ys (place i) its.value low its.value_is;
-      meets = subst (λ k. IsSub S (tell (d + i) w) (told k its.value)) far its.meets;
+      meets = subst (λ k. IsSub S (report (d + i) w) (reported k its.value)) far its.meets;
     }))
   where
     at_least : (i : ℕ) → 0 < place 0 → 0 < place i
@@ -160,17 +160,17 @@ sub_lines {B = B} S tell told (x ∷ xs) (y ∷ ys) place d e rises each = first
     some_same same = cc
 
     first : (n : ℕ) → place 0 ≡ n
-        → (place 0 ≡ 0 → IsSub S (lines_of_each tell (d + 1) xs) (lines_of_each told (e + 1) ys))
-        → (0 < place 0 → IsSub S (tell d x ++ lines_of_each tell (d + 1) xs) (lines_of_each told (e + 1) ys))
-        → IsSub S (tell d x ++ lines_of_each tell (d + 1) xs) (told e y ++ lines_of_each told (e + 1) ys)
+        → (place 0 ≡ 0 → IsSub S (lines_of_each report (d + 1) xs) (lines_of_each reported (e + 1) ys))
+        → (0 < place 0 → IsSub S (report d x ++ lines_of_each report (d + 1) xs) (lines_of_each reported (e + 1) ys))
+        → IsSub S (report d x ++ lines_of_each report (d + 1) xs) (reported e y ++ lines_of_each reported (e + 1) ys)
     first zero here rest others =
-        let there : ValueAt (λ z. IsSub S (tell (d + 0) x) (told (e + zero) z)) (y ∷ ys) zero =
-        subst (λ k. ValueAt (λ z. IsSub S (tell (d + 0) x) (told (e + k) z)) (y ∷ ys) k) here (each 0 x refl) in
+        let there : ValueAt (λ z. IsSub S (report (d + 0) x) (reported (e + zero) z)) (y ∷ ys) zero =
+        subst (λ k. ValueAt (λ z. IsSub S (report (d + 0) x) (reported (e + k) z)) (y ∷ ys) k) here (each 0 x refl) in
         let same : y ≡ there.value = some_same there.value_is in
         let near : d + 0 ≡ d = omega arith in
         let far : e + 0 ≡ e = omega arith in
-        sub_append S (tell d x) (told e y) (lines_of_each tell (d + 1) xs) (lines_of_each told (e + 1) ys)
-        (subst (λ k. IsSub S (tell k x) (told e y)) near (subst (λ k. IsSub S (tell (d + 0) x) (told k y)) far
-        (subst (λ z. IsSub S (tell (d + 0) x) (told (e + 0) z)) (sym same) there.meets))) (rest here)
+        sub_append S (report d x) (reported e y) (lines_of_each report (d + 1) xs) (lines_of_each reported (e + 1) ys)
+        (subst (λ k. IsSub S (report k x) (reported e y)) near (subst (λ k. IsSub S (report (d + 0) x) (reported k y)) far
+        (subst (λ z. IsSub S (report (d + 0) x) (reported (e + 0) z)) (sym same) there.meets))) (rest here)
     first (suc n) later rest others =
-        sub_behind S (told e y) (tell d x ++ lines_of_each tell (d + 1) xs) (lines_of_each told (e + 1) ys) (others (omega (arith, later)))
+        sub_behind S (reported e y) (report d x ++ lines_of_each report (d + 1) xs) (lines_of_each reported (e + 1) ys) (others (omega (arith, later)))

@@ -115,8 +115,8 @@ module _ (unit : ℕ → ℕ) where
       (omega arith) (omega (arith, slow, often)) (mul-le-mul_right (shortest_million timing) fewer) in
       omega (arith, packets, firsts, announced, spaced)
 
-module _ (at : Places) (part whole : Plan) (is : IsPartAt at part whole) (stays told : UnitPlan → Bool)
-    (decides : DecidesWhoStays whole stays) (tells_who : DecidesWhoStays part told) (timing : Timing) where
+module _ (at : Places) (part whole : Plan) (is : IsPartAt at part whole) (stays reported : UnitPlan → Bool)
+    (decides : DecidesWhoStays whole stays) (reports_who : DecidesWhoStays part reported) (timing : Timing) where
   abbrev us : List UnitPlan
   us = part.units.items
 
@@ -155,26 +155,26 @@ module _ (at : Places) (part whole : Plan) (is : IsPartAt at part whole) (stays 
   among_all u within = record { sender_in = within; receiver_in = λ v its. absurd cc }
 
   frames_there : (pgn u gaps fewer place there : ℕ) → pgn < 131072 → u < length us → fewer ≤ gaps → 1 ≤ fewer → AreOfUnit at.unit place there
-      → Alike at (broadcast_frames timing us told pgn u gaps place) (broadcast_frames timing ws stays pgn (at.unit u) fewer there)
+      → Alike at (broadcast_frames timing us reported pgn u gaps place) (broadcast_frames timing ws stays pgn (at.unit u) fewer there)
   frames_there pgn u gaps fewer place there page within less some wanted =
       let gap : 0 < bits_at_least timing timing.broadcast_gap =
       some_bits timing timing.broadcast_gap (let least = timing.broadcast_gap_least in omega (arith, least)) in
       let one : 1 * bits_at_least timing timing.broadcast_gap ≤ fewer * bits_at_least timing timing.broadcast_gap = mul-le-mul_right (bits_at_least timing timing.broadcast_gap) some in
-      let greatest = greatest_ident_in at part whole is stays told decides tells_who timing.transport_priority pgn u ToAllUnits (among_all u within) in
+      let greatest = greatest_ident_in at part whole is stays reported decides reports_who timing.transport_priority pgn u ToAllUnits (among_all u within) in
       record {
         frames = omega arith;
         bits = refl;
         positive = omega (arith, gap, one);
         period = mul-le-mul_right (bits_at_least timing timing.broadcast_gap) less;
         wanted = wanted;
-        least = least_ident_in at part whole is stays told decides tells_who timing.transport_priority pgn u ToAllUnits (among_all u within);
+        least = least_ident_in at part whole is stays reported decides reports_who timing.transport_priority pgn u ToAllUnits (among_all u within);
         greatest = greatest;
         last = greatest;
         below = few_ident timing.transport_priority pgn 255 _ timing.transport_priority_range page (omega arith)
-            (greatest_few at part whole is stays told decides tells_who u);
-        sender = any_in at part whole is stays told decides tells_who u within;
+            (greatest_few at part whole is stays reported decides reports_who u);
+        sender = any_in at part whole is stays reported decides reports_who u within;
         receiver = refl;
-        few_sender = any_few at part whole is stays told decides tells_who u within;
+        few_sender = any_few at part whole is stays reported decides reports_who u within;
         few_receiver = λ v its. absurd (none-some v its);
         twin = λ m its. absurd (none-some m its);
         want = tt;
@@ -182,7 +182,7 @@ module _ (at : Places) (part whole : Plan) (is : IsPartAt at part whole) (stays 
 
   pub unit_there : (u : ℕ) → u < length us → u < 128 → at.unit u < 128 → (bs cs : List Broadcast) → IsSub (AreBroadcast at.unit) bs cs
       → All HasPackets cs
-      → UnitsAlike at (known_unit_load timing us told u bs) (known_unit_load timing ws stays (at.unit u) cs)
+      → UnitsAlike at (known_unit_load timing us reported u bs) (known_unit_load timing ws stays (at.unit u) cs)
   unit_there u within few few_there [] cs sub each = tt
   unit_there u within few few_there (b ∷ bs) [] sub each = absurd sub
   unit_there u within few few_there (b ∷ bs) (c ∷ cs) sub each = record {
@@ -206,7 +206,7 @@ module _ (at : Places) (part whole : Plan) (is : IsPartAt at part whole) (stays 
   -- ---- requests
 
   pub request_there : (i : ℕ) (request there : RequestPlan) → slice_get part.requests.items i ≡ Some request → IsRequestThere at request there
-      → RequestsAlike at (load_of_request timing us told request) (load_of_request timing ws stays there)
+      → RequestsAlike at (load_of_request timing us reported request) (load_of_request timing ws stays there)
   request_there i request there here stands = go request.period refl
     where
       among : IsAmong (length us) request.to request.sender
@@ -215,18 +215,18 @@ module _ (at : Places) (part whole : Plan) (is : IsPartAt at part whole) (stays 
         receiver_in = all_at (λ (d : RequestPlan). (v : ℕ) → d.to ≡ One v → v < length us) part.requests.items part.request_receivers i request here;
       }
 
-      greatest : (request_load timing us told request 1).frames.greatest_ident ≤ (request_load timing ws stays there 1).frames.greatest_ident
-      greatest = rw (stands.to, stands.sender) (greatest_ident_in at part whole is stays told decides tells_who 6 59904 request.sender request.to among)
+      greatest : (request_load timing us reported request 1).frames.greatest_ident ≤ (request_load timing ws stays there 1).frames.greatest_ident
+      greatest = rw (stands.to, stands.sender) (greatest_ident_in at part whole is stays reported decides reports_who 6 59904 request.sender request.to among)
 
-      least : (request_load timing ws stays there 1).frames.least_ident ≤ (request_load timing us told request 1).frames.least_ident
-      least = rw (stands.to, stands.sender) (least_ident_in at part whole is stays told decides tells_who 6 59904 request.sender request.to among)
+      least : (request_load timing ws stays there 1).frames.least_ident ≤ (request_load timing us reported request 1).frames.least_ident
+      least = rw (stands.to, stands.sender) (least_ident_in at part whole is stays reported decides reports_who 6 59904 request.sender request.to among)
 
       go : (period : Option ℕ) → request.period ≡ period
-          → RequestsAlike at (load_of_request timing us told request) (load_of_request timing ws stays there)
-      go None none = subst (λ o. RequestsAlike at (option_map (request_load timing us told request) o) (load_of_request timing ws stays there)) (sym none) tt
+          → RequestsAlike at (load_of_request timing us reported request) (load_of_request timing ws stays there)
+      go None none = subst (λ o. RequestsAlike at (option_map (request_load timing us reported request) o) (load_of_request timing ws stays there)) (sym none) tt
       go (Some period) is_it =
-          subst (λ o. RequestsAlike at (option_map (request_load timing us told request) o) (load_of_request timing ws stays there)) (sym is_it)
-          (subst (λ o. RequestsAlike at (Some (request_load timing us told request period)) (option_map (request_load timing ws stays there) o))
+          subst (λ o. RequestsAlike at (option_map (request_load timing us reported request) o) (load_of_request timing ws stays there)) (sym is_it)
+          (subst (λ o. RequestsAlike at (Some (request_load timing us reported request period)) (option_map (request_load timing ws stays there) o))
           (sym (stands.period ∙ is_it)) (
             record {
               frames = omega arith;
@@ -237,11 +237,11 @@ module _ (at : Places) (part whole : Plan) (is : IsPartAt at part whole) (stays 
               least = least;
               greatest = greatest;
               last = greatest;
-              below = few_ident 6 59904 _ _ (omega arith) (omega arith) (destination_few at part whole is stays told decides tells_who request.to)
-                  (greatest_few at part whole is stays told decides tells_who request.sender);
-              sender = ap (any_unit ws) stands.sender ∙ any_in at part whole is stays told decides tells_who request.sender among.sender_in;
+              below = few_ident 6 59904 _ _ (omega arith) (omega arith) (destination_few at part whole is stays reported decides reports_who request.to)
+                  (greatest_few at part whole is stays reported decides reports_who request.sender);
+              sender = ap (any_unit ws) stands.sender ∙ any_in at part whole is stays reported decides reports_who request.sender among.sender_in;
               receiver = refl;
-              few_sender = any_few at part whole is stays told decides tells_who request.sender among.sender_in;
+              few_sender = any_few at part whole is stays reported decides reports_who request.sender among.sender_in;
               few_receiver = λ v its. absurd (none-some v its);
               twin = λ m its. absurd (none-some m its);
               want = tt;

@@ -1,4 +1,4 @@
--- A delay that is told of the whole bounds that of the flow in the part.
+-- A delay that is reported of the whole bounds that of the flow in the part.
 use Rattle.std.specs.Prelude.{◌≡◌, ◌⊎◌, ℕ, ◌<◌, ◌≤◌, Bool, true, length, Option, Some, None}
 use Rattle.j39_network.specs.declared.plan.Plan.{Plan}
 use Rattle.j39_network.specs.declared.plan.timing.Timing.{Timing}
@@ -21,7 +21,7 @@ pub record IsWholeNoLater (a b : WholeTime) : Type 0 where
   pub bits : IsKnownNoLater a.bits b.bits
   pub each : b.each ≡ true → a.each ≡ true
 
--- where the second is told, the first is, and is no greater: it may be within the limit where that one is beyond
+-- where the second is reported, the first is, and is no greater: it may be within the limit where that one is beyond
 abbrev pub IsNoLater : Option Delay → Option Delay → Type 0
 IsNoLater delay None = delay ≡ None
 IsNoLater delay (Some Late) = (d : Delay) × (delay ≡ Some d)
@@ -32,5 +32,5 @@ IsNoLater delay (Some (Whole b)) = (a : WholeTime) × (delay ≡ Some (Whole a))
 
 -- so it is of each flow of the part, by who stays in the part and who in the whole, and by what is known of the bus of either
 abbrev pub DelaysNoLater : Places → Plan → Plan → Timing → Timing → (UnitPlan → Bool) → (UnitPlan → Bool) → Type 0
-DelaysNoLater at part whole timing busy told stays = (f : ℕ) → f < length part.flows.items → (here there : Option Delay)
-    → HasDelay timing (asked_of timing part told) f here → HasDelay busy (asked_of busy whole stays) (at.flow f) there → IsNoLater here there
+DelaysNoLater at part whole timing busy reported stays = (f : ℕ) → f < length part.flows.items → (here there : Option Delay)
+    → HasDelay timing (asked_of timing part reported) f here → HasDelay busy (asked_of busy whole stays) (at.flow f) there → IsNoLater here there

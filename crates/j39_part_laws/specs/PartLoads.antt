@@ -38,5 +38,5 @@ pub record AskNoMoreThan (at : Places) (flows : ℕ) (timing busy : Timing) (ask
 
 -- what a part asks, and what the whole does: by who stays in the part and who in the whole
 abbrev pub AskNoMore : Places → Plan → Plan → Timing → Timing → (UnitPlan → Bool) → (UnitPlan → Bool) → Type 0
-AskNoMore at part whole timing busy told stays =
-    AskNoMoreThan at (length part.flows.items) timing busy (asked_of timing part told) (asked_of busy whole stays)
+AskNoMore at part whole timing busy reported stays =
+    AskNoMoreThan at (length part.flows.items) timing busy (asked_of timing part reported) (asked_of busy whole stays)

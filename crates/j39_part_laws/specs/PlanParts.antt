@@ -21,7 +21,7 @@ use Rattle.j39_network.specs.declared.plan.to.To.TheVariants.{All, One}
 
 -- ---- places
 
--- the first list has some values of the second, in its order: the value at each of its places stands in the second at the place that is told
+-- the first list has some values of the second, in its order: the value at each of its places stands in the second at the place that is reported
 pub record AreSome {A : Type 0} (place : ℕ → ℕ) (Stands : A → A → Type 0) (some all : List A) : Type 0 where
   pub rises : (i j : ℕ) → i < j → place i < place j
   pub each : (i : ℕ) (x : A) → slice_get some i ≡ Some x → ValueAt (Stands x) all (place i)

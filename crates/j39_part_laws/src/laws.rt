@@ -32,22 +32,22 @@ pub fn less_asked_waits_no_longer()
 
 /// Of a whole in which no bad number of a group is found each part asks no more of the bus: no frame of it waits longer,
 /// and its load is no greater. On the bus of the whole as many frames may come that aren't planned, or more. (Frames that
-/// share an identifier are told by the places of their units, which are others in a part: with such a number two flows
+/// share an identifier are reported by the places of their units, which are others in a part: with such a number two flows
 /// could share one there alone.)
 pub fn parts_ask_no_more()
     ensures { (at : Places) (part whole : Plan) → IsPartAt at part whole → HasGoodNumbers whole → (timing : Timing)
-        (unplanned : ℕ) (range : unplanned ≤ 1000) → timing.unplanned ≤ unplanned → (stays told : UnitPlan → Bool)
-        → DecidesWhoStays whole stays → DecidesWhoStays part told
-        → AskNoMore at part whole timing (counting timing unplanned range) told stays }
+        (unplanned : ℕ) (range : unplanned ≤ 1000) → timing.unplanned ≤ unplanned → (stays reported : UnitPlan → Bool)
+        → DecidesWhoStays whole stays → DecidesWhoStays part reported
+        → AskNoMore at part whole timing (counting timing unplanned range) reported stays }
 {}
 
-/// A delay that is told of the whole, in which no bad number of a group is found, bounds that of the flow in each part.
+/// A delay that is reported of the whole, in which no bad number of a group is found, bounds that of the flow in each part.
 /// So does the time in which long messages to all are whole, and each of them keeps it where each does in the whole.
 pub fn delays_hold_in_parts()
     ensures { (at : Places) (part whole : Plan) → IsPartAt at part whole → HasGoodNumbers whole → (timing : Timing)
-        (unplanned : ℕ) (range : unplanned ≤ 1000) → timing.unplanned ≤ unplanned → (stays told : UnitPlan → Bool)
-        → DecidesWhoStays whole stays → DecidesWhoStays part told
-        → DelaysNoLater at part whole timing (counting timing unplanned range) told stays }
+        (unplanned : ℕ) (range : unplanned ≤ 1000) → timing.unplanned ≤ unplanned → (stays reported : UnitPlan → Bool)
+        → DecidesWhoStays whole stays → DecidesWhoStays part reported
+        → DelaysNoLater at part whole timing (counting timing unplanned range) reported stays }
 {}
 
 /// Each finding on the load of a part is one of the whole, in which no bad number of a group is found, at its places

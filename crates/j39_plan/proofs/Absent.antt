@@ -1,5 +1,5 @@
 -- Tables in which nothing stands at some keys, and lists of faults of which the first ones are one.
-use Rattle.std.proofs.Common.{◌≡◌, ◌↔◌, ℕ, false, List, [], ◌∷◌, ◌++◌, All, Option, Some, None, refl, sym, ap, ◌∙◌, suc, is_some, unwrap_or, get_or, Ordering}
+use Rattle.std.proofs.Common.{◌≡◌, ◌↔◌, ℕ, false, List, [], ◌∷◌, ◌++◌, Option, Some, None, refl, sym, ap, ◌∙◌, suc, is_some, unwrap_or, IfSome, Ordering}
 use Rattle.std.proofs.Common.{Less, Equal, Greater, nat_cmp, is_eq}
 use Rattle.std.specs.Option.{option_or, option_map_or}
 use Rattle.std.specs.Ordering.{match_ordering}
@@ -12,10 +12,10 @@ use Rattle.j39_plan.specs.PlanErrors.{PlanFault}
 use Rattle.j39_plan.specs.declared.reading.place.Table.{Table}
 use Rattle.j39_plan.specs.Words.{word_of}
 use Rattle.j39_toml.specs.Outcome.{first}
-use Rattle.j39_toml.specs.TableFaults.{is_key_word, has_only, unknown_faults}
+use Rattle.j39_toml.specs.TableFaults.{table_only_faults}
 use Rattle.j39_toml.specs.InOrder.{inside, each_faults, Each}
 use Rattle.j39_plan.specs.Schema.{has_key}
-use Rattle.j39_plan.specs.Versions.{Lacks, EachTable}
+use Rattle.j39_plan.specs.Versions.{EachTable}
 
 -- ---- keys
 
@@ -37,28 +37,14 @@ none_behind Less d rest e = e
 none_behind Equal d rest e = cc
 none_behind Greater d rest e = e
 
-lacks_word : (k : Key) (l : List ℕ) (d : Data) (ms : Members) → has_key k (member l d ms) ≡ false → bytes_eq (word_of k) l ≡ false
+pub lacks_word : (k : Key) (l : List ℕ) (d : Data) (ms : Members) → has_key k (member l d ms) ≡ false → bytes_eq (word_of k) l ≡ false
 unfolding has_key
 lacks_word k l d ms none =
     sym (is_eq-slice_cmp (word_of k) l) ∙ other_word (slice_cmp nat_cmp (word_of k) l) d (get_member (word_of k) ms) none
 
-lacks_behind : (k : Key) (l : List ℕ) (d : Data) (ms : Members) → has_key k (member l d ms) ≡ false → has_key k ms ≡ false
+pub lacks_behind : (k : Key) (l : List ℕ) (d : Data) (ms : Members) → has_key k (member l d ms) ≡ false → has_key k ms ≡ false
 unfolding has_key
 lacks_behind k l d ms none = none_behind (slice_cmp nat_cmp (word_of k) l) d (get_member (word_of k) ms) none
-
--- the word is none of these keys
-abbrev pub IsNone : List Key → List ℕ → Type 0
-IsNone keys l = All (λ k. bytes_eq (word_of k) l ≡ false) keys
-
--- keys that don't stand in the table may be known or not
-pub only_same : (more few extra : List Key) (same : (l : List ℕ) → IsNone extra l → is_key_word word_of more l ≡ is_key_word word_of few l)
-    → (ms : Members) → Lacks extra ms → has_only word_of more ms ≡ has_only word_of few ms
-only_same more few extra same no_members lacks = refl
-only_same more few extra same (member l d ms) lacks =
-    rw (
-      same l (λ k x below. lacks_word (get_or extra k x) l d ms (lacks k x below)),
-      only_same more few extra same ms (λ k x below. lacks_behind (get_or extra k x) l d ms (lacks k x below)),
-    )
 
 -- ---- first faults
 
@@ -82,11 +68,6 @@ pub alike_behind : (xs ys zs : List PlanFault) → (xs ≡ [] → Alike ys zs) �
 alike_behind [] ys zs behind = behind refl
 alike_behind (x ∷ xs) ys zs behind = refl
 
-pub alike_unknown : (at : Table) (more few : List Key) (ms ns : Members) → has_only word_of more ms ≡ has_only word_of few ns
-    → Alike (unknown_faults word_of at more ms) (unknown_faults word_of at few ns)
-unfolding unknown_faults
-alike_unknown at more few ms ns same = rw same
-
 no_fault : (fs : List PlanFault) → first fs ≡ None → fs ≡ []
 no_fault [] none = refl
 no_fault (f ∷ fs) none = cc
@@ -106,6 +87,12 @@ pub alike_inside : (f g : Members → List PlanFault) (d : Data) → Alike (f (i
     → Alike (option_map_or f (as_table d) []) (option_map_or g (as_table d) [])
 alike_inside f g d same = alike_where f g (as_table d) no_members same
 
+-- an element: whether it is a table, the faults of its table, and what is behind
+pub element_alike : (at : Table) (d : Data) (f g : Members → List PlanFault) (ks : List PlanFault) → Alike (f (inside d)) (g (inside d))
+    → Alike (table_only_faults at d ++ option_map_or f (as_table d) [] ++ ks) (table_only_faults at d ++ option_map_or g (as_table d) [] ++ ks)
+element_alike at d f g ks same =
+    alike_between (table_only_faults at d) (option_map_or f (as_table d) []) (option_map_or g (as_table d) []) ks (alike_inside f g d same)
+
 pub alike_each : (Holds : Members → Type 0) (f g : ℕ → List (List ℕ) → Data → List PlanFault)
     (same : (i : ℕ) (seen : List (List ℕ)) (d : Data) → Holds (inside d) → Alike (f i seen d) (g i seen d)) (label : Data → List ℕ)
     → (i : ℕ) (seen : List (List ℕ)) (ds : Items) → EachTable Holds ds → Alike (each_faults f label i seen ds) (each_faults g label i seen ds)
@@ -114,13 +101,31 @@ alike_each Holds f g same label i seen no_items holds = refl
 alike_each Holds f g same label i seen (item d ds) holds =
     alike_both _ _ _ _ (same i seen d holds.0) (alike_each Holds f g same label (suc i) (seen ++ label d ∷ []) ds holds.1)
 
-pub told_alike : {T : Type 0} (Holds : Members → Type 0) (Is Was : Data → T → Type 0)
-    (same : (d : Data) (x : T) → Holds (inside d) → Is d x ↔ Was d x) → (ds : Items) (xs : List T) → EachTable Holds ds → Each Is ds xs ↔ Each Was ds xs
+-- what holds of a table that is there
+pub some_also : (P Q : Members → Type 0) → ((ms : Members) → P ms → Q ms) → (found : Option Members) → IfSome found P → IfSome found Q
+some_also P Q more None holds = tt
+some_also P Q more (Some ms) holds = more ms holds
+
+-- what elements report
+pub each_stated : {T : Type 0} (Holds : Members → Type 0) (Is Was : Data → T → Type 0)
+    (stated : (d : Data) (x : T) → Holds (inside d) → Is d x → Was d x) → (ds : Items) (xs : List T) → EachTable Holds ds → Each Is ds xs → Each Was ds xs
 unfolding Each EachTable
-told_alike Holds Is Was same no_items [] holds = (λ each. each, λ each. each)
-told_alike Holds Is Was same no_items (x ∷ xs) holds = (λ each. each, λ each. each)
-told_alike Holds Is Was same (item d ds) [] holds = (λ each. each, λ each. each)
-told_alike Holds Is Was same (item d ds) (x ∷ xs) holds =
-    let here = same d x holds.0 in
-    let more = told_alike Holds Is Was same ds xs holds.1 in
-    (λ each. (here.0 each.0, more.0 each.1), λ each. (here.1 each.0, more.1 each.1))
+each_stated Holds Is Was stated no_items xs holds each = each
+each_stated Holds Is Was stated (item d ds) [] holds each = each
+each_stated Holds Is Was stated (item d ds) (x ∷ xs) holds each = (stated d x holds.0 each.0, each_stated Holds Is Was stated ds xs holds.1 each.1)
+
+pub both_stated : {T : Type 0} (Holds : Members → Type 0) (Is Was : Data → T → Type 0)
+    (stated : (d : Data) (x : T) → Holds (inside d) → Is d x → Was d x) (back : (d : Data) (x : T) → Holds (inside d) → Was d x → Is d x)
+    → (ds : Items) (xs : List T) → EachTable Holds ds → Each Is ds xs ↔ Each Was ds xs
+both_stated Holds Is Was stated back ds xs holds = (each_stated Holds Is Was stated ds xs holds, each_stated Holds Was Is back ds xs holds)
+
+-- what holds of each table
+pub each_table : (Holds Also : Members → Type 0) → ((ms : Members) → Holds ms → Also ms) → (ds : Items) → EachTable Holds ds → EachTable Also ds
+unfolding EachTable
+each_table Holds Also more no_items holds = tt
+each_table Holds Also more (item d ds) holds = (more (inside d) holds.0, each_table Holds Also more ds holds.1)
+
+pub all_tables : (Holds : Members → Type 0) → ((ms : Members) → Holds ms) → (ds : Items) → EachTable Holds ds
+unfolding EachTable
+all_tables Holds holds no_items = tt
+all_tables Holds holds (item d ds) = (holds (inside d), all_tables Holds holds ds)

@@ -16,11 +16,11 @@ use Rattle.j39_plan.specs.ValueCauses.{number_in, numbers_in, address_cause, add
 abbrev pub AreInPool : FinSet nat_cmp → Type 0
 AreInPool s = (a : ℕ) → contains s a ≡ true → in_pool a ≡ true
 
--- what was seen so far is what the elements but the last ones tell, and the cause for all is that of the last ones
+-- what was seen so far is what the elements but the last ones report, and the cause for all is that of the last ones
 pub record IsSeen (seen : FinSet nat_cmp) (left all : Items) : Type 0 where
   pub same_cause : addresses_cause seen left ≡ addresses_cause empty all
   pub before : List ℕ
-  pub told : seen ≡ from_list before
+  pub stated : seen ≡ from_list before
   pub numbers : before ++ numbers_in left ≡ numbers_in all
   pub range : AreInPool seen
 
@@ -31,7 +31,7 @@ pub begins : (all : Items) → IsSeen empty all all
 begins all = record {
   same_cause = refl;
   before = [];
-  told = refl;
+  stated = refl;
   numbers = refl;
   range = none_outside;
 }
@@ -42,7 +42,7 @@ goes_on seen d left all a read none is pool = record {
   same_cause = ap (λ n. addresses_cause (insert seen n) left) is
       ∙ sym (ap (λ (o : Option Cause). option_or o (addresses_cause (insert seen (number_in d)) left)) none) ∙ read.same_cause;
   before = read.before ++ a ∷ [];
-  told = ap (λ s. insert s a) read.told ∙ sym (from_list_push nat_cmp_total nat_cmp-IsAntisymmetric read.before a);
+  stated = ap (λ s. insert s a) read.stated ∙ sym (from_list_push nat_cmp_total nat_cmp-IsAntisymmetric read.before a);
   numbers = append_assoc read.before (a ∷ []) (numbers_in left) ∙ ap (λ n. read.before ++ n ∷ numbers_in left) is ∙ read.numbers;
   range = λ b h. elim (cases_eq b a) [
     | inl same ↦ ap in_pool same ∙ pool
@@ -59,4 +59,4 @@ stops seen d left all cause read is =
     sym read.same_cause ∙ ap (λ (o : Option Cause). option_or o (addresses_cause (insert seen (number_in d)) left)) is
 
 pub ends : (seen : FinSet nat_cmp) (all : Items) → IsSeen seen no_items all → (addresses_cause empty all ≡ None) × (seen ≡ from_list (numbers_in all))
-ends seen all read = (sym read.same_cause, read.told ∙ ap from_list (sym (append-nil read.before) ∙ read.numbers))
+ends seen all read = (sym read.same_cause, read.stated ∙ ap from_list (sym (append-nil read.before) ∙ read.numbers))

@@ -75,14 +75,14 @@ All-from_Each Is P holds (item d ds) (x ∷ xs) each = All-cons P x xs (holds d 
 
 -- ---- labels
 
-pub labels_told : {T : Type 0} (Is : Data → T → Type 0) (label_of : Data → List ℕ) (label_bytes : T → List ℕ)
+pub labels_stated : {T : Type 0} (Is : Data → T → Type 0) (label_of : Data → List ℕ) (label_bytes : T → List ℕ)
     (same : (d : Data) (x : T) → Is d x → label_bytes x ≡ label_of d) (ds : Items) (xs : List T) → Each Is ds xs
     → map label_bytes xs ≡ labels_of label_of ds
 unfolding Each labels_of
-labels_told Is label_of label_bytes same no_items [] each = refl
-labels_told Is label_of label_bytes same no_items (x ∷ xs) each = absurd each
-labels_told Is label_of label_bytes same (item d ds) [] each = absurd each
-labels_told Is label_of label_bytes same (item d ds) (x ∷ xs) each = rw (same d x each.0, labels_told Is label_of label_bytes same ds xs each.1)
+labels_stated Is label_of label_bytes same no_items [] each = refl
+labels_stated Is label_of label_bytes same no_items (x ∷ xs) each = absurd each
+labels_stated Is label_of label_bytes same (item d ds) [] each = absurd each
+labels_stated Is label_of label_bytes same (item d ds) (x ∷ xs) each = rw (same d x each.0, labels_stated Is label_of label_bytes same ds xs each.1)
 
 -- no two labels are one
 abbrev pub AreApart : List (List ℕ) → Type 0
@@ -136,4 +136,4 @@ pub labels_apart : {T : Type 0} (Is : Data → T → Type 0) (faults : ℕ → L
     → (ds : Items) (xs : List T) → Each Is ds xs → each_faults faults label_of 0 [] ds ≡ [] → AllPairs (λ x y. label_bytes x ≢ label_bytes y) xs
 labels_apart Is faults label_of label_bytes same fresh ds xs each none =
     apart_from_map label_bytes xs
-    (rw (labels_told Is label_of label_bytes same ds xs each) (apart_behind Is faults label_of fresh 0 [] ds xs each none nothing_apart))
+    (rw (labels_stated Is label_of label_bytes same ds xs each) (apart_behind Is faults label_of fresh 0 [] ds xs each none nothing_apart))

@@ -6,7 +6,7 @@ use Rattle.j39_plan.specs.declared.reading.version.Version.TheVariants.{First, S
 use Rattle.j39_plan.specs.Since.{is_known, OlderKnow}
 
 -- what is known to an older version is known to a later one
-known_on : (since old new : Version) → is_known old new ≡ true → is_known since old ≡ true → is_known since new ≡ true
+pub known_on : (since old new : Version) → is_known old new ≡ true → is_known since old ≡ true → is_known since new ≡ true
 known_on First old new later knows = refl
 known_on Second First new later knows = cc
 known_on Second Second First later knows = cc

@@ -39,7 +39,7 @@ use Rattle.j39_plan.specs.Described.{DescribesPlan, Described, Reads}
 use Rattle.j39_plan.specs.OnePlan.{AreOneUnit, AreOneSelector, AreOneSignal, AreOneValueName, AreOneMeaning, AreOneText, AreOneGroup, AreOneErrorRate}
 use Rattle.j39_plan.specs.OnePlan.{AreOneBus, AreOneTiming, AreOnePace, AreOneFlowPlan, AreOneNeed, AreOneRequest, AreOnePlan, AreOneAnswer}
 
--- what elements tell is one, where what each tells is
+-- what elements report is one, where what each reports is
 one_each : {T : Type 0} (Is : Data → T → Type 0) (One : T → T → Type 0) (one : (d : Data) (x y : T) → Is d x → Is d y → One x y)
     → (ds : Items) (xs ys : List T) → Each Is ds xs → Each Is ds ys → AllZip One xs ys
 unfolding Each

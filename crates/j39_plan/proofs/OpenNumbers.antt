@@ -34,4 +34,4 @@ at_zero Third ms lacks = absurd (false≢true lacks)
 pub open_number : (version : Version) (ms : Members) (n : ℕ) (is_open : Bool) → n ≡ name_number (name_fields_of version ms)
     → is_open ≡ lacks_identity version ms
     → is_open ≡ true → n % 2 ^ 21 ≡ 0
-open_number version ms n is_open is lacks told = ap (λ k. k % 2 ^ 21) is ∙ at_zero version ms (sym lacks ∙ told)
+open_number version ms n is_open is lacks stated = ap (λ k. k % 2 ^ 21) is ∙ at_zero version ms (sym lacks ∙ stated)

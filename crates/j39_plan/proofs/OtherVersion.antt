@@ -13,7 +13,7 @@ use Rattle.j39_plan.specs.declared.reading.key.Key.TheVariants as key
 use Rattle.j39_plan.specs.declared.reading.place.Table.{Table}
 use Rattle.j39_plan.specs.Words.{word_of}
 use Rattle.j39_plan.specs.Schema.{PlanRule, table_of, tables_of, addresses_of}
-use Rattle.j39_toml.specs.Rules.{natural, standing, number_of, table_found, array_found}
+use Rattle.j39_toml.specs.Rules.{natural, standing, number_of, flag_of, table_found, array_found}
 use Rattle.j39_toml.specs.TableFaults.{has_only, key_faults}
 use Rattle.j39_plan.specs.PlanFaults.{version_rule}
 use Rattle.j39_plan.specs.Versions.{with_version}
@@ -67,6 +67,14 @@ table_other n r ms other = rw (get_other n (r.word r.key) ms other)
 pub tables_other : (n : ℕ) (r : PlanRule) (ms : Members) → IsOther r → tables_of r (with_version n ms) ≡ tables_of r ms
 unfolding tables_of array_found
 tables_other n r ms other = rw (get_other n (r.word r.key) ms other)
+
+pub number_other : (n : ℕ) (r : PlanRule) (ms : Members) → IsOther r → number_of r (with_version n ms) ≡ number_of r ms
+unfolding number_of
+number_other n r ms other = rw (standing_other n r ms other)
+
+pub flag_other : (n : ℕ) (r : PlanRule) (ms : Members) → IsOther r → flag_of r (with_version n ms) ≡ flag_of r ms
+unfolding flag_of
+flag_other n r ms other = rw (standing_other n r ms other)
 
 pub addresses_other : (n : ℕ) (r : PlanRule) (ms : Members) → IsOther r → addresses_of r (with_version n ms) ≡ addresses_of r ms
 unfolding addresses_of

@@ -22,7 +22,7 @@ use Rattle.j39_network.specs.declared.plan.meaning.Meaning.{Meaning}
 use Rattle.j39_plan.specs.TextTables.{IsTextOf, text_faults}
 use Rattle.j39_plan.specs.GroupTables.{text_tables_of}
 use Rattle.j39_plan.proofs.Labelled.{is_among_both}
-use Rattle.j39_plan.proofs.NoFaults.{Each-map, none_left, none_right, fresh_label, labels_apart, labels_told, apart_from, tables_count}
+use Rattle.j39_plan.proofs.NoFaults.{Each-map, none_left, none_right, fresh_label, labels_apart, labels_stated, apart_from, tables_count}
 
 abbrev pub IsRead : Version → Bool → Data → SignalParts → Type 0
 IsRead version records d s = IsSignalOf version d s × IsFit records s
@@ -76,9 +76,9 @@ abbrev pub signal_texts : List SignalParts → List (List ℕ)
 signal_texts = map (λ s. s.label.bytes)
 
 -- those of signals that were read are those of the file
-pub signal_texts_told : (version : Version) (records : Bool) (ds : Items) (xs : List SignalParts) → Each (IsRead version records) ds xs
+pub signal_texts_stated : (version : Version) (records : Bool) (ds : Items) (xs : List SignalParts) → Each (IsRead version records) ds xs
     → signal_texts xs ≡ labels_of label_in ds
-signal_texts_told version records = labels_told (IsRead version records) label_in (λ s. s.label.bytes) (λ d s read. read.0.has_label)
+signal_texts_stated version records = labels_stated (IsRead version records) label_in (λ s. s.label.bytes) (λ d s read. read.0.has_label)
 
 -- ---- texts
 

@@ -21,7 +21,7 @@ use Rattle.j39_plan.specs.GroupTables.{IsGroupOf, signal_rule}
 use Rattle.j39_plan.specs.declared.reading.key.Key.TheVariants as key
 use Rattle.j39_plan.specs.PlanFaults.{need_tables_of}
 use Rattle.j39_plan.specs.NeedTables.{IsNeedOf, signals_at, signals_of_groups}
-use Rattle.j39_plan.proofs.NoFaults.{All-from_Each, labels_told, tables_count}
+use Rattle.j39_plan.proofs.NoFaults.{All-from_Each, labels_stated, tables_count}
 use Rattle.j39_plan.proofs.ReadPlans.{group_texts, unit_texts, placed}
 
 -- the labels of the signals of each group
@@ -29,15 +29,15 @@ abbrev pub signals_texts : List GroupPlan → List (List (List ℕ))
 signals_texts = map (λ g. map (λ s. s.label.bytes) g.signals.items)
 
 -- those of groups that were read are those of the file
-pub signals_texts_told : (version : Version) (ds : Items) (gs : List GroupPlan) → Each (IsGroupOf version) ds gs → signals_texts gs ≡ signals_of_groups ds
+pub signals_texts_stated : (version : Version) (ds : Items) (gs : List GroupPlan) → Each (IsGroupOf version) ds gs → signals_texts gs ≡ signals_of_groups ds
 unfolding Each signals_of_groups
-signals_texts_told version no_items [] each = refl
-signals_texts_told version no_items (g ∷ gs) each = absurd each
-signals_texts_told version (item d ds) [] each = absurd each
-signals_texts_told version (item d ds) (g ∷ gs) each =
+signals_texts_stated version no_items [] each = refl
+signals_texts_stated version no_items (g ∷ gs) each = absurd each
+signals_texts_stated version (item d ds) [] each = absurd each
+signals_texts_stated version (item d ds) (g ∷ gs) each =
     rw (
-      labels_told (IsSignalOf version) label_in (λ s. s.label.bytes) (λ e s is. is.has_label) (tables_of signal_rule (inside d)) g.signals.items each.0.has_signals,
-      signals_texts_told version ds gs each.1,
+      labels_stated (IsSignalOf version) label_in (λ s. s.label.bytes) (λ e s is. is.has_label) (tables_of signal_rule (inside d)) g.signals.items each.0.has_signals,
+      signals_texts_stated version ds gs each.1,
     )
 
 pub needs_count : (version : Version) (ms : Members) → items_count (need_tables_of version ms) ≤ need_limit
@@ -46,19 +46,9 @@ needs_count First ms = omega arith
 needs_count Second ms = omega arith
 needs_count Third ms = omega arith
 
--- what a table tells is a need of one of these units for one of these groups
+-- what a table reports is a need of one of these units for one of these groups
 abbrev pub IsAmong : List GroupPlan → List UnitPlan → Data → NeedPlan → Type 0
 IsAmong gs us = IsNeedOf (group_texts gs) (signals_texts gs) (unit_texts us)
-
-pub need_units : (gs : List GroupPlan) (us : List UnitPlan) (ds : Items) (ns : List NeedPlan) → Each (IsAmong gs us) ds ns
-    → All (λ n. n.unit < length us) ns
-need_units gs us = All-from_Each (IsAmong gs us) (λ n. n.unit < length us)
-    (λ d n is. rw length-map at (placed (unit_texts us) _ n.unit is.has_unit))
-
-pub need_groups : (gs : List GroupPlan) (us : List UnitPlan) (ds : Items) (ns : List NeedPlan) → Each (IsAmong gs us) ds ns
-    → All (λ n. n.group < length gs) ns
-need_groups gs us = All-from_Each (IsAmong gs us) (λ n. n.group < length gs)
-    (λ d n is. rw length-map at (placed (group_texts gs) _ n.group is.has_group))
 
 pub need_senders : (gs : List GroupPlan) (us : List UnitPlan) (ds : Items) (ns : List NeedPlan) → Each (IsAmong gs us) ds ns
     → All (λ n. (u : ℕ) → n.from ≡ Some u → u < length us) ns

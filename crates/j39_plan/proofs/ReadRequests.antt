@@ -15,7 +15,7 @@ use Rattle.j39_plan.specs.declared.reading.key.Key.TheVariants as key
 use Rattle.j39_plan.specs.PlanFaults.{request_tables_of}
 use Rattle.j39_plan.specs.RequestTables.{IsRequestOf}
 use Rattle.j39_plan.proofs.NoFaults.{All-from_Each, tables_count}
-use Rattle.j39_plan.proofs.ReadPlans.{group_texts, unit_texts, placed, received}
+use Rattle.j39_plan.proofs.ReadPlans.{group_texts, unit_texts, received}
 
 pub requests_count : (version : Version) (ms : Members) → items_count (request_tables_of version ms) ≤ request_limit
 requests_count Fourth ms = tables_count key.Request request_limit ms
@@ -23,19 +23,9 @@ requests_count First ms = omega arith
 requests_count Second ms = omega arith
 requests_count Third ms = omega arith
 
--- what a table tells is a request of one of these units for one of these groups
+-- what a table reports is a request of one of these units for one of these groups
 abbrev pub IsAsked : List GroupPlan → List UnitPlan → Data → RequestPlan → Type 0
 IsAsked gs us = IsRequestOf (group_texts gs) (unit_texts us)
-
-pub request_groups : (gs : List GroupPlan) (us : List UnitPlan) (ds : Items) (rs : List RequestPlan) → Each (IsAsked gs us) ds rs
-    → All (λ r. r.group < length gs) rs
-request_groups gs us = All-from_Each (IsAsked gs us) (λ r. r.group < length gs)
-    (λ d r is. rw length-map at (placed (group_texts gs) _ r.group is.has_group))
-
-pub request_senders : (gs : List GroupPlan) (us : List UnitPlan) (ds : Items) (rs : List RequestPlan) → Each (IsAsked gs us) ds rs
-    → All (λ r. r.sender < length us) rs
-request_senders gs us = All-from_Each (IsAsked gs us) (λ r. r.sender < length us)
-    (λ d r is. rw length-map at (placed (unit_texts us) _ r.sender is.has_sender))
 
 pub request_receivers : (gs : List GroupPlan) (us : List UnitPlan) (ds : Items) (rs : List RequestPlan) → Each (IsAsked gs us) ds rs
     → All (λ r. (u : ℕ) → r.to ≡ One u → u < length us) rs

@@ -41,7 +41,7 @@ pub record DescribesTop (tree : Members) (t : TopTable) : Type 0 where
   pub has_needs : items_view t.later.needs.now ≡ need_tables tree
   pub has_requests : items_view t.later.requests.now ≡ request_tables tree
 
--- what the plan keeps free, how many strangers it tells of, whether its bus is live, what it knows of the bus, its units, groups, flows, needs and
+-- what the plan keeps free, how many strangers it has, whether its bus is live, what it knows of the bus, its units, groups, flows, needs and
 -- requests are those of the tree
 pub record DescribesPlan (tree : Members) (p : Plan) : Type 0 where
   pub has_keep_free : p.keep_free ≡ keep_free_of tree
@@ -54,7 +54,7 @@ pub record DescribesPlan (tree : Members) (p : Plan) : Type 0 where
   pub has_needs : Each (IsNeedOf (group_labels tree) (group_signals tree) (unit_labels tree)) (need_tables tree) p.needs.items
   pub has_requests : Each (IsRequestOf (group_labels tree) (unit_labels tree)) (request_tables tree) p.requests.items
 
--- the tree has no fault, and the plan is what it tells
+-- the tree has no fault, and the plan is what it reports
 abbrev pub Described : Members → Plan → Type 0
 Described tree p = (faults tree ≡ []) × DescribesPlan tree p
 

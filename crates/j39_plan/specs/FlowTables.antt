@@ -125,13 +125,13 @@ pause_of version period ms = if is_known Fourth version then given_number (pause
 abbrev pub on_request_of : Version → Members → Bool
 on_request_of version ms = if is_known Fourth version then flag_of on_request_rule ms else false
 
--- how often a flow is sent, where its table tells it
+-- how often a flow is sent, where its table says it
 pub record DescribesPace (version : Version) (ms : Members) (pace : Option Pace) : Type 0 where
   pub has_period : option_map (λ p. p.period) pace ≡ given_period version ms
   pub has_deadline : IfSome pace (λ p. p.deadline ≡ given_deadline version ms)
   pub has_jitter : IfSome pace (λ p. p.jitter ≡ jitter_of version (given_period version ms) ms)
 
--- the flow that a table tells, by the labels of the groups and of the units
+-- the flow that a table reports, by the labels of the groups and of the units
 pub record DescribesFlow (version : Version) (groups units : List (List ℕ)) (ms : Members) (f : FlowPlan) : Type 0 where
   pub has_group : option_and_then (place_of groups) (found_text group_rule ms) ≡ Some f.group
   pub has_sender : option_and_then (place_of units) (found_text from_rule ms) ≡ Some f.sender

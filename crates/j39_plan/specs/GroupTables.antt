@@ -95,7 +95,7 @@ has_records version ms = is_some (every_of version ms)
 abbrev pub text_tables_of : Version → Members → Items
 text_tables_of version ms = if is_known Third version then tables_of text_rule ms else no_items
 
--- the group that a table tells
+-- the group that a table reports
 pub record DescribesGroup (version : Version) (ms : Members) (g : GroupPlan) : Type 0 where
   pub has_label : g.label.bytes ≡ text_of label_rule ms
   pub has_pgn : g.pgn ≡ number_of pgn_rule ms

@@ -54,13 +54,13 @@ AreValueNames no_members [] = Unit {0}
 AreValueNames (member k d ms) (n ∷ ns) = (n.raw ≡ digits_value 10 k) × (as_str d ≡ Some n.name.bytes) × AreValueNames ms ns
 AreValueNames _ _ = ⊥
 
--- what the keys of a table tell of a signal, its names as the file has them
+-- what the keys of a table report of a signal, its names as the file has them
 pub record DescribesKeys (version : Version) (ms : Members) (m : MeaningKeys) : Type 0 where
   pub has_optional : m.optional ≡ optional_of version ms
   pub has_spn : m.spn ≡ spn_of version ms
   pub has_names : unwrap_or (option_map (λ t. table_view t.now) m.names) no_members ≡ name_table version ms
 
--- what a table tells of a signal
+-- what a table reports of a signal
 pub record DescribesMeaning (version : Version) (ms : Members) (m : Meaning) : Type 0 where
   pub has_spn : m.spn ≡ spn_of version ms
   pub has_values : AreValueNames (name_table version ms) m.values.items

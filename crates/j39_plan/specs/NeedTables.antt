@@ -59,7 +59,7 @@ signal_texts (Some group) = map (λ s. s.label.bytes) group.signals.items
 abbrev pub named_group : List (List ℕ) → Members → Option ℕ
 named_group groups ms = option_and_then (place_of groups) (found_text need_group_rule ms)
 
--- the need that a table tells, by the labels of the groups, of the signals of each, and of the units
+-- the need that a table reports, by the labels of the groups, of the signals of each, and of the units
 pub record DescribesNeed (groups : List (List ℕ)) (signals : List (List (List ℕ))) (units : List (List ℕ)) (ms : Members) (d : NeedPlan) : Type 0 where
   pub has_unit : option_and_then (place_of units) (found_text need_unit_rule ms) ≡ Some d.unit
   pub has_group : named_group groups ms ≡ Some d.group

@@ -105,7 +105,7 @@ choice_keys = (key.Choice, Fourth) ∷ (key.Never, Fourth) ∷ []
 abbrev pub OlderArrays : Type 0
 OlderArrays = (version : Version) → is_known Fourth version ≡ false → rules_of (known version array_rules) ≡ units_rule ∷ groups_rule ∷ flows_rule ∷ []
 
--- how many strangers a tree tells of: none in a version that doesn't know them
+-- how many strangers a tree reports of: none in a version that doesn't know them
 abbrev pub strangers_of : Version → Members → ℕ
 strangers_of version tree = if is_known Fourth version then number_of strangers_rule tree else 0
 

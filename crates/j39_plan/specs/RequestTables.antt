@@ -37,7 +37,7 @@ request_rules = asked_group_rule ∷ asker_rule ∷ asked_rule ∷ request_perio
 abbrev pub request_keys : List Key
 request_keys = key.Group ∷ key.From ∷ key.To ∷ key.Period ∷ key.With ∷ []
 
--- the request that a table tells, by the labels of the groups and of the units
+-- the request that a table reports, by the labels of the groups and of the units
 pub record DescribesRequest (groups units : List (List ℕ)) (ms : Members) (r : RequestPlan) : Type 0 where
   pub has_group : option_and_then (place_of groups) (found_text asked_group_rule ms) ≡ Some r.group
   pub has_sender : option_and_then (place_of units) (found_text asker_rule ms) ≡ Some r.sender

@@ -1,4 +1,4 @@
--- The table of a selector, which is known since the fourth version: bits of the payload, and the number by which groups of one PGN are told apart.
+-- The table of a selector, which is known since the fourth version: bits of the payload, and the number by which groups of one PGN are distinguished.
 use Rattle.std.specs.Prelude.{◌≡◌, ℕ, ◌-◌, ◌^◌, List, [], ◌∷◌, if◌then◌else◌, Option, Some, None}
 use Rattle.std.specs.Option.{option_map_or}
 use Rattle.toml.specs.Data.{Members}
@@ -25,7 +25,7 @@ selector_value_rule bits = number key.Value 0 (2 ^ bits - 1) None
 abbrev pub selector_rules : Members → List PlanRule
 selector_rules ms = byte_rule ∷ bit_rule ∷ selector_bits_rule ∷ selector_value_rule (number_of selector_bits_rule ms) ∷ []
 
--- the selector that a table tells
+-- the selector that a table reports
 pub record DescribesSelector (ms : Members) (w : Selector) : Type 0 where
   pub has_start : w.start ≡ start_of (number_of byte_rule ms) (number_of bit_rule ms)
   pub has_bits : w.bits ≡ number_of selector_bits_rule ms

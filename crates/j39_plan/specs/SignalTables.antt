@@ -116,7 +116,7 @@ pub record OlderSignalRules : Type 0 where
   pub second : SecondSignalRules
   pub third : ThirdSignalRules
 
--- ---- what a table tells
+-- ---- what a table reports
 
 -- what the values are divided by: 1 in a version that doesn't know it
 abbrev pub per_of : Version → Members → ℕ
@@ -126,7 +126,7 @@ per_of version ms = if is_known Third version then number_of (per_rule false) ms
 abbrev pub start_of : ℕ → ℕ → ℕ
 start_of byte bit = 8 * (byte - 1) + (bit - 1)
 
--- the signal that a table tells
+-- the signal that a table reports
 pub record DescribesSignal (version : Version) (ms : Members) (s : SignalParts) : Type 0 where
   pub has_label : s.label.bytes ≡ text_of label_rule ms
   pub has_start : s.start ≡ start_of (number_of byte_rule ms) (number_of bit_rule ms)

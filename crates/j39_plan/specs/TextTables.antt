@@ -23,7 +23,7 @@ bytes_rule = optional key.Bytes 1 message_bytes
 abbrev pub text_rules : List PlanRule
 text_rules = label_rule ∷ byte_rule ∷ bytes_rule ∷ []
 
--- the text that a table tells
+-- the text that a table reports
 pub record DescribesText (ms : Members) (t : TextPlan) : Type 0 where
   pub has_label : t.label.bytes ≡ text_of label_rule ms
   pub has_byte : t.byte ≡ number_of byte_rule ms

@@ -28,7 +28,7 @@ error_window_rule = number key.Every 1 65535 None
 abbrev pub error_rules : List PlanRule
 error_rules = count_rule ∷ error_window_rule ∷ []
 
--- how many frames are damaged at most, as a table tells it
+-- how many frames are damaged at most, as a table reports it
 pub record DescribesErrorRate (ms : Members) (rate : ErrorRate) : Type 0 where
   pub has_count : rate.count ≡ number_of count_rule ms
   pub has_every : rate.every ≡ number_of error_window_rule ms
@@ -115,7 +115,7 @@ drift_of version ms = if is_known Fourth version then number_of drift_rule ms el
 abbrev pub errors_table : Version → Members → Option Members
 errors_table version ms = if is_known Fourth version then table_of errors_rule ms else None
 
--- what a table tells of the bus
+-- what a table reports of the bus
 pub record DescribesBus (version : Version) (ms : Members) (timing : Timing) : Type 0 where
   pub has_bitrate : timing.bitrate ≡ bitrate_of (number_of (bitrate_rule version) ms)
   pub has_unplanned : timing.unplanned ≡ number_of unplanned_rule ms

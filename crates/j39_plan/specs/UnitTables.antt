@@ -63,7 +63,7 @@ abbrev pub name_rules : Version → List PlanRule
 name_rules version = identity_rule version ∷ manufacturer_rule ∷ ecu_rule ∷ function_instance_rule ∷ function_rule
     ∷ system_rule ∷ system_instance_rule ∷ industry_rule ∷ arbitrary_rule ∷ []
 
--- the fields that a table tells; the reserved bit of a planned NAME is 0
+-- the fields that a table reports; the reserved bit of a planned NAME is 0
 unfoldable pub name_fields_of : Version → Members → NameFields
 name_fields_of version ms = record {
   identity = number_of (identity_rule version) ms;
@@ -136,7 +136,7 @@ queue_of version ms = if is_known Fourth version then queue_in (text_of queue_ru
 abbrev pub claims_of : Version → Members → Bool
 claims_of version ms = if is_known Fourth version then flag_of claims_rule ms else true
 
--- the NAME that the inner table tells
+-- the NAME that the inner table reports
 abbrev pub name_of : Version → Members → ℕ
 name_of version ms = name_number (name_fields_of version (unwrap_or (table_of name_rule ms) no_members))
 
@@ -144,7 +144,7 @@ name_of version ms = name_number (name_fields_of version (unwrap_or (table_of na
 abbrev pub any_identity_of : Version → Members → Bool
 any_identity_of version ms = option_map_or (lacks_identity version) (table_of name_rule ms) false
 
--- the unit that a table tells
+-- the unit that a table reports
 pub record DescribesUnit (version : Version) (ms : Members) (u : UnitPlan) : Type 0 where
   pub has_label : u.label.bytes ≡ text_of unit_label_rule ms
   pub has_address : u.address ≡ number_of address_rule ms

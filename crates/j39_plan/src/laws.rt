@@ -12,7 +12,7 @@ ghost use Rattle.j39_plan.specs.Versions.{FourthReadsAsThird, ThirdReadsAsSecond
 
 /// But for want of memory, the definition allows one answer for a file: it describes one plan, or it has one first
 /// fault, or it is no TOML text, and never two of these. Two plans are one where they keep the same addresses free,
-/// tell of as many strangers, are both live or neither is, and have the same units, groups, signals, flows, needs and
+/// report of as many strangers, are both live or neither is, and have the same units, groups, signals, flows, needs and
 /// requests, place by place, labels by their bytes.
 pub fn a_file_describes_one_plan()
     ensures { (bytes : List ℕ) → HasOneAnswer bytes }
@@ -37,7 +37,7 @@ pub fn older_versions_know_what_they_knew()
 
 /// A plan of version 4 in which nothing stands that this version alone knows is read as the same plan of version 3, and
 /// one of version 3 in which nothing stands that the second doesn't know as the same plan of version 2: one plan is
-/// read, or one fault is told.
+/// read, or one fault is reported.
 pub fn plans_without_later_keys()
     ensures fourth { FourthReadsAsThird }
     ensures third { ThirdReadsAsSecond }

@@ -12,6 +12,7 @@ mod flows;
 mod groups;
 mod heads;
 mod key;
+mod keys;
 mod labels;
 mod later_arrays;
 mod meanings;

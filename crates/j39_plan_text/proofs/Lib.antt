@@ -1,4 +1,3 @@
-pub mod FindingLists
 pub mod LiveIdentifiers
 pub mod LoadReports
 pub mod OnePlans

@@ -12,22 +12,22 @@ use Rattle.j39_load.specs.AskedLoads.{asked_in}
 use Rattle.j39_load.specs.LoadAnswers.{IsLoadAnswer}
 use Rattle.j39_load.specs.LoadFindings.{AreLoadFindings, all_findings}
 use Rattle.j39_plan_text.specs.CheckText.{IsReport, findings_text}
-use Rattle.j39_plan_text.specs.LoadText.{IsLoadReport, WritesLoads, load_verdict, shows_times, untold_text}
+use Rattle.j39_plan_text.specs.LoadText.{IsLoadReport, WritesLoads, load_verdict, shows_times, unshown_text}
 use Rattle.j39_plan_text.specs.LoadLines.{loads_text}
 use Rattle.j39_stream.specs.declared.verdict.Verdict.{Verdict}
 use Rattle.j39_stream.specs.declared.verdict.Verdict.TheVariants.{Findings}
 
-module _ (plan : Plan) (timing : Timing) (is : timing_of plan ≡ Some timing) (answer : LoadAnswer) (told : IsLoadAnswer plan timing answer)
+module _ (plan : Plan) (timing : Timing) (is : timing_of plan ≡ Some timing) (answer : LoadAnswer) (stated : IsLoadAnswer plan timing answer)
     (findings : List Finding) (listed : findings ≡ found plan) where
   -- some finding hides the times
   none_wrong : shows_times findings ≡ false → ¬ ((found plan ≡ []) × (answer.findings.items ≡ []))
   none_wrong hidden none = true≢false (sym (ap shows_times (listed ∙ none.0)) ∙ hidden)
 
-  -- what is told of the plan's load is told of a plan with its timing
-  of_plan : (text : List ℕ) (verdict : Verdict) → WritesLoads plan timing told.stays answer.delays.items text verdict
+  -- what is reported of the plan's load is reported of a plan with its timing
+  of_plan : (text : List ℕ) (verdict : Verdict) → WritesLoads plan timing stated.stays answer.delays.items text verdict
       → IsLoadReport plan (timing_of plan) text verdict
   of_plan text verdict loads =
-      subst (λ (t : Option Timing). IsLoadReport plan t text verdict) (sym is) (told.stays, answer.delays.items, told.asks, loads)
+      subst (λ (t : Option Timing). IsLoadReport plan t text verdict) (sym is) (stated.stays, answer.delays.items, stated.asks, loads)
 
   -- it is what check writes
   pub as_checked : (text : List ℕ) → shows_times findings ≡ false → text ≡ findings_text plan findings answer.findings.items
@@ -35,28 +35,28 @@ module _ (plan : Plan) (timing : Timing) (is : timing_of plan ≡ Some timing) (
   as_checked text hidden written =
       let others = answer.findings.items in
       let late : AreLoadFindings plan (timing_of plan) others =
-      subst (λ (t : Option Timing). AreLoadFindings plan t others) (sym is) (told.stays, answer.delays.items, told.asks, told.found) in
+      subst (λ (t : Option Timing). AreLoadFindings plan t others) (sym is) (stated.stays, answer.delays.items, stated.asks, stated.found) in
       let shown : text ≡ findings_text plan (found plan) others = written ∙ ap (λ (fs : List Finding). findings_text plan fs others) listed in
       let report : IsReport plan text Findings = (others, late, none_wrong hidden, shown) in
       let here : shows_times (found plan) ≡ false = ap shows_times (sym listed) ∙ hidden in
-      let loads : WritesLoads plan timing told.stays answer.delays.items text Findings = rw here report in
+      let loads : WritesLoads plan timing stated.stays answer.delays.items text Findings = rw here report in
       of_plan text Findings loads
 
-  -- the loads, and the findings of which they don't tell
-  pub loads_told : (text : List ℕ) (verdict : Verdict) → shows_times findings ≡ true
-      → text ≡ loads_text plan timing (asked_in answer.loads) answer.delays.items ++ untold_text plan findings answer.findings.items
+  -- the loads, and the findings of which they don't report
+  pub loads_reported : (text : List ℕ) (verdict : Verdict) → shows_times findings ≡ true
+      → text ≡ loads_text plan timing (asked_in answer.loads) answer.delays.items ++ unshown_text plan findings answer.findings.items
       → verdict ≡ load_verdict findings answer.findings.items → IsLoadReport plan (timing_of plan) text verdict
-  loads_told text verdict shown written verdict_is =
+  loads_reported text verdict shown written verdict_is =
       let delays = answer.delays.items in
       let others = answer.findings.items in
-      let asked = asked_of timing plan told.stays in
+      let asked = asked_of timing plan stated.stays in
       let all : List LoadFinding = all_findings plan timing (total_load timing asked) delays in
       let here : shows_times (found plan) ≡ true = ap shows_times (sym listed) ∙ shown in
-      let lines : text ≡ loads_text plan timing asked delays ++ untold_text plan (found plan) all =
-      written ∙ ap (λ (a : Asked). loads_text plan timing a delays ++ untold_text plan findings others) told.asked
-      ∙ ap (λ (fs : List Finding). loads_text plan timing asked delays ++ untold_text plan fs others) listed
-      ∙ ap (λ (os : List LoadFinding). loads_text plan timing asked delays ++ untold_text plan (found plan) os) told.found in
+      let lines : text ≡ loads_text plan timing asked delays ++ unshown_text plan (found plan) all =
+      written ∙ ap (λ (a : Asked). loads_text plan timing a delays ++ unshown_text plan findings others) stated.asked
+      ∙ ap (λ (fs : List Finding). loads_text plan timing asked delays ++ unshown_text plan fs others) listed
+      ∙ ap (λ (os : List LoadFinding). loads_text plan timing asked delays ++ unshown_text plan (found plan) os) stated.found in
       let ends : verdict ≡ load_verdict (found plan) all =
-      verdict_is ∙ ap (λ (fs : List Finding). load_verdict fs others) listed ∙ ap (load_verdict (found plan)) told.found in
-      let loads : WritesLoads plan timing told.stays delays text verdict = rw here (lines, ends) in
+      verdict_is ∙ ap (λ (fs : List Finding). load_verdict fs others) listed ∙ ap (load_verdict (found plan)) stated.found in
+      let loads : WritesLoads plan timing stated.stays delays text verdict = rw here (lines, ends) in
       of_plan text verdict loads

@@ -16,15 +16,15 @@ use Rattle.j39_plan_text.specs.ChoiceLines.{choice_lines, choices_lines, item_li
 use Rattle.j39_plan_text.specs.ShowText.{show_text}
 use Rattle.j39_plan_text.specs.ShownLines.{ShowsOnePlan, line_text}
 
-none_of_each : {X Y : Type 0} (tell : ℕ → X → List Y) (place : ℕ) (xs : List X) → ((p : ℕ) (x : X) → tell p x ≡ []) → lines_of_each tell place xs ≡ []
+none_of_each : {X Y : Type 0} (report : ℕ → X → List Y) (place : ℕ) (xs : List X) → ((p : ℕ) (x : X) → report p x ≡ []) → lines_of_each report place xs ≡ []
 unfolding lines_of_each
-none_of_each tell place [] none = refl
-none_of_each tell place (x ∷ xs) none = rw (none place x) (none_of_each tell (place + 1) xs none)
+none_of_each report place [] none = refl
+none_of_each report place (x ∷ xs) none = rw (none place x) (none_of_each report (place + 1) xs none)
 
-of_nothing : {X Y : Type 0} (tell : ℕ → X → List Y) (place : ℕ) (xs : List X) → xs ≡ [] → lines_of_each tell place xs ≡ []
+of_nothing : {X Y : Type 0} (report : ℕ → X → List Y) (place : ℕ) (xs : List X) → xs ≡ [] → lines_of_each report place xs ≡ []
 unfolding lines_of_each
-of_nothing tell place [] none = refl
-of_nothing tell place (x ∷ xs) none = cc
+of_nothing report place [] none = refl
+of_nothing report place (x ∷ xs) none = cc
 
 no_items : (choices : List Choice) → choices ≡ [] → (item : ListedItem) (lists : List (Vec Alternative Global)) → items_lines choices item lists ≡ []
 unfolding items_lines item_lines list_lines

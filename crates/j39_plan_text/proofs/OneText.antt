@@ -20,7 +20,7 @@ use Rattle.j39_load.specs.declared.waits.delay.Delay.{Delay}
 use Rattle.j39_load.specs.declared.findings.load_finding.LoadFinding.{LoadFinding}
 use Rattle.j39_load.specs.LoadFindings.{AreLoadFindings, all_findings}
 use Rattle.j39_load.specs.Asked.{Asked, asked_of, total_load}
-use Rattle.j39_load.proofs.OneLoad.{one_asked, told_once}
+use Rattle.j39_load.proofs.OneLoad.{one_asked, stated_once}
 use Rattle.j39_plan_text.specs.AddressesText.{HasOneAddressesReport}
 use Rattle.j39_plan_text.proofs.StaysTexts.{StayAlike, stays_text_same}
 use Rattle.j39_plan_text.specs.PlanText.{Describes, IsRefusalLine, fault_line}
@@ -28,7 +28,7 @@ use Rattle.j39_stream.specs.declared.verdict.Verdict.TheVariants.{Done, Findings
 use Rattle.j39_plan_text.specs.CheckText.{HasOneRefusal, HasOneReport, IsNotRefused, IsReport, findings_text}
 use Rattle.j39_plan_text.specs.LoadLines.{loads_text}
 use Rattle.j39_plan_text.specs.ShownLines.{HasOneShowReport}
-use Rattle.j39_plan_text.specs.LoadText.{HasOneLoadReport, IsLoadReport, WritesLoads, load_verdict, shows_times, untold_text}
+use Rattle.j39_plan_text.specs.LoadText.{HasOneLoadReport, IsLoadReport, WritesLoads, load_verdict, shows_times, unshown_text}
 use Rattle.j39_stream.specs.declared.verdict.Verdict.{Verdict}
 
 -- what is wrong with what a plan asks of its bus is one
@@ -79,38 +79,38 @@ one_refusal bytes text other is another = refused_once bytes is.0 another.0 text
 
 -- a tree without faults isn't refused
 none_refused : {X : Type 0} (faults_of : X → List PlanFault) (s t : X) (f : PlanFault) → s ≡ t → faults_of s ≡ [] → first (faults_of t) ≡ Some f → ⊥
-none_refused faults_of s t f same clean told =
+none_refused faults_of s t f same clean stated =
     let here : faults_of t ≡ [] = ap faults_of (sym same) ∙ clean in
-    let none : first [] ≡ Some f = subst (λ (fs : List PlanFault). first fs ≡ Some f) here told in
+    let none : first [] ≡ Some f = subst (λ (fs : List PlanFault). first fs ≡ Some f) here stated in
     cc none
 
 described_only : (bytes : List ℕ) (line : ProductLine) (e : PlanError) (text : List ℕ)
     → Describes bytes line → ReadsProductLine (Err e) (tree_of bytes) → IsRefusalLine e text → ⊥
-described_only bytes told errors.Text text described read line = cc (described.1, read)
-described_only bytes told (errors.Fault f) text described read line =
+described_only bytes stated errors.Text text described read line = cc (described.1, read)
+described_only bytes stated (errors.Fault f) text described read line =
     let same : described.0 ≡ read.0 = same_Some _ _ (sym described.1 ∙ read.1) in
     none_refused product_line_faults described.0 read.0 f same described.2.0 read.2
-described_only bytes told errors.Memory text described read line = line
+described_only bytes stated errors.Memory text described read line = line
 
 pub not_refused : (bytes : List ℕ) → IsNotRefused bytes
-not_refused bytes told text described refused = described_only bytes told refused.0 text described refused.1 refused.2
+not_refused bytes stated text described refused = described_only bytes stated refused.0 text described refused.1 refused.2
 
 -- ---- addresses
 
--- each unit, as the two tell of it
-told_same : (stays other : UnitPlan → Bool) (units : List UnitPlan)
+-- each unit, as the two report of it
+reported_same : (stays other : UnitPlan → Bool) (units : List UnitPlan)
     → ((u : ℕ) (unit : UnitPlan) → slice_get units u ≡ Some unit → stays unit ≡ other unit) → AllZip (StayAlike stays other) units units
-told_same stays other [] same = tt
-told_same stays other (unit ∷ units) same = (
+reported_same stays other [] same = tt
+reported_same stays other (unit ∷ units) same = (
   record { label = refl; address = refl; standing = sym (same zero unit refl) },
-  told_same stays other units (λ u. same (suc u)),
+  reported_same stays other units (λ u. same (suc u)),
 )
 
 pub one_addresses_report : (plan : Plan) → HasOneAddressesReport plan
 one_addresses_report plan text other Done Done is another =
     let units = plan.units.items in
     let same = stays_text_same is.2 another.2 units units
-    (told_same is.2 another.2 units (λ u unit at. told_once _ _ _ (is.3 u unit at) (another.3 u unit at))) in
+    (reported_same is.2 another.2 units (λ u unit at. stated_once _ _ _ (is.3 u unit at) (another.3 u unit at))) in
     (is.4 ∙ sym same ∙ sym another.4, refl)
 one_addresses_report plan text other Done Findings is another = absurd (is.0 another.0.0 another.0.1 another.0.2)
 one_addresses_report plan text other Findings Done is another = absurd (another.0 is.0.0 is.0.1 is.0.2)
@@ -130,7 +130,7 @@ module _ (plan : Plan) (timing : Timing) (stays other : UnitPlan → Bool) (dela
   findings_by asked ds = all_findings plan timing (total_load timing asked) ds
 
   abbrev both : Asked → List (Option Delay) → List ℕ
-  both asked ds = loads_text plan timing asked ds ++ untold_text plan (found plan) (findings_by asked ds)
+  both asked ds = loads_text plan timing asked ds ++ unshown_text plan (found plan) (findings_by asked ds)
 
   abbrev loads_and_rest : (UnitPlan → Bool) → List (Option Delay) → List ℕ
   loads_and_rest who ds = both (asked_of timing plan who) ds
@@ -138,8 +138,8 @@ module _ (plan : Plan) (timing : Timing) (stays other : UnitPlan → Bool) (dela
   abbrev ends_by : (UnitPlan → Bool) → List (Option Delay) → Verdict
   ends_by who ds = load_verdict (found plan) (findings_by (asked_of timing plan who) ds)
 
-  one_told : WritesLoads plan timing stays delays text verdict → WritesLoads plan timing other others more another → (text ≡ more) × (verdict ≡ another)
-  one_told is are = elim (cases_Bool (shows_times (found plan))) [
+  one_stated : WritesLoads plan timing stays delays text verdict → WritesLoads plan timing other others more another → (text ≡ more) × (verdict ≡ another)
+  one_stated is are = elim (cases_Bool (shows_times (found plan))) [
     | inl shown ↦
         let first : (text ≡ loads_and_rest stays delays) × (verdict ≡ ends_by stays delays) = rw shown at is in
         let second : (more ≡ loads_and_rest other others) × (another ≡ ends_by other others) = rw shown at are in (
@@ -158,7 +158,7 @@ one_load_answer : (plan : Plan) (timing : Option Timing) (text other : List ℕ)
 one_load_answer plan None text other verdict another is are = (is.0 ∙ sym are.0, is.1 ∙ sym are.1)
 one_load_answer plan (Some timing) text other verdict another is are =
     let same = one_asked plan timing is.0 are.0 is.1 are.1 is.2 are.2 in
-    one_told plan timing is.0 are.0 is.1 are.1 same.0 same.1 text other verdict another is.3 are.3
+    one_stated plan timing is.0 are.0 is.1 are.1 same.0 same.1 text other verdict another is.3 are.3
 
 pub one_load_report : (plan : Plan) → HasOneLoadReport plan
 one_load_report plan text other verdict another = one_load_answer plan (timing_of plan) text other verdict another

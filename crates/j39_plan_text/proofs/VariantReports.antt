@@ -12,4 +12,4 @@ pub refused_so : {E : Type 0} (r : Result (List ℕ × Verdict) E) (words : List
     → IfOk r (λ report. IsVariantReport words line report.0 report.1)
 refused_so r words line text ends is =
     IfOk-weaker r (λ report. (report.0 ≡ text) × (report.1 ≡ Refused)) (λ report. IsVariantReport words line report.0 report.1)
-    (λ report told. rw (told.0, told.1) is) ends
+    (λ report stated. rw (stated.0, stated.1) is) ends

@@ -25,10 +25,10 @@ use Rattle.j39_plan_text.specs.AddressesText.{IsAddressesReport, StayingHolds}
 use Rattle.j39_plan_text.specs.Certified.{IsCertified}
 use Rattle.j39_plan_text.specs.CheckText.{IsReport, findings_text}
 use Rattle.j39_plan_text.specs.LoadLines.{loads_text}
-use Rattle.j39_plan_text.specs.LoadText.{IsLoadReport, WritesLoads, load_verdict, shows_times, untold_text}
+use Rattle.j39_plan_text.specs.LoadText.{IsLoadReport, WritesLoads, load_verdict, shows_times, unshown_text}
 use Rattle.j39_plan_text.specs.VehicleReports.{AreReportedAlike}
 use Rattle.j39_plan_text.proofs.StaysTexts.{StayAlike, stays_text_same}
-use Rattle.j39_plan_text.proofs.VehicleTexts.{findings_text_same, loads_text_same, ok_line_same, untold_text_same}
+use Rattle.j39_plan_text.proofs.VehicleTexts.{findings_text_same, loads_text_same, ok_line_same, unshown_text_same}
 
 -- ---- a vehicle of a vehicle is one of its type
 
@@ -71,16 +71,16 @@ vehicle_of_vehicle plan vehicle other first second = record {
 
 -- ---- reports
 
--- of each box the same is told as of its unit
-told_alike_each : (stays told : UnitPlan → Bool) (units boxes : List UnitPlan) → AllZip IsBoxOf units boxes
-    → ((u : ℕ) (unit box : UnitPlan) → slice_get units u ≡ Some unit → slice_get boxes u ≡ Some box → told box ≡ stays unit)
-    → AllZip (StayAlike stays told) units boxes
-told_alike_each stays told [] [] all same = tt
-told_alike_each stays told [] (box ∷ boxes) all same = absurd all
-told_alike_each stays told (unit ∷ units) [] all same = absurd all
-told_alike_each stays told (unit ∷ units) (box ∷ boxes) all same = (
+-- of each box the same is reported as of its unit
+reported_alike_each : (stays stated : UnitPlan → Bool) (units boxes : List UnitPlan) → AllZip IsBoxOf units boxes
+    → ((u : ℕ) (unit box : UnitPlan) → slice_get units u ≡ Some unit → slice_get boxes u ≡ Some box → stated box ≡ stays unit)
+    → AllZip (StayAlike stays stated) units boxes
+reported_alike_each stays stated [] [] all same = tt
+reported_alike_each stays stated [] (box ∷ boxes) all same = absurd all
+reported_alike_each stays stated (unit ∷ units) [] all same = absurd all
+reported_alike_each stays stated (unit ∷ units) (box ∷ boxes) all same = (
   record { label = all.0.label; address = all.0.address; standing = same zero unit box refl refl },
-  told_alike_each stays told units boxes all.1 (λ u. same (suc u)),
+  reported_alike_each stays stated units boxes all.1 (λ u. same (suc u)),
 )
 
 module _ (plan vehicle : Plan) (is : IsVehicleOf plan vehicle) (apart : AreDistinctUnits plan) where
@@ -125,78 +125,78 @@ module _ (plan vehicle : Plan) (is : IsVehicleOf plan vehicle) (apart : AreDisti
   check_alike text Unreadable report = absurd report
 
   addresses_alike : StayingHolds vehicle → (text : List ℕ) (verdict : Verdict) → IsAddressesReport plan text verdict → IsAddressesReport vehicle text verdict
-  addresses_alike holds text Done (none, held, stays, tells, lines) =
-      let there = (loads_alike plan vehicle is apart).standing stays tells in (
+  addresses_alike holds text Done (none, held, stays, states, lines) =
+      let there = (loads_alike plan vehicle is apart).standing stays states in (
         λ finding of there_holds. none finding of (holds_here finding there_holds),
         holds,
-        there.told,
-        there.tells,
-        lines ∙ sym (stays_text_same stays there.told plan.units.items vehicle.units.items
-            (told_alike_each stays there.told plan.units.items vehicle.units.items is.boxes there.same)),
+        there.stated,
+        there.states,
+        lines ∙ sym (stays_text_same stays there.stated plan.units.items vehicle.units.items
+            (reported_alike_each stays there.stated plan.units.items vehicle.units.items is.boxes there.same)),
       )
   addresses_alike holds text Findings ((finding, of, there), report) = ((finding, of, holds_there finding there), check_alike text Findings report)
   addresses_alike holds text Refused report = absurd report
   addresses_alike holds text Unreadable report = absurd report
 
-  module _ (timing : Timing) (stays told : UnitPlan → Bool) (delays : List (Option Delay)) (same : asked_of timing plan stays ≡ asked_of timing vehicle told)
+  module _ (timing : Timing) (stays stated : UnitPlan → Bool) (delays : List (Option Delay)) (same : asked_of timing plan stays ≡ asked_of timing vehicle stated)
       (text : List ℕ) (verdict : Verdict) where
     abbrev others_by : Plan → Asked → List LoadFinding
     others_by p asked = all_findings p timing (total_load timing asked) delays
 
-    others_same : others_by plan (asked_of timing plan stays) ≡ others_by vehicle (asked_of timing vehicle told)
+    others_same : others_by plan (asked_of timing plan stays) ≡ others_by vehicle (asked_of timing vehicle stated)
     others_same =
         same_findings plan vehicle is apart timing (total_load timing (asked_of timing plan stays)) delays
         ∙ ap (others_by vehicle) same
 
     text_same : (loads_text plan timing (asked_of timing plan stays) delays
-        ++ untold_text plan (found plan) (others_by plan (asked_of timing plan stays)))
-        ≡ (loads_text vehicle timing (asked_of timing vehicle told) delays
-        ++ untold_text vehicle (found vehicle) (others_by vehicle (asked_of timing vehicle told)))
+        ++ unshown_text plan (found plan) (others_by plan (asked_of timing plan stays)))
+        ≡ (loads_text vehicle timing (asked_of timing vehicle stated) delays
+        ++ unshown_text vehicle (found vehicle) (others_by vehicle (asked_of timing vehicle stated)))
     text_same =
         let lines = sym (loads_text_same plan vehicle is timing (asked_of timing plan stays) delays)
         ∙ ap (λ (asked : Asked). loads_text vehicle timing asked delays) same in
-        let behind = sym (untold_text_same plan vehicle is (found_alike plan vehicle is apart).runs (found plan) (others_by plan (asked_of timing plan stays)))
-        ∙ ap (λ (all : List Finding). untold_text vehicle all (others_by plan (asked_of timing plan stays))) (sym found_is)
-        ∙ ap (untold_text vehicle (found vehicle)) others_same in
-        ap (λ first. first ++ untold_text plan (found plan) (others_by plan (asked_of timing plan stays))) lines
-        ∙ ap (λ second. loads_text vehicle timing (asked_of timing vehicle told) delays ++ second) behind
+        let behind = sym (unshown_text_same plan vehicle is (found_alike plan vehicle is apart).runs (found plan) (others_by plan (asked_of timing plan stays)))
+        ∙ ap (λ (all : List Finding). unshown_text vehicle all (others_by plan (asked_of timing plan stays))) (sym found_is)
+        ∙ ap (unshown_text vehicle (found vehicle)) others_same in
+        ap (λ first. first ++ unshown_text plan (found plan) (others_by plan (asked_of timing plan stays))) lines
+        ∙ ap (λ second. loads_text vehicle timing (asked_of timing vehicle stated) delays ++ second) behind
 
     verdict_same : load_verdict (found plan) (others_by plan (asked_of timing plan stays))
-        ≡ load_verdict (found vehicle) (others_by vehicle (asked_of timing vehicle told))
+        ≡ load_verdict (found vehicle) (others_by vehicle (asked_of timing vehicle stated))
     verdict_same =
         ap (λ (all : List Finding). load_verdict all (others_by plan (asked_of timing plan stays))) (sym found_is)
         ∙ ap (load_verdict (found vehicle)) others_same
 
-    -- what load tells of the vehicle, where times are told, and where they aren't
-    abbrev Told : Bool → Type 0
-    Told shown = MatchBool shown
-        ((text ≡ loads_text vehicle timing (asked_of timing vehicle told) delays
-        ++ untold_text vehicle (found vehicle) (others_by vehicle (asked_of timing vehicle told)))
-        × (verdict ≡ load_verdict (found vehicle) (others_by vehicle (asked_of timing vehicle told))))
+    -- what load reports of the vehicle, where times are reported, and where they aren't
+    abbrev Stated : Bool → Type 0
+    Stated shown = MatchBool shown
+        ((text ≡ loads_text vehicle timing (asked_of timing vehicle stated) delays
+        ++ unshown_text vehicle (found vehicle) (others_by vehicle (asked_of timing vehicle stated)))
+        × (verdict ≡ load_verdict (found vehicle) (others_by vehicle (asked_of timing vehicle stated))))
         (IsReport vehicle text verdict)
 
-    told_alike : WritesLoads plan timing stays delays text verdict → WritesLoads vehicle timing told delays text verdict
-    told_alike tells = subst (λ (all : List Finding). Told (shows_times all)) (sym found_is) (over (shows_times (found plan)) tells)
+    written_alike : WritesLoads plan timing stays delays text verdict → WritesLoads vehicle timing stated delays text verdict
+    written_alike states = subst (λ (all : List Finding). Stated (shows_times all)) (sym found_is) (over (shows_times (found plan)) states)
       where
         over : (shown : Bool)
             → MatchBool shown
-            ((text ≡ loads_text plan timing (asked_of timing plan stays) delays ++ untold_text plan (found plan) (others_by plan (asked_of timing plan stays)))
+            ((text ≡ loads_text plan timing (asked_of timing plan stays) delays ++ unshown_text plan (found plan) (others_by plan (asked_of timing plan stays)))
             × (verdict ≡ load_verdict (found plan) (others_by plan (asked_of timing plan stays))))
             (IsReport plan text verdict)
-            → Told shown
+            → Stated shown
         over true (lines, ends) = (lines ∙ text_same, ends ∙ verdict_same)
         over false report = check_alike text verdict report
 
   load_of_timing : (timing : Option Timing) (text : List ℕ) (verdict : Verdict) → IsLoadReport plan timing text verdict
       → IsLoadReport vehicle timing text verdict
   load_of_timing None text verdict report = report
-  load_of_timing (Some timing) text verdict (stays, delays, asks, tells) =
+  load_of_timing (Some timing) text verdict (stays, delays, asks, states) =
       let there = (loads_alike plan vehicle is apart).standing stays asks.standing in
-      let same = (loads_alike plan vehicle is apart).asked timing stays there.told asks.standing there.tells in (
-        there.told,
+      let same = (loads_alike plan vehicle is apart).asked timing stays there.stated asks.standing there.states in (
+        there.stated,
         delays,
-        asks_alike plan vehicle is apart timing stays delays asks there.told there.tells,
-        told_alike timing stays there.told delays same text verdict tells,
+        asks_alike plan vehicle is apart timing stays delays asks there.stated there.states,
+        written_alike timing stays there.stated delays same text verdict states,
       )
 
   pub reported_alike : StayingHolds vehicle → AreReportedAlike plan vehicle

@@ -32,12 +32,11 @@ use Rattle.j39_schedule.specs.StepLines.{step_line, step_lines, step_text, step_
 use Rattle.j39_text.specs.Labels.{group_label, group_pgn, group_selector_end, group_text, need_signal_text, need_text, signal_bits, signal_end, signal_label}
 use Rattle.j39_text.specs.Labels.{signals_of, text_end, text_label, texts_of, unit_address, unit_label, units_text}
 use Rattle.j39_plan_text.specs.CheckText.{findings_text, ok_line}
-use Rattle.j39_plan_text.specs.FindingLines.{finding_line, finding_lines, finding_part, finding_report, finding_text, run_lines, signal_text, address_of_unit_text}
-use Rattle.j39_plan_text.specs.FindingLines.{address_of_units_text, group_number_text, signal_number_text, signals_text}
+use Rattle.j39_plan_text.specs.FindingLines.{finding_line, finding_lines, finding_part, finding_report, finding_text, run_lines, signals_text}
 use Rattle.j39_plan_text.specs.LoadLines.{age_flow_text, flow_line, flow_text, known_age_text, loads_text, need_line, receiver_text}
-use Rattle.j39_plan_text.specs.LoadText.{untold_lines, untold_text}
+use Rattle.j39_plan_text.specs.LoadText.{unshown_lines, unshown_text}
 
--- the lines of each are those of two ways of telling that tell the same
+-- the lines of each are those of two ways of reporting that report the same
 each_same : {X Y : Type 0} (f g : ℕ → X → List Y) → ((place : ℕ) (x : X) → f place x ≡ g place x) → (place : ℕ) (xs : List X)
     → lines_of_each f place xs ≡ lines_of_each g place xs
 unfolding lines_of_each
@@ -121,55 +120,35 @@ module _ (plan vehicle : Plan) (is : IsVehicleOf plan vehicle) where
 
   -- ---- findings
 
-  signal_text_same : (word : List ℕ) (g s : ℕ) → signal_text word vehicle g s ≡ signal_text word plan g s
-  unfolding signal_text
-  signal_text_same word g s = rw (group_label_same g, signal_label_same g s) refl
-
-  address_of_unit_same : (word : List ℕ) (u : ℕ) → address_of_unit_text word vehicle u ≡ address_of_unit_text word plan u
-  unfolding address_of_unit_text
-  address_of_unit_same word u = rw (unit_label_same u, unit_address_same u) refl
-
-  address_of_units_same : (word : List ℕ) (u v : ℕ) → address_of_units_text word vehicle u v ≡ address_of_units_text word plan u v
-  unfolding address_of_units_text
-  address_of_units_same word u v = rw (units_text_same word u v, unit_address_same u) refl
-
-  group_number_same : (word : List ℕ) (g n : ℕ) → group_number_text word vehicle g n ≡ group_number_text word plan g n
-  unfolding group_number_text
-  group_number_same word g n = rw (group_text_same word g) refl
-
-  signal_number_same : (word : List ℕ) (g s n : ℕ) → signal_number_text word vehicle g s n ≡ signal_number_text word plan g s n
-  unfolding signal_number_text
-  signal_number_same word g s n = rw (signal_text_same word g s) refl
-
   signals_text_same : (word : List ℕ) (g s t : ℕ) → signals_text word vehicle g s t ≡ signals_text word plan g s t
   unfolding signals_text
-  signals_text_same word g s t = rw (signal_text_same word g s, signal_label_same g t) refl
+  signals_text_same word g s t = rw (group_label_same g, signal_label_same g s, signal_label_same g t) refl
 
   finding_text_same : (finding : Finding) → finding_text vehicle finding ≡ finding_text plan finding
   unfolding finding_text
   finding_text_same (SameName i j) = units_text_same (codes "F1 SameName ") i j
-  finding_text_same (SameFixedAddress i j) = address_of_units_same (codes "F2 SameFixedAddress ") i j
+  finding_text_same (SameFixedAddress i j) = rw (unit_label_same i, unit_label_same j, unit_address_same i) refl
   finding_text_same (TooFewAddresses n) = refl
-  finding_text_same (BadPgn g) = rw (group_pgn_same g) (group_number_same (codes "F4 BadPgn ") g (group_pgn plan g))
-  finding_text_same (SamePgn g h) = rw (group_text_same (codes "F5 SamePgn ") g, group_text_same (codes " ") h, group_pgn_same g) refl
-  finding_text_same (SignalWidth g s) = rw (signal_bits_same g s) (signal_number_same (codes "F6 SignalWidth ") g s (signal_bits plan g s))
-  finding_text_same (SignalOutside g s) = rw (signal_end_same g s) (signal_number_same (codes "F7 SignalOutside ") g s (signal_end plan g s))
+  finding_text_same (BadPgn g) = rw (group_label_same g, group_pgn_same g) refl
+  finding_text_same (SamePgn g h) = rw (group_label_same g, group_label_same h, group_pgn_same g) refl
+  finding_text_same (SignalWidth g s) = rw (group_label_same g, signal_label_same g s, signal_bits_same g s) refl
+  finding_text_same (SignalOutside g s) = rw (group_label_same g, signal_label_same g s, signal_end_same g s) refl
   finding_text_same (SignalOverlap g s t) = signals_text_same (codes "F8 SignalOverlap ") g s t
   finding_text_same (FlowToOne f) = refl
   finding_text_same (FlowToSelf f) = refl
   finding_text_same (FlowRepeated f h) = refl
-  finding_text_same (KeptAddress i) = address_of_unit_same (codes "F12 KeptAddress ") i
+  finding_text_same (KeptAddress i) = rw (unit_label_same i, unit_address_same i) refl
   finding_text_same (PrivateUnsent g) = group_text_same (codes "F13 PrivateUnsent ") g
   finding_text_same (RecordOverlap g s t) = signals_text_same (codes "F14 RecordOverlap ") g s t
-  finding_text_same (TextOutside g t) = rw (group_text_same (codes "F15 TextOutside ") g, text_label_same g t, text_end_same g t) refl
+  finding_text_same (TextOutside g t) = rw (group_label_same g, text_label_same g t, text_end_same g t) refl
   finding_text_same (NeedUnmet n) = refl
   finding_text_same (RequestUnanswered r) = refl
   finding_text_same (RequestUnheard r) = refl
   finding_text_same (AnswerAstray r) = refl
-  finding_text_same (WhenOutside g) = rw (selector_end_same g) (group_number_same (codes "F24 WhenOutside ") g (group_selector_end plan g))
+  finding_text_same (WhenOutside g) = rw (group_label_same g, selector_end_same g) refl
   finding_text_same (RequestRepeated r s) = refl
-  finding_text_same (SilentAddress u v) = address_of_units_same (codes "F26 SilentAddress ") u v
-  finding_text_same (SilentInPool u) = address_of_unit_same (codes "F27 SilentInPool ") u
+  finding_text_same (SilentAddress u v) = rw (unit_label_same u, unit_label_same v, unit_address_same u) refl
+  finding_text_same (SilentInPool u) = rw (unit_label_same u, unit_address_same u) refl
   finding_text_same (FlowContested f) = refl
 
   step_unit_same : (word : List ℕ) (u : ℕ) → step_unit_text word vehicle u ≡ step_unit_text word plan u
@@ -212,18 +191,16 @@ module _ (plan vehicle : Plan) (is : IsVehicleOf plan vehicle) where
     part_same from below finding = rw (finding_text_same finding, run_lines_same finding) refl
 
     finding_lines_same : (from below : ℕ) (findings : List Finding) → finding_lines from below vehicle findings ≡ finding_lines from below plan findings
-    unfolding finding_lines
-    finding_lines_same from below [] = refl
-    finding_lines_same from below (finding ∷ findings) = rw (part_same from below finding, finding_lines_same from below findings) refl
+    finding_lines_same from below = each_same (λ _. finding_part from below vehicle) (λ _. finding_part from below plan) (λ _. part_same from below) 0
 
     pub findings_text_same : (findings : List Finding) (others : List LoadFinding) → findings_text vehicle findings others ≡ findings_text plan findings others
     unfolding findings_text
     findings_text_same findings others =
         rw (finding_lines_same 1 16 findings, finding_lines_same 19 20 findings, finding_lines_same 21 29 findings) refl
 
-    pub untold_text_same : (findings : List Finding) (others : List LoadFinding) → untold_text vehicle findings others ≡ untold_text plan findings others
-    unfolding untold_text untold_lines
-    untold_text_same findings others =
+    pub unshown_text_same : (findings : List Finding) (others : List LoadFinding) → unshown_text vehicle findings others ≡ unshown_text plan findings others
+    unfolding unshown_text unshown_lines
+    unshown_text_same findings others =
         rw (finding_lines_same 1 16 findings, finding_lines_same 19 20 findings, finding_lines_same 21 29 findings) refl
 
   pub ok_line_same : ok_line vehicle ≡ ok_line plan

@@ -58,4 +58,4 @@ shown plan finding (Some steps) is some =
     )
 
 pub run_shows_conflict : RunShowsConflict
-run_shows_conflict plan finding tells = shown plan finding (conflict_run plan finding) refl ((runs_are_exact plan finding).complete tells)
+run_shows_conflict plan finding states = shown plan finding (conflict_run plan finding) refl ((runs_are_exact plan finding).complete states)

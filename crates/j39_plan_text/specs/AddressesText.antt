@@ -28,7 +28,7 @@ is_of_addresses _ = false
 
 -- ---- who stays
 
--- a unit that stays holds its planned address whenever it is on, among the plan's units and with strangers, where the plan tells of some
+-- a unit that stays holds its planned address whenever it is on, among the plan's units and with strangers, where the plan reports of some
 pub record StayingHolds (plan : Plan) : Type 0 where
   pub planned : (u : ℕ) → StaysBeside plan.strangers (units_of plan) u → Always plan (λ w. HoldsPlanned (units_of plan) w u)
   pub with_strangers : (u : ℕ) → u < length plan.units.items → StaysBeside plan.strangers (units_of plan) u

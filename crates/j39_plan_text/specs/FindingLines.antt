@@ -7,6 +7,7 @@ use Rattle.j39_network.specs.declared.steps.Step.{Step}
 use Rattle.j39_world.specs.Conflict.{LeavesWithoutAddress}
 use Rattle.j39_network.specs.declared.plan.Plan.{Plan}
 use Rattle.j39_findings.specs.declared.checking.finding.Finding.{Finding}
+use Rattle.j39_load.specs.LineLists.{lines_of_each}
 use Rattle.j39_findings.specs.declared.checking.finding.Finding.TheVariants.{SameName, SameFixedAddress, TooFewAddresses, BadPgn, SamePgn, SignalWidth}
 use Rattle.j39_findings.specs.declared.checking.finding.Finding.TheVariants.{SignalOutside, SignalOverlap, FlowToOne, FlowToSelf, FlowRepeated, KeptAddress}
 use Rattle.j39_findings.specs.declared.checking.finding.Finding.TheVariants.{PrivateUnsent, RecordOverlap, TextOutside, NeedUnmet}
@@ -14,65 +15,44 @@ use Rattle.j39_findings.specs.declared.checking.finding.Finding.TheVariants.{Req
 use Rattle.j39_findings.specs.declared.checking.finding.Finding.TheVariants.{SilentAddress, SilentInPool, FlowContested}
 use Rattle.j39_text.specs.Labels.{group_label, group_pgn, group_selector_end, group_text, signal_bits, signal_end, signal_label, text_end, text_label}
 use Rattle.j39_text.specs.Labels.{unit_address, unit_label, units_text}
-use Rattle.j39_text.specs.Texts.{field, place_field}
+use Rattle.j39_text.specs.Texts.{field, labels_text, numbered, place_field, places_text}
 use Rattle.j39_schedule.specs.Schedule.{read_as, readings_of}
 use Rattle.j39_schedule.specs.StepLines.{step_lines}
 
 -- ---- a finding
 
--- a word, and a signal behind its group
-unfoldable pub signal_text : List ℕ → Plan → ℕ → ℕ → List ℕ
-signal_text word plan g s = word ++ (group_label plan g ++ (codes " " ++ signal_label plan g s))
-
--- a word, and two places
-unfoldable pub places_text : List ℕ → ℕ → ℕ → List ℕ
-places_text word i j = place_field word i ++ place_field (codes " ") j
-
--- a word, a unit and its address
-unfoldable pub address_of_unit_text : List ℕ → Plan → ℕ → List ℕ
-address_of_unit_text word plan u = word ++ (unit_label plan u ++ field (codes " ") (unit_address plan u))
-
--- a word, two units and the address of the first
-unfoldable pub address_of_units_text : List ℕ → Plan → ℕ → ℕ → List ℕ
-address_of_units_text word plan u v = units_text word plan u v ++ field (codes " ") (unit_address plan u)
-
--- a word, a group and a number of it
-unfoldable pub group_number_text : List ℕ → Plan → ℕ → ℕ → List ℕ
-group_number_text word plan g n = group_text word plan g ++ field (codes " ") n
-
--- a word, a signal and a number of it
-unfoldable pub signal_number_text : List ℕ → Plan → ℕ → ℕ → ℕ → List ℕ
-signal_number_text word plan g s n = signal_text word plan g s ++ field (codes " ") n
+-- a word, two labels, and a number
+unfoldable pub labels_number_text : List ℕ → List ℕ → List ℕ → ℕ → List ℕ
+labels_number_text word first second n = labels_text word first second ++ field (codes " ") n
 
 -- a word, and two signals of a group
 unfoldable pub signals_text : List ℕ → Plan → ℕ → ℕ → ℕ → List ℕ
-signals_text word plan g s t = signal_text word plan g s ++ (codes " " ++ signal_label plan g t)
+signals_text word plan g s t = labels_text word (group_label plan g) (signal_label plan g s) ++ (codes " " ++ signal_label plan g t)
 
 unfoldable pub finding_text : Plan → Finding → List ℕ
 finding_text plan (SameName i j) = units_text (codes "F1 SameName ") plan i j
-finding_text plan (SameFixedAddress i j) = address_of_units_text (codes "F2 SameFixedAddress ") plan i j
+finding_text plan (SameFixedAddress i j) = labels_number_text (codes "F2 SameFixedAddress ") (unit_label plan i) (unit_label plan j) (unit_address plan i)
 finding_text plan (TooFewAddresses n) = field (codes "F3 TooFewAddresses ") n
-finding_text plan (BadPgn g) = group_number_text (codes "F4 BadPgn ") plan g (group_pgn plan g)
-finding_text plan (SamePgn g h) = group_text (codes "F5 SamePgn ") plan g ++ (group_text (codes " ") plan h ++ field (codes " ") (group_pgn plan g))
-finding_text plan (SignalWidth g s) = signal_number_text (codes "F6 SignalWidth ") plan g s (signal_bits plan g s)
-finding_text plan (SignalOutside g s) = signal_number_text (codes "F7 SignalOutside ") plan g s (signal_end plan g s)
+finding_text plan (BadPgn g) = numbered (codes "F4 BadPgn ") (group_label plan g) (group_pgn plan g)
+finding_text plan (SamePgn g h) = labels_number_text (codes "F5 SamePgn ") (group_label plan g) (group_label plan h) (group_pgn plan g)
+finding_text plan (SignalWidth g s) = labels_number_text (codes "F6 SignalWidth ") (group_label plan g) (signal_label plan g s) (signal_bits plan g s)
+finding_text plan (SignalOutside g s) = labels_number_text (codes "F7 SignalOutside ") (group_label plan g) (signal_label plan g s) (signal_end plan g s)
 finding_text plan (SignalOverlap g s t) = signals_text (codes "F8 SignalOverlap ") plan g s t
 finding_text plan (FlowToOne f) = place_field (codes "F9 FlowToOne ") f
 finding_text plan (FlowToSelf f) = place_field (codes "F10 FlowToSelf ") f
 finding_text plan (FlowRepeated f h) = places_text (codes "F11 FlowRepeated ") f h
-finding_text plan (KeptAddress i) = address_of_unit_text (codes "F12 KeptAddress ") plan i
+finding_text plan (KeptAddress i) = numbered (codes "F12 KeptAddress ") (unit_label plan i) (unit_address plan i)
 finding_text plan (PrivateUnsent g) = group_text (codes "F13 PrivateUnsent ") plan g
 finding_text plan (RecordOverlap g s t) = signals_text (codes "F14 RecordOverlap ") plan g s t
-finding_text plan (TextOutside g t) =
-    group_text (codes "F15 TextOutside ") plan g ++ (codes " " ++ (text_label plan g t ++ field (codes " ") (text_end plan g t)))
+finding_text plan (TextOutside g t) = labels_number_text (codes "F15 TextOutside ") (group_label plan g) (text_label plan g t) (text_end plan g t)
 finding_text plan (NeedUnmet n) = place_field (codes "F19 NeedUnmet ") n
 finding_text plan (RequestUnanswered r) = place_field (codes "F21 RequestUnanswered ") r
 finding_text plan (RequestUnheard r) = place_field (codes "F22 RequestUnheard ") r
 finding_text plan (AnswerAstray r) = place_field (codes "F23 AnswerAstray ") r
-finding_text plan (WhenOutside g) = group_number_text (codes "F24 WhenOutside ") plan g (group_selector_end plan g)
+finding_text plan (WhenOutside g) = numbered (codes "F24 WhenOutside ") (group_label plan g) (group_selector_end plan g)
 finding_text plan (RequestRepeated r s) = places_text (codes "F25 RequestRepeated ") r s
-finding_text plan (SilentAddress u v) = address_of_units_text (codes "F26 SilentAddress ") plan u v
-finding_text plan (SilentInPool u) = address_of_unit_text (codes "F27 SilentInPool ") plan u
+finding_text plan (SilentAddress u v) = labels_number_text (codes "F26 SilentAddress ") (unit_label plan u) (unit_label plan v) (unit_address plan u)
+finding_text plan (SilentInPool u) = numbered (codes "F27 SilentInPool ") (unit_label plan u) (unit_address plan u)
 finding_text plan (FlowContested f) = place_field (codes "F28 FlowContested ") f
 
 -- ---- all of them
@@ -80,7 +60,7 @@ finding_text plan (FlowContested f) = place_field (codes "F28 FlowContested ") f
 unfoldable pub finding_line : Plan → Finding → List ℕ
 finding_line plan finding = finding_text plan finding ++ 10 ∷ []
 
--- the steps of the run that shows the conflict of which a finding tells, and nothing for other findings
+-- the steps of the run that shows the conflict of which a finding reports, and nothing for other findings
 unfoldable pub run_lines : Plan → Finding → List ℕ
 run_lines plan finding = option_map_or (step_lines plan) (conflict_run plan finding) []
 
@@ -97,9 +77,8 @@ unfoldable pub finding_part : ℕ → ℕ → Plan → Finding → List ℕ
 finding_part from below plan finding = if is_between from below (finding_number finding) then finding_report plan finding else []
 
 -- those of the findings whose numbers are between these
-unfoldable pub finding_lines : ℕ → ℕ → Plan → List Finding → List ℕ
-finding_lines from below plan [] = []
-finding_lines from below plan (finding ∷ findings) = finding_part from below plan finding ++ finding_lines from below plan findings
+abbrev pub finding_lines : ℕ → ℕ → Plan → List Finding → List ℕ
+finding_lines from below plan = lines_of_each (λ _. finding_part from below plan) 0
 
 -- ---- laws
 
@@ -114,6 +93,6 @@ pub record ShowsConflict (plan : Plan) (finding : Finding) (steps : List Step) :
   pub run : IsConflictRun plan finding steps
   pub shows : LeavesWithoutAddress plan steps run.larger
 
--- they do so for each finding that tells of a conflict, with some steps
+-- they do so for each finding that reports of a conflict, with some steps
 abbrev pub RunShowsConflict : Type 0
 RunShowsConflict = (plan : Plan) (finding : Finding) → IsOfConflict plan finding → (steps : List Step) × ShowsConflict plan finding steps

@@ -20,7 +20,7 @@ use Rattle.j39_stream.specs.declared.verdict.Verdict.{Verdict}
 use Rattle.j39_stream.specs.declared.verdict.Verdict.TheVariants.{Done, Findings, Refused}
 use Rattle.j39_text.specs.Texts.{field}
 
--- where a finding of this number is, addresses or identifiers aren't what they should be, and no times are told
+-- where a finding of this number is, addresses or identifiers aren't what they should be, and no times are reported
 abbrev pub hides_times : ℕ → Bool
 hides_times number = is_between 1 6 number || (is_between 9 13 number || is_between 26 29 number)
 
@@ -28,39 +28,39 @@ hides_times number = is_between 1 6 number || (is_between 9 13 number || is_betw
 abbrev pub shows_times : List Finding → Bool
 shows_times findings = list_all (λ finding. not (hides_times (finding_number finding))) findings
 
--- those of which the lines of the load don't tell: of a bus that is too full, of late flows and of old needs they do
-abbrev pub is_untold : LoadFinding → Bool
-is_untold finding = is_between 16 17 (load_finding_number finding)
+-- those of which the lines of the load don't report: of a bus that is too full, of late flows and of old needs they do
+abbrev pub is_unshown : LoadFinding → Bool
+is_unshown finding = is_between 16 17 (load_finding_number finding)
 
 -- how many findings are written behind the lines of the load
-abbrev pub untold_count : List Finding → List LoadFinding → ℕ
-untold_count findings others = length findings + count_by is_untold others
+abbrev pub unshown_count : List Finding → List LoadFinding → ℕ
+unshown_count findings others = length findings + count_by is_unshown others
 
 -- these findings, as check writes them
-unfoldable pub untold_lines : Plan → List Finding → List LoadFinding → List ℕ
-untold_lines plan findings others = finding_lines 1 16 plan findings
+unfoldable pub unshown_lines : Plan → List Finding → List LoadFinding → List ℕ
+unshown_lines plan findings others = finding_lines 1 16 plan findings
     ++ (load_finding_lines 16 17 others
     ++ (finding_lines 19 20 plan findings
     ++ (finding_lines 21 29 plan findings
-    ++ (field (codes "findings ") (untold_count findings others) ++ 10 ∷ []))))
+    ++ (field (codes "findings ") (unshown_count findings others) ++ 10 ∷ []))))
 
 -- where there are any
-unfoldable pub untold_text : Plan → List Finding → List LoadFinding → List ℕ
-untold_text plan findings others =
-    if untold_count findings others == 0 then [] else untold_lines plan findings others
+unfoldable pub unshown_text : Plan → List Finding → List LoadFinding → List ℕ
+unshown_text plan findings others =
+    if unshown_count findings others == 0 then [] else unshown_lines plan findings others
 
 -- whether anything is found
 abbrev pub load_verdict : List Finding → List LoadFinding → Verdict
 load_verdict findings others = if length findings + length others == 0 then Done else Findings
 
 -- what is written for a plan of which this is asked of its bus, with the verdict: the loads, and behind them the findings of which they don't
--- tell; or what check writes, where no times are told
+-- report; or what check writes, where no times are reported
 abbrev pub WritesLoads : Plan → Timing → (UnitPlan → Bool) → List (Option Delay) → List ℕ → Verdict → Type 0
 WritesLoads plan timing stays delays text verdict =
     let asked = asked_of timing plan stays in
     let others = all_findings plan timing (total_load timing asked) delays in
     MatchBool (shows_times (found plan))
-    ((text ≡ loads_text plan timing asked delays ++ untold_text plan (found plan) others) × (verdict ≡ load_verdict (found plan) others))
+    ((text ≡ loads_text plan timing asked delays ++ unshown_text plan (found plan) others) × (verdict ≡ load_verdict (found plan) others))
     (IsReport plan text verdict)
 
 -- what is written for a plan, with the verdict

@@ -193,7 +193,7 @@ group_form_lines table group =
     truth_line table key.Private group.private
     ++ (value_line table key.Most (decimal group.most) ++ optional_line decimal table key.Every group.every)
 
--- the bits that tell a group's messages, if any do, by the table that they have in it
+-- the bits that report a group's messages, if any do, by the table that they have in it
 unfoldable pub when_lines : Table → Option Selector → List ℕ
 when_lines table None = []
 when_lines table (Some w) =

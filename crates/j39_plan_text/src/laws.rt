@@ -21,7 +21,7 @@ pub fn check_has_one_text()
     ensures apart { (bytes : List ℕ) → IsNotRefused bytes }
 {}
 
-/// A plan has one text of addresses, with one verdict: whoever tells of each unit whether it stays tells the same.
+/// A plan has one text of addresses, with one verdict: whoever reports of each unit whether it stays reports the same.
 pub fn addresses_have_one_text()
     ensures { (plan : Plan) → HasOneAddressesReport plan }
 {}
@@ -42,7 +42,7 @@ pub fn plans_without_choices_are_shown_alone()
 {}
 
 /// The lines that are written below a finding are a schedule of the run that shows its conflict, and there are none
-/// below a finding that tells of no conflict.
+/// below a finding that reports of no conflict.
 pub fn written_runs_read_back()
     ensures { RunReadsBack }
 {}

@@ -3,6 +3,7 @@
 
 mod addresses;
 mod certificate;
+mod each;
 mod finding_lines;
 mod laws;
 mod live_identifiers;
@@ -19,6 +20,7 @@ mod variant;
 
 pub use addresses::{is_of_addresses, stays_report};
 pub use certificate::clean_plans_are_certified;
+pub use each::{WriteLines, write_each};
 pub use finding_lines::{write_finding, write_run};
 pub use laws::{
     addresses_have_one_text, check_has_one_text, load_has_one_text,

@@ -13,7 +13,7 @@ ghost use Rattle.j39_world.specs.World.{World, all_off};
 
 /// In every world of every run of a live plan without findings, with all lawful choices, also while claims are
 /// undelivered: frames of two flows between units that are on, each message of which goes in one frame, have two
-/// identifiers, by the addresses that these units hold, unless both groups are told by their data.
+/// identifiers, by the addresses that these units hold, unless both groups are distinguished by their data.
 pub fn live_flows_have_different_identifiers()
     ensures { (plan : Plans) (steps : List Steps) (w : World) → Clean plan → plan.live ≡ true → Run plan all_off steps w
         → (f h : ℕ) (flow other : PlannedFlows) (group second : PlannedGroups) → f ≢ h

@@ -1,7 +1,7 @@
 //! What is written of what a plan asks of its bus.
 ghost use Rattle.std.specs.Prelude.{◌≡◌, ◌+◌, ◌++◌, ◌≤◌, IfOk, OnOk, count_by, length};
-ghost use Rattle.j39_plan_text.specs.LoadText.{IsLoadReport, hides_times, is_untold, load_verdict, shows_times};
-ghost use Rattle.j39_plan_text.specs.LoadText.{untold_count, untold_lines, untold_text};
+ghost use Rattle.j39_plan_text.specs.LoadText.{IsLoadReport, hides_times, is_unshown, load_verdict, shows_times};
+ghost use Rattle.j39_plan_text.specs.LoadText.{unshown_count, unshown_lines, unshown_text};
 ghost use Rattle.j39_load.specs.BusTimes.{timing_of};
 
 use crate::finding_lines::{is_between, write_lines};
@@ -14,7 +14,7 @@ use j39_stream::Verdict;
 use j39_text::TextBuffer;
 use std::alloc::{AllocError, Global};
 
-/// Whether no times are told where a finding of this number is.
+/// Whether no times are reported where a finding of this number is.
 pub fn hides_times(number: u8) -> bool
     ensures { result ≡ hides_times number }
 {
@@ -30,30 +30,30 @@ fn shows_times(findings: &[Finding]) -> bool
         .all(|finding| !hides_times(finding.number()))
 }
 
-// Whether the lines of the load don't tell of it.
-fn is_untold(finding: LoadFinding) -> bool
-    ensures { result ≡ is_untold finding }
+// Whether the lines of the load don't report of it.
+fn is_unshown(finding: LoadFinding) -> bool
+    ensures { result ≡ is_unshown finding }
 {
     is_between(16, 17, finding.number())
 }
 
 // How many of these there are.
-fn count_untold(others: &[LoadFinding]) -> usize
-    ensures count { result ≡ count_by is_untold others.now }
+fn count_unshown(others: &[LoadFinding]) -> usize
+    ensures count { result ≡ count_by is_unshown others.now }
     ensures few { result ≤ length others.now }
 {
     let mut count = 0;
     for finding in others {
-        if is_untold(*finding) {
+        if is_unshown(*finding) {
             count += 1;
         }
     }
     count
 }
 
-// Writes so many findings, as check writes them: those of which the lines of the load don't tell.
-#[tactic(auto, unfolding(crate::specs::LoadText::untold_lines))]
-fn write_untold_lines(
+// Writes so many findings, as check writes them: those of which the lines of the load don't report.
+#[tactic(auto, unfolding(crate::specs::LoadText::unshown_lines))]
+fn write_unshown_lines(
     alloc: Global,
     text: &mut TextBuffer,
     plan: &Plan,
@@ -61,8 +61,8 @@ fn write_untold_lines(
     others: &[LoadFinding],
     count: usize,
 ) -> Result<(), AllocError>
-    requires { count ≡ untold_count findings.now others.now }
-    ensures { OnOk result (text.new ≡ text.old ++ untold_lines plan.now findings.now others.now) }
+    requires { count ≡ unshown_count findings.now others.now }
+    ensures { OnOk result (text.new ≡ text.old ++ unshown_lines plan.now findings.now others.now) }
 {
     write_lines(alloc, text, plan, findings, 1, 16)?;
     write_load_findings(text, others, 16, 17)?;
@@ -73,21 +73,21 @@ fn write_untold_lines(
 }
 
 // The same, where there are any.
-#[tactic(auto, unfolding(crate::specs::LoadText::untold_text))]
-fn write_untold(
+#[tactic(auto, unfolding(crate::specs::LoadText::unshown_text))]
+fn write_unshown(
     alloc: Global,
     text: &mut TextBuffer,
     plan: &Plan,
     findings: &[Finding],
     others: &[LoadFinding],
 ) -> Result<(), AllocError>
-    ensures { OnOk result (text.new ≡ text.old ++ untold_text plan.now findings.now others.now) }
+    ensures { OnOk result (text.new ≡ text.old ++ unshown_text plan.now findings.now others.now) }
 {
-    let count = findings.len() + count_untold(others);
+    let count = findings.len() + count_unshown(others);
     if count == 0 {
         return Ok(());
     }
-    write_untold_lines(alloc, text, plan, findings, others, count)
+    write_unshown_lines(alloc, text, plan, findings, others, count)
 }
 
 fn verdict_of(findings: &[Finding], others: &[LoadFinding]) -> Verdict
@@ -114,7 +114,7 @@ pub fn load_report(alloc: Global, plan: &Plan) -> Result<(TextBuffer, Verdict), 
     let findings = check(alloc, plan)?;
     if shows_times(&findings) {
         write_loads(&mut text, plan, &answer.loads, answer.delays.as_slice())?;
-        write_untold(alloc, &mut text, plan, &findings, others)?;
+        write_unshown(alloc, &mut text, plan, &findings, others)?;
         return Ok((text, verdict_of(&findings, others)));
     }
     write_findings(alloc, &mut text, plan, &findings, others)?;

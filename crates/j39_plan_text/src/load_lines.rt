@@ -1,8 +1,8 @@
 //! The lines of what a plan asks of its bus.
-ghost use Rattle.std.specs.Prelude.{◌≡◌, ◌+◌, ◌*◌, ◌++◌, ◌<◌, ◌^◌, length, OnOk};
-ghost use Rattle.j39_plan_text.specs.LoadLines.{age_flow_text, age_text, delay_text, flow_line, flow_text};
+ghost use Rattle.std.specs.Prelude.{◌≡◌, ◌+◌, ◌*◌, ◌++◌, ◌<◌, ◌^◌, length, slice_index_or, None, OnOk};
+ghost use Rattle.j39_plan_text.specs.LoadLines.{age_flow_text, age_text, delay_text, flow_text};
 ghost use Rattle.j39_plan_text.specs.LoadLines.{known_age_text, known_delay_text, limited_text};
-ghost use Rattle.j39_plan_text.specs.LoadLines.{load_finding_line, load_finding_lines, load_finding_part};
+ghost use Rattle.j39_plan_text.specs.LoadLines.{load_finding_line, load_finding_lines};
 ghost use Rattle.j39_plan_text.specs.LoadLines.{load_finding_text, load_line, loads_text};
 ghost use Rattle.j39_plan_text.specs.LoadLines.{need_line, receiver_text, time_text, us_allowed, whole_text};
 ghost use Rattle.j39_plan_text.specs.LoadLines.{within_text};
@@ -12,6 +12,7 @@ ghost use Rattle.j39_load.specs.LineLists.{lines_of_each};
 ghost use Rattle.j39_load.specs.LoadFindings.{time_of_each};
 ghost use Rattle.j39_load.specs.Loads.{us_of_bits};
 
+use crate::each::{WriteLines, write_each};
 use crate::finding_lines::is_between;
 use j39_load::{
     Delay, LoadFinding, Loads, WholeTime, bits_of_second, has_several, least_age, us_of_bits,
@@ -42,25 +43,34 @@ fn write_load_finding_line(text: &mut TextBuffer, finding: LoadFinding) -> Resul
     text.end_line()
 }
 
-// The same, where its number is between these.
-#[tactic(auto, unfolding(crate::specs::LoadLines::load_finding_part))]
-fn write_load_finding_part(
-    text: &mut TextBuffer,
-    finding: LoadFinding,
+// Writes each finding whose number is between these.
+#[derive(Drop)]
+struct LoadFindingsBetween {
     from: u8,
     below: u8,
-) -> Result<(), AllocError>
-    ensures { OnOk result (text.new ≡ text.old ++ load_finding_part from below finding) }
-{
-    if is_between(from, below, finding.number()) {
-        write_load_finding_line(text, finding)
-    } else {
-        Ok(())
+}
+
+impl WriteLines<LoadFinding> for LoadFindingsBetween {
+    ghost use Rattle.j39_plan_text.specs.LoadLines.{load_finding_part};
+
+    ghost lines = { λ w _. load_finding_part w.from w.below };
+
+    #[tactic(auto, unfolding(crate::specs::LoadLines::load_finding_part))]
+    fn write(
+        &self,
+        text: &mut TextBuffer,
+        _at: usize,
+        finding: &LoadFinding,
+    ) -> Result<(), AllocError> {
+        if is_between(self.from, self.below, finding.number()) {
+            write_load_finding_line(text, *finding)
+        } else {
+            Ok(())
+        }
     }
 }
 
 /// Writes a line for each finding whose number is between these.
-#[tactic(auto, unfolding(j39_load::specs::LineLists::lines_of_each))]
 pub(super) fn write_load_findings(
     text: &mut TextBuffer,
     findings: &[LoadFinding],
@@ -69,10 +79,7 @@ pub(super) fn write_load_findings(
 ) -> Result<(), AllocError>
     ensures { OnOk result (text.new ≡ text.old ++ load_finding_lines from below findings.now) }
 {
-    for finding in findings {
-        write_load_finding_part(text, *finding, from, below)?;
-    }
-    Ok(())
+    write_each(text, &LoadFindingsBetween { from, below }, findings)
 }
 
 /// Writes so many microseconds.
@@ -219,46 +226,40 @@ pub fn write_flow(
     ensures { OnOk result (text.new ≡ text.old ++ flow_text plan.now place flow.now) }
 {
     text.place("flow ", place)?;
-    text.word(" ")?;
-    text.word(group_label(plan, flow.group))?;
-    text.word(" ")?;
-    text.word(unit_label(plan, flow.sender))?;
-    text.word(" ")?;
-    text.word(receiver_text(plan, flow.to))
+    text.label(group_label(plan, flow.group))?;
+    text.label(unit_label(plan, flow.sender))?;
+    text.label(receiver_text(plan, flow.to))
 }
 
-#[tactic(auto, unfolding(crate::specs::LoadLines::flow_line))]
-fn write_flow_line(
-    text: &mut TextBuffer,
-    plan: &Plan,
-    timing: Timing,
-    delays: &[Option<Delay>],
-    place: usize,
-    flow: &FlowPlan,
-) -> Result<(), AllocError>
-    requires { place < length delays.now }
-    ensures { OnOk result (text.new ≡ text.old ++ flow_line plan.now timing delays.now place flow.now) }
+// The delay of the flow at a place.
+fn delay_of(delays: &[Option<Delay>], place: usize) -> Option<Delay>
+    ensures { result ≡ slice_index_or delays.now place None }
 {
-    write_flow(text, plan, place, flow)?;
-    write_known_delay(text, timing, flow.pace, &delays[place])?;
-    text.end_line()
-}
-
-#[tactic(auto, unfolding(j39_load::specs::LineLists::lines_of_each))]
-fn write_flows(
-    text: &mut TextBuffer,
-    plan: &Plan,
-    timing: Timing,
-    delays: &[Option<Delay>],
-) -> Result<(), AllocError>
-    requires { length delays.now ≡ length plan.now.flows.items }
-    ensures { OnOk result (text.new ≡ text.old
-        ++ lines_of_each (flow_line plan.now timing delays.now) 0 plan.now.flows.items) }
-{
-    for (place, flow) in plan.flows.iter().enumerate() {
-        write_flow_line(text, plan, timing, delays, place, flow)?;
+    match delays.get(place) {
+        Some(delay) => *delay,
+        None => None,
     }
-    Ok(())
+}
+
+// Writes each flow with its delay.
+#[derive(Drop)]
+struct FlowDelays<'a> {
+    plan: &'a Plan,
+    timing: Timing,
+    delays: &'a [Option<Delay>],
+}
+
+impl WriteLines<FlowPlan> for FlowDelays<'_> {
+    ghost use Rattle.j39_plan_text.specs.LoadLines.{flow_line};
+
+    ghost lines = { λ w. flow_line w.plan.now w.timing w.delays.now };
+
+    #[tactic(auto, unfolding(crate::specs::LoadLines::flow_line))]
+    fn write(&self, text: &mut TextBuffer, at: usize, flow: &FlowPlan) -> Result<(), AllocError> {
+        write_flow(text, self.plan, at, flow)?;
+        write_known_delay(text, self.timing, flow.pace, &delay_of(self.delays, at))?;
+        text.end_line()
+    }
 }
 
 /// Writes how old what is needed is at most, of a limit, which may be less.
@@ -382,7 +383,13 @@ pub(super) fn write_loads(
     ensures { OnOk result (text.new ≡ text.old
         ++ loads_text plan.now loads.now.timing (asked_in loads.now) delays.now) }
 {
-    write_flows(text, plan, loads.timing, delays)?;
-    write_needs(text, plan, loads.timing, delays)?;
+    let timing = loads.timing;
+    let flows = FlowDelays {
+        plan,
+        timing,
+        delays,
+    };
+    write_each(text, &flows, &plan.flows)?;
+    write_needs(text, plan, timing, delays)?;
     write_load(text, loads)
 }

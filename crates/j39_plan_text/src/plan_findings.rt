@@ -47,7 +47,7 @@ impl PlanFindings {
         self.findings.len() + self.others.len()
     }
 
-    /// Whether each of them is F17, F18 or F20: what is told of times stands all the same.
+    /// Whether each of them is F17, F18 or F20: what is reported of times stands all the same.
     pub fn are_of_times(&self) -> bool
         ensures { result ≡ are_of_times self.now.findings.items self.now.others.items }
     {

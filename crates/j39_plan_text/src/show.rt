@@ -31,6 +31,7 @@ impl LineReport for ShowReport {
 
 /// Writes each value of the plan that a file describes, those too that the file leaves to their defaults, one a line,
 /// whatever is wrong with the plan; or why the file describes none.
+#[inline(never)]
 pub fn show_text<S: Source, W: Sink>(
     alloc: Global,
     source: &mut S,

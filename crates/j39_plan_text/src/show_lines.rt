@@ -5,15 +5,15 @@ ghost use Rattle.j39_plan_text.specs.ShownLines.{line_text};
 ghost use Rattle.j39_plan_text.specs.ShowText.{show_text, timing_lines, top_lines};
 
 mod choices;
-mod each;
 mod flows;
 mod groups;
 mod units;
 mod values;
 
+use crate::each::write_each;
 use choices::write_choices;
-use flows::{write_flows, write_needs, write_requests};
-use groups::write_groups;
+use flows::{Flows, Needs, Requests};
+use groups::GroupLines;
 use j39_claim::AddressSet;
 use j39_id::Address;
 use j39_load::bits_of_second;
@@ -22,7 +22,7 @@ use j39_plan::{Key, Table};
 use j39_text::TextBuffer;
 use j39_variants::ProductLine;
 use std::alloc::AllocError;
-use units::write_units;
+use units::UnitLines;
 use values::{write_number, write_truth};
 
 // An address that is kept free.
@@ -128,11 +128,11 @@ pub(super) fn write_plan(text: &mut TextBuffer, plan: &Plan) -> Result<(), Alloc
     ensures { OnOk result (text.new ≡ text.old ++ show_text plan.now) }
 {
     write_top(text, plan)?;
-    write_units(text, plan)?;
-    write_groups(text, plan)?;
-    write_flows(text, plan)?;
-    write_needs(text, plan)?;
-    write_requests(text, plan)
+    write_each(text, &UnitLines, &plan.units)?;
+    write_each(text, &GroupLines, &plan.groups)?;
+    write_each(text, &Flows(plan), &plan.flows)?;
+    write_each(text, &Needs(plan), &plan.needs)?;
+    write_each(text, &Requests(plan), &plan.requests)
 }
 
 /// Writes each value of a plan, and its choices.

@@ -99,6 +99,7 @@ impl LineReport for VariantReport<'_> {
 
 /// Writes each value of the plan of the first possible variant that takes the alternatives of these labels, of the line
 /// of vehicles that a file describes; that there is none; or why the file describes no plan.
+#[inline(never)]
 pub fn variant_text<S: Source, W: Sink>(
     alloc: Global,
     labels: &[String],

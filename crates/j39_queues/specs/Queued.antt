@@ -1,5 +1,5 @@
 -- What contracts see of the queues between units.
-use Rattle.std.specs.Prelude.{◌≡◌, ℕ, ◌<◌, ◌≤◌, cond, ◌&&◌, nat_eq, List, [], length, slice_index_or, refl}
+use Rattle.std.specs.Prelude.{◌≡◌, ℕ, ◌<◌, ◌≤◌, cond, ◌&&◌, ◌||◌, nat_eq, List, [], length, slice_index_or, refl}
 use Rattle.std.specs.Coded.{Coded, code_by, coded×, coded_ℕ, coded_list}
 
 -- of each unit to each: the items, the oldest first, and how many more there is room for
@@ -38,9 +38,9 @@ changed_in f u v x s t = cond (nat_eq s u && nat_eq t v) x (f s t)
 abbrev pub without_column : {X : Type 0} → ℕ → (ℕ → ℕ → List X) → ℕ → ℕ → List X
 without_column v f s t = cond (nat_eq t v) [] (f s t)
 
--- nothing from one unit, the same as before from each other
-abbrev pub without_row : {X : Type 0} → ℕ → (ℕ → ℕ → List X) → ℕ → ℕ → List X
-without_row u f s t = cond (nat_eq s u) [] (f s t)
+-- nothing for one unit and nothing from it, the same as before between others
+abbrev pub without_unit : {X : Type 0} → ℕ → (ℕ → ℕ → List X) → ℕ → ℕ → List X
+without_unit u f s t = cond (nat_eq s u || nat_eq t u) [] (f s t)
 
 -- one for a pair of units, and none for each other
 abbrev pub one_at : ℕ → ℕ → ℕ → ℕ → ℕ

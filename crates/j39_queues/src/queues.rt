@@ -4,7 +4,7 @@ ghost use Rattle.std.specs.Prelude.{IsTrue, IfOk, IfSome, IfNone, OnOk, OnErr};
 ghost use Rattle.std.specs.List.{list_all};
 ghost use Rattle.j39_queues.specs.inside.Rows.{filled_in, items, one_if_some};
 ghost use Rattle.j39_queues.specs.Queued.{IsTable, KeepsRoom, one_at, pair_in, room_at, changed_in, without_column};
-ghost use Rattle.j39_queues.specs.Queued.{without_row};
+ghost use Rattle.j39_queues.specs.Queued.{without_unit};
 
 use std::alloc::{AllocError, Global};
 use std::collections::VecDeque;
@@ -175,15 +175,16 @@ impl<T: Drop> Queues<T> {
         }
     }
 
-    /// Drops all items from a unit.
-    pub fn clear_from(&mut self, unit: usize)
+    /// Drops all items to a unit, and all from it.
+    pub fn clear_of(&mut self, unit: usize)
         requires { unit < length self.old.lists }
         ensures table { IsTable (length self.old.lists) self.new.lists }
-        ensures lists { pair_in self.new.lists ≡ without_row unit (pair_in self.old.lists) }
+        ensures lists { pair_in self.new.lists ≡ without_unit unit (pair_in self.old.lists) }
         ensures room { KeepsRoom self.old self.new }
     {
-        for to in 0..self.rows.len() {
-            self.clear(unit, to);
+        for other in 0..self.rows.len() {
+            self.clear(unit, other);
+            self.clear(other, unit);
         }
     }
 }

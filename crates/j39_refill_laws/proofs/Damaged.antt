@@ -4,7 +4,7 @@ use Rattle.std.proofs.lemmas.Bool.{lt-ltb}
 use Rattle.j39_timing.specs.AnyOrder.{Controllers}
 use Rattle.j39_timing.specs.Errors.{Damaged, with_errors}
 use Rattle.j39_timing.specs.TimedFrames.{Schedule, Waits}
-use Rattle.j39_timing.proofs.ErrorFrames.{AreApart, IsFrame, OnBus, Takes, all, alone, as_waiting, attempt_waits, both_frames, damaged_on_bus, error_at, error_told}
+use Rattle.j39_timing.proofs.ErrorFrames.{IsFrame, OnBus, Takes, all, alone, as_waiting, attempt_waits, both_frames, damaged_on_bus, error_at, error_stated}
 use Rattle.j39_timing.proofs.ErrorFrames.{error_waits, first_of_all, frame_at, frame_on_bus, frame_or_least, kinds, positive, queued_first, taken}
 use Rattle.j39_refill_laws.specs.Refill.{IsLegalWithRefill, IsRefilling}
 use Rattle.j39_refill_laws.specs.RefillErrors.{IsLegalWithRefillAndErrors, MayHoldBack, error_units}
@@ -22,20 +22,9 @@ module _ (s : Schedule) (controllers : Controllers) (d : Damaged) (own : ℕ) wh
   unit_of_frame = units_with_damage s controllers d own
 
   unit_of_error : (e : ℕ) → e < d.count → units.unit (s.count + (d.count + e)) ≡ controllers.unit (d.frame e)
-  unit_of_error e below = error_told s d controllers.unit (λ e. own) (λ e. controllers.unit (d.frame e)) e below
+  unit_of_error e below = error_stated s d controllers.unit (λ e. own) (λ e. controllers.unit (d.frame e)) e below
 
   module _ (refill : ℕ → ℕ) (legal : IsLegalWithRefillAndErrors s controllers d refill) where
-    apart : AreApart s d
-    apart = record {
-      positive = legal.positive;
-      queued_first = legal.queued_first;
-      some_sent = legal.some_sent;
-      some_error = legal.some_error;
-      alone = legal.alone;
-      alone_damaged = legal.alone_damaged;
-      none_of_both = legal.none_of_both;
-    }
-
     -- the unit of a frame refills there behind a frame, be it an error frame
     holding : (p t : ℕ) → IsFrame s d p → MayHoldBack s controllers d refill (controllers.unit p) t → IsRefilling (all s d) units refill (units.unit p) t
     holding p t is back = let its = unit_of_frame p is.below in elim back [
@@ -81,7 +70,7 @@ module _ (s : Schedule) (controllers : Controllers) (d : Damaged) (own : ℕ) wh
       ]
       | inr this ↦ elim this [
         | inl it ↦ absurd (attempt_waits s d p it.0 t it.1 waits)
-        | inr it ↦ inl (damaged_on_bus s d it.0 t it.1.below (error_waits s d apart p it.0 t it.1 waits))
+        | inr it ↦ inl (damaged_on_bus s d it.0 t it.1.below (error_waits s d legal.apart p it.0 t it.1 waits))
       ]
     ]
 
@@ -91,7 +80,7 @@ module _ (s : Schedule) (controllers : Controllers) (d : Damaged) (own : ℕ) wh
       | inr least ↦ inl (first_of_all s d controllers units unit_of_frame (λ u. refl) p q in_p waits least)
       | inl is_q ↦
           let start = is_q.start in
-          let (is_p, early, waiting) = both_frames s d apart p q in_p is_q seen waits in
+          let (is_p, early, waiting) = both_frames s d legal.apart p q in_p is_q seen waits in
           elim (legal.in_order p q is_p.below is_q.below early waiting) [
             | inl takes ↦ inl (taken s d controllers units unit_of_frame (λ u. refl) p q is_p is_q takes)
             | inr back ↦ inr (holding p ((all s d).start q) is_p (subst (λ t. MayHoldBack s controllers d refill (controllers.unit p) t) (sym start) back))
@@ -100,9 +89,9 @@ module _ (s : Schedule) (controllers : Controllers) (d : Damaged) (own : ℕ) wh
 
     pub legal_with_damage : IsLegalWithRefill (with_errors s d) (error_units s controllers d own) refill
     legal_with_damage = record {
-      positive = positive s d apart;
-      queued_first = queued_first s d apart;
-      alone = alone s d apart;
+      positive = positive s d legal.apart;
+      queued_first = queued_first s d legal.apart;
+      alone = alone s d legal.apart;
       never_idle = never_idle;
       in_order = in_order;
     }

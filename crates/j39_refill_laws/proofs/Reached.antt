@@ -9,6 +9,7 @@ use Rattle.j39_timing.specs.Sums.{total}
 use Rattle.j39_timing.specs.TimedFrames.{IsOnBusAt, Schedule, Waits}
 use Rattle.j39_timing.specs.Traffic.{Traffic, no_twins}
 use Rattle.j39_timing.proofs.Demands.{nothing_wanted}
+use Rattle.j39_timing.proofs.Reached.{but_the_first}
 use Rattle.j39_timing.proofs.Sums.{total-none}
 use Rattle.j39_refill_laws.specs.Refill.{IsLegalWithRefill, IsRefilling}
 use Rattle.j39_refill_laws.specs.RefillTraffic.{IsTrafficWithRefill, RefillDemandFits}
@@ -16,7 +17,7 @@ use Rattle.j39_refill_laws.specs.RefillTraffic.{IsTrafficWithRefill, RefillDeman
 abbrev three : Schedule
 three = record { count = 3; queued = λ p. 0; start = λ p. p * 1160; bits = λ p. 160; ident = λ p. p; now = 3000 }
 
-abbrev one_unit : Controllers
+abbrev pub one_unit : Controllers
 one_unit = record { unit = λ p. 0; keeps_order = λ u. false }
 
 abbrev slow : ℕ → ℕ
@@ -31,9 +32,6 @@ two_streams = record {
   greatest = λ j. 2;
   are_twins = no_twins;
 }
-
-abbrev but_the_first : ℕ → Bool
-but_the_first p = ltb 0 p
 
 abbrev last_first : Origins
 last_first = record { source = λ p. 2 - p; turn = λ p. 0; since = λ p. 0 }

@@ -11,7 +11,9 @@ use Rattle.j39_timing.specs.Sums.{total}
 use Rattle.j39_timing.specs.TimedFrames.{IsOnBusAt, Schedule, Waits}
 use Rattle.j39_timing.specs.Traffic.{Traffic, no_twins}
 use Rattle.j39_timing.proofs.Demands.{nothing_wanted}
+use Rattle.j39_timing.proofs.Reached.{but_the_first}
 use Rattle.j39_timing.proofs.Sums.{total-none}
+use Rattle.j39_refill_laws.proofs.Reached.{one_unit}
 use Rattle.j39_refill_laws.specs.RefillErrors.{IsLegalWithRefillAndErrors, MayHoldBack, error_units}
 use Rattle.j39_refill_laws.specs.RefillTraffic.{IsTrafficWithRefill, RefillDemandFits}
 
@@ -21,9 +23,6 @@ tried = record { count = 3; queued = λ p. 0; start = λ p. p * 1160 + min (p * 
 -- frame 1 is tried at bit 1160
 abbrev once : Damaged
 once = record { count = 1; frame = λ e. 1; begin = λ e. 1160; sent = λ e. 160; error = λ e. 31; lost = λ e. false }
-
-abbrev one_unit : Controllers
-one_unit = record { unit = λ p. 0; keeps_order = λ u. false }
 
 abbrev slow : ℕ → ℕ
 slow u = cond (eqb u 0) 1000 0
@@ -54,13 +53,15 @@ tried_idle p t in_p waits =
 
 tried_legal : IsLegalWithRefillAndErrors tried one_unit once slow
 tried_legal = record {
-  positive = λ p _. omega arith;
-  queued_first = λ p _. omega arith;
-  some_sent = λ e _. omega arith;
-  some_error = λ e _. omega arith;
-  alone = λ p q t in_p in_q _ on_p on_q. omega (arith, in_p, in_q, on_p.0, on_p.1, on_q.0, on_q.1);
-  alone_damaged = λ e f t in_e in_f _ _ _. omega (arith, in_e, in_f);
-  none_of_both = λ p e t in_p _ _ on_p on_e. omega (arith, in_p, on_p.0, on_p.1, on_e.0, on_e.1);
+  apart = record {
+    positive = λ p _. omega arith;
+    queued_first = λ p _. omega arith;
+    some_sent = λ e _. omega arith;
+    some_error = λ e _. omega arith;
+    alone = λ p q t in_p in_q _ on_p on_q. omega (arith, in_p, in_q, on_p.0, on_p.1, on_q.0, on_q.1);
+    alone_damaged = λ e f t in_e in_f _ _ _. omega (arith, in_e, in_f);
+    none_of_both = λ p e t in_p _ _ on_p on_e. omega (arith, in_p, on_p.0, on_p.1, on_e.0, on_e.1);
+  };
   never_idle = λ p t in_p _ waits. tried_idle p t in_p waits;
   in_order = λ p q in_p in_q _ waits. inl (q, (in_q, refl, (omega arith, omega arith), λ keeps. absurd (false≢true keeps)), omega arith);
 }
@@ -85,9 +86,6 @@ four_streams = record {
 
 abbrev refill_of : ℕ → ℕ
 refill_of j = cond (eqb j 2) 0 1000
-
-abbrev but_the_first : ℕ → Bool
-but_the_first p = ltb 0 p
 
 abbrev each_its_own : Origins
 each_its_own = record { source = λ p. cond (ltb p 3) (2 - p) (p - 1); turn = λ p. 0; since = all.queued }

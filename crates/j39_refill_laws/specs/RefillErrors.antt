@@ -1,7 +1,7 @@
 -- Units that refill a buffer on a bus on which frames are damaged: they do so behind the error frame of a damaged attempt too.
 use Rattle.std.specs.Prelude.{◌≡◌, ℕ, ◌+◌, ◌<◌, ◌≤◌, ◌⊎◌}
 use Rattle.j39_timing.specs.AnyOrder.{Controllers, MayArbitrate}
-use Rattle.j39_timing.specs.Errors.{Damaged, IsDamagedAt, at_place}
+use Rattle.j39_timing.specs.Errors.{AreAttemptsApart, Damaged, IsDamagedAt, at_place}
 use Rattle.j39_timing.specs.TimedFrames.{IsOnBusAt, Schedule, Waits}
 use Rattle.j39_refill_laws.specs.Refill.{IsRefilling}
 
@@ -19,14 +19,7 @@ MayHoldBack s controllers d refill unit t = IsRefilling s controllers refill uni
 
 -- as `IsLegalWithRefill`, on a bus on which attempts were damaged, each with an error frame behind it; whatever is tried, it may have any identifier
 pub record IsLegalWithRefillAndErrors (s : Schedule) (controllers : Controllers) (d : Damaged) (refill : ℕ → ℕ) : Type 0 where
-  pub positive : (p : ℕ) → p < s.count → 1 ≤ s.bits p
-  pub queued_first : (p : ℕ) → p < s.count → s.queued p ≤ s.start p
-  pub some_sent : (e : ℕ) → e < d.count → 1 ≤ d.sent e
-  pub some_error : (e : ℕ) → e < d.count → 1 ≤ d.error e
-  -- one frame at a time, or one damaged attempt
-  pub alone : (p q t : ℕ) → p < s.count → q < s.count → t < s.now → IsOnBusAt s p t → IsOnBusAt s q t → p ≡ q
-  pub alone_damaged : (e f t : ℕ) → e < d.count → f < d.count → t < s.now → IsDamagedAt d e t → IsDamagedAt d f t → e ≡ f
-  pub none_of_both : (p e t : ℕ) → p < s.count → e < d.count → t < s.now → IsOnBusAt s p t → IsDamagedAt d e t → ⊥
+  pub apart : AreAttemptsApart s d
   pub never_idle : (p t : ℕ) → p < s.count → t < s.now → Waits s p t
       → ((q : ℕ) × (q < s.count) × IsOnBusAt s q t) ⊎ (((e : ℕ) × (e < d.count) × IsDamagedAt d e t) ⊎ MayHoldBack s controllers d refill (controllers.unit p) t)
   pub in_order : (p q : ℕ) → p < s.count → q < s.count → s.start q < s.now → Waits s p (s.start q)

@@ -4,8 +4,8 @@ use Rattle.std.proofs.lemmas.List.{length-map, map-append}
 use Rattle.std.specs.List.{slice_split}
 use Rattle.j39_network.specs.declared.plan.Plan.{Plan}
 use Rattle.j39_world.specs.World.{World}
-use Rattle.j39_id.specs.Lines.{at_start, is_line_feed, line_of, told}
-use Rattle.j39_run.specs.RunText.{EndsAt, IsWithin, IsSameForContinuations, IsSameOnceTold}
+use Rattle.j39_id.specs.Lines.{at_start, is_line_feed, line_of, yielded}
+use Rattle.j39_run.specs.RunText.{EndsAt, IsWithin, IsSameForContinuations, IsSameOnceReported}
 use Rattle.j39_schedule.specs.Schedule.{Reading, line_order, read_as, readings_of}
 use Rattle.j39_run.specs.declared.halt.Halt.{Halt}
 use Rattle.j39_run.specs.declared.halt.Halt.TheVariants.{End, Step as AtStep, Line as AtLine, Full}
@@ -29,10 +29,10 @@ readings-append plan front more = ap (map (line_order plan)) (lines-append front
     ∙ map-append (line_order plan) (map line_of (slice_split is_line_feed front)) _
 
 readings-from : (plan : Plan) (front more : List ℕ) → (rest : List Reading)
-    × (readings_of plan (front ++ more) ≡ map (line_order plan) (told at_start front) ++ rest)
+    × (readings_of plan (front ++ more) ≡ map (line_order plan) (yielded at_start front) ++ rest)
 readings-from plan front more =
     let (rest, is) = lines_from front more in
-    (map (line_order plan) rest, ap (map (line_order plan)) is ∙ map-append (line_order plan) (told at_start front) rest)
+    (map (line_order plan) rest, ap (map (line_order plan)) is ∙ map-append (line_order plan) (yielded at_start front) rest)
 
 -- two lists of readings that begin alike
 module _ (plan : Plan) (alike xs ys some others : List Reading) (some_are : some ≡ alike ++ xs) (others_are : others ≡ alike ++ ys) where
@@ -65,10 +65,10 @@ same_for_continuations plan choosers front more other halt text inside (opens, (
     (readings-append plan front more) (readings-append plan front other) halt w within ends in
     (opens, (w, view, same, shows, is))
 
-pub same_once_told : IsSameOnceTold
-same_once_told plan choosers front more other halt text inside (opens, (w, view, ends, shows, is)) =
-    let alike : List Reading = map (line_order plan) (told at_start front) in
-    let count : length alike ≡ length (told at_start front) = length-map (told at_start front) (line_order plan) in
+pub same_once_reported : IsSameOnceReported
+same_once_reported plan choosers front more other halt text inside (opens, (w, view, ends, shows, is)) =
+    let alike : List Reading = map (line_order plan) (yielded at_start front) in
+    let count : length alike ≡ length (yielded at_start front) = length-map (yielded at_start front) (line_order plan) in
     let within : IsWithin (length alike) halt = subst (λ (n : ℕ). IsWithin n halt) (sym count) inside in
     let (xs, some_are) = readings-from plan front more in
     let (ys, others_are) = readings-from plan front other in

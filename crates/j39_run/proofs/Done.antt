@@ -162,11 +162,13 @@ module _ (plan : Plan) (b : BusState) (ls : List Line) (place : ℕ) (written te
   pub end_done : (input : List ℕ) → ls ≡ lines input → IsBusText plan input End (written ++ (text ++ closing_text plan view End))
   end_done input all = text_at input End (h.orders, ap (map (line_order plan)) (sym all) ∙ h.read, h.ran)
 
-  readings_at : (input : List ℕ) (l : Line) (rest : List Line) → lines input ≡ (ls ++ l ∷ []) ++ rest
-      → readings_of plan input ≡ map read_as h.orders ++ line_order plan l ∷ map (line_order plan) rest
-  readings_at input l rest is =
+  -- what is read where the next line is read so
+  readings_at : (input : List ℕ) (l : Line) (rest : List Line) (reading : Reading) → lines input ≡ (ls ++ l ∷ []) ++ rest → line_order plan l ≡ reading
+      → readings_of plan input ≡ map read_as h.orders ++ reading ∷ map (line_order plan) rest
+  readings_at input l rest reading is reads =
       ap (map (line_order plan)) (is ∙ append_assoc ls (l ∷ []) rest) ∙ map-append (line_order plan) ls (l ∷ rest)
       ∙ ap (λ (r : List Reading). r ++ line_order plan l ∷ map (line_order plan) rest) h.read
+      ∙ ap (λ (r : Reading). map read_as h.orders ++ r ∷ map (line_order plan) rest) reads
 
   -- the next line can't be read
   pub line_refused : (input : List ℕ) (l : Line) (rest : List Line) (fault : LineFault) → lines input ≡ (ls ++ l ∷ []) ++ rest → line_order plan l ≡ Err fault
@@ -175,8 +177,7 @@ module _ (plan : Plan) (b : BusState) (ls : List Line) (place : ℕ) (written te
       text_at input (AtLine place fault) (
         h.orders,
         map (line_order plan) rest,
-        readings_at input l rest is
-            ∙ ap (λ (r : Reading). map read_as h.orders ++ r ∷ map (line_order plan) rest) bad,
+        readings_at input l rest (Err fault) is bad,
         h.count,
         h.ran,
       )
@@ -191,8 +192,7 @@ module _ (plan : Plan) (b : BusState) (ls : List Line) (place : ℕ) (written te
         h.orders,
         step,
         map (line_order plan) rest,
-        readings_at input l rest is
-            ∙ ap (λ (r : Reading). map read_as h.orders ++ r ∷ map (line_order plan) rest) good,
+        readings_at input l rest (read_as (Some step)) is good,
         h.count,
         h.ran,
         room_there plan b h.world h.stands room,
@@ -208,8 +208,7 @@ module _ (plan : Plan) (b : BusState) (ls : List Line) (place : ℕ) (written te
         h.orders,
         step,
         map (line_order plan) rest,
-        readings_at input l rest is
-            ∙ ap (λ (r : Reading). map read_as h.orders ++ r ∷ map (line_order plan) rest) good,
+        readings_at input l rest (read_as (Some step)) is good,
         h.count,
         h.ran,
         full_there plan b h.world h.stands full,

@@ -50,7 +50,7 @@ send_grows count w f (Some flow) bytes after is = sends w after _ (ap (λ (x : W
 take_grows : (windows : List ℕ) (w : World) (u v : ℕ) (items : List Wired) (after : World) → TakenFrom windows w u v items after → Grows w after
 take_grows windows w u v [] after leads = absurd leads
 take_grows windows w u v (wired.Short bytes ∷ rest) after is = sends_none w after (ap (λ (x : World). x.frames) is)
-take_grows windows w u v (wired.Packet p ∷ rest) after (reports, told, is) = sends w after _ (ap (λ (x : World). x.frames) is)
+take_grows windows w u v (wired.Packet p ∷ rest) after (reports, yielded, is) = sends w after _ (ap (λ (x : World). x.frames) is)
 take_grows windows w u v (wired.Alone f bytes ∷ rest) after is = sends_none w after (ap (λ (x : World). x.frames) is)
 
 lose_grows : (w : World) (u v : ℕ) (items : List Wired) (after : World) → LostFrom w u v items after → Grows w after

@@ -5,26 +5,26 @@ use Rattle.std.specs.List.{Contains, list_all}
 use Rattle.j39_claim.specs.declared.item.Say.{Say}
 use Rattle.j39_claim.specs.declared.item.Say.TheVariants.{Claim, Cannot}
 use Rattle.j39_claim.specs.declared.item.Item.{Item}
-use Rattle.j39_claim.specs.declared.item.Item.TheVariants.{Told, Request}
+use Rattle.j39_claim.specs.declared.item.Item.TheVariants.{AddressClaimed, Request}
 use Rattle.j39_bus.specs.BusState.{BusState, undelivered}
 use Rattle.j39_world.specs.Sound.{IsQuiet}
 
 abbrev is_request : Item → Bool
-is_request (Told say) = false
+is_request (AddressClaimed say) = false
 is_request Request = true
 
-abbrev IsUntold : List Item → Type 0
-IsUntold items = ((a : ℕ) → ¬ Contains items (Told (Claim a))) × ¬ Contains items (Told Cannot)
+abbrev IsUnsent : List Item → Type 0
+IsUnsent items = ((a : ℕ) → ¬ Contains items (AddressClaimed (Claim a))) × ¬ Contains items (AddressClaimed Cannot)
 
--- nothing told is among requests
-untold : (items : List Item) (say : Say) → list_all is_request items ≡ true → ¬ Contains items (Told say)
-untold [] say all (k, inside, is) = absurd (omega arith)
-untold (item ∷ items) say all (zero, inside, is) =
+-- no claim is among requests
+unyielded : (items : List Item) (say : Say) → list_all is_request items ≡ true → ¬ Contains items (AddressClaimed say)
+unyielded [] say all (k, inside, is) = absurd (omega arith)
+unyielded (item ∷ items) say all (zero, inside, is) =
     let parts = and_parts (is_request item) (list_all is_request items) all in
     true≢false (sym parts.0 ∙ ap is_request is)
-untold (item ∷ items) say all (suc k, inside, is) =
+unyielded (item ∷ items) say all (suc k, inside, is) =
     let parts = and_parts (is_request item) (list_all is_request items) all in
-    untold items say parts.1 (k, omega arith, is)
+    unyielded items say parts.1 (k, omega arith, is)
 
 here : (item : Item) (items : List Item) → Contains (item ∷ items) item
 here item items = (zero, omega arith, refl)
@@ -32,12 +32,12 @@ here item items = (zero, omega arith, refl)
 behind : (item : Item) (items : List Item) (x : Item) → Contains items x → Contains (item ∷ items) x
 behind item items x (k, inside, is) = (suc k, omega arith, is)
 
-requests : (items : List Item) → IsUntold items → list_all is_request items ≡ true
+requests : (items : List Item) → IsUnsent items → list_all is_request items ≡ true
 requests [] none = refl
-requests (Told (Claim a) ∷ items) none = absurd (none.0 a (here (Told (Claim a)) items))
-requests (Told Cannot ∷ items) none = absurd (none.1 (here (Told Cannot) items))
+requests (AddressClaimed (Claim a) ∷ items) none = absurd (none.0 a (here (AddressClaimed (Claim a)) items))
+requests (AddressClaimed Cannot ∷ items) none = absurd (none.1 (here (AddressClaimed Cannot) items))
 requests (Request ∷ items) none =
-    requests items ((λ a there. none.0 a (behind Request items (Told (Claim a)) there)), (λ there. none.1 (behind Request items (Told Cannot) there)))
+    requests items ((λ a there. none.0 a (behind Request items (AddressClaimed (Claim a)) there)), (λ there. none.1 (behind Request items (AddressClaimed Cannot) there)))
 
 -- a test holds of all elements where it holds at each place, and past the last
 at_each : {X : Type 0} (p : X → Bool) (xs : List X) (d : X) → p d ≡ true → list_all p xs ≡ true → (k : ℕ) → p (get_or xs k d) ≡ true
@@ -62,8 +62,8 @@ quiet_test b = (is_quiet b.claims, (quiet, all))
     at holds u v = at_each (λ items. list_all is_request items) (get_or b.claims u []) [] refl (at_each is_quiet_row b.claims [] refl holds u) v
 
     quiet : is_quiet b.claims ≡ true → IsQuiet (undelivered b)
-    quiet holds u v = ((λ a. untold (undelivered b u v) (Claim a) (at holds u v)), untold (undelivered b u v) Cannot (at holds u v))
+    quiet holds u v = ((λ a. unyielded (undelivered b u v) (Claim a) (at holds u v)), unyielded (undelivered b u v) Cannot (at holds u v))
 
     all : IsQuiet (undelivered b) → is_quiet b.claims ≡ true
-    all untolds = of_all is_quiet_row b.claims []
-        (λ u. of_all (λ items. list_all is_request items) (get_or b.claims u []) [] (λ v. requests (undelivered b u v) (untolds u v)))
+    all unsent_ones = of_all is_quiet_row b.claims []
+        (λ u. of_all (λ items. list_all is_request items) (get_or b.claims u []) [] (λ v. requests (undelivered b u v) (unsent_ones u v)))

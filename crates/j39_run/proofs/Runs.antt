@@ -31,26 +31,26 @@ runs_to_end (AtLine place fault) is = cc is
 runs_to_end (Full place) is = cc is
 
 -- a run that goes on has done all lines that were read
-done_all : (plan : Plan) (b : BusState) (place : ℕ) (text : List ℕ) (halt : Halt) (told : List Line) (written : List ℕ) → halt ≡ End
-    → HasRunTo plan b place text halt told written → HasDone plan b told place written text
-done_all plan b place text halt told written goes run = subst (λ (h : Halt). HasRunTo plan b place text h told written) goes run
+done_all : (plan : Plan) (b : BusState) (place : ℕ) (text : List ℕ) (halt : Halt) (yielded : List Line) (written : List ℕ) → halt ≡ End
+    → HasRunTo plan b place text halt yielded written → HasDone plan b yielded place written text
+done_all plan b place text halt yielded written goes run = subst (λ (h : Halt). HasRunTo plan b place text h yielded written) goes run
 
 -- where the next line is refused the run stops
-stops : (plan : Plan) (b : BusState) (IsRefused : Reading → Type 0) (place : ℕ) (text : List ℕ) (told : List Line) (line : Line) (written : List ℕ)
-    → HasDone plan b told place written text → IsRefused (line_order plan line) → HasStopped plan b IsRefused place text (told ++ line ∷ []) written
-stops plan b IsRefused place text told line written done refused = record {
-  ls = told;
+stops : (plan : Plan) (b : BusState) (IsRefused : Reading → Type 0) (place : ℕ) (text : List ℕ) (yielded : List Line) (line : Line) (written : List ℕ)
+    → HasDone plan b yielded place written text → IsRefused (line_order plan line) → HasStopped plan b IsRefused place text (yielded ++ line ∷ []) written
+stops plan b IsRefused place text yielded line written done refused = record {
+  ls = yielded;
   line = line;
   rest = [];
-  parts = sym (append-nil (told ++ line ∷ []));
+  parts = sym (append-nil (yielded ++ line ∷ []));
   done = done;
   refused = refused;
 }
 
 -- what stands behind it makes no difference
-still_stopped : (plan : Plan) (b : BusState) (IsRefused : Reading → Type 0) (place : ℕ) (text : List ℕ) (told more : List Line) (written : List ℕ)
-    → HasStopped plan b IsRefused place text told written → HasStopped plan b IsRefused place text (told ++ more) written
-still_stopped plan b IsRefused place text told more written h = record {
+still_stopped : (plan : Plan) (b : BusState) (IsRefused : Reading → Type 0) (place : ℕ) (text : List ℕ) (yielded more : List Line) (written : List ℕ)
+    → HasStopped plan b IsRefused place text yielded written → HasStopped plan b IsRefused place text (yielded ++ more) written
+still_stopped plan b IsRefused place text yielded more written h = record {
   ls = h.ls;
   line = h.line;
   rest = h.rest ++ more;
@@ -60,15 +60,15 @@ still_stopped plan b IsRefused place text told more written h = record {
 }
 
 module _ {X : Type 0} {P : X → Type 0} (plan : Plan) (old : Running X P) (goes : is_running old.halt ≡ true) where
-  done_of : (told : List Line) (written : List ℕ) → HasRun plan old told written → HasDone plan old.bus told old.place written old.text
-  done_of told written run = done_all plan old.bus old.place old.text old.halt told written (runs_to_end old.halt goes) run
+  done_of : (yielded : List Line) (written : List ℕ) → HasRun plan old yielded written → HasDone plan old.bus yielded old.place written old.text
+  done_of yielded written run = done_all plan old.bus old.place old.text old.halt yielded written (runs_to_end old.halt goes) run
 
   -- a line that orders nothing
   pub blank_run : (line : Line) → line_order plan line ≡ read_as None → RunsOn plan old (record old { place = old.place + 1 }) (line ∷ [])
   blank_run line reads = record {
-    run = λ told written run.
-        subst (λ (h : Halt). HasRunTo plan old.bus (old.place + 1) old.text h (told ++ line ∷ []) written) (sym (runs_to_end old.halt goes))
-        (blank_done plan old.bus told line old.place written old.text (done_of told written run) reads);
+    run = λ yielded written run.
+        subst (λ (h : Halt). HasRunTo plan old.bus (old.place + 1) old.text h (yielded ++ line ∷ []) written) (sym (runs_to_end old.halt goes))
+        (blank_done plan old.bus yielded line old.place written old.text (done_of yielded written run) reads);
     count = omega arith;
   }
 
@@ -76,8 +76,8 @@ module _ {X : Type 0} {P : X → Type 0} (plan : Plan) (old : Running X P) (goes
   pub bad_run : (line : Line) (fault : LineFault) → line_order plan line ≡ Err fault
       → RunsOn plan old (record old { halt = AtLine old.place fault }) (line ∷ [])
   bad_run line fault reads = record {
-    run = λ told written run.
-        stops plan old.bus (λ reading. reading ≡ Err fault) old.place old.text told line written (done_of told written run) reads;
+    run = λ yielded written run.
+        stops plan old.bus (λ reading. reading ≡ Err fault) old.place old.text yielded line written (done_of yielded written run) reads;
     count = omega arith;
   }
 
@@ -86,9 +86,9 @@ module _ {X : Type 0} {P : X → Type 0} (plan : Plan) (old : Running X P) (goes
       → HasShown step old.bus bus old.text text
       → RunsOn plan old (record old { bus = bus; text = text; place = old.place + 1 }) (line ∷ [])
   step_run line step bus text reads room shown = record {
-    run = λ told written run.
-        subst (λ (h : Halt). HasRunTo plan bus (old.place + 1) text h (told ++ line ∷ []) written) (sym (runs_to_end old.halt goes))
-        (step_done plan old.bus bus told line step old.place written old.text text (done_of told written run) reads room shown);
+    run = λ yielded written run.
+        subst (λ (h : Halt). HasRunTo plan bus (old.place + 1) text h (yielded ++ line ∷ []) written) (sym (runs_to_end old.halt goes))
+        (step_done plan old.bus bus yielded line step old.place written old.text text (done_of yielded written run) reads room shown);
     count = omega arith;
   }
 
@@ -97,12 +97,12 @@ module _ {X : Type 0} {P : X → Type 0} (plan : Plan) (old : Running X P) (goes
       → ¬ HasSentAll old.bus → bus ≡ old.bus → ((p : Plan) (w : World) → Stands old.bus p w → refusal p w step ≡ cause_of cause)
       → (halt ≡ AtStep old.place cause) × (cause_of cause ≡ Some cause)
       → RunsOn plan old (record old { bus = bus; halt = halt }) (line ∷ [])
-  refused_run line step bus halt cause reads room same refuses (at, told_so) = record {
-    run = λ told written run.
-        subst (λ (h : Halt). HasRunTo plan bus old.place old.text h (told ++ line ∷ []) written) (sym at)
-        (subst (λ (b : BusState). HasStopped plan b (IsRefusedStep plan b cause) old.place old.text (told ++ line ∷ []) written) (sym same)
-        (stops plan old.bus (IsRefusedStep plan old.bus cause) old.place old.text told line written (done_of told written run)
-        (step, reads, room, (λ w stands. refuses plan w stands ∙ told_so))));
+  refused_run line step bus halt cause reads room same refuses (at, reported_so) = record {
+    run = λ yielded written run.
+        subst (λ (h : Halt). HasRunTo plan bus old.place old.text h (yielded ++ line ∷ []) written) (sym at)
+        (subst (λ (b : BusState). HasStopped plan b (IsRefusedStep plan b cause) old.place old.text (yielded ++ line ∷ []) written) (sym same)
+        (stops plan old.bus (IsRefusedStep plan old.bus cause) old.place old.text yielded line written (done_of yielded written run)
+        (step, reads, room, (λ w stands. refuses plan w stands ∙ reported_so))));
     count = omega arith;
   }
 
@@ -110,39 +110,39 @@ module _ {X : Type 0} {P : X → Type 0} (plan : Plan) (old : Running X P) (goes
   pub full_run : (line : Line) (step : Step) → line_order plan line ≡ read_as (Some step) → HasSentAll old.bus
       → RunsOn plan old (record old { halt = Full old.place }) (line ∷ [])
   full_run line step reads full = record {
-    run = λ told written run.
-        stops plan old.bus (IsStepTooMany old.bus) old.place old.text told line written (done_of told written run) (step, reads, full);
+    run = λ yielded written run.
+        stops plan old.bus (IsStepTooMany old.bus) old.place old.text yielded line written (done_of yielded written run) (step, reads, full);
     count = omega arith;
   }
 
--- nothing was told
+-- no line came
 pub same_run : {X : Type 0} {P : X → Type 0} (plan : Plan) (old : Running X P) (ls : List Line) → ls ≡ [] → RunsOn plan old old ls
 same_run plan old ls none = record {
-  run = λ told written run. subst (λ (t : List Line). HasRun plan old t written) (sym (append-nil told) ∙ ap (λ (m : List Line). told ++ m) (sym none)) run;
+  run = λ yielded written run. subst (λ (t : List Line). HasRun plan old t written) (sym (append-nil yielded) ∙ ap (λ (m : List Line). yielded ++ m) (sym none)) run;
   count = omega arith;
 }
 
-stopped_on : (plan : Plan) (b : BusState) (place : ℕ) (text : List ℕ) (halt : Halt) (told more : List Line) (written : List ℕ) → is_running halt ≡ false
-    → HasRunTo plan b place text halt told written → HasRunTo plan b place text halt (told ++ more) written
-stopped_on plan b place text End told more written stopped run = cc stopped
-stopped_on plan b place text (AtStep at cause) told more written stopped run = still_stopped plan b (IsRefusedStep plan b cause) at text told more written run
-stopped_on plan b place text (AtLine at fault) told more written stopped run =
-    still_stopped plan b (λ reading. reading ≡ Err fault) at text told more written run
-stopped_on plan b place text (Full at) told more written stopped run = still_stopped plan b (IsStepTooMany b) at text told more written run
+stopped_on : (plan : Plan) (b : BusState) (place : ℕ) (text : List ℕ) (halt : Halt) (yielded more : List Line) (written : List ℕ) → is_running halt ≡ false
+    → HasRunTo plan b place text halt yielded written → HasRunTo plan b place text halt (yielded ++ more) written
+stopped_on plan b place text End yielded more written stopped run = cc stopped
+stopped_on plan b place text (AtStep at cause) yielded more written stopped run = still_stopped plan b (IsRefusedStep plan b cause) at text yielded more written run
+stopped_on plan b place text (AtLine at fault) yielded more written stopped run =
+    still_stopped plan b (λ reading. reading ≡ Err fault) at text yielded more written run
+stopped_on plan b place text (Full at) yielded more written stopped run = still_stopped plan b (IsStepTooMany b) at text yielded more written run
 
 -- a run that stopped reads no more lines
 pub stopped_run : {X : Type 0} {P : X → Type 0} (plan : Plan) (old : Running X P) (ls : List Line) → is_running old.halt ≡ false → RunsOn plan old old ls
 stopped_run plan old ls stopped = record {
-  run = λ told written run. stopped_on plan old.bus old.place old.text old.halt told ls written stopped run;
+  run = λ yielded written run. stopped_on plan old.bus old.place old.text old.halt yielded ls written stopped run;
   count = omega arith;
 }
 
 -- ---- what is written
 
-put_to : (plan : Plan) (b : BusState) (place : ℕ) (text rest : List ℕ) (halt : Halt) (told : List Line) (written : List ℕ) → rest ≡ []
-    → HasRunTo plan b place text halt told written → HasRunTo plan b place rest halt told (written ++ text)
-put_to plan b place text rest End told written empty run = put_done plan b told place written text rest empty run
-put_to plan b place text rest (AtStep at cause) told written empty run = record {
+put_to : (plan : Plan) (b : BusState) (place : ℕ) (text rest : List ℕ) (halt : Halt) (yielded : List Line) (written : List ℕ) → rest ≡ []
+    → HasRunTo plan b place text halt yielded written → HasRunTo plan b place rest halt yielded (written ++ text)
+put_to plan b place text rest End yielded written empty run = put_done plan b yielded place written text rest empty run
+put_to plan b place text rest (AtStep at cause) yielded written empty run = record {
   ls = run.ls;
   line = run.line;
   rest = run.rest;
@@ -150,7 +150,7 @@ put_to plan b place text rest (AtStep at cause) told written empty run = record 
   done = put_done plan b run.ls at written text rest empty run.done;
   refused = run.refused;
 }
-put_to plan b place text rest (AtLine at fault) told written empty run = record {
+put_to plan b place text rest (AtLine at fault) yielded written empty run = record {
   ls = run.ls;
   line = run.line;
   rest = run.rest;
@@ -158,7 +158,7 @@ put_to plan b place text rest (AtLine at fault) told written empty run = record 
   done = put_done plan b run.ls at written text rest empty run.done;
   refused = run.refused;
 }
-put_to plan b place text rest (Full at) told written empty run = record {
+put_to plan b place text rest (Full at) yielded written empty run = record {
   ls = run.ls;
   line = run.line;
   rest = run.rest;
@@ -168,53 +168,53 @@ put_to plan b place text rest (Full at) told written empty run = record {
 }
 
 -- what is to be written is written
-pub put_run : {X : Type 0} {P : X → Type 0} (plan : Plan) (run : Running X P) (rest : List ℕ) (told : List Line) (written : List ℕ)
-    → rest ≡ [] → HasRun plan run told written
-    → HasRun plan (record run { text = rest }) told (written ++ run.text)
-put_run plan run rest told written empty has = put_to plan run.bus run.place run.text rest run.halt told written empty has
+pub put_run : {X : Type 0} {P : X → Type 0} (plan : Plan) (run : Running X P) (rest : List ℕ) (yielded : List Line) (written : List ℕ)
+    → rest ≡ [] → HasRun plan run yielded written
+    → HasRun plan (record run { text = rest }) yielded (written ++ run.text)
+put_run plan run rest yielded written empty has = put_to plan run.bus run.place run.text rest run.halt yielded written empty has
 
 -- ---- the text
 
 -- the bus has the units of the plan
-pub units_counted : (plan : Plan) (b : BusState) (place : ℕ) (text : List ℕ) (halt : Halt) (told : List Line) (written : List ℕ)
-    → HasRunTo plan b place text halt told written → length b.units ≡ length plan.units.items
-units_counted plan b place text End told written run = unit_count b plan run.world run.stands
-units_counted plan b place text (AtStep at cause) told written run = unit_count b plan run.done.world run.done.stands
-units_counted plan b place text (AtLine at fault) told written run = unit_count b plan run.done.world run.done.stands
-units_counted plan b place text (Full at) told written run = unit_count b plan run.done.world run.done.stands
+pub units_counted : (plan : Plan) (b : BusState) (place : ℕ) (text : List ℕ) (halt : Halt) (yielded : List Line) (written : List ℕ)
+    → HasRunTo plan b place text halt yielded written → length b.units ≡ length plan.units.items
+units_counted plan b place text End yielded written run = unit_count b plan run.world run.stands
+units_counted plan b place text (AtStep at cause) yielded written run = unit_count b plan run.done.world run.done.stands
+units_counted plan b place text (AtLine at fault) yielded written run = unit_count b plan run.done.world run.done.stands
+units_counted plan b place text (Full at) yielded written run = unit_count b plan run.done.world run.done.stands
 
-rest_told : (told front rest more all : List Line) → all ≡ told ++ more → told ≡ front ++ rest → all ≡ front ++ (rest ++ more)
-rest_told told front rest more all is parts = is ∙ ap (λ (t : List Line). t ++ more) parts ∙ append_assoc front rest more
+rest_yielded : (yielded front rest more all : List Line) → all ≡ yielded ++ more → yielded ≡ front ++ rest → all ≡ front ++ (rest ++ more)
+rest_yielded yielded front rest more all is parts = is ∙ ap (λ (t : List Line). t ++ more) parts ∙ append_assoc front rest more
 
 module _ (plan : Plan) (b : BusState) (place : ℕ) (text : List ℕ) (view : View) (shows : (w : World) → Stands b plan w → Shows plan w view) where
   -- with what stands at its end the text is whole, for each schedule with these lines
-  pub closed : (halt : Halt) (told : List Line) (written input : List ℕ) → HasRunTo plan b place text halt told written
-      → HasLines (is_running halt) told input → IsBusText plan input halt (written ++ (text ++ closing_text plan view halt))
-  closed End told written input run all = end_done plan b told place written text run view shows input (sym all)
-  closed (AtStep at cause) told written input run (more, all) =
+  pub closed : (halt : Halt) (yielded : List Line) (written input : List ℕ) → HasRunTo plan b place text halt yielded written
+      → HasLines (is_running halt) yielded input → IsBusText plan input halt (written ++ (text ++ closing_text plan view halt))
+  closed End yielded written input run all = end_done plan b yielded place written text run view shows input (sym all)
+  closed (AtStep at cause) yielded written input run (more, all) =
       let (step, reads, room, refuses) = run.refused in
       step_refused plan b run.ls at written text run.done view shows input run.line (run.rest ++ more) step cause
-      (rest_told told (run.ls ++ run.line ∷ []) run.rest more (lines input) all run.parts) reads room refuses
-  closed (AtLine at fault) told written input run (more, all) =
+      (rest_yielded yielded (run.ls ++ run.line ∷ []) run.rest more (lines input) all run.parts) reads room refuses
+  closed (AtLine at fault) yielded written input run (more, all) =
       line_refused plan b run.ls at written text run.done view shows input run.line (run.rest ++ more) fault
-      (rest_told told (run.ls ++ run.line ∷ []) run.rest more (lines input) all run.parts) run.refused
-  closed (Full at) told written input run (more, all) =
+      (rest_yielded yielded (run.ls ++ run.line ∷ []) run.rest more (lines input) all run.parts) run.refused
+  closed (Full at) yielded written input run (more, all) =
       let (step, reads, full) = run.refused in
       step_too_many plan b run.ls at written text run.done view shows input run.line (run.rest ++ more) step
-      (rest_told told (run.ls ++ run.line ∷ []) run.rest more (lines input) all run.parts) reads full
+      (rest_yielded yielded (run.ls ++ run.line ∷ []) run.rest more (lines input) all run.parts) reads full
 
 -- a text begins with what is written of the lines
-pub so_far : {X : Type 0} {P : X → Type 0} (plan : Plan) (run : Running X P) (told : List Line) (written : List ℕ) → HasRun plan run told written
-    → IsSoFar (λ told written. HasRun plan run told written) (λ schedule text verdict. IsTextOfBus plan schedule text verdict)
-    (is_running run.halt) run.text told written
-so_far plan run told written has =
+pub so_far : {X : Type 0} {P : X → Type 0} (plan : Plan) (run : Running X P) (yielded : List Line) (written : List ℕ) → HasRun plan run yielded written
+    → IsSoFar (λ yielded written. HasRun plan run yielded written) (λ schedule text verdict. IsTextOfBus plan schedule text verdict)
+    (is_running run.halt) run.text yielded written
+so_far plan run yielded written has =
     let (view, shows) = some_view plan run.bus in
     record {
       read = has;
       begins = λ input all. (
         closing_text plan view run.halt,
         verdict_of run.halt,
-        (run.halt, closed plan run.bus run.place run.text view shows run.halt told written input has all, refl),
+        (run.halt, closed plan run.bus run.place run.text view shows run.halt yielded written input has all, refl),
         λ goes. ap verdict_of (runs_to_end run.halt goes),
       );
     }

@@ -33,13 +33,13 @@ module _ (plan : Plan) (choosers : ℕ) (error : BusError) (refused : IsNotOpene
   refusal_of : (bytes text : List ℕ) (verdict : Verdict) → IsRefusedBy plan error text verdict → IsRunText plan choosers bytes text verdict
   refusal_of bytes text verdict (line, is) = inl ((error, refused, line), is)
 
-  pub refused_answers : {W : Type 0} {state : W → SinkState} {old : SourceState} {told ended : W} (r : Result Verdict Fault)
-      → PutsText (IsRefusedBy plan error) state told ended r → AnswersInPieces (IsRunText plan choosers) plan_limits old old state told ended r
+  pub refused_answers : {W : Type 0} {state : W → SinkState} {old : SourceState} {start ended : W} (r : Result Verdict Fault)
+      → PutsText (IsRefusedBy plan error) state start ended r → AnswersInPieces (IsRunText plan choosers) plan_limits old old state start ended r
   refused_answers r puts = put_unread r (λ text verdict is. (refusal_of [] text verdict is, λ done. cc (done, is.1))) puts
 
-  pub refused_whole : {W : Type 0} {state : W → SinkState} {told ended : W} (left : Option (List ℕ)) (r : Result Verdict Fault)
-      → PutsText (IsRefusedBy plan error) state told ended r
+  pub refused_whole : {W : Type 0} {state : W → SinkState} {start ended : W} (left : Option (List ℕ)) (r : Result Verdict Fault)
+      → PutsText (IsRefusedBy plan error) state start ended r
       → IfOk r (λ verdict. (all : List ℕ) → left ≡ Some all → (text : List ℕ) × IsRunText plan choosers all text verdict
-      × Appends (state told).taken (state ended).taken text)
+      × Appends (state start).taken (state ended).taken text)
   refused_whole left r puts =
       IfOk-weaker r _ _ (λ verdict (text, is, put) all known. (text, refusal_of all text verdict is, put)) puts.written

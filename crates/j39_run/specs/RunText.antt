@@ -15,7 +15,7 @@ use Rattle.j39_world.specs.Sent.{Sent}
 use Rattle.j39_world.specs.Transfers.{Reported}
 use Rattle.j39_world.specs.World.{World, all_off}
 use Rattle.j39_text.specs.Labels.{group_text, unit_label, units_text}
-use Rattle.j39_id.specs.Lines.{at_start, is_line_feed, told}
+use Rattle.j39_id.specs.Lines.{at_start, is_line_feed, yielded}
 use Rattle.j39_schedule.specs.Schedule.{Reading, read_as, readings_of}
 use Rattle.j39_text.specs.Texts.{field, place_field}
 use Rattle.j39_schedule.specs.declared.line_fault.LineFault.{LineFault}
@@ -207,8 +207,8 @@ IsSameForContinuations =
     (plan : Plan) (choosers : ℕ) (front more other : List ℕ) (halt : Halt) (text : List ℕ) → IsWithin (length (slice_split is_line_feed front)) halt
     → IsTextOfRun plan choosers (front ++ 10 ∷ more) halt text → IsTextOfRun plan choosers (front ++ 10 ∷ other) halt text
 
--- so it is where a line is refused that a cutter tells of what came, be it ended or too long before it has ended
-abbrev pub IsSameOnceTold : Type 0
-IsSameOnceTold =
-    (plan : Plan) (choosers : ℕ) (front more other : List ℕ) (halt : Halt) (text : List ℕ) → IsWithin (length (told at_start front)) halt
+-- so it is where a line is refused that a cutter yields of what came, be it ended or too long before it has ended
+abbrev pub IsSameOnceReported : Type 0
+IsSameOnceReported =
+    (plan : Plan) (choosers : ℕ) (front more other : List ℕ) (halt : Halt) (text : List ℕ) → IsWithin (length (yielded at_start front)) halt
     → IsTextOfRun plan choosers (front ++ more) halt text → IsTextOfRun plan choosers (front ++ other) halt text

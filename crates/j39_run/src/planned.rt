@@ -14,6 +14,7 @@ use std::alloc::Global;
 
 /// Writes what a bus of the plan sends on a schedule as `run_text` does, each unit choosing addresses in its planned
 /// way.
+#[inline(never)]
 pub fn run_planned<S: Source, W: Sink>(
     alloc: Global,
     plan: &Plan,

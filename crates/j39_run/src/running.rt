@@ -2,7 +2,7 @@
 ghost use Rattle.std.specs.Prelude.{◌≡◌, ◌<◌, ◌^◌, nat_le, true, [], ◌∷◌, IfOk, OnErr, OnOk, None, Some};
 ghost use Rattle.j39_bus.specs.Stands.{Stands};
 ghost use Rattle.j39_network.specs.declared.plan.Plan.{Plan as APlan};
-ghost use Rattle.j39_id.specs.Lines.{Line, Short, tells};
+ghost use Rattle.j39_id.specs.Lines.{Line, Short, yields};
 ghost use Rattle.j39_schedule.specs.Schedule.{line_order, read_as};
 ghost use Rattle.j39_world.specs.Run.{cause_of, refusal};
 ghost use Rattle.j39_world.specs.World.{World, all_off};
@@ -117,13 +117,13 @@ impl Running {
         }
     }
 
-    /// Reads what a cutter tells: a line, a line that is too long, or nothing yet. Behind a line that is refused
+    /// Reads what a cutter yields: a line, a line that is too long, or nothing yet. Behind a line that is refused
     /// nothing is done.
     #[tactic(auto, using(crate::proofs::Runs::same_run, crate::proofs::Runs::stopped_run))]
     pub fn read_cut(&mut self, units: &Units, cut: Cut, line: &[u8]) -> Result<(), AllocError>
         requires { self.old.place < 2 ^ 63 }
-        ensures run { OnOk result (RunsOn units.now self.old self.new (tells cut line.now)) }
-        ensures memory { OnErr result ((is_running self.old.halt ≡ true) × OrdersStep units.now (tells cut line.now)) }
+        ensures run { OnOk result (RunsOn units.now self.old self.new (yields cut line.now)) }
+        ensures memory { OnErr result ((is_running self.old.halt ≡ true) × OrdersStep units.now (yields cut line.now)) }
     {
         if !self.halt.is_running() {
             return Ok(());

@@ -23,7 +23,7 @@ impl<'a> LineReader for ScheduleReader<'a> {
 
     ghost goes = { λ reader. is_running reader.running.halt };
 
-    ghost has_read = { λ reader told written. HasRun reader.units.now reader.running told written };
+    ghost has_read = { λ reader yielded written. HasRun reader.units.now reader.running yielded written };
 
     ghost is_text = { λ reader schedule text verdict. IsTextOfBus reader.units.now schedule text verdict };
 

@@ -3,7 +3,7 @@ pub mod CleanUnits
 pub mod CleanEnds
 pub mod FreeAddress
 pub mod AddressInvariant
-pub mod Telling
+pub mod SentToOthers
 pub mod Notes
 pub mod Turns
 pub mod AddressSteps

@@ -3,7 +3,7 @@ use Rattle.std.proofs.Common.{◌≡◌, ℕ, ◌<◌, false, true, List, [], le
 use Rattle.std.specs.List.{Contains}
 use Rattle.j39_claim.specs.declared.item.Say.TheVariants.{Claim, Cannot}
 use Rattle.j39_claim.specs.declared.item.Item.{Item}
-use Rattle.j39_claim.specs.declared.item.Item.TheVariants.{Told}
+use Rattle.j39_claim.specs.declared.item.Item.TheVariants.{AddressClaimed}
 use Rattle.j39_findings.specs.Findings.{Clean}
 use Rattle.j39_network.specs.Needs.{AreNeedsMet}
 use Rattle.j39_network.specs.PlannedRequests.{AreAnsweredWell, AreRequestsServed}
@@ -33,8 +33,8 @@ none_in x (k, inside, is) = absurd (omega arith)
 -- where nothing is undelivered no claim is
 pub quiet_where_empty : (claims : Undelivered) → ((s t : ℕ) → claims s t ≡ []) → IsQuiet claims
 quiet_where_empty claims empty u v = (
-  λ a there. none_in (Told (Claim a)) (subst (λ xs. Contains xs (Told (Claim a))) (empty u v) there),
-  λ there. none_in (Told Cannot) (subst (λ xs. Contains xs (Told Cannot)) (empty u v) there),
+  λ a there. none_in (AddressClaimed (Claim a)) (subst (λ xs. Contains xs (AddressClaimed (Claim a))) (empty u v) there),
+  λ there. none_in (AddressClaimed Cannot) (subst (λ xs. Contains xs (AddressClaimed Cannot)) (empty u v) there),
 )
 
 pub sound_by_laws : (plan : Plan) → Clean plan

@@ -4,5 +4,7 @@ pub mod Changed
 pub mod Units
 pub mod SwitchedOff
 pub mod Elements
+pub mod WiredItems
+pub mod LeavingSteps
 pub mod ReceiverRows
 pub mod ClaimInvariants

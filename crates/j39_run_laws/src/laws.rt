@@ -72,7 +72,7 @@ pub fn acknowledged_messages_were_reported()
     ensures { (plan : Plans) (steps : List Steps) (w : World) → Run plan all_off steps w → IsAcknowledgedReported w }
 {}
 
-/// From each world of each run of a plan whose NAMEs differ, whoever goes on delivering what units have told each other
+/// From each world of each run of a plan whose NAMEs differ, whoever goes on delivering what units have sent each other
 /// comes to an end, in whatever order and with whatever lawful choices: no more Gives than a given number run through,
 /// and where none does, nothing is undelivered. It says nothing of time.
 pub fn claims_die_down()

@@ -1,4 +1,4 @@
--- The fault that is told of a line is the first that holds.
+-- The fault that is reported of a line is the first that holds.
 use Rattle.std.proofs.Common.{◌≡◌, ℕ, suc, ◌==◌, ◌||◌, true, false, List, [], ◌∷◌, length, Option, Some, None, Result, Ok, Err, refl, arith}
 use Rattle.std.proofs.lemmas.Bool.{ne_eqb, or_from}
 use Rattle.std.specs.Option.{option_map_or}
@@ -13,7 +13,7 @@ use Rattle.j39_network.specs.declared.steps.Step.{Step}
 use Rattle.j39_schedule.specs.Schedule.{Ordered}
 use Rattle.j39_schedule.specs.Schedule.{does, Order, of_unit, of_units, of_unit_or_units, of_message, Reading, begins_comment, flow_place, line_order}
 use Rattle.j39_schedule.specs.Schedule.{spelled_number, order_named, order_of, unit_named, with_bytes, words_of, words_order}
-use Rattle.j39_schedule.specs.LineFaults.{TellsFirstFault, order_faults, values_faults, words_faults}
+use Rattle.j39_schedule.specs.LineFaults.{ReportsFirstFault, order_faults, values_faults, words_faults}
 use Rattle.j39_schedule.specs.declared.line_fault.LineFault.TheVariants.{UnknownWord, UnknownLabel, BadNumber, BadHex}
 
 -- ---- numbers of values
@@ -85,7 +85,7 @@ words_first plan (word ∷ values) =
       | false ↦ order_first plan (order_named word) values
     ]
 
-pub tells_first_fault : TellsFirstFault
+pub reports_first_fault : ReportsFirstFault
 unfolding line_order
-tells_first_fault plan Long = refl
-tells_first_fault plan (Short line) = words_first plan (words_of line)
+reports_first_fault plan Long = refl
+reports_first_fault plan (Short line) = words_first plan (words_of line)

@@ -41,7 +41,7 @@ label_word text is =
       leb-true (length text) 32 form.0,
     )
 
--- labels that differ tell units apart
+-- labels that differ distinguish units
 pub named : (plan : Plan) (u : ℕ) (unit : UnitPlan) → slice_get plan.units.items u ≡ Some unit → unit_named plan unit.label.bytes ≡ Some u
 unfolding unit_named
 named plan u unit at =

@@ -13,7 +13,7 @@ use Rattle.j39_network.specs.declared.plan.Plan.{Plan}
 use Rattle.j39_network.specs.declared.steps.Step.{Step}
 use Rattle.j39_network.specs.declared.steps.Step.TheVariants.{Up, Down, Give, Ask, Begin, Send, Emit, Take, Lose, LateSender, LateReceiver, Rest}
 use Rattle.j39_text.specs.Labels.{unit_label, units_text}
-use Rattle.j39_text.specs.Texts.{field_text, place_field}
+use Rattle.j39_text.specs.Texts.{field_text, labels_text, place_field}
 use Rattle.j39_schedule.specs.Schedule.{Ordered, Reading, as_ordered, begins, sends, does, line_order, order_named, read_as, readings_of}
 use Rattle.j39_schedule.specs.Schedule.{with_flow, with_unit, with_units, words_of, words_order}
 use Rattle.j39_schedule.specs.StepLines.{IsMessageOf, IsStepOf, IsUnit, step_line, step_lines, step_text, step_unit_text}
@@ -70,7 +70,7 @@ unit_step plan word step u inside is few begun other =
 
 units_step : (plan : Plan) (word : List ℕ) (step : ℕ → ℕ → Step) (u v : ℕ) → IsUnit plan u × IsUnit plan v → IsWord word → length word ≤ 5
     → BeginsUnits plan word step → as_ordered (step u v) ≡ does (step u v) → Spells plan (units_text (word ++ 32 ∷ []) plan u v) (step u v)
-unfolding units_text
+unfolding units_text labels_text
 units_step plan word step u v inside is few begun other =
     let one = is_named plan u inside.0 in
     let two = is_named plan v inside.1 in

@@ -53,6 +53,6 @@ abbrev pub line_faults : Plan → Line → List (LineFault × Bool)
 line_faults plan Long = (LongLine, true) ∷ []
 line_faults plan (Short line) = words_faults plan (words_of line)
 
--- the law: what is told of a line is its first fault, if it has one
-abbrev pub TellsFirstFault : Type 0
-TellsFirstFault = (plan : Plan) (line : Line) → result_err (line_order plan line) ≡ first_fault (line_faults plan line)
+-- the law: what is reported of a line is its first fault, if it has one
+abbrev pub ReportsFirstFault : Type 0
+ReportsFirstFault = (plan : Plan) (line : Line) → result_err (line_order plan line) ≡ first_fault (line_faults plan line)

@@ -1,20 +1,19 @@
 //! Schedules: files of orders, one a line; how they are read, and how steps are written as one.
 #![tactic(auto)]
 
-mod beginning;
 mod laws;
 mod line_fault;
 mod line_words;
+mod messages;
 mod order_line;
 mod order_word;
-mod sending;
 mod step_lines;
 mod unit_index;
 mod units;
 mod unread;
 mod values;
 
-pub use laws::{first_fault_is_told, written_steps_read_back};
+pub use laws::{first_fault_is_reported, written_steps_read_back};
 pub use line_fault::LineFault;
 pub use order_line::read_line;
 pub use step_lines::write_steps;

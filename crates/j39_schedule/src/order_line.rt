@@ -5,11 +5,10 @@ ghost use Rattle.j39_schedule.specs.Schedule.{line_order, order_of, unit_named, 
 ghost use Rattle.j39_schedule.specs.Scheduling.{IsReadAs};
 ghost use Rattle.j39_schedule.specs.inside.OrderWords.{order_word};
 
-use crate::beginning::begin;
 use crate::line_fault::LineFault;
 use crate::line_words::next_word;
+use crate::messages::order_message;
 use crate::order_word::OrderWord;
-use crate::sending::send;
 use crate::units::Units;
 use crate::unread::Unread;
 use crate::values::{Values, values_of};
@@ -54,8 +53,7 @@ fn of_two(
         OrderWord::OfUnit(_) => Err(Unread::Fault(LineFault::WordCount)),
         OrderWord::OfUnits(order) => Ok(Some(order.step(unit(units, a)?, unit(units, b)?))),
         OrderWord::Late => Ok(Some(Step::LateReceiver(unit(units, a)?, unit(units, b)?))),
-        OrderWord::Begin => begin(alloc, units.plan(), a, b),
-        OrderWord::Send => send(alloc, units.plan(), a, b),
+        OrderWord::OfMessage(order) => order_message(alloc, units.plan(), order, a, b),
     }
 }
 

@@ -1,7 +1,7 @@
 //! The words that orders begin with.
 ghost use Rattle.std.specs.Prelude.{◌≡◌, option_map};
 ghost use Rattle.j39_schedule.specs.Schedule.{as_ordered, does, order_named};
-ghost use Rattle.j39_schedule.specs.inside.OrderWords.{beside, order_word, unit_step, units_step};
+ghost use Rattle.j39_schedule.specs.inside.OrderWords.{beside, message_order, order_word, unit_step, units_step};
 
 use j39_network::Step;
 
@@ -53,13 +53,31 @@ impl UnitsOrder {
     }
 }
 
+/// An order for a message of a flow.
+#[derive(Clone, Copy)]
+pub enum MessageOrder {
+    Begin,
+    Send,
+}
+
+impl MessageOrder {
+    /// The step that is ordered of this flow with these bytes.
+    pub fn step(self, flow: usize, bytes: Vec<u8>) -> Step
+        ensures { as_ordered result ≡ message_order self flow bytes.items }
+    {
+        match self {
+            MessageOrder::Begin => Step::Begin(flow, bytes),
+            MessageOrder::Send => Step::Send(flow, bytes),
+        }
+    }
+}
+
 /// A word that an order begins with.
 #[derive(Clone, Copy)]
 pub enum OrderWord {
     OfUnit(UnitOrder),
     OfUnits(UnitsOrder),
-    Begin,
-    Send,
+    OfMessage(MessageOrder),
     Late,
 }
 
@@ -69,8 +87,8 @@ const WORDS: [(&str, OrderWord); 11] = [
     ("down", OrderWord::OfUnit(UnitOrder::Down)),
     ("give", OrderWord::OfUnits(UnitsOrder::Give)),
     ("ask", OrderWord::OfUnit(UnitOrder::Ask)),
-    ("begin", OrderWord::Begin),
-    ("send", OrderWord::Send),
+    ("begin", OrderWord::OfMessage(MessageOrder::Begin)),
+    ("send", OrderWord::OfMessage(MessageOrder::Send)),
     ("emit", OrderWord::OfUnit(UnitOrder::Emit)),
     ("take", OrderWord::OfUnits(UnitsOrder::Take)),
     ("lose", OrderWord::OfUnits(UnitsOrder::Lose)),

@@ -1,6 +1,7 @@
 //! Writing the steps of a plan as lines of a schedule.
-ghost use Rattle.std.specs.Prelude.{◌≡◌, ◌++◌, OnOk};
-ghost use Rattle.j39_network.specs.declared.steps.Step.TheVariants.{Begin, Send};
+ghost use Rattle.std.specs.Prelude.{◌≡◌, ◌++◌, OnOk, codes};
+ghost use Rattle.hex.specs.Hex.{encode_upper};
+ghost use Rattle.j39_text.specs.Texts.{place_field};
 ghost use Rattle.j39_schedule.specs.StepLines.{step_line, step_lines, step_text, step_unit_text};
 
 use j39_network::{Plan, Step};
@@ -15,30 +16,16 @@ fn write_unit(text: &mut TextBuffer, word: &str, plan: &Plan, unit: usize) -> Re
     text.word(unit_label(plan, unit))
 }
 
-#[tactic(auto, unfolding(crate::specs::StepLines::step_text))]
-fn write_begin(
+// A word, the number of a flow, and bytes.
+fn write_message(
     text: &mut TextBuffer,
-    plan: &Plan,
+    word: &str,
     flow: usize,
     bytes: &Vec<u8>,
 ) -> Result<(), AllocError>
-    ensures { OnOk result (text.new ≡ text.old ++ step_text plan.now (Begin flow bytes.now)) }
+    ensures { OnOk result (text.new ≡ text.old ++ (place_field word.now flow ++ (codes " " ++ encode_upper bytes.now.items))) }
 {
-    text.place("begin ", flow)?;
-    text.word(" ")?;
-    text.hex(bytes.as_slice())
-}
-
-#[tactic(auto, unfolding(crate::specs::StepLines::step_text))]
-fn write_send(
-    text: &mut TextBuffer,
-    plan: &Plan,
-    flow: usize,
-    bytes: &Vec<u8>,
-) -> Result<(), AllocError>
-    ensures { OnOk result (text.new ≡ text.old ++ step_text plan.now (Send flow bytes.now)) }
-{
-    text.place("send ", flow)?;
+    text.place(word, flow)?;
     text.word(" ")?;
     text.hex(bytes.as_slice())
 }
@@ -52,8 +39,8 @@ fn write_step(text: &mut TextBuffer, plan: &Plan, step: &Step) -> Result<(), All
         Step::Down(unit) => write_unit(text, "down ", plan, *unit),
         Step::Give(from, to) => write_units(text, "give ", plan, *from, *to),
         Step::Ask(unit) => write_unit(text, "ask ", plan, *unit),
-        Step::Begin(flow, bytes) => write_begin(text, plan, *flow, bytes),
-        Step::Send(flow, bytes) => write_send(text, plan, *flow, bytes),
+        Step::Begin(flow, bytes) => write_message(text, "begin ", *flow, bytes),
+        Step::Send(flow, bytes) => write_message(text, "send ", *flow, bytes),
         Step::Emit(unit) => write_unit(text, "emit ", plan, *unit),
         Step::Take(from, to) => write_units(text, "take ", plan, *from, *to),
         Step::Lose(from, to) => write_units(text, "lose ", plan, *from, *to),

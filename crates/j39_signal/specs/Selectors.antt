@@ -1,4 +1,4 @@
--- Bits of a payload that tell whose layout it has: a command byte of a maker's protocol, the group function of a terminal.
+-- Bits of a payload that report whose layout it has: a command byte of a maker's protocol, the group function of a terminal.
 use Rattle.std.specs.Prelude.{◌≡◌, ◌≢◌, ℕ, ◌+◌, ◌*◌, ◌≤◌, ◌==◌, ◌&&◌, Bool, true, false, not, nat_le, List, length, Option, Some}
 use Rattle.std.specs.Option.{ForSome, option_map_or}
 use Rattle.j39_signal.specs.Bits.{number_at}

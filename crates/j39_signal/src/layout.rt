@@ -204,7 +204,7 @@ impl Layout {
         self.blank_of(alloc, self.bytes)
     }
 
-    /// The same of so many bytes.
+    /// A payload of so many bytes in which every bit is 1, but for those of a selector, which have its value.
     #[tactic(auto, using(crate::proofs::Blanks::ends_in))]
     pub fn blank_of(&self, alloc: Global, bytes: u16) -> Result<Vec<u8>, AllocError>
         requires { (self.now.length ≤ bytes) × (bytes ≤ self.now.most) }

@@ -62,7 +62,7 @@ impl Signal {
         }
     }
 
-    /// The same so many bytes further on.
+    /// What the signal shows in a payload, where its record begins so many bytes further on.
     pub(crate) fn show_further(&self, payload: &[u8], bytes: usize) -> Shown
         requires width { WidthFits self.now }
         requires inside { IsInside (length payload.now) (further bytes self.now) }

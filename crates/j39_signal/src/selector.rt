@@ -1,8 +1,8 @@
-//! Bits that tell whose layout a payload has.
+//! Bits that report whose layout a payload has.
 ghost use Rattle.std.specs.Prelude.{◌≤◌, ◌<◌, ◌^◌};
 
 /// Bits of a payload, and the number that they have in each message of a group: a command byte, by which groups of one
-/// number are told apart.
+/// number are distinguished.
 #[derive(Clone, Copy, PartialEq, Eq)]
 pub struct Selector {
     /// The place of the lowest bit, counted from 0.

@@ -14,8 +14,8 @@ use Rattle.j39_stream.proofs.Parts.{none_read}
 module _ {V W : Type 0} {IsText : List ℕ → List ℕ → V → Type 0} {IsPart : List ℕ → List ℕ → Type 0} {most : Limits} {old new : SourceState}
     {state : W → SinkState} where
   -- the input couldn't be read
-  pub not_read : {told : W} (r : Result V Fault) → IsErr r → (IsErrOf r TooLong → PassesLimits most old new)
-      → (IsErrOf r Device → HasFailed old.failures new.failures) → AnswersWhole IsText IsPart most old new state told told r
+  pub not_read : {start : W} (r : Result V Fault) → IsErr r → (IsErrOf r TooLong → PassesLimits most old new)
+      → (IsErrOf r Device → HasFailed old.failures new.failures) → AnswersWhole IsText IsPart most old new state start start r
   not_read (Ok answer) fails long device = cc fails
   not_read (Err fault) fails long device = record {
     written = tt;
@@ -28,10 +28,10 @@ module _ {V W : Type 0} {IsText : List ℕ → List ℕ → V → Type 0} {IsPar
   }
 
   -- what was read is answered
-  pub answered : {told ended : W} (input text : List ℕ) (answer : V) → Consumes old.left new.left input → IsAtEnd new.left → KeepsLimits most old new
-      → IsText input text answer → Appends (state told).taken (state ended).taken text
-      → (new.failures ≡ old.failures) × ((state ended).failures ≡ (state told).failures)
-      → AnswersWhole IsText IsPart most old new state told ended (Ok answer)
+  pub answered : {start ended : W} (input text : List ℕ) (answer : V) → Consumes old.left new.left input → IsAtEnd new.left → KeepsLimits most old new
+      → IsText input text answer → Appends (state start).taken (state ended).taken text
+      → (new.failures ≡ old.failures) × ((state ended).failures ≡ (state start).failures)
+      → AnswersWhole IsText IsPart most old new state start ended (Ok answer)
   answered input text answer read end keeps is put calm = record {
     written = (input, text, read, end, is, put);
     memory = λ e. cc e;
@@ -44,10 +44,10 @@ module _ {V W : Type 0} {IsText : List ℕ → List ℕ → V → Type 0} {IsPar
 
 -- the text of an input that was read is put
 module _ {V W : Type 0} {IsText : List ℕ → List ℕ → V → Type 0} {IsPart : List ℕ → List ℕ → Type 0} {P : List ℕ → V → Type 0} {most : Limits}
-    {old new : SourceState} {state : W → SinkState} {told ended : W} (input : List ℕ)
+    {old new : SourceState} {state : W → SinkState} {start ended : W} (input : List ℕ)
     (says : (text : List ℕ) (answer : V) → P text answer → IsText input text answer × IsPart input text) where
   pub read_and_put : (r : Result V Fault) → Consumes old.left new.left input → IsAtEnd new.left → KeepsLimits most old new
-      → new.failures ≡ old.failures → PutsText P state told ended r → AnswersWhole IsText IsPart most old new state told ended r
+      → new.failures ≡ old.failures → PutsText P state start ended r → AnswersWhole IsText IsPart most old new state start ended r
   read_and_put (Ok answer) read end keeps calm puts =
       let (text, is, put) = puts.written in
       answered input text answer read end keeps (says text answer is).0 put (calm, puts.calm)
@@ -77,7 +77,7 @@ module _ {V W : Type 0} {IsText : List ℕ → List ℕ → V → Type 0} {IsPar
 
 module _ {V W : Type 0} {IsText : List ℕ → V → Type 0} {state : W → SinkState} where
   -- there is none for want of memory
-  pub none_put : {told : W} (r : Result V Fault) → IsErrOf r Memory → PutsText IsText state told told r
+  pub none_put : {start : W} (r : Result V Fault) → IsErrOf r Memory → PutsText IsText state start start r
   none_put r wants = rw wants record {
     written = tt;
     memory = λ _. refl;
@@ -88,8 +88,8 @@ module _ {V W : Type 0} {IsText : List ℕ → V → Type 0} {state : W → Sink
   }
 
   -- all of it was taken
-  pub all_put : {told ended : W} (text : List ℕ) (answer : V) → IsText text answer → Appends (state told).taken (state ended).taken text
-      → (state ended).failures ≡ (state told).failures → PutsText IsText state told ended (Ok answer)
+  pub all_put : {start ended : W} (text : List ℕ) (answer : V) → IsText text answer → Appends (state start).taken (state ended).taken text
+      → (state ended).failures ≡ (state start).failures → PutsText IsText state start ended (Ok answer)
   all_put text answer is put calm = record {
     written = (text, is, put);
     memory = λ e. cc e;
@@ -100,8 +100,8 @@ module _ {V W : Type 0} {IsText : List ℕ → V → Type 0} {state : W → Sink
   }
 
   -- a part of it was
-  pub part_put : {told ended : W} (text : List ℕ) (answer : V) → IsText text answer → AppendsPart (state told).taken (state ended).taken text
-      → (r : Result V Fault) → IsErrOf r Device → HasFailed (state told).failures (state ended).failures → PutsText IsText state told ended r
+  pub part_put : {start ended : W} (text : List ℕ) (answer : V) → IsText text answer → AppendsPart (state start).taken (state ended).taken text
+      → (r : Result V Fault) → IsErrOf r Device → HasFailed (state start).failures (state ended).failures → PutsText IsText state start ended r
   part_put text answer is part r ends failed = rw ends record {
     written = tt;
     memory = λ e. cc e;
@@ -115,8 +115,8 @@ module _ {V W : Type 0} {IsText : List ℕ → V → Type 0} {state : W → Sink
 
 module _ {W : Type 0} {IsText : List ℕ → List ℕ → Verdict → Type 0} {most : Limits} {state : W → SinkState} where
   -- nothing was read or written
-  pub not_begun : {old : SourceState} {told : W} (r : Result Verdict Fault) → IsErrOf r Memory
-      → AnswersInPieces IsText most old old state told told r
+  pub not_begun : {old : SourceState} {start : W} (r : Result Verdict Fault) → IsErrOf r Memory
+      → AnswersInPieces IsText most old old state start start r
   not_begun r wants = rw wants record {
     written = tt;
     pieces = tt;
@@ -128,9 +128,9 @@ module _ {W : Type 0} {IsText : List ℕ → List ℕ → Verdict → Type 0} {m
   }
 
   -- a text is put, and nothing is read
-  pub put_unread : {P : List ℕ → Verdict → Type 0} {old : SourceState} {told ended : W} (r : Result Verdict Fault)
+  pub put_unread : {P : List ℕ → Verdict → Type 0} {old : SourceState} {start ended : W} (r : Result Verdict Fault)
       → ((text : List ℕ) (verdict : Verdict) → P text verdict → IsText [] text verdict × (verdict ≡ Done → IsAtEnd old.left))
-      → PutsText P state told ended r → AnswersInPieces IsText most old old state told ended r
+      → PutsText P state start ended r → AnswersInPieces IsText most old old state start ended r
   put_unread {old = old} (Ok verdict) says puts =
       let (text, is, put) = puts.written in
       let said = says text verdict is in
@@ -166,9 +166,9 @@ module _ {W : Type 0} {IsText : List ℕ → List ℕ → Verdict → Type 0} {m
   put_unread (Err TooLong) says puts = absurd (puts.fits refl)
 
   -- what a text is of is said in other words
-  pub said_of : {P : List ℕ → List ℕ → Verdict → Type 0} {old new : SourceState} {told ended : W} (r : Result Verdict Fault)
+  pub said_of : {P : List ℕ → List ℕ → Verdict → Type 0} {old new : SourceState} {start ended : W} (r : Result Verdict Fault)
       → ((input text : List ℕ) (verdict : Verdict) → P input text verdict → IsText input text verdict)
-      → AnswersInPieces P most old new state told ended r → AnswersInPieces IsText most old new state told ended r
+      → AnswersInPieces P most old new state start ended r → AnswersInPieces IsText most old new state start ended r
   said_of (Ok verdict) says answers =
       let (input, text, read, end, is, put) = answers.written in
       record {

@@ -1,4 +1,5 @@
 pub mod Answering
 pub mod LineReading
 pub mod Parts
+pub mod PieceSteps
 pub mod StreamSteps

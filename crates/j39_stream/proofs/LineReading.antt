@@ -5,10 +5,10 @@ use Rattle.std.specs.Prelude.{IsErr, IsErrOf}
 use Rattle.std.proofs.KnownBytes.{Appends-trans}
 use Rattle.std.proofs.lemmas.List.{append-nil}
 use Rattle.std.specs.Io.KnownBytes.{Appends, Consumes, IsAtEnd}
-use Rattle.j39_id.specs.Lines.{Line, Pending, answer_to_end, at_start, behind_all, cutter_line, lines, tells, told, told_at_end}
+use Rattle.j39_id.specs.Lines.{Line, Pending, answer_to_end, at_start, behind_all, cutter_line, lines, yields, yielded, yielded_at_end}
 use Rattle.j39_id.specs.declared.cut.Cut.{Cut}
 use Rattle.j39_id.specs.declared.cut.Cut.TheVariants as cuts
-use Rattle.j39_id.proofs.CutLines.{tells_lines, told-append}
+use Rattle.j39_id.proofs.CutLines.{yields_lines, yielded-append}
 use Rattle.j39_stream.specs.CommandEnds.{AnswersInPieces}
 use Rattle.j39_stream.specs.Intakes.{Counts, EndsWithItsPiece, HasRead, piece_bytes}
 use Rattle.j39_stream.specs.LineReading.{AreTextsOf, HasLines, HasReadInput, IsCutOff, IsSoFar}
@@ -19,76 +19,72 @@ use Rattle.j39_stream.specs.declared.limits.Limits.{Limits}
 use Rattle.j39_stream.specs.declared.verdict.Verdict.{Verdict}
 use Rattle.j39_stream.specs.declared.verdict.Verdict.TheVariants.{Done}
 use Rattle.j39_stream.proofs.Parts.{front_of, none_taken, part_after}
+use Rattle.j39_stream.proofs.PieceSteps.{line_behind, yielded_behind}
 
 -- ---- lines after lines
 
--- what is told of a part of a piece is read behind what is told of the piece before it
+-- what is reported of a part of a piece is read behind what is reported of the piece before it
 pub read_part : {First Old New : List Line → List ℕ → Type 0} {FirstText OldText NewText : List ℕ → List ℕ → Verdict → Type 0} {f o n : Bool}
     {first old new : List ℕ} (p q : Pending)
-    (used part : List ℕ) (cut : Cut) (line : List ℕ) → q ≡ behind_all p used → told q part ≡ tells cut line
-    → ((before : List Line) (written : List ℕ) → IsSoFar First FirstText f first before written → IsSoFar Old OldText o old (before ++ told p used) written)
-    → ((before : List Line) (written : List ℕ) → Old before written → IsSoFar New NewText n new (before ++ tells cut line) written)
+    (used part : List ℕ) (cut : Cut) (line : List ℕ) → q ≡ behind_all p used → yielded q part ≡ yields cut line
+    → ((before : List Line) (written : List ℕ) → IsSoFar First FirstText f first before written → IsSoFar Old OldText o old (before ++ yielded p used) written)
+    → ((before : List Line) (written : List ℕ) → Old before written → IsSoFar New NewText n new (before ++ yields cut line) written)
     → (before : List Line) (written : List ℕ) → IsSoFar First FirstText f first before written
-    → IsSoFar New NewText n new (before ++ told p (used ++ part)) written
+    → IsSoFar New NewText n new (before ++ yielded p (used ++ part)) written
 read_part {New = New} {NewText = NewText} {n = n} {new = new} p q used part cut line at is so_far step before written start =
-    let here : told p (used ++ part) ≡ told p used ++ tells cut line = told-append p used part
-    ∙ ap (λ (r : Pending). told p used ++ told r part) (sym at) ∙ ap (λ (u : List Line). told p used ++ u) is in
-    let whole : (before ++ told p used) ++ tells cut line ≡ before ++ told p (used ++ part) = append_assoc before (told p used) (tells cut line)
-    ∙ sym (ap (λ (u : List Line). before ++ u) here) in
-    subst (λ (all : List Line). IsSoFar New NewText n new all written) whole (step (before ++ told p used) written (so_far before written start).read)
+    subst (λ (all : List Line). IsSoFar New NewText n new all written) (line_behind p q used part (yields cut line) before at is)
+    (step (before ++ yielded p used) written (so_far before written start).read)
 
--- what is told of a piece is told of the input behind what was seen before it
+-- what is reported of a piece is reported of the input behind what was seen before it
 pub more_seen : {Read : List Line → List ℕ → Type 0} {IsText : List ℕ → List ℕ → Verdict → Type 0} {goes : Bool} {text : List ℕ}
     (seen part : List ℕ) (p : Pending)
-    (written : List ℕ) → p ≡ behind_all at_start seen → IsSoFar Read IsText goes text (told at_start seen ++ told p part) written
-    → IsSoFar Read IsText goes text (told at_start (seen ++ part)) written
+    (written : List ℕ) → p ≡ behind_all at_start seen → IsSoFar Read IsText goes text (yielded at_start seen ++ yielded p part) written
+    → IsSoFar Read IsText goes text (yielded at_start (seen ++ part)) written
 more_seen {Read} {IsText} {goes} {text} seen part p written at before =
-    let whole : told at_start seen ++ told p part ≡ told at_start (seen ++ part) = ap (λ (r : Pending). told at_start seen ++ told r part) at
-    ∙ sym (told-append at_start seen part) in
-    subst (λ (all : List Line). IsSoFar Read IsText goes text all written) whole before
+    subst (λ (all : List Line). IsSoFar Read IsText goes text all written) (yielded_behind at_start p seen part at) before
 
-tells_given : (cut : Cut) (p : Pending) → tells cut (cutter_line cut p) ≡ tells cut p.held
-tells_given cuts.More p = refl
-tells_given cuts.Line p = refl
-tells_given cuts.Long p = refl
+reports_given : (cut : Cut) (p : Pending) → yields cut (cutter_line cut p) ≡ yields cut p.held
+reports_given cuts.More p = refl
+reports_given cuts.Line p = refl
+reports_given cuts.Long p = refl
 
--- what a cutter tells at the end
-tells_end : (cut : Cut) (p : Pending) (line : List ℕ) → cut ≡ answer_to_end p → line ≡ cutter_line cut p → tells cut line ≡ told_at_end p
-tells_end cut p line answered gave = ap (tells cut) gave ∙ tells_given cut p ∙ ap (λ (k : Cut). tells k p.held) answered
+-- what a cutter yields at the end
+yields_end : (cut : Cut) (p : Pending) (line : List ℕ) → cut ≡ answer_to_end p → line ≡ cutter_line cut p → yields cut line ≡ yielded_at_end p
+yields_end cut p line answered gave = ap (yields cut) gave ∙ reports_given cut p ∙ ap (λ (k : Cut). yields k p.held) answered
 
--- with it all lines are told
-all_told : (input : List ℕ) (cut : Cut) (p : Pending) (line : List ℕ) → p ≡ behind_all at_start input → cut ≡ answer_to_end p → line ≡ cutter_line cut p
-    → told at_start input ++ tells cut line ≡ lines input
-all_told input cut p line at answered gave =
-    ap (λ (l : List Line). told at_start input ++ l) (tells_end cut p line answered gave)
-    ∙ ap (λ (r : Pending). told at_start input ++ told_at_end r) at ∙ tells_lines input
+-- with it all lines are reported
+all_yielded : (input : List ℕ) (cut : Cut) (p : Pending) (line : List ℕ) → p ≡ behind_all at_start input → cut ≡ answer_to_end p → line ≡ cutter_line cut p
+    → yielded at_start input ++ yields cut line ≡ lines input
+all_yielded input cut p line at answered gave =
+    ap (λ (l : List Line). yielded at_start input ++ l) (yields_end cut p line answered gave)
+    ∙ ap (λ (r : Pending). yielded at_start input ++ yielded_at_end r) at ∙ yields_lines input
 
 -- what was read behind which these lines stand, whatever comes after it
-pub lines_from : (seen tail : List ℕ) → (rest : List Line) × (lines (seen ++ tail) ≡ told at_start seen ++ rest)
+pub lines_from : (seen tail : List ℕ) → (rest : List Line) × (lines (seen ++ tail) ≡ yielded at_start seen ++ rest)
 lines_from seen tail =
-    let end : List Line = told_at_end (behind_all at_start (seen ++ tail)) in (
-      told (behind_all at_start seen) tail ++ end,
-      sym (tells_lines (seen ++ tail)) ∙ ap (λ (l : List Line). l ++ end) (told-append at_start seen tail)
-          ∙ append_assoc (told at_start seen) (told (behind_all at_start seen) tail) end,
+    let end : List Line = yielded_at_end (behind_all at_start (seen ++ tail)) in (
+      yielded (behind_all at_start seen) tail ++ end,
+      sym (yields_lines (seen ++ tail)) ∙ ap (λ (l : List Line). l ++ end) (yielded-append at_start seen tail)
+          ∙ append_assoc (yielded at_start seen) (yielded (behind_all at_start seen) tail) end,
     )
 
--- where all lines are told it makes no difference whether the reader stopped
-all_lines : (goes : Bool) (told : List Line) (input : List ℕ) → lines input ≡ told → HasLines goes told input
-all_lines true told input is = is
-all_lines false told input is = ([], is ∙ sym (append-nil told))
+-- where all lines are reported it makes no difference whether the reader stopped
+all_lines : (goes : Bool) (yielded : List Line) (input : List ℕ) → lines input ≡ yielded → HasLines goes yielded input
+all_lines true yielded input is = is
+all_lines false yielded input is = ([], is ∙ sym (append-nil yielded))
 
 -- ---- how it ends
 
 module _ {Read : List Line → List ℕ → Type 0} {IsText : List ℕ → List ℕ → Verdict → Type 0} {goes : Bool} {text : List ℕ} {most : Limits}
-    {old new : SourceState} {told_to ended : SinkState} where
+    {old new : SourceState} {yielded_to ended : SinkState} where
   -- at the end of the input, with its last line
   pub read_to_end : (input written : List ℕ) (cut : Cut) (p : Pending) (line : List ℕ) → p ≡ behind_all at_start input → cut ≡ answer_to_end p
-      → line ≡ cutter_line cut p → IsSoFar Read IsText goes text (told at_start input ++ tells cut line) written → Consumes old.left new.left input
-      → IsAtEnd new.left → KeepsLimits most old new → Appends told_to.taken ended.taken written
-      → (new.failures ≡ old.failures) × (ended.failures ≡ told_to.failures)
-      → HasReadInput Read IsText goes text most old new told_to ended
+      → line ≡ cutter_line cut p → IsSoFar Read IsText goes text (yielded at_start input ++ yields cut line) written → Consumes old.left new.left input
+      → IsAtEnd new.left → KeepsLimits most old new → Appends yielded_to.taken ended.taken written
+      → (new.failures ≡ old.failures) × (ended.failures ≡ yielded_to.failures)
+      → HasReadInput Read IsText goes text most old new yielded_to ended
   read_to_end input written cut p line at answered gave so consumed end keeps taken calm =
-      let all = all_told input cut p line at answered gave in
+      let all = all_yielded input cut p line at answered gave in
       record {
         input = input;
         ls = lines input;
@@ -104,36 +100,36 @@ module _ {Read : List Line → List ℕ → Type 0} {IsText : List ℕ → List 
       }
 
   -- where the reader stopped
-  pub read_to_stop : (counts : Counts) (input written : List ℕ) → goes ≡ false → IsSoFar Read IsText goes text (told at_start input) written
-      → HasRead most old new counts input → counts.calls ≤ most.calls → Appends told_to.taken ended.taken written
-      → (new.failures ≡ old.failures) × (ended.failures ≡ told_to.failures)
-      → HasReadInput Read IsText goes text most old new told_to ended
+  pub read_to_stop : (counts : Counts) (input written : List ℕ) → goes ≡ false → IsSoFar Read IsText goes text (yielded at_start input) written
+      → HasRead most old new counts input → counts.calls ≤ most.calls → Appends yielded_to.taken ended.taken written
+      → (new.failures ≡ old.failures) × (ended.failures ≡ yielded_to.failures)
+      → HasReadInput Read IsText goes text most old new yielded_to ended
   read_to_stop counts input written stopped so read calls taken calm = record {
     input = input;
-    ls = told at_start input;
+    ls = yielded at_start input;
     written = written;
     consumed = read.consumed;
     end = λ going. cc (stopped, going);
     limits = (input, read.consumed, read.within, (counts.calls, calls, read.pulls_are));
     so_far = so;
-    of_all = λ more none. subst (λ (g : Bool). HasLines g (told at_start input) (input ++ more)) (sym stopped) (lines_from input more);
+    of_all = λ more none. subst (λ (g : Bool). HasLines g (yielded at_start input) (input ++ more)) (sym stopped) (lines_from input more);
     taken = taken;
     calm = calm;
   }
 
-module _ {X : Type 0} {IsText Whole : List ℕ → List ℕ → Verdict → Type 0} (most : Limits) (old new : SourceState) (told_to ended : SinkState)
+module _ {X : Type 0} {IsText Whole : List ℕ → List ℕ → Verdict → Type 0} (most : Limits) (old new : SourceState) (yielded_to ended : SinkState)
     (says : AreTextsOf IsText Whole) where
   -- it is cut off by a fault: what was written, and some first bytes of what was to be written next
   pub cut_short : {Read : List Line → List ℕ → Type 0} {goes : Bool} (r : Result X Fault) → (IsErrOf r TooLong → PassesLimits most old new)
-      → (IsErrOf r Device → HasFailed old.failures new.failures ⊎ HasFailed told_to.failures ended.failures)
-      → (seen more text written next back : List ℕ) (middle : Option (List ℕ)) → IsSoFar Read IsText goes text (told at_start seen) written
-      → Consumes old.left new.left (seen ++ more) → text ≡ next ++ back → Appends told_to.taken middle written
+      → (IsErrOf r Device → HasFailed old.failures new.failures ⊎ HasFailed yielded_to.failures ended.failures)
+      → (seen more text written next back : List ℕ) (middle : Option (List ℕ)) → IsSoFar Read IsText goes text (yielded at_start seen) written
+      → Consumes old.left new.left (seen ++ more) → text ≡ next ++ back → Appends yielded_to.taken middle written
       → AppendsPart middle ended.taken next
-      → IfErr r (IsCutOff Whole most old new told_to ended)
+      → IfErr r (IsCutOff Whole most old new yielded_to ended)
   cut_short (Ok x) long device seen more text written next back middle so consumed splits first second = tt
   cut_short {goes = goes} (Err fault) long device seen more text written next back middle so consumed splits first second =
       let front = front_of seen in
-      let (end, verdict, is_text, _) = so.begins front.0 (all_lines goes (told at_start seen) front.0 front.3) in
+      let (end, verdict, is_text, _) = so.begins front.0 (all_lines goes (yielded at_start seen) front.0 front.3) in
       let whole : List ℕ = written ++ (text ++ end) in
       let row : whole ≡ written ++ (next ++ (back ++ end)) =
       ap (λ (t : List ℕ). written ++ t) (ap (λ (t : List ℕ). t ++ end) splits ∙ append_assoc next back end) in
@@ -145,7 +141,7 @@ module _ {X : Type 0} {IsText Whole : List ℕ → List ℕ → Verdict → Type
         verdict = verdict;
         consumed = subst (Consumes old.left new.left) all consumed;
         is_text = says front.0 whole verdict is_text;
-        part = part_after told_to.taken middle ended.taken written next (back ++ end) whole row first second;
+        part = part_after yielded_to.taken middle ended.taken written next (back ++ end) whole row first second;
         long = λ is. long (ap Err is);
         device = λ is. device (ap Err is);
       }
@@ -153,11 +149,11 @@ module _ {X : Type 0} {IsText Whole : List ℕ → List ℕ → Verdict → Type
 -- a piece is read behind lines at which the reader goes on
 pub one_piece : {Read : List Line → List ℕ → Type 0} {IsText Whole : List ℕ → List ℕ → Verdict → Type 0} {goes : Bool} {next : List ℕ}
     (says : AreTextsOf IsText Whole) (old new : Option (List ℕ)) (seen piece written : List ℕ) → goes ≡ true
-    → IsSoFar Read IsText goes next (told at_start seen) written → Consumes old new (seen ++ piece) → length piece ≤ piece_bytes
+    → IsSoFar Read IsText goes next (yielded at_start seen) written → Consumes old new (seen ++ piece) → length piece ≤ piece_bytes
     → EndsWithItsPiece Whole old new
 one_piece {Whole = Whole} {goes = goes} {next = next} says old new seen piece written going so read within =
     let front = front_of seen in
-    let (end, verdict, is_text, done) = so.begins front.0 (all_lines goes (told at_start seen) front.0 front.3) in
+    let (end, verdict, is_text, done) = so.begins front.0 (all_lines goes (yielded at_start seen) front.0 front.3) in
     let text : List ℕ = written ++ (next ++ end) in
     inr (
       front.0,
@@ -166,16 +162,16 @@ one_piece {Whole = Whole} {goes = goes} {next = next} says old new seen piece wr
       text,
       subst (λ (t : List ℕ). Consumes old new (t ++ piece)) front.2 read,
       within,
-      front.3 ∙ ap (told at_start) front.2,
+      front.3 ∙ ap (yielded at_start) front.2,
       subst (Whole front.0 text) (done going) (says front.0 text verdict is_text),
     )
 
 -- ---- the whole command
 
-module _ {W : Type 0} {IsText : List ℕ → List ℕ → Verdict → Type 0} {most : Limits} {old new : SourceState} (state : W → SinkState) (told_to ended : W) where
+module _ {W : Type 0} {IsText : List ℕ → List ℕ → Verdict → Type 0} {most : Limits} {old new : SourceState} (state : W → SinkState) (yielded_to ended : W) where
   -- it was cut off
-  pub cut_answers : (r : Result Verdict Fault) → IsErr r → IfErr r (IsCutOff IsText most old new (state told_to) (state ended))
-      → AnswersInPieces IsText most old new state told_to ended r
+  pub cut_answers : (r : Result Verdict Fault) → IsErr r → IfErr r (IsCutOff IsText most old new (state yielded_to) (state ended))
+      → AnswersInPieces IsText most old new state yielded_to ended r
   cut_answers (Ok verdict) fails cut = cc fails
   cut_answers (Err fault) fails cut = record {
     written = tt;
@@ -199,9 +195,9 @@ module _ {Read : List Line → List ℕ → Type 0} {IsText Last : List ℕ → 
   covers (Some rest) all consumed of = subst (HasLines goes h.ls) (sym consumed) (of rest (λ none. none))
 
   -- what stands at the end is not made
-  pub not_closed : {W : Type 0} (state : W → SinkState) (told_to middle : W) → x ≡ state told_to → y ≡ state middle
-      → (r : Result Verdict Fault) → IsErrOf r Memory → AnswersInPieces IsText most old new state told_to middle r
-  not_closed state told_to middle at here r fails =
+  pub not_closed : {W : Type 0} (state : W → SinkState) (yielded_to middle : W) → x ≡ state yielded_to → y ≡ state middle
+      → (r : Result Verdict Fault) → IsErrOf r Memory → AnswersInPieces IsText most old new state yielded_to middle r
+  not_closed state yielded_to middle at here r fails =
       let (end, verdict, is_text, _) = h.so_far.begins h.input all_of_it in
       rw fails record {
         written = tt;
@@ -217,7 +213,7 @@ module _ {Read : List Line → List ℕ → Type 0} {IsText Last : List ℕ → 
           verdict,
           subst (Consumes old.left new.left) (sym (append-nil h.input)) h.consumed,
           says h.input (h.written ++ (text ++ end)) verdict is_text,
-          part_after (state told_to).taken (state middle).taken (state middle).taken h.written [] (text ++ end) (h.written ++ (text ++ end)) refl
+          part_after (state yielded_to).taken (state middle).taken (state middle).taken h.written [] (text ++ end) (h.written ++ (text ++ end)) refl
               (subst (λ (s : SinkState). Appends s.taken (state middle).taken h.written) at (subst (λ (s : SinkState). Appends x.taken s.taken h.written) here h.taken))
               (0, none_taken (state middle).taken),
         );
@@ -231,10 +227,10 @@ module _ {Read : List Line → List ℕ → Type 0} {IsText Last : List ℕ → 
       of_text input all = says input (h.written ++ closing) verdict (closes input h.ls h.written h.so_far.read all)
 
       -- but not all put
-      pub not_put : {W : Type 0} (state : W → SinkState) (told_to ended : W) → x ≡ state told_to → (r : Result Verdict Fault) → IsErrOf r Device
+      pub not_put : {W : Type 0} (state : W → SinkState) (yielded_to ended : W) → x ≡ state yielded_to → (r : Result Verdict Fault) → IsErrOf r Device
           → HasFailed y.failures (state ended).failures → AppendsPart y.taken (state ended).taken closing
-          → AnswersInPieces IsText most old new state told_to ended r
-      not_put state told_to ended at r fails failed part =
+          → AnswersInPieces IsText most old new state yielded_to ended r
+      not_put state yielded_to ended at r fails failed part =
           rw fails record {
             written = tt;
             pieces = tt;
@@ -249,17 +245,17 @@ module _ {Read : List Line → List ℕ → Type 0} {IsText Last : List ℕ → 
               verdict,
               subst (Consumes old.left new.left) (sym (append-nil h.input)) h.consumed,
               of_text h.input all_of_it,
-              part_after (state told_to).taken y.taken (state ended).taken h.written closing [] (h.written ++ closing)
+              part_after (state yielded_to).taken y.taken (state ended).taken h.written closing [] (h.written ++ closing)
                   (ap (λ (t : List ℕ). h.written ++ t) (sym (append-nil closing)))
                   (subst (λ (s : SinkState). Appends s.taken y.taken h.written) at h.taken) part,
             );
           }
 
       -- and put: the text is whole
-      pub all_written : {W : Type 0} (state : W → SinkState) (told_to ended : W) → x ≡ state told_to → (verdict ≡ Done → goes ≡ true)
+      pub all_written : {W : Type 0} (state : W → SinkState) (yielded_to ended : W) → x ≡ state yielded_to → (verdict ≡ Done → goes ≡ true)
           → EndsWithItsPiece IsText old.left new.left → Appends y.taken (state ended).taken closing → (state ended).failures ≡ y.failures
-          → AnswersInPieces IsText most old new state told_to ended (Ok verdict)
-      all_written state told_to ended at done pieces put calm = record {
+          → AnswersInPieces IsText most old new state yielded_to ended (Ok verdict)
+      all_written state yielded_to ended at done pieces put calm = record {
         written = (
           h.input,
           h.written ++ closing,

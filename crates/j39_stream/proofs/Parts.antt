@@ -1,4 +1,4 @@
--- What stands written where a text was cut, and what was told of the front of a text.
+-- What stands written where a text was cut, and what was reported of the front of a text.
 use Rattle.std.proofs.Common.{◌≡◌, ℕ, ◌+◌, ◌≤◌, ◌⊎◌, ◌==◌, List, [], ◌∷◌, ◌++◌, length, take, Option}
 use Rattle.std.proofs.Common.{Some, None, inl, inr, refl, sym, ap, ◌∙◌, subst, arith, append_assoc}
 use Rattle.std.specs.Io.KnownBytes.{Appends, Consumes}
@@ -6,9 +6,9 @@ use Rattle.std.proofs.KnownBytes.{Appends-trans}
 use Rattle.std.proofs.Math.Seq.{take-append-add}
 use Rattle.std.proofs.lemmas.List.{append-nil, take-append-le, take_all}
 use Rattle.std.proofs.lemmas.Bool.{cases_lt, cases_Bool}
-use Rattle.j39_id.specs.Lines.{Line, Pending, answer_to, at_start, behind, behind_all, is_line_feed, line_limit, lines, tells, told, told_at_end}
+use Rattle.j39_id.specs.Lines.{Line, Pending, answer_to, at_start, behind, behind_all, is_line_feed, line_limit, lines, yields, yielded, yielded_at_end}
 use Rattle.j39_id.specs.declared.cut.Cut.TheVariants as cuts
-use Rattle.j39_id.proofs.CutLines.{tells_lines, told-append, behind_all-append}
+use Rattle.j39_id.proofs.CutLines.{yields_lines, yielded-append, behind_all-append}
 use Rattle.j39_stream.specs.Streams.{AppendsPart}
 
 -- ---- a part of the text
@@ -32,10 +32,10 @@ part_after a b c written next tail text ends first second =
     ∙ ap (λ (t : List ℕ). written ++ t) (take-append-le n.0 next tail n.1) in
     (length written + n.0, subst (Appends a c) (sym cut) (Appends-trans a b c written (take n.0 next) first part))
 
--- behind an answer a cutter tells nothing at the end
-none_behind : (p : Pending) (b : ℕ) → (answer_to p b ≡ cuts.More) ⊎ (told_at_end (behind p b) ≡ [])
+-- behind an answer a cutter yields nothing at the end
+none_behind : (p : Pending) (b : ℕ) → (answer_to p b ≡ cuts.More) ⊎ (yielded_at_end (behind p b) ≡ [])
 none_behind p b =
-    elim (cases_Bool p.told_long) [
+    elim (cases_Bool p.reported_long) [
       | inl long ↦ inl (rw long refl)
       | inr short ↦
           elim (cases_Bool (is_line_feed b)) [
@@ -48,28 +48,28 @@ none_behind p b =
           ]
     ]
 
--- some first bytes of a text have the lines that are told of it
+-- some first bytes of a text have the lines that are reported of it
 abbrev pub HasFront : List ℕ → Type 0
-HasFront seen = (front : List ℕ) × (back : List ℕ) × (seen ≡ front ++ back) × (lines front ≡ told at_start seen)
+HasFront seen = (front : List ℕ) × (back : List ℕ) × (seen ≡ front ++ back) × (lines front ≡ yielded at_start seen)
 
 front_more : (seen : List ℕ) (b : ℕ) → HasFront seen → HasFront (seen ++ b ∷ [])
 front_more seen b before =
     let p = behind_all at_start seen in
-    let next : told at_start (seen ++ b ∷ []) ≡ told at_start seen ++ (tells (answer_to p b) p.held ++ []) = told-append at_start seen (b ∷ []) in
+    let next : yielded at_start (seen ++ b ∷ []) ≡ yielded at_start seen ++ (yields (answer_to p b) p.held ++ []) = yielded-append at_start seen (b ∷ []) in
     elim (none_behind p b) [
       | inl more ↦
-          let none : tells (answer_to p b) p.held ++ [] ≡ [] = rw more refl in (
+          let none : yields (answer_to p b) p.held ++ [] ≡ [] = rw more refl in (
             before.0,
             before.1 ++ b ∷ [],
             ap (λ (t : List ℕ). t ++ b ∷ []) before.2 ∙ append_assoc before.0 before.1 (b ∷ []),
-            before.3 ∙ sym (next ∙ ap (λ (u : List Line). told at_start seen ++ u) none ∙ append-nil (told at_start seen)),
+            before.3 ∙ sym (next ∙ ap (λ (u : List Line). yielded at_start seen ++ u) none ∙ append-nil (yielded at_start seen)),
           )
       | inr none ↦
-          let end : told_at_end (behind_all at_start (seen ++ b ∷ [])) ≡ [] = ap told_at_end (behind_all-append at_start seen (b ∷ [])) ∙ none in (
+          let end : yielded_at_end (behind_all at_start (seen ++ b ∷ [])) ≡ [] = ap yielded_at_end (behind_all-append at_start seen (b ∷ [])) ∙ none in (
             seen ++ b ∷ [],
             [],
             sym (append-nil (seen ++ b ∷ [])),
-            sym (tells_lines (seen ++ b ∷ [])) ∙ ap (λ (u : List Line). told at_start (seen ++ b ∷ []) ++ u) end ∙ append-nil (told at_start (seen ++ b ∷ [])),
+            sym (yields_lines (seen ++ b ∷ [])) ∙ ap (λ (u : List Line). yielded at_start (seen ++ b ∷ []) ++ u) end ∙ append-nil (yielded at_start (seen ++ b ∷ [])),
           )
     ]
 
@@ -78,7 +78,7 @@ fronts seen [] before = subst HasFront (sym (append-nil seen)) before
 fronts seen (b ∷ more) before = subst HasFront (append_assoc seen (b ∷ []) more) (fronts (seen ++ b ∷ []) more (front_more seen b before))
 
 pub front_of : (seen : List ℕ) → HasFront seen
-front_of seen = fronts [] seen ([], [], refl, sym (tells_lines []))
+front_of seen = fronts [] seen ([], [], refl, sym (yields_lines []))
 
 -- nothing is taken of nothing
 pub none_taken : (a : Option (List ℕ)) → Appends a a []

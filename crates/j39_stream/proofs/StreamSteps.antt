@@ -62,7 +62,7 @@ nothing_more a b c text buffer n none p q =
     let q' : Consumes b c [] = subst (λ (m : ℕ). Consumes b c (take m buffer)) none q in
     subst (Consumes a c) (append-nil text) (Consumes-trans a b c text [] p q')
 
--- the limits are kept where the end is told
+-- the limits are kept where the end is reported
 pub kept_limits : (limits : Limits) (a b : SourceState) (text : List ℕ) (count calls : ℕ) → Consumes a.left b.left text → length text ≤ limits.bytes
     → calls < limits.calls → count ≡ after_calls a.pulls calls → b.pulls ≡ one_more count → KeepsLimits limits a b
 kept_limits limits a b text count calls p within fewer before now = (text, p, within, (calls + 1, omega arith, now ∙ calls_more a.pulls count calls before))

@@ -1,7 +1,7 @@
 -- How much of an input was read, piece by piece.
 use Rattle.std.specs.Prelude.{◌≡◌, ◌≤◌, ◌⊎◌, ℕ, List, [], ◌++◌, Option, length}
 use Rattle.std.specs.Io.KnownBytes.{Consumes}
-use Rattle.j39_id.specs.Lines.{at_start, lines, told}
+use Rattle.j39_id.specs.Lines.{at_start, lines, yielded}
 use Rattle.j39_stream.specs.Streams.{SourceState, after_calls}
 use Rattle.j39_stream.specs.declared.limits.Limits.{Limits}
 use Rattle.j39_stream.specs.declared.verdict.Verdict.{Verdict}
@@ -35,4 +35,4 @@ abbrev pub EndsWithItsPiece : (List ℕ → List ℕ → Verdict → Type 0) →
 EndsWithItsPiece IsText old new =
     Consumes old new []
     ⊎ ((front : List ℕ) × (begun : List ℕ) × (piece : List ℕ) × (text : List ℕ) × Consumes old new ((front ++ begun) ++ piece)
-    × (length piece ≤ piece_bytes) × (lines front ≡ told at_start (front ++ begun)) × IsText front text Done)
+    × (length piece ≤ piece_bytes) × (lines front ≡ yielded at_start (front ++ begun)) × IsText front text Done)

@@ -5,7 +5,7 @@
 pub struct Limits {
     /// The most bytes that it may have.
     pub bytes: u64,
-    /// The most calls that may read it, the one that tells its end among them.
+    /// The most calls that may read it, the one that reports its end among them.
     pub calls: u64,
 }
 

@@ -7,7 +7,7 @@ use std::alloc::AllocError;
 pub trait LineReader {
     ghost use Rattle.std.specs.Prelude.{◌≡◌, ◌≤◌, ◌<◌, ◌^◌, ◌++◌, ℕ, Bool, true, List, IfOk, OnOk, OnErr, IfErr};
     ghost use Rattle.std.specs.Io.KnownBytes.{Appends};
-    ghost use Rattle.j39_id.specs.Lines.{Line, tells};
+    ghost use Rattle.j39_id.specs.Lines.{Line, yields};
     ghost use Rattle.j39_stream.specs.LineReading.{AreTextsOf, HasLines, IsSoFar};
     ghost use Rattle.j39_stream.specs.Streams.{AppendsPart, HasFailed};
     ghost use Rattle.j39_stream.specs.declared.verdict.Verdict.{Verdict as AVerdict};
@@ -31,28 +31,28 @@ pub trait LineReader {
     fn goes_on(&self) -> bool
         ensures { result ≡ goes self.now };
 
-    /// Reads what a cutter tells: a line, a line that is too long, or nothing yet.
+    /// Reads what a cutter yields: a line, a line that is too long, or nothing yet.
     fn read(&mut self, cut: Cut, line: &[u8]) -> Result<(), AllocError>
         requires room { (most : ℕ) × within self.old most × (most ≤ 2 ^ 62) }
         ensures lines { OnOk result ((before : List Line) (written : List ℕ) → has_read self.old before written
             → IsSoFar (has_read self.new) (is_text self.new) (goes self.new) (text self.new) (before
-            ++ tells cut line.now) written) }
+            ++ yields cut line.now) written) }
         ensures texts { OnOk result (AreTextsOf (is_text self.new) (is_text self.old)) }
         ensures count { OnOk result ((most more : ℕ) → within self.old most → most < more → within self.new more) };
 
     /// Adds what stands at the end of the text, and answers with the verdict: it is Done only where the reader goes on.
     fn close(&mut self) -> Result<Verdict, AllocError>
-        requires begun { (told : List Line) × (written : List ℕ) × has_read self.old told written }
-        ensures text { IfOk result (λ verdict. (input : List ℕ) (told : List Line) (written : List ℕ)
-            → has_read self.old told written
-            → HasLines (goes self.old) told input → is_text self.old input (written ++ text self.new) verdict) }
+        requires begun { (yielded : List Line) × (written : List ℕ) × has_read self.old yielded written }
+        ensures text { IfOk result (λ verdict. (input : List ℕ) (yielded : List Line) (written : List ℕ)
+            → has_read self.old yielded written
+            → HasLines (goes self.old) yielded input → is_text self.old input (written ++ text self.new) verdict) }
         ensures done { IfOk result (λ verdict. verdict ≡ Verdict.Done → goes self.old ≡ true) };
 
     /// Puts what is to be written.
     fn put<W: Sink>(&mut self, sink: &mut W) -> Result<(), Fault>
         ensures ok { OnOk result (Appends (W.state sink.old).taken (W.state sink.new).taken (text self.old)) }
-        ensures lines { OnOk result ((told : List Line) (written : List ℕ) → has_read self.old told written
-            → IsSoFar (has_read self.new) (is_text self.new) (goes self.new) (text self.new) told (written
+        ensures lines { OnOk result ((yielded : List Line) (written : List ℕ) → has_read self.old yielded written
+            → IsSoFar (has_read self.new) (is_text self.new) (goes self.new) (text self.new) yielded (written
             ++ text self.old)) }
         ensures texts { OnOk result (AreTextsOf (is_text self.new) (is_text self.old)) }
         ensures goes { OnOk result (goes self.new ≡ goes self.old) }

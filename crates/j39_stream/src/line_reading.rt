@@ -1,7 +1,7 @@
 //! An input that is read line after line, a piece of it after another.
 ghost use Rattle.std.specs.Prelude.{◌≡◌, ◌+◌, ◌≤◌, ◌^◌, ◌++◌, ℕ, List, [], length, IfErr, IfOk, OnOk, Some};
 ghost use Rattle.std.specs.Io.KnownBytes.{Appends};
-ghost use Rattle.j39_id.specs.Lines.{Line, behind_all, told};
+ghost use Rattle.j39_id.specs.Lines.{Line, behind_all, yielded};
 ghost use Rattle.j39_stream.specs.CommandEnds.{AnswersInPieces};
 ghost use Rattle.j39_stream.specs.Intakes.{EndsWithItsPiece};
 ghost use Rattle.j39_stream.specs.LineReading.{AreTextsOf, HasReadInput, IsCutOff, IsSoFar};
@@ -21,7 +21,7 @@ fn read_piece<R: LineReader>(
     ensures lines { OnOk result ((before : List Line) (written : List ℕ)
         → IsSoFar (R.has_read reader.old) (R.is_text reader.old) (R.goes reader.old) (R.text reader.old) before written
         → IsSoFar (R.has_read reader.new) (R.is_text reader.new) (R.goes reader.new) (R.text reader.new)
-        (before ++ told cutter.old.pending piece.now) written) }
+        (before ++ yielded cutter.old.pending piece.now) written) }
     ensures texts { OnOk result (AreTextsOf (R.is_text reader.new) (R.is_text reader.old)) }
     ensures count { OnOk result ((most : ℕ) → R.within reader.old most
         → R.within reader.new (most + length piece.now)) }

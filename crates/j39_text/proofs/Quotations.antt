@@ -1,4 +1,4 @@
--- What a quotation tells.
+-- What a quotation says.
 use Rattle.std.proofs.Common.{◌≡◌, ◌≢◌, ℕ, ◌+◌, ◌*◌, ◌/◌, ◌%◌, ◌<◌, ◌≤◌, ◌==◌, nat_le, List, [], ◌∷◌, ◌++◌, ◌⊎◌, Bool, true, false, not, ◌&&◌, ◌||◌}
 use Rattle.std.proofs.Common.{if◌then◌else◌}
 use Rattle.std.proofs.Common.{Option, Some, All, length, drop, get_or, slice_index, refl, sym, ap, ◌∙◌, append_assoc, inl, inr, arith}
@@ -9,7 +9,7 @@ use Rattle.std.proofs.lemmas.List.Sums.{AllPass-from_list_all}
 use Rattle.std.proofs.lemmas.Option.{same_Some}
 use Rattle.hex.specs.Hex.{encode_with, encode_upper, upper_digits, hex_digit_value}
 use Rattle.hex.proofs.HexLemmas.{IsDigits-upper_digits}
-use Rattle.j39_text.specs.Quotations.{is_plain, spelled_byte, spelled, quotation, IsBetweenMarks, TellsItsBytes}
+use Rattle.j39_text.specs.Quotations.{is_plain, spelled_byte, spelled, quotation, IsBetweenMarks, YieldsItsBytes}
 
 -- what is spelled from a byte on is this byte and those behind it
 pub spelled_from : (bytes : List ℕ) (i d : ℕ) → i < length bytes
@@ -102,7 +102,7 @@ heads e = cc
 tails : {x y : ℕ} {xs ys : List ℕ} → x ∷ xs ≡ y ∷ ys → xs ≡ ys
 tails e = cc
 
--- a byte and what is behind it are told by what they are spelled as
+-- a byte and what is behind it are reported by what they are spelled as
 next_byte : (b c : ℕ) (r s : List ℕ) → b < 256 → c < 256 → spelled_byte b ++ r ≡ spelled_byte c ++ s → (b ≡ c) × (r ≡ s)
 next_byte b c r s less more same = elim (spelling b) [
   | inl one ↦ elim (spelling c) [
@@ -137,9 +137,9 @@ same_bytes (b ∷ bs) (c ∷ cs) less more same =
     let rest = same_bytes bs cs (All-tail (λ x. x < 256) b bs less) (All-tail (λ x. x < 256) c cs more) next.1 in
     rw (next.0, rest) refl
 
-pub tell : (bytes : List ℕ) → All (λ b. b < 256) bytes → TellsItsBytes bytes
+pub report : (bytes : List ℕ) → All (λ b. b < 256) bytes → YieldsItsBytes bytes
 unfolding quotation
-tell bytes small = record {
+report bytes small = record {
   inside = all_inside bytes small;
   alone = λ other little same. same_bytes other bytes little small (tails same);
 }

@@ -11,7 +11,7 @@ use Rattle.j39_network.specs.declared.plan.group_plan.GroupPlan.{GroupPlan}
 use Rattle.j39_network.specs.declared.plan.need_plan.NeedPlan.{NeedPlan}
 use Rattle.j39_network.specs.declared.plan.text_plan.TextPlan.{TextPlan}
 use Rattle.j39_network.specs.TextPlaces.{last_byte}
-use Rattle.j39_text.specs.Texts.{place_field}
+use Rattle.j39_text.specs.Texts.{labels_text, place_field}
 
 unfoldable pub unit_label : Plan → ℕ → List ℕ
 unit_label plan i = option_map_or (λ (unit : UnitPlan). unit.label.bytes) (slice_get plan.units.items i) []
@@ -54,7 +54,7 @@ group_selector_end plan g = option_map_or (λ (group : GroupPlan). option_map_or
 
 -- a word, and two units
 unfoldable pub units_text : List ℕ → Plan → ℕ → ℕ → List ℕ
-units_text word plan i j = word ++ (unit_label plan i ++ (codes " " ++ unit_label plan j))
+units_text word plan i j = labels_text word (unit_label plan i) (unit_label plan j)
 
 -- a word, and a group
 unfoldable pub group_text : List ℕ → Plan → ℕ → List ℕ

@@ -30,9 +30,9 @@ abbrev pub IsBetweenMarks : ℕ → Type 0
 IsBetweenMarks c = (32 ≤ c) × (c ≤ 126) × (c ≢ quotation_mark)
 
 -- what stands between the marks ends where the second stands, and no other bytes are spelled so
-pub record TellsItsBytes (bytes : List ℕ) : Type 0 where
+pub record YieldsItsBytes (bytes : List ℕ) : Type 0 where
   pub inside : All IsBetweenMarks (spelled bytes)
   pub alone : (other : List ℕ) → All (λ b. b < 256) other → quotation other ≡ quotation bytes → other ≡ bytes
 
-abbrev pub QuotationsTellTheirBytes : Type 0
-QuotationsTellTheirBytes = (bytes : List ℕ) → All (λ b. b < 256) bytes → TellsItsBytes bytes
+abbrev pub QuotationsYieldTheirBytes : Type 0
+QuotationsYieldTheirBytes = (bytes : List ℕ) → All (λ b. b < 256) bytes → YieldsItsBytes bytes

@@ -147,10 +147,7 @@ pub fn write_units(
 ) -> Result<(), AllocError>
     ensures { OnOk result (text.new ≡ text.old ++ units_text word.now plan.now first second) }
 {
-    text.word(word)?;
-    text.word(unit_label(plan, first))?;
-    text.word(" ")?;
-    text.word(unit_label(plan, second))
+    text.labels(word, unit_label(plan, first), unit_label(plan, second))
 }
 
 /// Writes a word and a group.
@@ -172,10 +169,7 @@ fn write_need_signal(text: &mut TextBuffer, plan: &Plan, need: &NeedPlan) -> Res
     ensures { OnOk result (text.new ≡ text.old ++ need_signal_text plan.now need.now) }
 {
     match need.signal {
-        Some(signal) => {
-            text.word(" ")?;
-            text.word(signal_label(plan, need.group, signal))
-        }
+        Some(signal) => text.label(signal_label(plan, need.group, signal)),
         None => Ok(()),
     }
 }
@@ -191,9 +185,7 @@ pub fn write_need(
     ensures { OnOk result (text.new ≡ text.old ++ need_text plan.now place need.now) }
 {
     text.place("need ", place)?;
-    text.word(" ")?;
-    text.word(unit_label(plan, need.unit))?;
-    text.word(" ")?;
-    text.word(group_label(plan, need.group))?;
+    text.label(unit_label(plan, need.unit))?;
+    text.label(group_label(plan, need.group))?;
     write_need_signal(text, plan, need)
 }

@@ -1,7 +1,7 @@
 //! The laws of the texts of frames, of quotients and of quotations.
 ghost use Rattle.j39_text.specs.FrameText.{LineHasOneText};
 ghost use Rattle.j39_text.specs.Decimals.{QuotientsAreExact, UndividedStaysWhole};
-ghost use Rattle.j39_text.specs.Quotations.{QuotationsTellTheirBytes};
+ghost use Rattle.j39_text.specs.Quotations.{QuotationsYieldTheirBytes};
 
 /// For a line the definition allows one text, with one verdict.
 pub fn a_line_has_one_text()
@@ -20,6 +20,6 @@ pub fn undivided_numbers_stay_whole()
 
 /// Between its marks a quotation has visible characters and spaces, and no mark, and no two lists of bytes have the
 /// same one.
-pub fn quotations_tell_their_bytes()
-    ensures { QuotationsTellTheirBytes }
+pub fn quotations_yield_their_bytes()
+    ensures { QuotationsYieldTheirBytes }
 {}

@@ -17,7 +17,7 @@ pub use labels::{
     text_label, unit_address, unit_label, write_group, write_need, write_units,
 };
 pub use laws::{
-    a_line_has_one_text, quotations_tell_their_bytes, quotients_are_exact,
+    a_line_has_one_text, quotations_yield_their_bytes, quotients_are_exact,
     undivided_numbers_stay_whole,
 };
 pub use putting::put_text;

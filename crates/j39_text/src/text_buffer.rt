@@ -1,7 +1,7 @@
 //! A text that grows, and the one place where numbers, digits and words are written.
-ghost use Rattle.std.specs.Prelude.{◌≡◌, ℕ, ◌≤◌, [], ◌∷◌, ◌++◌, length, OnOk};
+ghost use Rattle.std.specs.Prelude.{◌≡◌, ℕ, ◌≤◌, [], ◌∷◌, ◌++◌, codes, length, OnOk};
 ghost use Rattle.hex.specs.Hex.{encode_upper};
-ghost use Rattle.j39_text.specs.Texts.{field_text, place_field};
+ghost use Rattle.j39_text.specs.Texts.{field_text, labels_text, numbered_text, place_field, places_text};
 
 use arrayvec::ArrayVec;
 use itoa::{Buffer, Integer};
@@ -101,6 +101,48 @@ impl TextBuffer {
         ensures { OnOk result (self.new ≡ self.old ++ place_field word.now place) }
     {
         self.field(word, place as u128 + 1)
+    }
+
+    /// Adds a word and two places, with a space between them.
+    #[tactic(auto, unfolding(crate::specs::Texts::places_text))]
+    pub fn places(&mut self, word: &str, first: usize, second: usize) -> Result<(), AllocError>
+        ensures { OnOk result (self.new ≡ self.old ++ places_text word.now first second) }
+    {
+        self.place(word, first)?;
+        self.place(" ", second)
+    }
+
+    /// Adds a space and a label.
+    pub fn label(&mut self, label: &str) -> Result<(), AllocError>
+        ensures { OnOk result (self.new ≡ self.old ++ (codes " " ++ label.now)) }
+    {
+        self.word(" ")?;
+        self.word(label)
+    }
+
+    /// Adds a word and two labels, with a space between them.
+    #[tactic(auto, unfolding(crate::specs::Texts::labels_text))]
+    pub fn labels(&mut self, word: &str, first: &str, second: &str) -> Result<(), AllocError>
+        ensures { OnOk result (self.new ≡ self.old ++ labels_text word.now first.now second.now) }
+    {
+        self.word(word)?;
+        self.word(first)?;
+        self.label(second)
+    }
+
+    /// Adds a word, a label and a number, with a space between these two.
+    #[tactic(auto, unfolding(crate::specs::Texts::numbered_text))]
+    pub fn numbered<I: Integer>(
+        &mut self,
+        word: &str,
+        label: &str,
+        number: I,
+    ) -> Result<(), AllocError>
+        ensures { OnOk result (self.new ≡ self.old ++ numbered_text word.now label.now (I.text number)) }
+    {
+        self.word(word)?;
+        self.word(label)?;
+        self.field(" ", number)
     }
 
     /// Adds two capital digits for each byte.

@@ -9,7 +9,7 @@ use Rattle.j39_timing.specs.Traffic.{AreAsWanted}
 use Rattle.j39_timing.specs.Waits.{Demand, lesser, share}
 use Rattle.j39_timing.specs.declared.stream.Stream.{Stream}
 
--- where nothing is told of what is wanted
+-- where nothing is reported of what is wanted
 pub nothing_wanted : (s : Schedule) (planned : ℕ → Bool) (of : Origins) (demands : List Demand) (stream : ℕ → Stream)
     → ((j : ℕ) → (stream j).wanted ≡ None) → AreAsWanted s planned of demands stream
 nothing_wanted s planned of demands stream none j t span demand is =

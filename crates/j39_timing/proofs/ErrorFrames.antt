@@ -3,17 +3,7 @@ use Rattle.std.proofs.Common.{◌≡◌, ℕ, ◌+◌, ◌-◌, ◌<◌, ◌≤�
 use Rattle.std.proofs.lemmas.Bool.{cases_lt, le-ltb, lt-ltb}
 use Rattle.j39_timing.specs.TimedFrames.{Schedule, IsOnBusAt, Waits}
 use Rattle.j39_timing.specs.AnyOrder.{Controllers, IsFromOrdered, MayArbitrate}
-use Rattle.j39_timing.specs.Errors.{Damaged, IsDamagedAt, at_place, with_errors}
-
--- one frame or one damaged attempt at a time, whichever goes first
-pub record AreApart (s : Schedule) (d : Damaged) : Type 0 where
-  pub positive : (p : ℕ) → p < s.count → 1 ≤ s.bits p
-  pub queued_first : (p : ℕ) → p < s.count → s.queued p ≤ s.start p
-  pub some_sent : (e : ℕ) → e < d.count → 1 ≤ d.sent e
-  pub some_error : (e : ℕ) → e < d.count → 1 ≤ d.error e
-  pub alone : (p q t : ℕ) → p < s.count → q < s.count → t < s.now → IsOnBusAt s p t → IsOnBusAt s q t → p ≡ q
-  pub alone_damaged : (e f t : ℕ) → e < d.count → f < d.count → t < s.now → IsDamagedAt d e t → IsDamagedAt d f t → e ≡ f
-  pub none_of_both : (p e t : ℕ) → p < s.count → e < d.count → t < s.now → IsOnBusAt s p t → IsDamagedAt d e t → ⊥
+use Rattle.j39_timing.specs.Errors.{AreAttemptsApart, Damaged, IsDamagedAt, at_place, with_errors}
 
 module _ (s : Schedule) (d : Damaged) where
   abbrev pub all : Schedule
@@ -54,16 +44,16 @@ module _ (s : Schedule) (d : Damaged) where
         ident = rw (front) refl;
       }
 
-  -- what is told of an attempt stands at its place, and what is told of its error frame at that
-  pub attempt_told : (frame attempt error : ℕ → ℕ) (e : ℕ) → e < d.count → at_place s d frame attempt error (s.count + e) ≡ attempt e
-  attempt_told frame attempt error e below =
+  -- what is reported of an attempt stands at its place, and what is reported of its error frame at that
+  pub attempt_stated : (frame attempt error : ℕ → ℕ) (e : ℕ) → e < d.count → at_place s d frame attempt error (s.count + e) ≡ attempt e
+  attempt_stated frame attempt error e below =
       let behind = le-ltb (s.count + e) s.count (omega arith) in
       let back : s.count + e - s.count ≡ e = omega arith in
       let front = lt-ltb e d.count below in
       rw (behind, back, front) refl
 
-  pub error_told : (frame attempt error : ℕ → ℕ) (e : ℕ) → e < d.count → at_place s d frame attempt error (s.count + (d.count + e)) ≡ error e
-  error_told frame attempt error e below =
+  pub error_stated : (frame attempt error : ℕ → ℕ) (e : ℕ) → e < d.count → at_place s d frame attempt error (s.count + (d.count + e)) ≡ error e
+  error_stated frame attempt error e below =
       let behind = le-ltb (s.count + (d.count + e)) s.count (omega arith) in
       let back : s.count + (d.count + e) - s.count ≡ d.count + e = omega arith in
       let later = le-ltb (d.count + e) d.count (omega arith) in
@@ -74,20 +64,20 @@ module _ (s : Schedule) (d : Damaged) where
   attempt_at e below = record {
     below = below;
     place = refl;
-    queued = attempt_told s.queued d.begin d.begin e below;
-    start = attempt_told s.start d.begin (λ e. d.begin e + d.sent e) e below;
-    bits = attempt_told s.bits d.sent d.error e below;
-    ident = attempt_told s.ident (λ e. 0) (λ e. 0) e below;
+    queued = attempt_stated s.queued d.begin d.begin e below;
+    start = attempt_stated s.start d.begin (λ e. d.begin e + d.sent e) e below;
+    bits = attempt_stated s.bits d.sent d.error e below;
+    ident = attempt_stated s.ident (λ e. 0) (λ e. 0) e below;
   }
 
   pub error_at : (e : ℕ) → e < d.count → IsError (s.count + (d.count + e)) e
   error_at e below = record {
     below = below;
     place = refl;
-    queued = error_told s.queued d.begin d.begin e below;
-    start = error_told s.start d.begin (λ e. d.begin e + d.sent e) e below;
-    bits = error_told s.bits d.sent d.error e below;
-    ident = error_told s.ident (λ e. 0) (λ e. 0) e below;
+    queued = error_stated s.queued d.begin d.begin e below;
+    start = error_stated s.start d.begin (λ e. d.begin e + d.sent e) e below;
+    bits = error_stated s.bits d.sent d.error e below;
+    ident = error_stated s.ident (λ e. 0) (λ e. 0) e below;
   }
 
   pub kinds : (p : ℕ) → p < all.count → IsFrame p ⊎ (((e : ℕ) × IsAttempt p e) ⊎ ((e : ℕ) × IsError p e))
@@ -198,7 +188,7 @@ module _ (s : Schedule) (d : Damaged) where
       let start = is.start in
       omega (arith, waits.0, waits.1, queued, start)
 
-  module _ (apart : AreApart s d) where
+  module _ (apart : AreAttemptsApart s d) where
     same_part : (p q t : ℕ) → t < s.now → IsPart p t → IsPart q t → p ≡ q
     same_part p q t seen of_p of_q =
         let same : of_p.attempt ≡ of_q.attempt =

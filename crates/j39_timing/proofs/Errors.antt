@@ -3,8 +3,8 @@ use Rattle.std.proofs.Common.{◌≡◌, ℕ, ◌<◌, ◌≤◌, arith, refl, i
 use Rattle.std.proofs.lemmas.Bool.{lt-ltb}
 use Rattle.j39_timing.specs.TimedFrames.{Schedule, IsLegal, Waits}
 use Rattle.j39_timing.specs.AnyOrder.{Controllers, IsLegalInAnyOrder}
-use Rattle.j39_timing.specs.Errors.{Damaged, IsBusWithErrors, IsLegalInAnyOrderWithErrors, IsLegalWithErrors, damage_ordered, with_errors}
-use Rattle.j39_timing.proofs.ErrorFrames.{AreApart, OnBus, Takes, all, alone, as_waiting, attempt_waits, both_frames, damaged_on_bus, error_waits}
+use Rattle.j39_timing.specs.Errors.{AreAttemptsApart, Damaged, IsBusWithErrors, IsLegalInAnyOrderWithErrors, IsLegalWithErrors, damage_ordered, with_errors}
+use Rattle.j39_timing.proofs.ErrorFrames.{OnBus, Takes, all, alone, as_waiting, attempt_waits, both_frames, damaged_on_bus, error_waits}
 use Rattle.j39_timing.proofs.ErrorFrames.{first_of_all, frame_on_bus, frame_or_least, kinds, positive, queued_first, taken}
 
 -- each frame is of the unit that it was of
@@ -13,7 +13,7 @@ units_stay s controllers own p below = rw (lt-ltb p s.count below) refl
 
 module _ (s : Schedule) (d : Damaged) where
   module _ (legal : IsBusWithErrors s d) where
-    apart : AreApart s d
+    apart : AreAttemptsApart s d
     apart = record {
       positive = legal.positive;
       queued_first = legal.queued_first;

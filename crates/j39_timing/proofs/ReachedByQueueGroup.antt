@@ -9,7 +9,7 @@ use Rattle.j39_timing.specs.Traffic.{Traffic, no_twins}
 use Rattle.j39_timing.specs.AnyOrder.{Controllers, IsLegalInAnyOrder, IsUnordered}
 use Rattle.j39_timing.specs.QueueGroups.{QueueGroup, QueueGroupDemandFits, IsTrafficOfQueueGroup}
 use Rattle.j39_timing.specs.Rounds.{all_planned}
-use Rattle.j39_timing.proofs.Reached.{in_turn, keeps_single, never_idle, of_sources, single_frames}
+use Rattle.j39_timing.proofs.Reached.{in_turn, keeps_single, never_idle, of_sources, single_streams}
 use Rattle.j39_timing.proofs.Sums.{total-none}
 use Rattle.j39_timing.proofs.Demands.{nothing_wanted}
 
@@ -21,14 +21,7 @@ abbrev two_units : Controllers
 two_units = record { unit = λ p. 1 - p; keeps_order = λ u. eqb u 1 }
 
 abbrev three_streams : Traffic
-three_streams = record {
-  count = 3;
-  stream = single_frames;
-  demands = [];
-  least = λ j. j + 1;
-  greatest = λ j. j + 1;
-  are_twins = no_twins;
-}
+three_streams = single_streams 3 (λ j. j + 1) no_twins
 
 abbrev last_first : Origins
 last_first = of_sources (λ p. 2 - p)

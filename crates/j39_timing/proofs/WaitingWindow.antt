@@ -56,7 +56,7 @@ pub record IsBusyWith (s : Schedule) (planned goes : ℕ → Bool) (longest x wa
   pub busy : (n : ℕ) → begin + n ≤ s.queued x + (wait + 1)
       → n ≤ longest + (going_demand s planned goes begin n + longest * others_going s planned goes begin (s.queued x + wait))
 
--- any frames may go before that a test tells: while one of these waits, or the frame itself, only such frames begin
+-- any frames may go before that a test reports: while one of these waits, or the frame itself, only such frames begin
 module _ (s : Schedule) (planned goes : ℕ → Bool) (longest wait : ℕ) (positive : (p : ℕ) → p < s.count → 1 ≤ s.bits p)
     (queued_first : (p : ℕ) → p < s.count → s.queued p ≤ s.start p)
     (never_idle : (p t : ℕ) → p < s.count → t < s.now → Waits s p t → (q : ℕ) × (q < s.count) × IsOnBusAt s q t)

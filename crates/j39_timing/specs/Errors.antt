@@ -1,5 +1,5 @@
 -- A bus on which frames are damaged: an error frame follows at once, and the frame takes part again (ISO 11898-1).
-use Rattle.std.specs.Prelude.{◌≡◌, ℕ, suc, ◌+◌, ◌-◌, ◌<◌, ◌≤◌, ◌⊎◌, ◌||◌, Bool, true, false, cond, nat_eq, nat_lt}
+use Rattle.std.specs.Prelude.{◌≡◌, ℕ, ◌+◌, ◌-◌, ◌<◌, ◌≤◌, ◌⊎◌, Bool, true, false, cond, nat_lt}
 use Rattle.j39_timing.specs.FrameBits.{error_frame, longest_frame}
 use Rattle.j39_timing.specs.AnyOrder.{Controllers, MayArbitrate}
 use Rattle.j39_timing.specs.TimedFrames.{Schedule, IsOnBusAt, Waits}
@@ -22,6 +22,16 @@ pub record Damaged : Type 0 where
 -- bit t of the bus is one of the attempt's, or of the error frame behind it
 abbrev pub IsDamagedAt : Damaged → ℕ → ℕ → Type 0
 IsDamagedAt d e t = (d.begin e ≤ t) × (t < d.begin e + (d.sent e + d.error e))
+
+-- one frame or one damaged attempt at a time, whichever goes first
+pub record AreAttemptsApart (s : Schedule) (d : Damaged) : Type 0 where
+  pub positive : (p : ℕ) → p < s.count → 1 ≤ s.bits p
+  pub queued_first : (p : ℕ) → p < s.count → s.queued p ≤ s.start p
+  pub some_sent : (e : ℕ) → e < d.count → 1 ≤ d.sent e
+  pub some_error : (e : ℕ) → e < d.count → 1 ≤ d.error e
+  pub alone : (p q t : ℕ) → p < s.count → q < s.count → t < s.now → IsOnBusAt s p t → IsOnBusAt s q t → p ≡ q
+  pub alone_damaged : (e f t : ℕ) → e < d.count → f < d.count → t < s.now → IsDamagedAt d e t → IsDamagedAt d f t → e ≡ f
+  pub none_of_both : (p e t : ℕ) → p < s.count → e < d.count → t < s.now → IsOnBusAt s p t → IsDamagedAt d e t → ⊥
 
 -- a bus on which a frame may have been tried in vain before, whichever goes first: its start in the schedule is that of the attempt that
 -- wasn't damaged
@@ -62,7 +72,7 @@ pub record IsLegalInAnyOrderWithErrors (s : Schedule) (controllers : Controllers
   pub in_order_damaged : (p e : ℕ) → p < s.count → e < d.count → d.lost e ≡ false → d.begin e < s.now → Waits s p (d.begin e)
       → (h : ℕ) × MayArbitrate s controllers p h (d.begin e) × (s.ident (d.frame e) ≤ s.ident h)
 
--- at the places of the frames what is told of them; behind these of the damaged attempts; and then of the error frames
+-- at the places of the frames what is reported of them; behind these of the damaged attempts; and then of the error frames
 abbrev pub at_place : Schedule → Damaged → (ℕ → ℕ) → (ℕ → ℕ) → (ℕ → ℕ) → ℕ → ℕ
 at_place s d frame attempt error p =
     cond (nat_lt p s.count) (frame p) (cond (nat_lt (p - s.count) d.count) (attempt (p - s.count)) (error (p - s.count - d.count)))

@@ -58,7 +58,7 @@ pub record AreFramesOfMessages (s : Schedule) (planned : ℕ → Bool) (of : Ori
       → messages.place p ≡ messages.place q → p ≡ q
   pub places : (p : ℕ) → IsOf s planned of j p → messages.place p < (want_for demand messages (messages.message p)).frames
 
--- no message of a flow has more frames than are told of the one that is under way
+-- no message of a flow has more frames than are reported of the one that is under way
 abbrev pub HasLongest : Demand → Type 0
 HasLongest demand = (f : ℕ) → (want_at demand f).frames ≤ demand.under_way
 

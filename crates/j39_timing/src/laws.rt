@@ -124,7 +124,7 @@ pub fn messages_ask_for_no_more()
 {}
 
 /// So much can be asked for: a flow of two packets whose messages are wanted as soon as they may be has in some time as
-/// many of them as is told.
+/// many of them as is reported.
 pub fn what_is_wanted_is_reached()
     ensures { (s : Schedule) × (planned : ℕ → Bool) × (of : Origins) × (demand : Demand) × (messages : UnitMessages)
         × HavePeriods demand

@@ -23,7 +23,7 @@ FindsTree shown bytes (Err errors.Text) = tree_of bytes ≡ None
 FindsTree shown bytes (Err (errors.Fault f)) = ⊥
 FindsTree shown bytes (Err errors.Memory) = MayAskForRoom bytes
 
--- what the tree tells, where it has no fault, or its first fault, or that there is no tree, unless memory ran out
+-- what the tree reports, where it has no fault, or its first fault, or that there is no tree, unless memory ran out
 abbrev pub ReadsTree : {X F : Type 0} → (Members → List F) → (Members → X → Type 0) → Result X (FileError F) → Option Members → Type 0
 ReadsTree faults Describes (Ok x) tree = (t : Members) × (tree ≡ Some t) × ((faults t ≡ []) × Describes t x)
 ReadsTree faults Describes (Err errors.Text) tree = tree ≡ None

@@ -1,4 +1,4 @@
--- The elements of an array of tables: their faults, what they tell, their labels, and where room is asked for among them.
+-- The elements of an array of tables: their faults, what they report, their labels, and where room is asked for among them.
 use Rattle.std.specs.Prelude.{◌≡◌, ◌⊎◌, ℕ, suc, List, [], ◌∷◌, ◌++◌, unwrap_or}
 use Rattle.toml.specs.Data.{Data, Items, no_items, item, Members, no_members, as_table}
 

@@ -27,7 +27,7 @@ pub trait ReadElement<T, F> {
     // Where room is asked for in reading the element of a place, behind those with some labels.
     ghost Grows: { Self → ℕ → List Label → Data → Type 0 };
 
-    // What the element tells.
+    // What the element reports.
     ghost Describes: { Self → Data → T → Type 0 };
 
     fn read(
@@ -42,7 +42,7 @@ pub trait ReadElement<T, F> {
         ensures labelled { IfOk result (λ x. label x ≡ data_label (view value.now)) };
 }
 
-/// What the elements of an array tell, in order.
+/// What the elements of an array report, in order.
 pub fn read_each<T: Drop, F: Copy, R: ReadElement<T, F>>(
     alloc: Global,
     reader: &R,

@@ -86,82 +86,82 @@ goes_on_unannounced bytes (Dt number seven) is = tt
 -- ---- a receiver
 
 -- no message is complete, and none is acknowledged
-abbrev pub TellsNothing : Heard → Type 0
-TellsNothing heard.Complete = ⊥
-TellsNothing (heard.CompleteReply p) = ⊥
-TellsNothing (heard.Reply p) = IsAside p
-TellsNothing _ = Unit {0}
+abbrev pub HoldsNothing : Heard → Type 0
+HoldsNothing heard.Complete = ⊥
+HoldsNothing (heard.CompleteReply p) = ⊥
+HoldsNothing (heard.Reply p) = IsAside p
+HoldsNothing _ = Unit {0}
 
 -- a message is complete
-abbrev pub TellsMessage : Heard → Type 0
-TellsMessage heard.Complete = Unit {0}
-TellsMessage (heard.CompleteReply p) = IsAnswer p
-TellsMessage _ = ⊥
+abbrev pub ReportsMessage : Heard → Type 0
+ReportsMessage heard.Complete = Unit {0}
+ReportsMessage (heard.CompleteReply p) = IsAnswer p
+ReportsMessage _ = ⊥
 
--- nothing is told, or a message, and then no session is open
-abbrev pub IsTold : Progress × Heard → Type 0
-IsTold x = TellsNothing x.1 ⊎ (TellsMessage x.1 × (is_open_at x.0 ≡ false))
+-- nothing is reported, or a message, and then no session is open
+abbrev pub IsStated : Progress × Heard → Type 0
+IsStated x = HoldsNothing x.1 ⊎ (ReportsMessage x.1 × (is_open_at x.0 ≡ false))
 
 asks_aside : (window reason : ℕ) (r : Reception) → IsAside (receiver.asks window reason r).1
 asks_aside window reason r = cond_both (nat_lt r.asked receiver.ask_limit) _ _ (λ (x : Progress × Packet). IsAside x.1) (λ _. tt) (λ _. tt)
 
-going_on_told : (window : ℕ) (kind : ReceptionKind) (r : Reception) → TellsNothing (receiver.going_on (Answering window) kind r).1
-going_on_told window Broadcast r = tt
-going_on_told window Directed r = tt
+going_on_stated : (window : ℕ) (kind : ReceptionKind) (r : Reception) → HoldsNothing (receiver.going_on (Answering window) kind r).1
+going_on_stated window Broadcast r = tt
+going_on_stated window Directed r = tt
 
-completed_told : (window : ℕ) (kind : ReceptionKind) (r : Reception) → TellsMessage (receiver.completed (Answering window) kind r)
-completed_told window Broadcast r = tt
-completed_told window Directed r = tt
+completed_stated : (window : ℕ) (kind : ReceptionKind) (r : Reception) → ReportsMessage (receiver.completed (Answering window) kind r)
+completed_stated window Broadcast r = tt
+completed_stated window Directed r = tt
 
-takes_next_told : (window : ℕ) (r : Reception) → IsTold (receiver.takes_next (Answering window) r)
-takes_next_told window r =
-    cond_both (r.held + 1 == packets_of r.size) _ _ IsTold (λ _. inr (completed_told window r.kind r, refl))
-    (λ _. cond_both (r.held + 1 == r.granted) _ _ IsTold (λ _. inl (going_on_told window r.kind (receiver.one_more_held r))) (λ _. inl tt))
+takes_next_stated : (window : ℕ) (r : Reception) → IsStated (receiver.takes_next (Answering window) r)
+takes_next_stated window r =
+    cond_both (r.held + 1 == packets_of r.size) _ _ IsStated (λ _. inr (completed_stated window r.kind r, refl))
+    (λ _. cond_both (r.held + 1 == r.granted) _ _ IsStated (λ _. inl (going_on_stated window r.kind (receiver.one_more_held r))) (λ _. inl tt))
 
-takes_later_told : (window : ℕ) (kind : ReceptionKind) (r : Reception) (number : ℕ) → IsTold (receiver.takes_later (Answering window) kind r number)
-takes_later_told window Broadcast r number = inl tt
-takes_later_told window Directed r number =
-    cond_both (number == r.granted) _ _ IsTold (λ _. inl (asks_aside window asked_too_often r)) (λ _. inl tt)
+takes_later_stated : (window : ℕ) (kind : ReceptionKind) (r : Reception) (number : ℕ) → IsStated (receiver.takes_later (Answering window) kind r number)
+takes_later_stated window Broadcast r number = inl tt
+takes_later_stated window Directed r number =
+    cond_both (number == r.granted) _ _ IsStated (λ _. inl (asks_aside window asked_too_often r)) (λ _. inl tt)
 
-takes_told : (window : ℕ) (r : Reception) (number : ℕ) → IsTold (receiver.takes_data (Answering window) r number)
-takes_told window r number =
-    cond_both (number == r.held + 1) _ _ IsTold (λ _. takes_next_told window r)
-    (λ _. cond_both (nat_le number r.held) _ _ IsTold (λ _. inl tt) (λ _. takes_later_told window r.kind r number))
+takes_stated : (window : ℕ) (r : Reception) (number : ℕ) → IsStated (receiver.takes_data (Answering window) r number)
+takes_stated window r number =
+    cond_both (number == r.held + 1) _ _ IsStated (λ _. takes_next_stated window r)
+    (λ _. cond_both (nat_le number r.held) _ _ IsStated (λ _. inl tt) (λ _. takes_later_stated window r.kind r number))
 
 -- whatever a receiver hears
-pub hears_told : (window : ℕ) (pr : Progress) (p : Packet) → IsTold (receiver.hears (Answering window) pr p)
-hears_told window pr (Rts size limit pgn) = inl tt
-hears_told window pr (Bam size pgn) = inl tt
-hears_told window pr (Cts count first pgn) = inl tt
-hears_told window pr (EndAck size pgn) = inl tt
-hears_told window (Open r) (Dt number seven) = takes_told window r number
-hears_told window Closed (Dt number seven) = inl tt
-hears_told window (Complete done) (Dt number seven) = inl tt
-hears_told window (Open r) (Abort reason pgn) =
-    cond_both (receiver.is_directed r.kind && pgn == r.pgn) _ _ IsTold (λ _. inl tt) (λ _. inl tt)
-hears_told window Closed (Abort reason pgn) = inl tt
-hears_told window (Complete done) (Abort reason pgn) = inl tt
+pub hears_stated : (window : ℕ) (pr : Progress) (p : Packet) → IsStated (receiver.hears (Answering window) pr p)
+hears_stated window pr (Rts size limit pgn) = inl tt
+hears_stated window pr (Bam size pgn) = inl tt
+hears_stated window pr (Cts count first pgn) = inl tt
+hears_stated window pr (EndAck size pgn) = inl tt
+hears_stated window (Open r) (Dt number seven) = takes_stated window r number
+hears_stated window Closed (Dt number seven) = inl tt
+hears_stated window (Complete done) (Dt number seven) = inl tt
+hears_stated window (Open r) (Abort reason pgn) =
+    cond_both (receiver.is_directed r.kind && pgn == r.pgn) _ _ IsStated (λ _. inl tt) (λ _. inl tt)
+hears_stated window Closed (Abort reason pgn) = inl tt
+hears_stated window (Complete done) (Abort reason pgn) = inl tt
 
 -- an announcement completes nothing
-pub announcement_told : (window : ℕ) (pr : Progress) (dest : Dest) (own size : ℕ)
-    → TellsNothing (receiver.hears (Answering window) pr (sender.announcement dest own size)).1
-announcement_told window pr All own size = tt
-announcement_told window pr One own size = tt
+pub announcement_stated : (window : ℕ) (pr : Progress) (dest : Dest) (own size : ℕ)
+    → HoldsNothing (receiver.hears (Answering window) pr (sender.announcement dest own size)).1
+announcement_stated window pr All own size = tt
+announcement_stated window pr One own size = tt
 
--- without an announcement no session opens, and where none is open nothing is told
-pub closed_told : (window : ℕ) (pr : Progress) (p : Packet) → is_open_at pr ≡ false → IsNoAnnouncement p
-    → TellsNothing (receiver.hears (Answering window) pr p).1 × (is_open_at (receiver.hears (Answering window) pr p).0 ≡ false)
-closed_told window pr (Rts size limit pgn) closed other = absurd other
-closed_told window pr (Bam size pgn) closed other = absurd other
-closed_told window (Open r) p closed other = absurd (cc closed)
-closed_told window Closed (Cts count first pgn) closed other = (tt, refl)
-closed_told window Closed (EndAck size pgn) closed other = (tt, refl)
-closed_told window Closed (Abort reason pgn) closed other = (tt, refl)
-closed_told window Closed (Dt number seven) closed other = (tt, refl)
-closed_told window (Complete done) (Cts count first pgn) closed other = (tt, refl)
-closed_told window (Complete done) (EndAck size pgn) closed other = (tt, refl)
-closed_told window (Complete done) (Abort reason pgn) closed other = (tt, refl)
-closed_told window (Complete done) (Dt number seven) closed other = (tt, refl)
+-- without an announcement no session opens, and where none is open nothing is reported
+pub closed_stated : (window : ℕ) (pr : Progress) (p : Packet) → is_open_at pr ≡ false → IsNoAnnouncement p
+    → HoldsNothing (receiver.hears (Answering window) pr p).1 × (is_open_at (receiver.hears (Answering window) pr p).0 ≡ false)
+closed_stated window pr (Rts size limit pgn) closed other = absurd other
+closed_stated window pr (Bam size pgn) closed other = absurd other
+closed_stated window (Open r) p closed other = absurd (cc closed)
+closed_stated window Closed (Cts count first pgn) closed other = (tt, refl)
+closed_stated window Closed (EndAck size pgn) closed other = (tt, refl)
+closed_stated window Closed (Abort reason pgn) closed other = (tt, refl)
+closed_stated window Closed (Dt number seven) closed other = (tt, refl)
+closed_stated window (Complete done) (Cts count first pgn) closed other = (tt, refl)
+closed_stated window (Complete done) (EndAck size pgn) closed other = (tt, refl)
+closed_stated window (Complete done) (Abort reason pgn) closed other = (tt, refl)
+closed_stated window (Complete done) (Dt number seven) closed other = (tt, refl)
 
 -- what it sends where nothing comes in time
 times_out_aside : (window : ℕ) (kind : ReceptionKind) (r : Reception) → IfSome (receiver.times_out (Answering window) kind r).1 IsAside

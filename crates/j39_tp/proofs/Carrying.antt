@@ -165,7 +165,7 @@ carried_here h kind pgn size limit start k place message chunks at last r u m =
     record {
       packet = Dt (suc k) r.2;
       stands = r.6;
-      told = rw (now.0) (ap (λ (x : Progress × Heard). x.1) (last_heard Listening open_is r.2 last));
+      stated = rw (now.0) (ap (λ (x : Progress × Heard). x.1) (last_heard Listening open_is r.2 last));
       pgn_is = done.0;
       bytes_are = done.1 ∙ take_again size r.1 r.2 ∙ ap (λ (u : List ℕ). take size u) (sym r.7) ∙ sym m;
     }

@@ -308,15 +308,15 @@ time_gathers h m (Complete pgn) bytes g = tt
 pub times_out_gathers : (h : List Packet) (s : Receiving) → Gathers h s.progress s.bytes → Gathers h (gives_up s).progress (gives_up s).bytes
 times_out_gathers h s g = gathers_kept h (timed_out s.manner s.progress).0 s.bytes (time_gathers h s.manner s.progress s.bytes g)
 
--- ---- a message that is told as complete
+-- ---- a message that is reported as complete
 
-abbrev Tells : Heard → Type 0
-Tells heard = is_complete heard ≡ true
+abbrev States : Heard → Type 0
+States heard = is_complete heard ≡ true
 
-if_told : (Q : Type 0) (b : Bool) (x y : Progress × Heard) → Tells (if b then x else y).1
-    → (b ≡ true → Tells x.1 → Q) → (b ≡ false → Tells y.1 → Q) → Q
-if_told Q true x y told h k = h refl told
-if_told Q false x y told h k = k refl told
+if_stated : (Q : Type 0) (b : Bool) (x y : Progress × Heard) → States (if b then x else y).1
+    → (b ≡ true → States x.1 → Q) → (b ≡ false → States y.1 → Q) → Q
+if_stated Q true x y stated h k = h refl stated
+if_stated Q false x y stated h k = k refl stated
 
 -- the last packet of an open session
 pub record IsLast (pr : Progress) (p : Packet) : Type 0 where
@@ -326,20 +326,20 @@ pub record IsLast (pr : Progress) (p : Packet) : Type 0 where
   pub packet_is : p ≡ Dt (suc reception.held) chunk
   pub last : suc reception.held ≡ packets_of reception.size
 
-going_untold : (m : Manner) (k : ReceptionKind) (r : Reception) → Tells (going_on m k r).1 → ⊥
-going_untold (Answering window) Directed r told = cc told
-going_untold (Answering window) Broadcast r told = cc told
-going_untold Listening k r told = cc told
+going_unstated : (m : Manner) (k : ReceptionKind) (r : Reception) → States (going_on m k r).1 → ⊥
+going_unstated (Answering window) Directed r stated = cc stated
+going_unstated (Answering window) Broadcast r stated = cc stated
+going_unstated Listening k r stated = cc stated
 
-later_untold : (m : Manner) (k : ReceptionKind) (r : Reception) (number : ℕ) → Tells (takes_later m k r number).1 → ⊥
-later_untold m Broadcast r number told = cc told
-later_untold Listening Directed r number told = cc told
-later_untold (Answering window) Directed r number told = if_told ⊥ (number == r.granted) _ _ told (λ _ f. cc f) (λ _ f. cc f)
+later_unstated : (m : Manner) (k : ReceptionKind) (r : Reception) (number : ℕ) → States (takes_later m k r number).1 → ⊥
+later_unstated m Broadcast r number stated = cc stated
+later_unstated Listening Directed r number stated = cc stated
+later_unstated (Answering window) Directed r number stated = if_stated ⊥ (number == r.granted) _ _ stated (λ _ f. cc f) (λ _ f. cc f)
 
-next_told : (m : Manner) (r : Reception) (number : ℕ) (chunk : List ℕ) → number ≡ r.held + 1 → Tells (takes_next m r).1
+next_reported : (m : Manner) (r : Reception) (number : ℕ) (chunk : List ℕ) → number ≡ r.held + 1 → States (takes_next m r).1
     → IsLast (Open r) (Dt number chunk)
-next_told m r number chunk e told =
-    if_told (IsLast (Open r) (Dt number chunk)) (r.held + 1 == packets_of r.size) _ _ told
+next_reported m r number chunk e stated =
+    if_stated (IsLast (Open r) (Dt number chunk)) (r.held + 1 == packets_of r.size) _ _ stated
     (λ last _. record {
       reception = r;
       chunk = chunk;
@@ -347,30 +347,30 @@ next_told m r number chunk e told =
       packet_is = ap (λ (n : ℕ). Dt n chunk) (e ∙ add-one r.held);
       last = sym (add-one r.held) ∙ eqb-true (r.held + 1) (packets_of r.size) last;
     })
-    (λ _ other. if_told (IsLast (Open r) (Dt number chunk)) (r.held + 1 == r.granted) _ _ other
-    (λ _ f. absurd (going_untold m r.kind (one_more_held r) f)) (λ _ f. cc f))
+    (λ _ other. if_stated (IsLast (Open r) (Dt number chunk)) (r.held + 1 == r.granted) _ _ other
+    (λ _ f. absurd (going_unstated m r.kind (one_more_held r) f)) (λ _ f. cc f))
 
-pub told_last : (m : Manner) (p : Packet) (pr : Progress) → Tells (hears m pr p).1 → IsLast pr p
-told_last m (Bam size pgn) pr told = absurd (going_untold m Broadcast (opened Broadcast pgn size 255) told)
-told_last m (Rts size limit pgn) pr told = absurd (going_untold m Directed (opened Directed pgn size limit) told)
-told_last m (Dt number chunk) (Open r) told =
-    if_told (IsLast (Open r) (Dt number chunk)) (number == r.held + 1) _ _ told
-    (λ same next. next_told m r number chunk (eqb-true number (r.held + 1) same) next)
-    (λ _ other. if_told (IsLast (Open r) (Dt number chunk)) (nat_le number r.held) _ _ other
+pub stated_last : (m : Manner) (p : Packet) (pr : Progress) → States (hears m pr p).1 → IsLast pr p
+stated_last m (Bam size pgn) pr stated = absurd (going_unstated m Broadcast (opened Broadcast pgn size 255) stated)
+stated_last m (Rts size limit pgn) pr stated = absurd (going_unstated m Directed (opened Directed pgn size limit) stated)
+stated_last m (Dt number chunk) (Open r) stated =
+    if_stated (IsLast (Open r) (Dt number chunk)) (number == r.held + 1) _ _ stated
+    (λ same next. next_reported m r number chunk (eqb-true number (r.held + 1) same) next)
+    (λ _ other. if_stated (IsLast (Open r) (Dt number chunk)) (nat_le number r.held) _ _ other
     (λ _ f. cc f)
-    (λ _ later. absurd (later_untold m r.kind r number later)))
-told_last m (Abort reason pgn) (Open r) told =
-    if_told (IsLast (Open r) (Abort reason pgn)) (is_directed r.kind && pgn == r.pgn) _ _ told (λ _ f. cc f) (λ _ f. cc f)
-told_last m (Cts count first pgn) (Open r) told = cc told
-told_last m (EndAck size pgn) (Open r) told = cc told
-told_last m (Dt number chunk) Closed told = cc told
-told_last m (Abort reason pgn) Closed told = cc told
-told_last m (Cts count first pgn) Closed told = cc told
-told_last m (EndAck size pgn) Closed told = cc told
-told_last m (Dt number chunk) (Complete pgn) told = cc told
-told_last m (Abort reason named) (Complete pgn) told = cc told
-told_last m (Cts count first named) (Complete pgn) told = cc told
-told_last m (EndAck size named) (Complete pgn) told = cc told
+    (λ _ later. absurd (later_unstated m r.kind r number later)))
+stated_last m (Abort reason pgn) (Open r) stated =
+    if_stated (IsLast (Open r) (Abort reason pgn)) (is_directed r.kind && pgn == r.pgn) _ _ stated (λ _ f. cc f) (λ _ f. cc f)
+stated_last m (Cts count first pgn) (Open r) stated = cc stated
+stated_last m (EndAck size pgn) (Open r) stated = cc stated
+stated_last m (Dt number chunk) Closed stated = cc stated
+stated_last m (Abort reason pgn) Closed stated = cc stated
+stated_last m (Cts count first pgn) Closed stated = cc stated
+stated_last m (EndAck size pgn) Closed stated = cc stated
+stated_last m (Dt number chunk) (Complete pgn) stated = cc stated
+stated_last m (Abort reason named) (Complete pgn) stated = cc stated
+stated_last m (Cts count first named) (Complete pgn) stated = cc stated
+stated_last m (EndAck size named) (Complete pgn) stated = cc stated
 
 -- the last packet makes the history carry the message
 last_carried : (h : List Packet) (r : Reception) (bytes chunk : List ℕ) → suc r.held ≡ packets_of r.size → Gathered h r bytes
@@ -401,8 +401,8 @@ last_received s p r chunk o q last =
 
 pub completes_carried : (h : List Packet) (s : Receiving) (p : Packet) → Gathers h s.progress s.bytes → is_complete (hears s.manner s.progress p).1 ≡ true
     → HoldsCarried (h ++ p ∷ []) (length h) (receives s p)
-completes_carried h s p g told =
-    let l = told_last s.manner p s.progress told in
+completes_carried h s p g stated =
+    let l = stated_last s.manner p s.progress stated in
     let gathered : Gathers h (Open l.reception) s.bytes = subst (λ (pr : Progress). Gathers h pr s.bytes) l.open_is g in
     let after = last_received s p l.reception l.chunk l.open_is l.packet_is l.last in
     let message : message_of (receives s p).progress (receives s p).bytes ≡ take l.reception.size (s.bytes ++ l.chunk) =

@@ -9,7 +9,7 @@ use Rattle.std.proofs.lemmas.List.{append-nil, take_all}
 use Rattle.std.proofs.lemmas.Option.{slice_get_within}
 use Rattle.j39_tp.specs.Chunks.{packets_of, unused, chunk}
 use Rattle.j39_tp.specs.Carried.{Announces, chunks_to, Leaves, Carried}
-use Rattle.j39_tp.specs.HonestPackets.{AnnouncesMessage, GoesOn, TellsLast}
+use Rattle.j39_tp.specs.HonestPackets.{AnnouncesMessage, GoesOn, StatesLast}
 use Rattle.j39_tp.specs.Sender.{announcement}
 use Rattle.j39_tp.specs.declared.packet.Packet.{Packet}
 use Rattle.j39_tp.specs.declared.packet.Packet.TheVariants.{Rts, Cts, EndAck, Bam, Abort, Dt}
@@ -29,8 +29,8 @@ get_cases [] y (suc i) x e = absurd (cc e)
 get_cases (z ∷ xs) y zero x e = inl e
 get_cases (z ∷ xs) y (suc i) x e = elim (get_cases xs y i x e) [ inl old ↦ inl old | inr last ↦ inr (ap (λ k. suc k) last.0, last.1) ]
 
-pub tells_first : (h : List Packet) (pgn : ℕ) (bytes : List ℕ) (p : Packet) → AnnouncesMessage pgn bytes p → TellsLast (h ++ p ∷ []) pgn bytes
-tells_first h pgn bytes p opens = record {
+pub states_first : (h : List Packet) (pgn : ℕ) (bytes : List ℕ) (p : Packet) → AnnouncesMessage pgn bytes p → StatesLast (h ++ p ∷ []) pgn bytes
+states_first h pgn bytes p opens = record {
   start = length h;
   dest = opens.0;
   announced = last_stands h p ∙ ap (λ x. Some x) opens.1;
@@ -40,8 +40,8 @@ tells_first h pgn bytes p opens = record {
   ];
 }
 
-pub tells_more : (h : List Packet) (pgn : ℕ) (bytes : List ℕ) (p : Packet) → GoesOn bytes p → TellsLast h pgn bytes → TellsLast (h ++ p ∷ []) pgn bytes
-tells_more h pgn bytes p goes t = record {
+pub states_more : (h : List Packet) (pgn : ℕ) (bytes : List ℕ) (p : Packet) → GoesOn bytes p → StatesLast h pgn bytes → StatesLast (h ++ p ∷ []) pgn bytes
+states_more h pgn bytes p goes t = record {
   start = t.start;
   dest = t.dest;
   announced = stands_on h (p ∷ []) t.start (announcement t.dest pgn (length bytes)) t.announced;
@@ -113,11 +113,11 @@ ends_it One kind pgn size other leaves = leaves
 same_get : (x y : Packet) (o : Option Packet) → o ≡ Some x → o ≡ Some y → x ≡ y
 same_get x y o e f = cc (e, f)
 
-same_start : (h : List Packet) (p : Packet) (pgn : ℕ) (bytes : List ℕ) (t : TellsLast h pgn bytes) → GoesOn bytes p → (other : ℕ) (message : List ℕ)
+same_start : (h : List Packet) (p : Packet) (pgn : ℕ) (bytes : List ℕ) (t : StatesLast h pgn bytes) → GoesOn bytes p → (other : ℕ) (message : List ℕ)
     → (c : Carried (h ++ p ∷ []) (length h) other message) → c.at 0 ≡ t.start
-unfolding tells_more
+unfolding states_more
 same_start h p pgn bytes t goes other message c =
-    let longer : TellsLast (h ++ p ∷ []) pgn bytes = tells_more h pgn bytes p goes t in
+    let longer : StatesLast (h ++ p ∷ []) pgn bytes = states_more h pgn bytes p goes t in
     let first : Packet = announcement t.dest pgn (length bytes) in
     elim (cases_lt t.start (c.at 0)) [
       | inl later ↦ absurd (not_both bytes c.announcement c.kind other c.size (longer.after (c.at 0) c.announcement later c.announced) c.announces)
@@ -138,11 +138,11 @@ stands_later h place pgn message c (suc k) less =
     omega arith
 
 -- the message that a list and the packet after it carry is the one that the list has announced last
-pub carried_is : (h : List Packet) (p : Packet) (pgn : ℕ) (bytes : List ℕ) → TellsLast h pgn bytes → GoesOn bytes p → (other : ℕ) (message : List ℕ)
+pub carried_is : (h : List Packet) (p : Packet) (pgn : ℕ) (bytes : List ℕ) → StatesLast h pgn bytes → GoesOn bytes p → (other : ℕ) (message : List ℕ)
     → Carried (h ++ p ∷ []) (length h) other message → (pgn ≡ other) × (message ≡ bytes)
-unfolding tells_more
+unfolding states_more
 carried_is h p pgn bytes t goes other message c =
-    let longer : TellsLast (h ++ p ∷ []) pgn bytes = tells_more h pgn bytes p goes t in
+    let longer : StatesLast (h ++ p ∷ []) pgn bytes = states_more h pgn bytes p goes t in
     let start : c.at 0 ≡ t.start = same_start h p pgn bytes t goes other message c in
     let first : slice_get (h ++ p ∷ []) (c.at 0) ≡ Some (announcement t.dest pgn (length bytes)) = rw start longer.announced in
     let same : c.announcement ≡ announcement t.dest pgn (length bytes) =

@@ -64,8 +64,8 @@ carried_whole h q pgn message p e c =
 same_pgn : (a b : ℕ) → Complete a ≡ Complete b → a ≡ b
 same_pgn a b e = cc e
 
-told_complete : (m : Manner) (pr : Progress) (p : Packet) → m ≡ Listening → (hears Listening pr p).1 ≡ heard.Complete → is_complete (hears m pr p).1 ≡ true
-told_complete m pr p listens told = rw (listens, told) refl
+stated_complete : (m : Manner) (pr : Progress) (p : Packet) → m ≡ Listening → (hears Listening pr p).1 ≡ heard.Complete → is_complete (hears m pr p).1 ≡ true
+stated_complete m pr p listens stated = rw (listens, stated) refl
 
 -- the message of a receiver that holds one
 held_message : (s : Receiving) (pgn : ℕ) (message : List ℕ) → s.progress ≡ Complete pgn → s.bytes ≡ message → message_of s.progress s.bytes ≡ message
@@ -76,7 +76,7 @@ completed_is_carried h place pgn message range c =
     let s = listened h place in
     let after : receives_any s (slice_get h place) ≡ receives s c.packet = ap (receives_any s) c.stands in
     let holds = completes_carried (take place h) s c.packet (all_gathered h range place)
-    (told_complete s.manner s.progress c.packet (listens h place) c.told) in
+    (stated_complete s.manner s.progress c.packet (listens h place) c.stated) in
     let complete : (receives s c.packet).progress ≡ Complete pgn = ap (λ (t : Receiving). t.progress) (sym after) ∙ c.pgn_is in
     let bytes : (receives s c.packet).bytes ≡ message = ap (λ (t : Receiving). t.bytes) (sym after) ∙ c.bytes_are in
     let same : holds.pgn ≡ pgn = same_pgn holds.pgn pgn (sym holds.complete ∙ complete) in

@@ -81,7 +81,7 @@ listened h (suc q) = receives_any (listened h q) (slice_get h q)
 pub record CompletesAt (h : List Packet) (place pgn : ℕ) (message : List ℕ) : Type 0 where
   pub packet : Packet
   pub stands : slice_get h place ≡ Some packet
-  pub told : (hears Listening (listened h place).progress packet).1 ≡ heard.Complete
+  pub stated : (hears Listening (listened h place).progress packet).1 ≡ heard.Complete
   pub pgn_is : (listened h (suc place)).progress ≡ Complete pgn
   pub bytes_are : (listened h (suc place)).bytes ≡ message
 

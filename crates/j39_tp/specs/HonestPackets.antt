@@ -19,7 +19,7 @@ GoesOn bytes (Dt number seven) = seven ≡ chunk bytes number
 GoesOn bytes _ = Unit {0}
 
 -- the last announcement of a list is that of the message, and all after it goes on with it
-pub record TellsLast (h : List Packet) (pgn : ℕ) (bytes : List ℕ) : Type 0 where
+pub record StatesLast (h : List Packet) (pgn : ℕ) (bytes : List ℕ) : Type 0 where
   pub start : ℕ
   pub dest : Dest
   pub announced : slice_get h start ≡ Some (announcement dest pgn (length bytes))
@@ -27,5 +27,5 @@ pub record TellsLast (h : List Packet) (pgn : ℕ) (bytes : List ℕ) : Type 0 w
 
 -- what such a list and a packet after it carry is that message
 abbrev pub CarriesItsMessage : Type 0
-CarriesItsMessage = (h : List Packet) (p : Packet) (pgn : ℕ) (bytes : List ℕ) → TellsLast h pgn bytes → GoesOn bytes p
+CarriesItsMessage = (h : List Packet) (p : Packet) (pgn : ℕ) (bytes : List ℕ) → StatesLast h pgn bytes → GoesOn bytes p
     → (other : ℕ) (message : List ℕ) → Carried (h ++ p ∷ []) (length h) other message → (pgn ≡ other) × (message ≡ bytes)

@@ -55,7 +55,7 @@ going_on (Answering window) Directed r = (Open (granted_to window r), heard.Repl
 going_on (Answering window) Broadcast r = (Open r, heard.Nothing)
 going_on Listening kind r = (Open r, heard.Nothing)
 
--- how a complete message is told
+-- how a complete message is reported
 abbrev pub completed : Manner → ReceptionKind → Reception → Heard
 completed (Answering window) Directed r = heard.CompleteReply (EndAck r.size r.pgn)
 completed (Answering window) Broadcast r = heard.Complete
@@ -167,21 +167,21 @@ abbrev pub message_of : Progress → List ℕ → List ℕ
 message_of (Complete pgn) bytes = bytes
 message_of _ bytes = []
 
--- a message is told as complete
+-- a message is reported as complete
 abbrev pub is_complete : Heard → Bool
 is_complete heard.Complete = true
 is_complete (heard.CompleteReply packet) = true
 is_complete _ = false
 
--- the size of a message that is told as complete
-abbrev pub size_told : Heard → List ℕ → Option ℕ
-size_told heard.Complete bytes = Some (length bytes)
-size_told (heard.CompleteReply packet) bytes = Some (length bytes)
-size_told _ bytes = None
+-- the size of a message that is reported as complete
+abbrev pub size_announced : Heard → List ℕ → Option ℕ
+size_announced heard.Complete bytes = Some (length bytes)
+size_announced (heard.CompleteReply packet) bytes = Some (length bytes)
+size_announced _ bytes = None
 
 -- the size of the message that a packet completes
 abbrev pub completed_size : Receiving → Packet → Option ℕ
-completed_size s packet = size_told (hears s.manner s.progress packet).1 (receives s packet).bytes
+completed_size s packet = size_announced (hears s.manner s.progress packet).1 (receives s packet).bytes
 
 -- a receiver that was just made
 abbrev pub fresh : Manner → Receiving

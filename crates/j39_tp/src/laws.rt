@@ -2,7 +2,7 @@
 ghost use Rattle.std.specs.Prelude.{◌≡◌, ℕ, true, List, [], ◌∷◌, ◌++◌, length};
 ghost use Rattle.j39_tp.specs.Carried.{AreInRange, CompletesAt, Carried};
 ghost use Rattle.j39_tp.specs.Gathered.{Gathers, HoldsCarried};
-ghost use Rattle.j39_tp.specs.HonestPackets.{AnnouncesMessage, GoesOn, TellsLast, CarriesItsMessage};
+ghost use Rattle.j39_tp.specs.HonestPackets.{AnnouncesMessage, GoesOn, StatesLast, CarriesItsMessage};
 ghost use Rattle.j39_tp.specs.Packets.{InRange, ManagementReadsBack, DataReadsBack, AreOneManagement, AreOneData};
 ghost use Rattle.j39_tp.specs.Receiver.{Receiving, hears, is_complete, receives, gives_up};
 
@@ -51,8 +51,8 @@ pub fn receivers_gather_what_they_hear()
 /// What an honest sender has put on the bus since its announcement carries its message and no other.
 pub fn honest_packets_carry_their_message()
     ensures announced { (h : List Packet) (pgn : ℕ) (bytes : List ℕ) (p : Packet) → AnnouncesMessage pgn bytes p
-        → TellsLast (h ++ p ∷ []) pgn bytes }
-    ensures goes_on { (h : List Packet) (pgn : ℕ) (bytes : List ℕ) (p : Packet) → GoesOn bytes p → TellsLast h pgn bytes
-        → TellsLast (h ++ p ∷ []) pgn bytes }
+        → StatesLast (h ++ p ∷ []) pgn bytes }
+    ensures goes_on { (h : List Packet) (pgn : ℕ) (bytes : List ℕ) (p : Packet) → GoesOn bytes p → StatesLast h pgn bytes
+        → StatesLast (h ++ p ∷ []) pgn bytes }
     ensures carries { CarriesItsMessage }
 {}

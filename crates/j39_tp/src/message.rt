@@ -72,7 +72,7 @@ impl Message {
         filled(&rest[..rest.len().min(PACKET_BYTES)])
     }
 
-    /// Its bytes.
+    /// The bytes of the message.
     pub fn bytes(&self) -> &[u8]
         ensures value { result.now ≡ self.now.bytes }
         ensures range { IsSize (length self.now.bytes) }

@@ -181,7 +181,7 @@ module _ (whole within hole : List (Vec Bool Global)) (holes : List (Vec (Vec Bo
   -- a variant that leaves the hole by no choice is in it
   pub none_by_all : (near : List ℕ) (by : List Bool) (k n : ℕ) → AreMet within holes near met → length whole ≡ length within → is_met within hole ≡ true
       → k < length met → hole ≡ hole_at holes (slice_index met k) → length within ≤ n → IsNoneTo whole within hole holes met by n → IsNoneBy whole within holes near by
-  none_by_all near by k n same alike meets below is all told v out on =
+  none_by_all near by k n same alike meets below is all reported v out on =
       let w = length-map whole (λ choice. choice.items) in
       let m = length-map hole (λ choice. choice.items) in
       let long = within_length (box_flags whole) v out.in_box in
@@ -190,7 +190,7 @@ module _ (whole within hole : List (Vec Bool Global)) (holes : List (Vec (Vec Bo
       let not_in : is_in_box (box_flags hole) v ≡ false =
       ap (λ h. is_in_box (box_flags h) v) is ∙ any_at (λ place. is_in_box (box_flags (hole_at holes place)) v) met k less_out.in_none below in
       let (first, less, way) = leaves (box_flags hole) v (omega (arith, w, m, long, sizes, alike)) not_in in
-      told.none first (omega (arith, m, sizes, less, all)) v less_out on way
+      reported.none first (omega (arith, m, sizes, less, all)) v less_out on way
 
 -- of the whole box itself
 pub none_by_whole : (within : List (Vec Bool Global)) (holes : List (Vec (Vec Bool Global) Global)) (near : List ℕ) (by : List Bool)

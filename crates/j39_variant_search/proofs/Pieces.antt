@@ -53,9 +53,6 @@ part_more n test within part flags v here is before = record {
         rw (push_before (box_flags part) v.items k (omega (arith, b))) (before.has_these k p less)
   ]
 
-pub part_none : (test : ℕ → ℕ → Bool) (within : List (List Bool)) → IsPartTo 0 test within []
-part_none test within = record { of_each = refl; has_these = λ k p below. absurd (omega arith) }
-
 pub part_whole : (n : ℕ) (test : ℕ → ℕ → Bool) (within part : List (List Bool)) → n ≡ length within → IsPartTo n test within part → IsBoxPart test within part
 part_whole n test within part all is = record {
   of_each = is.of_each ∙ all;

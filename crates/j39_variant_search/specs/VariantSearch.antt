@@ -1,4 +1,4 @@
--- Which variant is the first in a box and in none of some others. A box tells choice by choice which alternatives it has, by their places.
+-- Which variant is the first in a box and in none of some others. A box reports choice by choice which alternatives it has, by their places.
 use Rattle.std.specs.declared.alloc.Global.{Global}
 use Rattle.std.specs.Prelude.{Vec, ◌≡◌, ℕ, List, [], ◌∷◌, Bool, true, false, ◌&&◌, map}
 use Rattle.std.specs.List.{list_any}

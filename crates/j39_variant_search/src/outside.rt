@@ -8,7 +8,7 @@ use crate::flags::{flag_at, has_some, hole_at, is_empty_box, is_left_at, is_met}
 use crate::parts::part_behind;
 use std::alloc::{AllocError, Global};
 
-// Those of some holes that a box meets.
+// The holes that a box meets.
 fn holes_met(
     alloc: Global,
     within: &[Vec<bool>],

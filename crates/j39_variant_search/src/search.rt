@@ -54,7 +54,7 @@ fn all_met(
 }
 
 /// The first variant that is in a box and in none of the others, as the places of the alternatives that it takes, choice
-/// by choice. A box tells choice by choice, and place by place, which alternatives it has; one of more or fewer choices
+/// by choice. A box reports choice by choice, and place by place, which alternatives it has; one of more or fewer choices
 /// has no variant in common with it.
 ///
 /// The time is exponential in the choices at worst. Takes memory for the search.

@@ -10,53 +10,36 @@ use Rattle.j39_network.specs.declared.plan.flow_plan.FlowPlan.{FlowPlan}
 use Rattle.j39_network.specs.declared.plan.group_plan.GroupPlan.{GroupPlan}
 use Rattle.j39_network.specs.declared.plan.need_plan.NeedPlan.{NeedPlan}
 use Rattle.j39_network.specs.declared.plan.request_plan.RequestPlan.{RequestPlan}
+use Rattle.j39_network.specs.declared.plan.to.To.{To}
 use Rattle.j39_network.specs.declared.plan.to.To.TheVariants.{One}
 use Rattle.j39_network.specs.NeedPlaces.{signal_count}
 use Rattle.j39_variants.specs.declared.line.ProductLine.{ProductLine}
 use Rattle.j39_variants.specs.VariantPlans.{IsCopyOfGroup, flags, group_places, moved_flow, moved_from, moved_need, moved_request, moved_receivers, picked, place_at, unit_places}
-use Rattle.j39_variants.proofs.Places.{copied_count, copied_labels, copied_signals, flow_parts, from_place, mapped_all, mapped_count, need_parts, picked_all, picked_count, picked_pairs, place_below, place_same}
-use Rattle.j39_variants.proofs.Places.{request_parts, to_place}
+use Rattle.j39_variants.proofs.Places.{SentParts, copied_count, copied_labels, copied_signals, flow_parts, from_place, mapped_all, mapped_count, need_parts, picked_all, picked_count}
+use Rattle.j39_variants.proofs.Places.{picked_pairs, place_below, place_same, request_parts, to_place}
 
 -- the places are below a number
 abbrev pub AreBelow : List (Option ℕ) → ℕ → Type 0
 AreBelow places n = (i p : ℕ) → place_at places i ≡ Some p → p < n
 
+-- the groups, senders and receivers of flows or requests are there
+pub record SentInside {X : Type 0} (group sender : X → ℕ) (to : X → To) (n m : ℕ) (xs : List X) : Type 0 where
+  pub groups : All (λ x. group x < m) xs
+  pub senders : All (λ x. sender x < n) xs
+  pub receivers : All (λ x. (r : ℕ) → to x ≡ One r → r < n) xs
+
 module _ (us gs : List (Option ℕ)) (n m : ℕ) (units : AreBelow us n) (groups : AreBelow gs m) where
-  pub flow_groups : (fs : List FlowPlan) → All (λ f. f.group < m) (filter_map (moved_flow us gs) fs)
-  flow_groups fs =
-      mapped_all (λ _. Unit {0}) (λ f. f.group < m) (moved_flow us gs)
-      (λ f y _ is. groups f.group y.group (flow_parts f (place_at gs f.group) (place_at us f.sender) (moved_receivers us f.to) y is).group) fs (λ k d below. tt)
-
-  pub flow_senders : (fs : List FlowPlan) → All (λ f. f.sender < n) (filter_map (moved_flow us gs) fs)
-  flow_senders fs =
-      mapped_all (λ _. Unit {0}) (λ f. f.sender < n) (moved_flow us gs)
-      (λ f y _ is. units f.sender y.sender (flow_parts f (place_at gs f.group) (place_at us f.sender) (moved_receivers us f.to) y is).sender) fs (λ k d below. tt)
-
-  pub flow_receivers : (fs : List FlowPlan) → All (λ f. (r : ℕ) → f.to ≡ One r → r < n) (filter_map (moved_flow us gs) fs)
-  flow_receivers fs =
-      mapped_all (λ _. Unit {0}) (λ f. (r : ℕ) → f.to ≡ One r → r < n) (moved_flow us gs)
-      (λ f y _ is r to.
-      let parts = flow_parts f (place_at gs f.group) (place_at us f.sender) (moved_receivers us f.to) y is in
-      let at = to_place us f.to r (rw to at parts.receivers) in
-      units at.0 r at.1) fs (λ k d below. tt)
-
-  pub request_groups : (rs : List RequestPlan) → All (λ r. r.group < m) (filter_map (moved_request us gs) rs)
-  request_groups rs =
-      mapped_all (λ _. Unit {0}) (λ r. r.group < m) (moved_request us gs)
-      (λ r y _ is. groups r.group y.group (request_parts r (place_at gs r.group) (place_at us r.sender) (moved_receivers us r.to) y is).group) rs (λ k d below. tt)
-
-  pub request_senders : (rs : List RequestPlan) → All (λ r. r.sender < n) (filter_map (moved_request us gs) rs)
-  request_senders rs =
-      mapped_all (λ _. Unit {0}) (λ r. r.sender < n) (moved_request us gs)
-      (λ r y _ is. units r.sender y.sender (request_parts r (place_at gs r.group) (place_at us r.sender) (moved_receivers us r.to) y is).sender) rs (λ k d below. tt)
-
-  pub request_receivers : (rs : List RequestPlan) → All (λ q. (r : ℕ) → q.to ≡ One r → r < n) (filter_map (moved_request us gs) rs)
-  request_receivers rs =
-      mapped_all (λ _. Unit {0}) (λ q. (r : ℕ) → q.to ≡ One r → r < n) (moved_request us gs)
-      (λ q y _ is r to.
-      let parts = request_parts q (place_at gs q.group) (place_at us q.sender) (moved_receivers us q.to) y is in
-      let at = to_place us q.to r (rw to at parts.receivers) in
-      units at.0 r at.1) rs (λ k d below. tt)
+  pub sent_inside : {X : Type 0} (group sender : X → ℕ) (to : X → To) (moved : X → Option X)
+      → ((x y : X) → moved x ≡ Some y
+      → SentParts (place_at gs (group x)) (place_at us (sender x)) (moved_receivers us (to x)) (group y) (sender y) (to y))
+      → (xs : List X) → SentInside group sender to n m (filter_map moved xs)
+  sent_inside group sender to moved parts xs = record {
+    groups = mapped_all (λ _. Unit {0}) (λ x. group x < m) moved (λ x y _ is. groups (group x) (group y) (parts x y is).group) xs (λ k d below. tt);
+    senders = mapped_all (λ _. Unit {0}) (λ x. sender x < n) moved (λ x y _ is. units (sender x) (sender y) (parts x y is).sender) xs (λ k d below. tt);
+    receivers =
+        mapped_all (λ _. Unit {0}) (λ x. (r : ℕ) → to x ≡ One r → r < n) moved
+        (λ x y _ is r at. let place = to_place us (to x) r (rw at at (parts x y is).receivers) in units place.0 r place.1) xs (λ k d below. tt);
+  }
 
   pub need_units : (ds : List NeedPlan) → All (λ d. d.unit < n) (filter_map (moved_need us gs) ds)
   need_units ds =
@@ -171,23 +154,16 @@ module _ (line : ProductLine) (variant : List ℕ) where
     gs_below : AreBelow (group_places line variant) (length gs)
     gs_below = groups_below gs are_groups
 
-    pub groups_of_flows : (fs : List FlowPlan) → AreFlows fs → All (λ f. f.group < length gs) fs
-    groups_of_flows fs is = rw is (flow_groups (unit_places line variant) (group_places line variant) (length us) (length gs) us_below gs_below _)
+    pub flows_inside : (fs : List FlowPlan) → AreFlows fs → SentInside (λ f. f.group) (λ f. f.sender) (λ f. f.to) (length us) (length gs) fs
+    flows_inside fs is =
+        rw is (sent_inside (unit_places line variant) (group_places line variant) (length us) (length gs) us_below gs_below (λ f. f.group) (λ f. f.sender) (λ f. f.to)
+        (moved_flow (unit_places line variant) (group_places line variant)) (λ f y is. flow_parts f _ _ _ y is) _)
 
-    pub senders_of_flows : (fs : List FlowPlan) → AreFlows fs → All (λ f. f.sender < length us) fs
-    senders_of_flows fs is = rw is (flow_senders (unit_places line variant) (group_places line variant) (length us) (length gs) us_below gs_below _)
-
-    pub receivers_of_flows : (fs : List FlowPlan) → AreFlows fs → All (λ f. (r : ℕ) → f.to ≡ One r → r < length us) fs
-    receivers_of_flows fs is = rw is (flow_receivers (unit_places line variant) (group_places line variant) (length us) (length gs) us_below gs_below _)
-
-    pub groups_of_requests : (rs : List RequestPlan) → AreRequests rs → All (λ r. r.group < length gs) rs
-    groups_of_requests rs is = rw is (request_groups (unit_places line variant) (group_places line variant) (length us) (length gs) us_below gs_below _)
-
-    pub senders_of_requests : (rs : List RequestPlan) → AreRequests rs → All (λ r. r.sender < length us) rs
-    senders_of_requests rs is = rw is (request_senders (unit_places line variant) (group_places line variant) (length us) (length gs) us_below gs_below _)
-
-    pub receivers_of_requests : (rs : List RequestPlan) → AreRequests rs → All (λ q. (r : ℕ) → q.to ≡ One r → r < length us) rs
-    receivers_of_requests rs is = rw is (request_receivers (unit_places line variant) (group_places line variant) (length us) (length gs) us_below gs_below _)
+    pub requests_inside : (rs : List RequestPlan) → AreRequests rs
+        → SentInside (λ r. r.group) (λ r. r.sender) (λ r. r.to) (length us) (length gs) rs
+    requests_inside rs is =
+        rw is (sent_inside (unit_places line variant) (group_places line variant) (length us) (length gs) us_below gs_below (λ r. r.group) (λ r. r.sender) (λ r. r.to)
+        (moved_request (unit_places line variant) (group_places line variant)) (λ r y is. request_parts r _ _ _ y is) _)
 
     pub units_of_needs : (ds : List NeedPlan) → AreNeeds ds → All (λ d. d.unit < length us) ds
     units_of_needs ds is = rw is (need_units (unit_places line variant) (group_places line variant) (length us) (length gs) us_below gs_below _)

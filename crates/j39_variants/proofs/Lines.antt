@@ -29,7 +29,7 @@ line_never_grows grows = elim grows [
 -- ---- the tables of what may go with alternatives
 
 pub tables_are : (tree : Members) (t : TopTable) → DescribesTop tree t → tables_in t ≡ tables_found tree
-tables_are tree t told = rw (told.has_units, told.has_groups, told.has_flows, told.has_needs, told.has_requests) refl
+tables_are tree t stated = rw (stated.has_units, stated.has_groups, stated.has_flows, stated.has_needs, stated.has_requests) refl
 
 pub same_count : {A B : Type 0} (IsA : Data → A → Type 0) (IsB : Data → B → Type 0) (ds es : Items) (xs : List A) (ys : List B)
     → Each IsA ds xs → Each IsB es ys → ds ≡ es → length xs ≡ length ys
@@ -38,7 +38,7 @@ same_count IsA IsB ds es xs ys a b same = length-Each IsA ds xs a ∙ ap items_c
 -- the top table has no fault where there is none
 pub never_fails : (e : PlanError) (fs : List PlanFault) → fs ≡ [] → FailsGrowing ⊥ e fs → ⊥
 never_fails errors.Text fs none fails = fails
-never_fails (errors.Fault f) fs none fails = let told : first [] ≡ Some f = subst (λ (gs : List PlanFault). first gs ≡ Some f) none fails in cc told
+never_fails (errors.Fault f) fs none fails = let stated : first [] ≡ Some f = subst (λ (gs : List PlanFault). first gs ≡ Some f) none fails in cc stated
 never_fails errors.Memory fs none fails = fails
 
 -- what may want memory under a condition may want it

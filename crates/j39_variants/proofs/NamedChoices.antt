@@ -1,21 +1,25 @@
 -- Labels and what they name, among choices and among the labels of these.
 use Rattle.std.proofs.Common.{◌≡◌, ℕ, ◌==◌, Bool, List, [], ◌∷◌, ◌++◌, map, not, length, Option, Some, None, option_map, option_and_then, refl, ap, ◌∙◌, sym}
-use Rattle.std.specs.Prelude.{position}
+use Rattle.std.specs.Prelude.{position, if◌then◌else◌}
 use Rattle.std.specs.List.{list_any, prefix_len, slice_get}
 use Rattle.std.specs.Option.{option_map_or}
 use Rattle.std.proofs.lemmas.List.{length-map}
 use Rattle.std.proofs.lemmas.Option.{slice_get-map}
 use Rattle.toml.specs.Data.{Items, no_items, item}
+use Rattle.j39_toml.specs.declared.cause.Cause.TheVariants.{Range}
 use Rattle.j39_toml.specs.InOrder.{Each}
+use Rattle.j39_toml.specs.TableFaults.{fault}
+use Rattle.j39_plan.specs.declared.reading.key.Key.{Key}
+use Rattle.j39_plan.specs.declared.reading.place.Table.{Table}
 use Rattle.j39_plan.specs.FlowTables.{place_of}
 use Rattle.j39_plan.specs.LabelsSeen.{is_label_among}
 use Rattle.j39_variants.specs.declared.line.Choice.{Choice}
 use Rattle.j39_variants.specs.declared.reading.lists.NamedAlternative.{NamedAlternative}
 use Rattle.j39_variants.specs.ChoiceTables.{choice_labels}
-use Rattle.j39_variants.specs.ListTables.{IsNamedBy, NamesAlternative, named_in, place_in, label_text_in}
+use Rattle.j39_variants.specs.ListTables.{IsNamed, IsNamedBy, NamesAlternative, is_misplaced, label_text_in, misplaced_faults, named_in, place_in, size_of}
 use Rattle.std.proofs.lemmas.Option.{none-some, same_Some}
 use Rattle.j39_variants.specs.declared.line.Alternative.{Alternative}
-use Rattle.j39_variants.specs.NeverTables.{choice_named, choices_named, others, alternatives_left, size_of}
+use Rattle.j39_variants.specs.NeverTables.{choices_named, others, alternatives_left}
 
 pub any_view : (cs : List Choice) (label : List ℕ)
     → list_any (λ labels. is_label_among labels label) (map choice_labels cs) ≡ list_any (λ c. is_label_among (choice_labels c) label) cs
@@ -81,6 +85,12 @@ choices_are choices no_items [] each = refl
 choices_are choices no_items (n ∷ list) each = absurd each
 choices_are choices (item d ds) [] each = absurd each
 choices_are choices (item d ds) (n ∷ list) each = rw (each.0.has_place, choices_are choices ds list each.1)
+
+-- whether a label that names an alternative can't be named in a list is reported by its choice
+pub misplaced_named : (at : Table) (k : Key) (choices : List (List (List ℕ))) (others : List ℕ) (seen : List (List ℕ)) (label : List ℕ)
+    (n : NamedAlternative) → IsNamed choices label n
+    → misplaced_faults at k choices (Some others) seen label ≡ (if is_misplaced choices others seen n.at.choice then fault Range at (Some k) ∷ [] else [])
+misplaced_named at k choices others seen label n named = rw (named.has_place) refl
 
 pub choices_view : (others : List NamedAlternative) (c : ℕ)
     → list_any (λ (d : ℕ). d == c) (map (λ n. n.at.choice) others) ≡ list_any (λ n. n.at.choice == c) others

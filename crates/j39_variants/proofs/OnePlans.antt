@@ -184,14 +184,14 @@ no_labels (item d ds) [] each none = absurd each
 no_labels (item d ds) (c ∷ cs) each none = cc
 
 pub no_lists : (tree : Members) (line : ProductLine) → DescribesProductLine tree line → line.choices.items ≡ [] → HasNoLists line
-no_lists tree line told none =
-    let labels : labels_of_choices tree ≡ [] = no_labels _ line.choices.items told.has_choices none in
+no_lists tree line stated none =
+    let labels : labels_of_choices tree ≡ [] = no_labels _ line.choices.items stated.has_choices none in
     record {
-      units = empty_lists (labels_of_choices tree) (tables_found tree).units line.lists.units.items labels told.has_lists.has_units;
-      groups = empty_lists (labels_of_choices tree) (tables_found tree).groups line.lists.groups.items labels told.has_lists.has_groups;
-      flows = empty_lists (labels_of_choices tree) (tables_found tree).flows line.lists.flows.items labels told.has_lists.has_flows;
-      needs = empty_lists (labels_of_choices tree) (tables_found tree).needs line.lists.needs.items labels told.has_lists.has_needs;
-      requests = empty_lists (labels_of_choices tree) (tables_found tree).requests line.lists.requests.items labels told.has_lists.has_requests;
+      units = empty_lists (labels_of_choices tree) (tables_found tree).units line.lists.units.items labels stated.has_lists.has_units;
+      groups = empty_lists (labels_of_choices tree) (tables_found tree).groups line.lists.groups.items labels stated.has_lists.has_groups;
+      flows = empty_lists (labels_of_choices tree) (tables_found tree).flows line.lists.flows.items labels stated.has_lists.has_flows;
+      needs = empty_lists (labels_of_choices tree) (tables_found tree).needs line.lists.needs.items labels stated.has_lists.has_needs;
+      requests = empty_lists (labels_of_choices tree) (tables_found tree).requests line.lists.requests.items labels stated.has_lists.has_requests;
     }
 
 pub one_variant : (choices : List Choice) (v : List ℕ) → choices ≡ [] → IsVariant choices v → v ≡ []
@@ -200,7 +200,7 @@ one_variant [] (p ∷ v) none is = let e = is.of_each in absurd (omega (arith, e
 one_variant (c ∷ cs) (p ∷ v) none is = cc
 
 pub one_plan : (tree : Members) (line : ProductLine) → IsOnePlan tree line
-one_plan tree line told none = record {
+one_plan tree line stated none = record {
   one = λ v is. one_variant line.choices.items v none is;
-  plan = whole_plan line [] (no_lists tree line told none);
+  plan = whole_plan line [] (no_lists tree line stated none);
 }

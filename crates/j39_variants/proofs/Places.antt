@@ -15,7 +15,7 @@ use Rattle.j39_network.specs.declared.plan.request_plan.RequestPlan.{RequestPlan
 use Rattle.j39_network.specs.declared.plan.to.To.{To}
 use Rattle.j39_network.specs.declared.plan.to.To.TheVariants as to
 use Rattle.j39_network.specs.declared.plan.to.To.TheVariants.{One}
-use Rattle.j39_variants.specs.VariantPlans.{IsCopyOfGroup, flow_between, moved_flow, moved_from, moved_need, moved_receivers, moved_request, need_between, picked, place_at, places, request_between}
+use Rattle.j39_variants.specs.VariantPlans.{IsCopyOfGroup, flow_between, moved_from, moved_receivers, need_between, picked, place_at, places, request_between, made_of, where_all_are}
 
 -- where a place is: what stands there is what stood at the old one
 pub record Located {X : Type 0} (bs : List Bool) (xs : List X) (n i p : ℕ) : Type 0 where
@@ -118,31 +118,48 @@ pub to_place : (units : List (Option ℕ)) (t : To) (r : ℕ) → moved_receiver
 to_place units to.All r e = cc
 to_place units (One u) r e = (u, some_place (place_at units u) r e)
 
-pub record FlowParts (g s : Option ℕ) (t : Option To) (y : FlowPlan) : Type 0 where
-  pub group : g ≡ Some y.group
-  pub sender : s ≡ Some y.sender
-  pub receivers : t ≡ Some y.to
+-- the three values of which something was made
+pub record MadeOf {A B C X : Type 0} (make : A → B → C → X) (a : Option A) (b : Option B) (c : Option C) (y : X) : Type 0 where
+  pub first : A
+  pub second : B
+  pub third : C
+  pub first_is : a ≡ Some first
+  pub second_is : b ≡ Some second
+  pub third_is : c ≡ Some third
+  pub made : make first second third ≡ y
 
-pub flow_parts : (f : FlowPlan) (g s : Option ℕ) (t : Option To) (y : FlowPlan) → flow_between f g s t ≡ Some y → FlowParts g s t y
-flow_parts f (Some g) (Some s) (Some t) y e =
-    let is = same_Some _ _ e in
-    record { group = ap (λ (z : FlowPlan). Some z.group) is; sender = ap (λ (z : FlowPlan). Some z.sender) is; receivers = ap (λ (z : FlowPlan). Some z.to) is }
-flow_parts f None s t y e = cc
-flow_parts f (Some g) None t y e = cc
-flow_parts f (Some g) (Some s) None y e = cc
+pub made_parts : {A B C X : Type 0} (make : A → B → C → X) (a : Option A) (b : Option B) (c : Option C) (y : X) → made_of make a b c ≡ Some y
+    → MadeOf make a b c y
+made_parts make (Some a) (Some b) (Some c) y e =
+    record { first = a; second = b; third = c; first_is = refl; second_is = refl; third_is = refl; made = same_Some _ _ e }
+made_parts make None b c y e = cc
+made_parts make (Some a) None c y e = cc
+made_parts make (Some a) (Some b) None y e = cc
 
-pub record RequestParts (g s : Option ℕ) (t : Option To) (y : RequestPlan) : Type 0 where
-  pub group : g ≡ Some y.group
-  pub sender : s ≡ Some y.sender
-  pub receivers : t ≡ Some y.to
+-- the group, the sender and the receivers of a flow or a request
+pub record SentParts (g s : Option ℕ) (t : Option To) (new_group new_sender : ℕ) (new_to : To) : Type 0 where
+  pub group : g ≡ Some new_group
+  pub sender : s ≡ Some new_sender
+  pub receivers : t ≡ Some new_to
 
-pub request_parts : (r : RequestPlan) (g s : Option ℕ) (t : Option To) (y : RequestPlan) → request_between r g s t ≡ Some y → RequestParts g s t y
-request_parts r (Some g) (Some s) (Some t) y e =
-    let is = same_Some _ _ e in
-    record { group = ap (λ (z : RequestPlan). Some z.group) is; sender = ap (λ (z : RequestPlan). Some z.sender) is; receivers = ap (λ (z : RequestPlan). Some z.to) is }
-request_parts r None s t y e = cc
-request_parts r (Some g) None t y e = cc
-request_parts r (Some g) (Some s) None y e = cc
+sent_parts : {X : Type 0} (group sender : X → ℕ) (to : X → To) (make : ℕ → ℕ → To → X)
+    → ((g s : ℕ) (t : To) → (group (make g s t) ≡ g) × (sender (make g s t) ≡ s) × (to (make g s t) ≡ t))
+    → (g s : Option ℕ) (t : Option To) (y : X) → made_of make g s t ≡ Some y → SentParts g s t (group y) (sender y) (to y)
+sent_parts group sender to make has g s t y e =
+    let parts = made_parts make g s t y e in
+    let same = has parts.first parts.second parts.third in
+    record {
+      group = parts.first_is ∙ ap Some (sym same.0 ∙ ap group parts.made);
+      sender = parts.second_is ∙ ap Some (sym same.1 ∙ ap sender parts.made);
+      receivers = parts.third_is ∙ ap Some (sym same.2 ∙ ap to parts.made);
+    }
+
+pub flow_parts : (f : FlowPlan) (g s : Option ℕ) (t : Option To) (y : FlowPlan) → flow_between f g s t ≡ Some y → SentParts g s t y.group y.sender y.to
+flow_parts f = sent_parts (λ y. y.group) (λ y. y.sender) (λ y. y.to) (λ g s t. record f { group = g; sender = s; to = t }) (λ g s t. (refl, refl, refl))
+
+pub request_parts : (r : RequestPlan) (g s : Option ℕ) (t : Option To) (y : RequestPlan) → request_between r g s t ≡ Some y
+    → SentParts g s t y.group y.sender y.to
+request_parts r = sent_parts (λ y. y.group) (λ y. y.sender) (λ y. y.to) (λ g s t. record r { group = g; sender = s; to = t }) (λ g s t. (refl, refl, refl))
 
 -- ---- needs
 
@@ -153,17 +170,14 @@ pub record NeedParts (d : NeedPlan) (u g : Option ℕ) (s : Option (Option ℕ))
   pub signal : y.signal ≡ d.signal
 
 pub need_parts : (d : NeedPlan) (u g : Option ℕ) (s : Option (Option ℕ)) (y : NeedPlan) → need_between d u g s ≡ Some y → NeedParts d u g s y
-need_parts d (Some u) (Some g) (Some s) y e =
-    let is = same_Some _ _ e in
+need_parts d u g s y e =
+    let parts = made_parts _ u g s y e in
     record {
-      unit = ap (λ (z : NeedPlan). Some z.unit) is;
-      group = ap (λ (z : NeedPlan). Some z.group) is;
-      sender = ap (λ (z : NeedPlan). Some z.from) is;
-      signal = sym (ap (λ (z : NeedPlan). z.signal) is);
+      unit = parts.first_is ∙ ap (λ (z : NeedPlan). Some z.unit) parts.made;
+      group = parts.second_is ∙ ap (λ (z : NeedPlan). Some z.group) parts.made;
+      sender = parts.third_is ∙ ap (λ (z : NeedPlan). Some z.from) parts.made;
+      signal = sym (ap (λ (z : NeedPlan). z.signal) parts.made);
     }
-need_parts d None g s y e = cc
-need_parts d (Some u) None s y e = cc
-need_parts d (Some u) (Some g) None y e = cc
 
 some_from : (o : Option ℕ) (r : ℕ) → option_map Some o ≡ Some (Some r) → o ≡ Some r
 some_from None r e = cc
@@ -209,35 +223,12 @@ copied_labels (g ∷ gs) (h ∷ hs) zip all =
 
 -- ---- what is moved
 
-flow_same : (f : FlowPlan) (g s : ℕ) (t : To) (p : ForSome f.pause (λ n. 1 ≤ n))
-    → record f { group = g; sender = s; to = t; pause_positive = p } ≡ record f { group = g; sender = s; to = t }
-flow_same f g s t p =
-    let prop : IsProp (ForSome f.pause (λ n. 1 ≤ n)) = hlevel props in
-    λ k. record f { group = g; sender = s; to = t; pause_positive = prop p f.pause_positive k }
-
-pub flow_moved : (us gs : List (Option ℕ)) (f : FlowPlan) (g s : ℕ) (t : To) (p : ForSome f.pause (λ n. 1 ≤ n)) → Some g ≡ place_at gs f.group
-    → Some s ≡ place_at us f.sender → Some t ≡ moved_receivers us f.to
-    → Some (record f { group = g; sender = s; to = t; pause_positive = p }) ≡ moved_flow us gs f
-flow_moved us gs f g s t p a b c = ap Some (flow_same f g s t p) ∙ (rw (← a, ← b, ← c) refl)
-
-request_same : (r : RequestPlan) (g s : ℕ) (t : To) (p : ForSome r.period (λ n. 1 ≤ n))
-    → record r { group = g; sender = s; to = t; period_positive = p } ≡ record r { group = g; sender = s; to = t }
-request_same r g s t p =
-    let prop : IsProp (ForSome r.period (λ n. 1 ≤ n)) = hlevel props in
-    λ k. record r { group = g; sender = s; to = t; period_positive = prop p r.period_positive k }
-
-pub request_moved : (us gs : List (Option ℕ)) (r : RequestPlan) (g s : ℕ) (t : To) (p : ForSome r.period (λ n. 1 ≤ n)) → Some g ≡ place_at gs r.group
-    → Some s ≡ place_at us r.sender → Some t ≡ moved_receivers us r.to
-    → Some (record r { group = g; sender = s; to = t; period_positive = p }) ≡ moved_request us gs r
-request_moved us gs r g s t p a b c = ap Some (request_same r g s t p) ∙ (rw (← a, ← b, ← c) refl)
-
-need_same : (d : NeedPlan) (u g : ℕ) (s : Option ℕ) (p : ForSome d.within (λ n. 1 ≤ n))
-    → record d { unit = u; group = g; «from» = s; within_positive = p } ≡ record d { unit = u; group = g; «from» = s }
-need_same d u g s p =
-    let prop : IsProp (ForSome d.within (λ n. 1 ≤ n)) = hlevel props in
-    λ k. record d { unit = u; group = g; «from» = s; within_positive = prop p d.within_positive k }
-
-pub need_moved : (us gs : List (Option ℕ)) (d : NeedPlan) (u g : ℕ) (s : Option ℕ) (p : ForSome d.within (λ n. 1 ≤ n)) → Some u ≡ place_at us d.unit
-    → Some g ≡ place_at gs d.group → Some s ≡ moved_from us d.from
-    → Some (record d { unit = u; group = g; «from» = s; within_positive = p }) ≡ moved_need us gs d
-need_moved us gs d u g s p a b c = ap Some (need_same d u g s p) ∙ (rw (← a, ← b, ← c) refl)
+-- what is made of three values that are there, whatever proof that a number is positive stands in it
+pub made_where_all_are : {A B C X : Type 0} (o : Option ℕ) (make : ForSome o (λ n. 1 ≤ n) → A → B → C → X) (p q : ForSome o (λ n. 1 ≤ n))
+    (a : Option A) (b : Option B) (c : Option C) (x : A) (y : B) (z : C) → Some (x, y, z) ≡ where_all_are a b c → Some (make p x y z) ≡ made_of (make q) a b c
+made_where_all_are o make p q (Some a) (Some b) (Some c) x y z e =
+    let prop : IsProp (ForSome o (λ n. 1 ≤ n)) = hlevel props in
+    ap (λ r. Some (make r x y z)) (prop p q) ∙ ap (λ t. Some (make q t.0 t.1 t.2)) (same_Some _ _ e)
+made_where_all_are o make p q None b c x y z e = cc
+made_where_all_are o make p q (Some a) None c x y z e = cc
+made_where_all_are o make p q (Some a) (Some b) None x y z e = cc

@@ -52,7 +52,7 @@ alternative_faults at choices i seen _ = fault WrongType at (Some key.Of) ∷ []
 abbrev pub alternatives_rule : PlanRule
 alternatives_rule = list_rule key.Of 2 true
 
--- the labels that the table of a choice tells
+-- the labels that the table of a choice reports
 abbrev pub choice_labels_in : Data → List (List ℕ)
 choice_labels_in d = labels_of label_text_in (elements_found word_of key.Of (inside d))
 
@@ -66,11 +66,11 @@ unfoldable pub choice_faults : ℕ → List (List (List ℕ)) → Data → List 
 choice_faults i seen d =
     table_only_faults (at.Choice i) d ++ option_map_or (choice_table_faults i seen) (as_table d) []
 
--- the label that an element tells
+-- the label that an element reports
 abbrev pub IsLabelOf : Data → ArrayString → Type 0
 IsLabelOf d l = l.bytes ≡ label_text_in d
 
--- the choice that a table tells
+-- the choice that a table reports
 pub record DescribesChoice (ms : Members) (c : Choice) : Type 0 where
   pub has_alternatives : Each IsLabelOf (elements_found word_of key.Of ms) c.alternatives.items
   pub has_labels : choice_labels c ≡ labels_of label_text_in (elements_found word_of key.Of ms)

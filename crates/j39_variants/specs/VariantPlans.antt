@@ -42,10 +42,18 @@ abbrev pub moved_receivers : List (Option ℕ) → To → Option To
 moved_receivers units All = Some All
 moved_receivers units (One u) = option_map One (place_at units u)
 
+-- what is made of three values that are there: nothing where one isn't
+abbrev pub made_of : {A B C X : Type 0} → (A → B → C → X) → Option A → Option B → Option C → Option X
+made_of make (Some a) (Some b) (Some c) = Some (make a b c)
+made_of make _ _ _ = None
+
+-- the three themselves
+abbrev pub where_all_are : {A B C : Type 0} → Option A → Option B → Option C → Option (A × B × C)
+where_all_are = made_of (λ a b c. (a, b, c))
+
 -- the flow by the places of what is there: none where its group, its sender or its receiver isn't
 abbrev pub flow_between : FlowPlan → Option ℕ → Option ℕ → Option To → Option FlowPlan
-flow_between f (Some g) (Some s) (Some t) = Some (record f { group = g; sender = s; to = t })
-flow_between f _ _ _ = None
+flow_between f = made_of (λ g s t. record f { group = g; sender = s; to = t })
 
 abbrev pub moved_flow : List (Option ℕ) → List (Option ℕ) → FlowPlan → Option FlowPlan
 moved_flow units groups f = flow_between f (place_at groups f.group) (place_at units f.sender) (moved_receivers units f.to)
@@ -56,16 +64,14 @@ moved_from units None = Some None
 moved_from units (Some u) = option_map Some (place_at units u)
 
 abbrev pub need_between : NeedPlan → Option ℕ → Option ℕ → Option (Option ℕ) → Option NeedPlan
-need_between d (Some u) (Some g) (Some s) = Some (record d { unit = u; group = g; «from» = s })
-need_between d _ _ _ = None
+need_between d = made_of (λ u g s. record d { unit = u; group = g; «from» = s })
 
 abbrev pub moved_need : List (Option ℕ) → List (Option ℕ) → NeedPlan → Option NeedPlan
 moved_need units groups d = need_between d (place_at units d.unit) (place_at groups d.group) (moved_from units d.from)
 
 -- and a request
 abbrev pub request_between : RequestPlan → Option ℕ → Option ℕ → Option To → Option RequestPlan
-request_between r (Some g) (Some s) (Some t) = Some (record r { group = g; sender = s; to = t })
-request_between r _ _ _ = None
+request_between r = made_of (λ g s t. record r { group = g; sender = s; to = t })
 
 abbrev pub moved_request : List (Option ℕ) → List (Option ℕ) → RequestPlan → Option RequestPlan
 moved_request units groups r = request_between r (place_at groups r.group) (place_at units r.sender) (moved_receivers units r.to)

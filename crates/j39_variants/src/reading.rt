@@ -14,6 +14,7 @@ mod choices;
 mod item;
 mod labels;
 mod lists;
+mod misplaced;
 mod nevers;
 mod withs;
 
@@ -66,7 +67,7 @@ fn read_members(alloc: Global, members: &toml::Table) -> Result<ProductLine, Pla
     })
 }
 
-/// The plan of a line of vehicles that a file describes: what `read_plan` tells of it, and behind that its choices, at
+/// The plan of a line of vehicles that a file describes: what `read_plan` reports of it, and behind that its choices, at
 /// most 32 of 64 alternatives in all, at most 256 boxes of variants that aren't built, and with which alternatives each
 /// unit, group, flow, need and request goes. Only version 4 knows of these.
 ///
@@ -76,8 +77,6 @@ pub fn read_product_line(alloc: Global, bytes: &[u8]) -> Result<ProductLine, Pla
     ensures reads { ReadsProductLine result (tree_of bytes.now) }
     ensures memory { IsErrOf result errors.Memory → MayAskForRoom bytes.now }
 {
-    match read_tree(alloc, bytes) {
-        Ok(members) => read_members(alloc, &members),
-        Err(error) => Err(error),
-    }
+    let members = read_tree(alloc, bytes)?;
+    read_members(alloc, &members)
 }

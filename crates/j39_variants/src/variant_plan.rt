@@ -2,7 +2,7 @@
 ghost use Rattle.std.specs.Prelude.{◌≡◌, IfOk};
 ghost use Rattle.std.specs.List.{filter_map};
 ghost use Rattle.j39_variants.specs.VariantPlans.{IsVariantPlan, flag_at, flags, picked, place_at, places};
-ghost use Rattle.j39_variants.specs.VariantPlans.{moved_flow, moved_from, moved_need, moved_request, moved_receivers};
+ghost use Rattle.j39_variants.specs.VariantPlans.{moved_flow, moved_from, moved_need, moved_request, moved_receivers, where_all_are};
 
 mod copies;
 
@@ -49,7 +49,7 @@ fn flag_at(flags: &[bool], index: usize) -> bool
     }
 }
 
-// Those of some values whose flag is true.
+// The values whose flag is true, in order.
 fn picked<T: Copy>(alloc: Global, flags: &[bool], values: &[T]) -> Result<Vec<T>, AllocError>
     ensures { IfOk result (λ v. v.items ≡ picked flags.now values.now) }
 {
@@ -83,23 +83,6 @@ fn moved_receivers(units: &[Option<usize>], to: To) -> Option<To>
     }
 }
 
-fn moved_flow(
-    units: &[Option<usize>],
-    groups: &[Option<usize>],
-    flow: &FlowPlan,
-) -> Option<FlowPlan>
-    ensures { result ≡ moved_flow units.now groups.now flow.now }
-{
-    let group = place_at(groups, flow.group)?;
-    let sender = place_at(units, flow.sender)?;
-    let to = moved_receivers(units, flow.to)?;
-    let mut moved = *flow;
-    moved.group = group;
-    moved.sender = sender;
-    moved.to = to;
-    Some(moved)
-}
-
 fn moved_from(units: &[Option<usize>], from: Option<usize>) -> Option<Option<usize>>
     ensures { result ≡ moved_from units.now from }
 {
@@ -112,97 +95,98 @@ fn moved_from(units: &[Option<usize>], from: Option<usize>) -> Option<Option<usi
     }
 }
 
-fn moved_need(
+// Three values, where all of them are there.
+fn where_all_are<A: Copy, B: Copy, C: Copy>(
+    first: Option<A>,
+    second: Option<B>,
+    third: Option<C>,
+) -> Option<(A, B, C)>
+    ensures { result ≡ where_all_are first second third }
+{
+    Some((first?, second?, third?))
+}
+
+// The group, the sender and the receivers of what is sent, by the places of what is there.
+fn moved_ends(
     units: &[Option<usize>],
     groups: &[Option<usize>],
-    need: &NeedPlan,
-) -> Option<NeedPlan>
-    ensures { result ≡ moved_need units.now groups.now need.now }
+    group: usize,
+    sender: usize,
+    to: To,
+) -> Option<(usize, usize, To)>
+    ensures { result
+        ≡ where_all_are (place_at groups.now group) (place_at units.now sender) (moved_receivers units.now to) }
 {
-    match place_at(units, need.unit) {
-        None => None,
-        Some(unit) => match place_at(groups, need.group) {
-            None => None,
-            Some(group) => match moved_from(units, need.from) {
-                None => None,
-                Some(from) => {
-                    let mut moved = *need;
-                    moved.unit = unit;
-                    moved.group = group;
-                    moved.from = from;
-                    Some(moved)
-                }
-            },
-        },
+    where_all_are(
+        place_at(groups, group),
+        place_at(units, sender),
+        moved_receivers(units, to),
+    )
+}
+
+// What names units and groups of a plan by their places.
+trait Move {
+    ghost use Rattle.std.specs.Prelude.{ℕ, List, Option};
+
+    // The same by the places of what is there: none where something that it names isn't.
+    ghost by_places: { List (Option ℕ) → List (Option ℕ) → Self → Option Self };
+
+    fn moved(&self, units: &[Option<usize>], groups: &[Option<usize>]) -> Option<Self>
+        ensures { result ≡ by_places units.now groups.now self.now };
+}
+
+impl Move for FlowPlan {
+    ghost by_places = { moved_flow };
+
+    fn moved(&self, units: &[Option<usize>], groups: &[Option<usize>]) -> Option<Self> {
+        let ends = moved_ends(units, groups, self.group, self.sender, self.to)?;
+        let mut moved = *self;
+        (moved.group, moved.sender, moved.to) = ends;
+        Some(moved)
     }
 }
 
-fn moved_request(
-    units: &[Option<usize>],
-    groups: &[Option<usize>],
-    request: &RequestPlan,
-) -> Option<RequestPlan>
-    ensures { result ≡ moved_request units.now groups.now request.now }
-{
-    let group = place_at(groups, request.group)?;
-    let sender = place_at(units, request.sender)?;
-    let to = moved_receivers(units, request.to)?;
-    let mut moved = *request;
-    moved.group = group;
-    moved.sender = sender;
-    moved.to = to;
-    Some(moved)
+impl Move for NeedPlan {
+    ghost by_places = { moved_need };
+
+    fn moved(&self, units: &[Option<usize>], groups: &[Option<usize>]) -> Option<Self> {
+        let mut moved = *self;
+        (moved.unit, moved.group, moved.from) = where_all_are(
+            place_at(units, self.unit),
+            place_at(groups, self.group),
+            moved_from(units, self.from),
+        )?;
+        Some(moved)
+    }
 }
 
-// The flows of a variant, by the places of its units and groups.
-fn flows(
-    alloc: Global,
-    line: &ProductLine,
-    variant: &[usize],
-    units: &[Option<usize>],
-    groups: &[Option<usize>],
-) -> Result<Vec<FlowPlan>, AllocError>
-    ensures { IfOk result (λ v. v.items ≡ filter_map (moved_flow units.now groups.now) (picked (flags variant.now line.now.lists.flows.items) line.now.plan.flows.items)) }
-{
-    let are_there = flags(alloc, variant, &line.lists.flows)?;
-    let there = picked(alloc, &are_there, &line.plan.flows)?;
-    there
-        .iter()
-        .filter_map(|flow| moved_flow(units, groups, flow))
-        .collect(alloc)
+impl Move for RequestPlan {
+    ghost by_places = { moved_request };
+
+    fn moved(&self, units: &[Option<usize>], groups: &[Option<usize>]) -> Option<Self> {
+        let ends = moved_ends(units, groups, self.group, self.sender, self.to)?;
+        let mut moved = *self;
+        (moved.group, moved.sender, moved.to) = ends;
+        Some(moved)
+    }
 }
 
-fn needs(
+// Those of some values of which the variant is in the box, by the places of its units and groups.
+fn moved<T: Copy + Move>(
     alloc: Global,
-    line: &ProductLine,
     variant: &[usize],
+    lists: &[Vec<Alternative>],
+    values: &[T],
     units: &[Option<usize>],
     groups: &[Option<usize>],
-) -> Result<Vec<NeedPlan>, AllocError>
-    ensures { IfOk result (λ v. v.items ≡ filter_map (moved_need units.now groups.now) (picked (flags variant.now line.now.lists.needs.items) line.now.plan.needs.items)) }
+) -> Result<Vec<T>, AllocError>
+    ensures { IfOk result (λ v. v.items ≡ filter_map (T.by_places units.now groups.now) (picked (flags variant.now lists.now) values.now)) }
 {
-    let are_asked_for = flags(alloc, variant, &line.lists.needs)?;
-    let there = picked(alloc, &are_asked_for, &line.plan.needs)?;
+    let are_there = flags(alloc, variant, lists)?;
+    let there = picked(alloc, &are_there, values)?;
     there
         .iter()
-        .filter_map(|need| moved_need(units, groups, need))
-        .collect(alloc)
-}
-
-fn requests(
-    alloc: Global,
-    line: &ProductLine,
-    variant: &[usize],
-    units: &[Option<usize>],
-    groups: &[Option<usize>],
-) -> Result<Vec<RequestPlan>, AllocError>
-    ensures { IfOk result (λ v. v.items ≡ filter_map (moved_request units.now groups.now) (picked (flags variant.now line.now.lists.requests.items) line.now.plan.requests.items)) }
-{
-    let are_there = flags(alloc, variant, &line.lists.requests)?;
-    let there = picked(alloc, &are_there, &line.plan.requests)?;
-    there
-        .iter()
-        .filter_map(|request| moved_request(units, groups, request))
+        .filter_map(|value| value.moved(units, groups))
         .collect(alloc)
 }
 
@@ -216,9 +200,30 @@ pub fn plan_of(alloc: Global, line: &ProductLine, variant: &[usize]) -> Result<P
     let group_places = places(alloc, &groups_there)?;
     let units = picked(alloc, &units_there, &line.plan.units)?;
     let groups = copies(alloc, &groups_there, &line.plan.groups)?;
-    let flows = flows(alloc, line, variant, &unit_places, &group_places)?;
-    let needs = needs(alloc, line, variant, &unit_places, &group_places)?;
-    let requests = requests(alloc, line, variant, &unit_places, &group_places)?;
+    let flows = moved(
+        alloc,
+        variant,
+        &line.lists.flows,
+        &line.plan.flows,
+        &unit_places,
+        &group_places,
+    )?;
+    let needs = moved(
+        alloc,
+        variant,
+        &line.lists.needs,
+        &line.plan.needs,
+        &unit_places,
+        &group_places,
+    )?;
+    let requests = moved(
+        alloc,
+        variant,
+        &line.lists.requests,
+        &line.plan.requests,
+        &unit_places,
+        &group_places,
+    )?;
     Ok(Plan {
         keep_free: line.plan.keep_free.copy(),
         strangers: line.plan.strangers,

@@ -51,33 +51,26 @@ pub group_there : (buses : List BusPlan) (b : ℕ) (label : List ℕ) (g : ℕ) 
 group_there buses b label g is =
     subst (λ n. g < n) (groups_counted (slice_get buses b)) (place_below (λ x. bytes_eq x.label.bytes label) (groups_of_bus buses b) g is)
 
-at_bus : (buses : List BusPlan) (label : List ℕ) (place : Option ℕ) (b : ℕ) (u : UnitAt) → place ≡ unit_place buses b label
-    → option_map (λ n. record { bus = b; unit = n }) place ≡ Some u → HasUnit buses u
-at_bus buses label None b u is found = cc
-at_bus buses label (Some n) b u is found =
-    subst (HasUnit buses) (same_Some _ _ found) (unit_there buses b label n (sym is))
+-- what is made of the bus and of the place there of something that is found there
+made_at : {X : Type 0} (make : ℕ → ℕ → X) (P : X → Type 0) (place : Option ℕ) (b : ℕ) (x : X) → ((n : ℕ) → place ≡ Some n → P (make b n))
+    → option_map (make b) place ≡ Some x → P x
+made_at make P None b x there found = cc
+made_at make P (Some n) b x there found = subst P (same_Some _ _ found) (there n refl)
 
-unit_on : (buses : List BusPlan) (label : List ℕ) (bus : Option ℕ) (u : UnitAt)
-    → option_and_then (λ b. option_map (λ n. record { bus = b; unit = n }) (unit_place buses b label)) bus ≡ Some u → HasUnit buses u
-unit_on buses label None u found = cc
-unit_on buses label (Some b) u found = at_bus buses label (unit_place buses b label) b u refl found
+made_on : {X : Type 0} (make : ℕ → ℕ → X) (P : X → Type 0) (place : ℕ → Option ℕ) (bus : Option ℕ) (x : X)
+    → ((b n : ℕ) → place b ≡ Some n → P (make b n)) → option_and_then (λ b. option_map (make b) (place b)) bus ≡ Some x → P x
+made_on make P place None x there found = cc
+made_on make P place (Some b) x there found = made_at make P (place b) b x (there b) found
 
 pub unit_found : (buses : List BusPlan) (t : List ℕ) (u : UnitAt) → unit_labelled buses t ≡ Some u → HasUnit buses u
-unit_found buses t u found = unit_on buses (name_of t).label (bus_place buses (name_of t).bus) u found
-
-group_at_bus : (buses : List BusPlan) (label : List ℕ) (place : Option ℕ) (b : ℕ) (g : GroupAt) → place ≡ group_place buses b label
-    → option_map (λ n. record { bus = b; group = n }) place ≡ Some g → HasGroup buses g
-group_at_bus buses label None b g is found = cc
-group_at_bus buses label (Some n) b g is found =
-    subst (HasGroup buses) (same_Some _ _ found) (group_there buses b label n (sym is))
-
-group_on : (buses : List BusPlan) (label : List ℕ) (bus : Option ℕ) (g : GroupAt)
-    → option_and_then (λ b. option_map (λ n. record { bus = b; group = n }) (group_place buses b label)) bus ≡ Some g → HasGroup buses g
-group_on buses label None g found = cc
-group_on buses label (Some b) g found = group_at_bus buses label (group_place buses b label) b g refl found
+unit_found buses t u found =
+    made_on (λ b n. record { bus = b; unit = n }) (HasUnit buses) (λ b. unit_place buses b (name_of t).label) (bus_place buses (name_of t).bus) u
+    (λ b n is. unit_there buses b (name_of t).label n is) found
 
 pub group_found : (buses : List BusPlan) (t : List ℕ) (g : GroupAt) → group_named buses t ≡ Some g → HasGroup buses g
-group_found buses t g found = group_on buses (name_of t).label (bus_place buses (name_of t).bus) g found
+group_found buses t g found =
+    made_on (λ b n. record { bus = b; group = n }) (HasGroup buses) (λ b. group_place buses b (name_of t).label) (bus_place buses (name_of t).bus) g
+    (λ b n is. group_there buses b (name_of t).label n is) found
 
 -- a unit that a given label names
 pub given_there : (buses : List BusPlan) (b : ℕ) (given : Option (List ℕ)) (u : ℕ)
@@ -139,23 +132,14 @@ need_places buses = All-from_AllZip (StandsForNeed buses) (HasNeed buses) (λ d 
   from = unit_found buses (string_bytes d.from.text) r.from stands.from;
 })
 
-read_there : (buses : List BusPlan) (heard sent : GroupAt) (listed : Option (List SignalTable)) (found : Option (Vec ForwardedSignal Global))
-    → StandForSignals buses heard sent listed (option_map (λ v. v.items) found)
-    → ForSome found (λ v. All (λ s. s.read < signals_at buses heard) v.items)
-read_there buses heard sent listed None stand = λ v is. cc
-read_there buses heard sent None (Some v) stand = absurd stand
-read_there buses heard sent (Some signals) (Some v) stand = λ w is.
-    subst (λ x. All (λ s. s.read < signals_at buses heard) x.items) (same_Some _ _ is)
-    (All-from_AllZip (StandsForSignal buses heard sent) (λ s. s.read < signals_at buses heard) (λ t s stands. signal_there buses heard (string_bytes t.read) s.read stands.read) signals v.items stand)
-
-written_there : (buses : List BusPlan) (heard sent : GroupAt) (listed : Option (List SignalTable)) (found : Option (Vec ForwardedSignal Global))
-    → StandForSignals buses heard sent listed (option_map (λ v. v.items) found)
-    → ForSome found (λ v. All (λ s. s.written < signals_at buses sent) v.items)
-written_there buses heard sent listed None stand = λ v is. cc
-written_there buses heard sent None (Some v) stand = absurd stand
-written_there buses heard sent (Some signals) (Some v) stand = λ w is.
-    subst (λ x. All (λ s. s.written < signals_at buses sent) x.items) (same_Some _ _ is)
-    (All-from_AllZip (StandsForSignal buses heard sent) (λ s. s.written < signals_at buses sent) (λ t s stands. signal_there buses sent (string_bytes t.written) s.written stands.written) signals v.items stand)
+listed_there : (buses : List BusPlan) (heard sent : GroupAt) (P : ForwardedSignal → Type 0)
+    → ((t : SignalTable) (s : ForwardedSignal) → StandsForSignal buses heard sent t s → P s)
+    → (listed : Option (List SignalTable)) (found : Option (Vec ForwardedSignal Global))
+    → StandForSignals buses heard sent listed (option_map (λ v. v.items) found) → ForSome found (λ v. All P v.items)
+listed_there buses heard sent P holds listed None stand = λ v is. cc
+listed_there buses heard sent P holds None (Some v) stand = absurd stand
+listed_there buses heard sent P holds (Some signals) (Some v) stand = λ w is.
+    subst (λ x. All P x.items) (same_Some _ _ is) (All-from_AllZip (StandsForSignal buses heard sent) P holds signals v.items stand)
 
 -- the label of the gateway's unit beside a group
 abbrev own_of : List GatewayTable → ForwardTable → NameOnBus → Option (String Global) → Option (List ℕ)
@@ -171,6 +155,8 @@ forward_places buses gs hs fs rs same = All-from_AllZip (StandsForForward buses 
   output = group_found buses (string_bytes f.output.text) r.output stands.output;
   sender = given_there buses r.output.bus (own_of gs f f.output f.by) r.sender stands.sender;
   to = λ u is. receiver_there buses r.output.bus (option_map string_bytes f.to) u (sym stands.to ∙ is);
-  read = read_there buses r.input r.output (option_map (λ v. v.items) f.signals) r.signals stands.signals;
-  written = written_there buses r.input r.output (option_map (λ v. v.items) f.signals) r.signals stands.signals;
+  read = listed_there buses r.input r.output (λ s. s.read < signals_at buses r.input)
+      (λ t s stands. signal_there buses r.input (string_bytes t.read) s.read stands.read) (option_map (λ v. v.items) f.signals) r.signals stands.signals;
+  written = listed_there buses r.input r.output (λ s. s.written < signals_at buses r.output)
+      (λ t s stands. signal_there buses r.output (string_bytes t.written) s.written stands.written) (option_map (λ v. v.items) f.signals) r.signals stands.signals;
 }) fs rs

@@ -34,7 +34,7 @@ bus_name d = labelled (label_in d)
 abbrev pub named_bus : BusTable → Named
 named_bus b = labelled b.label.bytes
 
--- the bus that a table tells
+-- the bus that a table reports
 pub record DescribesBus (ms : Members) (b : BusTable) : Type 0 where
   pub has_label : text_at key.Label ms ≡ Some b.label.bytes
   pub has_plan : text_at key.Plan ms ≡ Some (string_bytes b.plan)

@@ -20,7 +20,7 @@ pub record DescribesFile (tree : Members) (v : VehicleFile) : Type 0 where
   pub has_forwards : Each IsForwardOf (elements_at key.Forward tree) v.forwards.items
   pub has_needs : Each IsNeedOf (elements_at key.Need tree) v.needs.items
 
--- the tree has no fault, and the file says what it tells
+-- the tree has no fault, and the file says what it reports
 abbrev pub Described : Members → VehicleFile → Type 0
 Described tree v = (faults tree ≡ []) × DescribesFile tree v
 

@@ -100,7 +100,7 @@ DescribesSignals _ _ = ⊥
 abbrev pub items_or_none : Option Items → Items
 items_or_none found = unwrap_or found no_items
 
--- the forward that a table tells
+-- the forward that a table reports
 pub record DescribesForward (ms : Members) (f : ForwardTable) : Type 0 where
   pub has_gateway : text_at key.Gateway ms ≡ Some (string_bytes f.gateway)
   pub has_input : text_at key.Group ms ≡ Some (string_bytes f.input.text)

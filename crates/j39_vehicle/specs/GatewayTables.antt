@@ -68,7 +68,7 @@ gateway_name d = record { label = label_in d; units = texts_in (elements_at key.
 abbrev pub named_gateway : GatewayTable → Named
 named_gateway g = record { label = g.label.bytes; units = map (λ n. string_bytes n.text) g.units.items }
 
--- the gateway that a table tells
+-- the gateway that a table reports
 pub record DescribesGateway (ms : Members) (g : GatewayTable) : Type 0 where
   pub has_label : text_at key.Label ms ≡ Some g.label.bytes
   pub has_units : map (λ n. string_bytes n.text) g.units.items ≡ texts_in (elements_at key.Unit ms)

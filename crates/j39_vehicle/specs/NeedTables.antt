@@ -29,7 +29,7 @@ need_rules =
 abbrev pub is_on_bus : List Named → Key → Members → Bool
 is_on_bus buses unit_key ms = option_map_or (λ t. is_label_among buses (name_of t).bus) (text_at unit_key ms) false
 
--- the need that a table tells
+-- the need that a table reports
 pub record DescribesNeed (ms : Members) (d : NeedTable) : Type 0 where
   pub has_unit : text_at key.Unit ms ≡ Some (string_bytes d.unit.text)
   pub has_group : text_at key.Group ms ≡ Some (string_bytes d.group)

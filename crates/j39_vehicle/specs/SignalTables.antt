@@ -29,7 +29,7 @@ forwarded_name d = labelled (written_text (inside d))
 abbrev pub named_signal : SignalTable → Named
 named_signal s = labelled (string_bytes s.written)
 
--- the signal that a table tells
+-- the signal that a table reports
 pub record DescribesSignal (ms : Members) (s : SignalTable) : Type 0 where
   pub has_read : text_at key.Label ms ≡ Some (string_bytes s.read)
   pub has_written : written_text ms ≡ string_bytes s.written

@@ -60,12 +60,12 @@ leads_on : (v : Vehicle) (rows : Rows) (n : ℕ) → AreFollowers v rows → {m 
 leads_on v rows n are (at_once m f) = straight m (follows_leads v rows n m are f)
 leads_on v rows n are (later k m before f) = further k m (leads_on v rows n are before) (follows_leads v rows k m are f)
 
--- a search of the graph tells whether a forward comes after itself
-pub graph_tells : (v : Vehicle) (rows : Rows) (n : ℕ) (flag : Bool) → AreFollowers v rows → Decides flag (IsWayTo rows n n)
+-- a search of the graph answers whether a forward comes after itself
+pub graph_states : (v : Vehicle) (rows : Rows) (n : ℕ) (flag : Bool) → AreFollowers v rows → Decides flag (IsWayTo rows n n)
     → Decides flag (ComesAfter v n n)
-graph_tells v rows n flag are decides = (λ e. comes_after v rows n are (decides.0 e), λ h. decides.1 (leads_on v rows n are h))
+graph_states v rows n flag are decides = (λ e. comes_after v rows n are (decides.0 e), λ h. decides.1 (leads_on v rows n are h))
 
--- what is told of the forwards so far, and of the next one
+-- what is reported of the forwards so far, and of the next one
 pub one_more_flag : (v : Vehicle) (flags : List Bool) (flag : Bool) (place : ℕ) → length flags ≡ place
     → ((n : ℕ) → n < length flags → Decides (slice_index_or flags n false) (ComesAfter v n n)) → Decides flag (ComesAfter v place place)
     → (n : ℕ) → n < length (flags ++ flag ∷ []) → Decides (slice_index_or (flags ++ flag ∷ []) n false) (ComesAfter v n n)

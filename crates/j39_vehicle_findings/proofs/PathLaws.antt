@@ -33,15 +33,15 @@ starts_within : (v : Vehicle) (n : ℕ) {m : ℕ} → ComesAfter v n m → n < l
 starts_within v n (at_once m f) = slice_get_within v.forwards.items n f.first f.first_is
 starts_within v n (later k m before f) = starts_within v n before
 
-told : (v : Vehicle) (loops : List Bool) → DecidesLoops v loops → (n : ℕ) → Decides (slice_index_or loops n false) (ComesAfter v n n)
-told v loops tell n = elim (cases_lt n (length loops)) [
-  | inl within ↦ tell.each n within
+stated : (v : Vehicle) (loops : List Bool) → DecidesLoops v loops → (n : ℕ) → Decides (slice_index_or loops n false) (ComesAfter v n n)
+stated v loops report n = elim (cases_lt n (length loops)) [
+  | inl within ↦ report.each n within
   | inr over ↦
       let none : slice_index_or loops n false ≡ false = get_or-eq_default loops false over in (
         λ e. absurd (false≢true (sym none ∙ e)),
         λ h.
             let less = starts_within v n h in
-            let count = tell.count in
+            let count = report.count in
             absurd (omega arith),
       )
 ]
@@ -53,14 +53,14 @@ value_within (x ∷ xs) (suc n) less = value_within xs n (omega arith)
 
 loops_covered : (v : Vehicle) (loops : List Bool) → DecidesLoops v loops → Covers v 8 8 (loop_findings loops v)
 unfolding loop_findings
-loops_covered v loops tell =
+loops_covered v loops report =
     let find : ℕ → Forward → List VehicleFinding = λ n forward. found_if (slice_index_or loops n false) (ForwardLoop n) in
     let is_one : (f : VehicleFinding) → Contains (in_each find 0 v.forwards.items) f → Holds v f × ((n : ℕ) × (f ≡ ForwardLoop n)) =
     λ f h.
     let r = of_in_each find 0 v.forwards.items f h in
     let e = of_found_if (slice_index_or loops r.place false) (ForwardLoop r.place) f r.among in
     let P : VehicleFinding → Type 0 = λ x. Holds v x in
-    (subst P (sym e.1) ((told v loops tell r.place).0 e.0), (r.place, e.1)) in
+    (subst P (sym e.1) ((stated v loops report r.place).0 e.0), (r.place, e.1)) in
     let number : (f : VehicleFinding) → (n : ℕ) × (f ≡ ForwardLoop n) → finding_number f ≡ 8 = λ f (n, e). ap finding_number e in
     record {
       sound = λ f h. (is_one f h).0;
@@ -78,21 +78,21 @@ loops_covered v loops tell =
 
 loop_of : (v : Vehicle) (loops : List Bool) → DecidesLoops v loops → (n : ℕ) → ComesAfter v n n → Contains (loop_findings loops v) (ForwardLoop n)
 unfolding loop_findings
-loop_of v loops tell n h =
+loop_of v loops report n h =
     let find : ℕ → Forward → List VehicleFinding = λ k forward. found_if (slice_index_or loops k false) (ForwardLoop k) in
     let within = starts_within v n h in
     let x = value_within v.forwards.items n within in
-    in_each_of find 0 v.forwards.items (ForwardLoop n) n n x.0 (omega arith) x.1 (found_if_of _ (ForwardLoop n) ((told v loops tell n).1 h))
+    in_each_of find 0 v.forwards.items (ForwardLoop n) n n x.0 (omega arith) x.1 (found_if_of _ (ForwardLoop n) ((stated v loops report n).1 h))
 
 -- ---- the whole list
 
 found_covered : (v : Vehicle) (loops : List Bool) → DecidesLoops v loops → Covers v 1 14 (vehicle_findings loops v)
 unfolding vehicle_findings path_findings
-found_covered v loops tell =
+found_covered v loops report =
     Covers-append in_order (Holds v) 1 9 14 14 _ _ (omega arith) (omega arith) (omega arith)
     (Covers-append in_order (Holds v) 1 4 5 9 _ _ (omega arith) (omega arith) (omega arith) (ends_covered v)
     (Covers-append in_order (Holds v) 5 7 8 9 _ _ (omega arith) (omega arith) (omega arith) (contents_covered v)
-    (Covers-append in_order (Holds v) 8 8 9 9 _ _ (omega arith) (omega arith) (omega arith) (loops_covered v loops tell) (needs_covered v)))) (queues_covered v)
+    (Covers-append in_order (Holds v) 8 8 9 9 _ _ (omega arith) (omega arith) (omega arith) (loops_covered v loops report) (needs_covered v)))) (queues_covered v)
 
 -- in one of the parts of a list
 of_three : (xs ys zs : List VehicleFinding) (f : VehicleFinding) → Contains xs f ⊎ (Contains ys f ⊎ Contains zs f) → Contains (xs ++ (ys ++ zs)) f
@@ -136,31 +136,31 @@ unfolding vehicle_findings queue_findings
 queue_found loops v f h = Contains-append_right (path_findings loops v) (queue_findings v) f h
 
 found_of : (v : Vehicle) (loops : List Bool) → DecidesLoops v loops → (f : VehicleFinding) → Holds v f → Contains (vehicle_findings loops v) f
-found_of v loops tell (NoInput n) h =
+found_of v loops report (NoInput n) h =
     in_paths loops v _ (inl (end_found v _ (inl (each_of (HasNoInput v) (Decides-has_no_input v) NoInput v.forwards.items n h))))
-found_of v loops tell (ManyInputs n) h =
+found_of v loops report (ManyInputs n) h =
     in_paths loops v _ (inl (end_found v _ (inr (inl (each_of (HasManyInputs v) (Decides-has_many_inputs v) ManyInputs v.forwards.items n h)))))
-found_of v loops tell (NoOutput n) h =
+found_of v loops report (NoOutput n) h =
     in_paths loops v _ (inl (end_found v _ (inr (inr (inl (each_of (HasNoOutput v) (Decides-has_no_output v) NoOutput v.forwards.items n h))))))
-found_of v loops tell (ManyOutputs n) h =
+found_of v loops report (ManyOutputs n) h =
     in_paths loops v _ (inl (end_found v _ (inr (inr (inr (each_of (HasManyOutputs v) (Decides-has_many_outputs v) ManyOutputs v.forwards.items n h))))))
-found_of v loops tell (LayoutDiffers n) h =
+found_of v loops report (LayoutDiffers n) h =
     in_paths loops v _ (inr (inl (content_found v _ (inl (each_of (CopiesOtherLayout v) (Decides-copies_other_layout v) LayoutDiffers v.forwards.items n h)))))
-found_of v loops tell (SignalDiffers n t) h =
+found_of v loops report (SignalDiffers n t) h =
     in_paths loops v _ (inr (inl (content_found v _ (inr (inl (in_each_of (differences v) 0 v.forwards.items (SignalDiffers n t) n n h.value (omega arith)
     h.value_is (differences_of v n h.value t h.meets)))))))
-found_of v loops tell (TwoForwards n m) h =
+found_of v loops report (TwoForwards n m) h =
     in_paths loops v _ (inr (inl (content_found v _ (inr (inr (pairs_of (AreTwoForwards v) (Decides-are_two_forwards v) TwoForwards v.forwards.items n m h))))))
-found_of v loops tell (ForwardLoop n) h = in_paths loops v _ (inr (inr (inl (loop_of v loops tell n h))))
-found_of v loops tell (NeedUnmet d) h =
+found_of v loops report (ForwardLoop n) h = in_paths loops v _ (inr (inr (inl (loop_of v loops report n h))))
+found_of v loops report (NeedUnmet d) h =
     in_paths loops v _ (inr (inr (inr (need_found v _ (each_of (IsNeedUnmet v) (Decides-is_need_unmet v) NeedUnmet v.needs.items d h)))))
-found_of v loops tell (SharedQueue k b) h =
+found_of v loops report (SharedQueue k b) h =
     queue_found loops v _ (in_each_of (shared_queues v.buses.items) 0 v.gateways.items (SharedQueue k b) k k h.value (omega arith) h.value_is
     (shared_of v k b h.value h.meets))
 
 pub are_findings : (v : Vehicle) (loops : List Bool) → DecidesLoops v loops → AreFindings v (vehicle_findings loops v)
-are_findings v loops tell = record {
-  sound = (found_covered v loops tell).sound;
-  complete = found_of v loops tell;
-  in_order = AllPairs-from_Rises IsBefore (vehicle_findings loops v) (found_covered v loops tell).rises;
+are_findings v loops report = record {
+  sound = (found_covered v loops report).sound;
+  complete = found_of v loops report;
+  in_order = AllPairs-from_Rises IsBefore (vehicle_findings loops v) (found_covered v loops report).rises;
 }

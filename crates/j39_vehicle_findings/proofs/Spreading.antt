@@ -28,7 +28,7 @@ none_spread reached waiting = record {
   all = λ m (k, less, is). absurd (omega arith);
   more = [];
   waits = sym (append-nil waiting);
-  told = λ m h. inl h;
+  stated = λ m h. inl h;
   those = λ m (k, less, is). absurd (omega arith);
   left = omega arith;
 }
@@ -45,7 +45,7 @@ skip_spread places next old new waiting waiting_then s reached = record {
   ];
   more = s.more;
   waits = s.waits;
-  told = s.told;
+  stated = s.stated;
   those = s.those;
   left = s.left;
 }
@@ -83,8 +83,8 @@ take_spread places next old new waiting waiting_then s less is = record {
   ];
   more = s.more ++ next ∷ [];
   waits = ap (λ ws. ws ++ next ∷ []) s.waits ∙ append_assoc waiting s.more (next ∷ []);
-  told = λ m h. elim (set_parts new next m h) [
-    | inl before ↦ elim (s.told m before) [
+  stated = λ m h. elim (set_parts new next m h) [
+    | inl before ↦ elim (s.stated m before) [
       | inl was ↦ inl was
       | inr waits ↦ inr (Contains-append_left s.more (next ∷ []) m waits)
     ]
@@ -138,7 +138,7 @@ first_spread rows start old new waiting empty count s =
       count = s.count ∙ count;
       sound = λ m h. elim (s.sound m h) [ inl was ↦ absurd (none m was) | inr there ↦ straight m there ];
       first = s.all;
-      closed = λ k h. elim (s.told k h) [
+      closed = λ k h. elim (s.stated k h) [
         | inl was ↦ absurd (none k was)
         | inr waits ↦ inl (subst (λ ws. Contains ws k) (sym same) waits)
       ];
@@ -155,7 +155,7 @@ next_spread rows start place old new waiting front waiting_then i is s =
       count = s.count ∙ i.count;
       sound = λ m h. elim (s.sound m h) [ inl was ↦ i.sound m was | inr there ↦ further place m came there ];
       first = λ m f. s.kept m (i.first m f);
-      closed = λ k h. elim (s.told k h) [
+      closed = λ k h. elim (s.stated k h) [
         | inl was ↦ elim (i.closed k was) [
           | inl waits ↦ elim (Contains-append_cases front (place ∷ []) k (subst (λ ws. Contains ws k) is waits)) [
             | inl before ↦ inl (waits_then k (Contains-append_left front s.more k before))
@@ -183,9 +183,9 @@ pub none_waits : (rows : Rows) (start : ℕ) (reached : List Bool) (waiting : Li
     → IsSpread rows start reached []
 none_waits rows start reached waiting none i = subst (λ ws. IsSpread rows start reached ws) (nil_from_length waiting none) i
 
-pub spread_tells : (rows : Rows) (start : ℕ) (reached : List Bool) (flag : Bool) → flag ≡ slice_index_or reached start false
+pub spread_states : (rows : Rows) (start : ℕ) (reached : List Bool) (flag : Bool) → flag ≡ slice_index_or reached start false
     → IsSpread rows start reached [] → Decides flag (IsWayTo rows start start)
-spread_tells rows start reached flag is i = (λ e. i.sound start (sym is ∙ e), λ h. is ∙ all_reached rows start reached i h)
+spread_states rows start reached flag is i = (λ e. i.sound start (sym is ∙ e), λ h. is ∙ all_reached rows start reached i h)
 
 -- the row of a place stays inside of what is marked
 pub row_inside : (rows : Rows) (place k : ℕ) → StayInside rows → k ≡ length rows → All (λ m. m < k) (row_at rows place)

@@ -166,7 +166,7 @@ content_findings v =
     each (copies_other_layout v) LayoutDiffers 0 v.forwards.items
     ++ (in_each (differences v) 0 v.forwards.items ++ pairs (are_two_forwards v) TwoForwards v.forwards.items)
 
--- of loops, where it is told of each forward whether it comes after itself
+-- of loops, where it is reported of each forward whether it comes after itself
 unfoldable pub loop_findings : List Bool → Vehicle → List VehicleFinding
 loop_findings loops v = in_each (λ n forward. found_if (slice_index_or loops n false) (ForwardLoop n)) 0 v.forwards.items
 

@@ -1,4 +1,4 @@
--- Which forwards come after themselves, as a call tells it.
+-- Which forwards come after themselves, as a call answers it.
 use Rattle.std.specs.Prelude.{◌≡◌, ℕ, ◌<◌, List, length, map, Bool, false}
 use Rattle.std.specs.Bool.{Decides}
 use Rattle.std.specs.List.{slice_index_or}

@@ -30,7 +30,7 @@ AreSameNumbers a b = (a ≡ None) ⊎ ((b ≡ None) ⊎ (a ≡ b))
 abbrev pub AreBothCodes : Kind → Kind → Type 0
 AreBothCodes a b = (a ≡ Dtc) ↔ (b ≡ Dtc)
 
--- they mean the same, as far as it is told by their units of measurement, their numbers of SAE J1939 (SPN), and their kinds
+-- they mean the same, as far as it is reported by their units of measurement, their numbers of SAE J1939 (SPN), and their kinds
 pub record AreAlike (s : SignalParts) (s_number : Option ℕ) (t : SignalParts) (t_number : Option ℕ) : Type 0 where
   pub units : AreSameUnits s.unit.bytes t.unit.bytes
   pub numbers : AreSameNumbers s_number t_number

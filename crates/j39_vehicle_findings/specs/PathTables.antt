@@ -1,4 +1,4 @@
--- What leads where in a vehicle, told once: of each forward its first input, and of each flow the forwards that feed it.
+-- What leads where in a vehicle, reported once: of each forward its first input, and of each flow the forwards that feed it.
 use Rattle.std.specs.Prelude.{◌≡◌, ℕ, List, [], Bool, false, Option, map}
 use Rattle.std.specs.List.{slice_get}
 use Rattle.std.specs.Option.{option_map_or}

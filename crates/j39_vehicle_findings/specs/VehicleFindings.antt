@@ -45,7 +45,7 @@ abbrev pub IsSelector : Selector → Option Selector → Type 0
 IsSelector w None = ⊥
 IsSelector w (Some u) = (w.start ≡ u.start) × (w.bits ≡ u.bits) × (w.value ≡ u.value)
 
--- a message of the second group needn't be one of the first: it may be longer or shorter, it is told by a selector that isn't the first
+-- a message of the second group needn't be one of the first: it may be longer or shorter, it is reported by a selector that isn't the first
 -- group's, or it has records that stand elsewhere
 abbrev pub HaveOtherLayouts : GroupPlan → GroupPlan → Type 0
 HaveOtherLayouts g h = (g.length < h.length) ⊎ ((h.most < g.most)

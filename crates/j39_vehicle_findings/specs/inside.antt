@@ -1,1 +1,2 @@
+pub mod ForwardFaults
 pub mod Spreading

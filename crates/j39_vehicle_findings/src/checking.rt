@@ -5,6 +5,7 @@ ghost use Rattle.j39_vehicle_findings.specs.Loops.{DecidesLoops};
 
 mod contents;
 mod ends;
+mod forward_faults;
 mod layouts;
 mod needs;
 mod odds;

@@ -39,7 +39,7 @@ fn followers_of(alloc: Global, vehicle: &Vehicle) -> Result<Vec<Vec<usize>>, All
 
 /// Of each forward, whether it comes after itself.
 pub fn loops_of(alloc: Global, vehicle: &Vehicle) -> Result<Vec<bool>, AllocError>
-    ensures told { IfOk result (λ loops. DecidesLoops vehicle.now loops.items) }
+    ensures stated { IfOk result (λ loops. DecidesLoops vehicle.now loops.items) }
     ensures memory { OnErr result (vehicle.now.forwards.items ≢ []) }
 {
     let rows = followers_of(alloc, vehicle)?;

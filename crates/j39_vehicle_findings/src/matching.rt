@@ -60,7 +60,7 @@ fn is_code(kind: Kind) -> bool
     }
 }
 
-/// Whether the two mean the same, as far as it is told by their units of measurement, their numbers (SPN), and their
+/// Whether the two mean the same, as far as it is reported by their units of measurement, their numbers (SPN), and their
 /// kinds.
 pub fn are_alike(
     one: &Signal,

@@ -1,5 +1,5 @@
 -- The example has no findings, and in its run the need's unit reports what the gateway sends on.
-use Rattle.std.proofs.Common.{◌≡◌, ℕ, zero, suc, ◌<◌, List, [], ◌∷◌, ◌++◌, Bool, true, false, Some, Decides, inl, inr, sym, refl, ap, ◌∙◌, subst, arith}
+use Rattle.std.proofs.Common.{◌≡◌, ◌≢◌, ℕ, zero, suc, ◌<◌, List, [], ◌∷◌, ◌++◌, Bool, true, false, Some, None, Decides, inl, inr, sym, refl, ap, ◌∙◌, subst, arith}
 use Rattle.std.specs.Prelude.{cond, pos}
 use Rattle.std.specs.Global.{Global}
 use Rattle.std.specs.List.{slice_get, slice_index_or}
@@ -8,6 +8,9 @@ use Rattle.std.proofs.lemmas.Option.{none-some, same_Some}
 use Rattle.j39_signal.specs.Bits.{number_at}
 use Rattle.j39_signal.specs.declared.state.State.TheVariants.{Value}
 use Rattle.j39_search.specs.ListPlaces.{each, in_each, pairs}
+use Rattle.j39_network.specs.Serving.{Meets}
+use Rattle.j39_network.specs.declared.plan.need_plan.NeedPlan.{NeedPlan}
+use Rattle.j39_network.specs.declared.plan.request_plan.RequestPlan.{RequestPlan}
 use Rattle.j39_world.specs.Run.{Run}
 use Rattle.j39_world.specs.Transfers.{Begun}
 use Rattle.j39_world.specs.World.{all_off}
@@ -91,15 +94,19 @@ none_of_gateway alloc (suc zero, v) =
     absurd (omega (arith, same, v.meets.0))
 none_of_gateway alloc (suc (suc i), v) = absurd (none-some _ v.value_is)
 
+-- the flow meets a need for its group of another unit, from whatever unit it is to come
+flow_meets : (requests : List RequestPlan) (d : NeedPlan) → flow.group ≡ d.group → flow.sender ≢ d.unit → d.from ≡ None → Meets requests d flow
+flow_meets requests d group other from = record {
+  group = group;
+  other = other;
+  from = λ u is. absurd (none-some u (sym from ∙ is));
+  reaches = inl refl;
+  comes = λ is. absurd (false≢true is);
+}
+
 is_input : (alloc : Global) → IsInput (vehicle alloc) forward flow
 is_input alloc = record {
-  meets = record {
-    group = refl;
-    other = λ same. absurd (omega (arith, same));
-    from = λ u is. absurd (none-some _ is);
-    reaches = inl refl;
-    comes = λ is. absurd (false≢true is);
-  };
+  meets = flow_meets _ _ refl (λ same. absurd (omega (arith, same))) refl;
   other = none_of_gateway alloc;
 }
 
@@ -131,13 +138,7 @@ from_engine alloc = refl
 
 is_needed : (alloc : Global) → IsNeedFlow (vehicle alloc) need 0 flow
 is_needed alloc = record {
-  meets = record {
-    group = refl;
-    other = λ same. absurd (omega (arith, same));
-    from = λ u is. absurd (none-some _ is);
-    reaches = inl refl;
-    comes = λ is. absurd (false≢true is);
-  };
+  meets = flow_meets _ _ refl (λ same. absurd (omega (arith, same))) refl;
   from = from_engine alloc;
 }
 

@@ -1,4 +1,4 @@
--- What the tests of forwards and traces tell: outputs, inputs, and signals that go into others.
+-- What the tests of forwards and traces report: outputs, inputs, and signals that go into others.
 use Rattle.std.proofs.Common.{◌≡◌, ℕ, ◌<◌, ◌==◌, ◌&&◌, [], true, false, if◌then◌else◌, Some, inl, inr, sym, refl, ap, ◌∙◌, subst, arith}
 use Rattle.std.specs.List.{count_by, position, slice_get}
 use Rattle.std.specs.Option.{option_and_then}

@@ -84,8 +84,8 @@ copies_have_records v clean place n g h j t its copies g_is h_is t_is repeated =
 alike_means : (g : GroupPlan) (i : ℕ) (s : SignalParts) (h : GroupPlan) (j : ℕ) (t : SignalParts)
     → AreAlike s (spn_at g i) t (spn_at h j) → MeansTheSame g i s h j t
 alike_means g i s h j t alike = record {
-  unit = λ told also. elim alike.units [
-    | inl none ↦ absurd (told none)
+  unit = λ stated also. elim alike.units [
+    | inl none ↦ absurd (stated none)
     | inr (inl none) ↦ absurd (also none)
     | inr (inr same) ↦ same
   ];

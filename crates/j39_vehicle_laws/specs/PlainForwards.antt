@@ -38,7 +38,7 @@ CopiesHaveRecords v = (place : ℕ) (n : Forward) (g h : GroupPlan) (j : ℕ) (t
     → group_at v.buses.items n.input ≡ Some g → group_at v.buses.items n.output ≡ Some h → slice_get h.signals.items j ≡ Some t → t.repeated ≡ true
     → h.every ≡ g.every
 
--- a signal that goes into another one has its unit of measurement and its number (SPN), as far as both are told
+-- a signal that goes into another one has its unit of measurement and its number (SPN), as far as both are reported
 pub record MeansTheSame (g : GroupPlan) (i : ℕ) (s : SignalParts) (h : GroupPlan) (j : ℕ) (t : SignalParts) : Type 0 where
   pub unit : s.unit.bytes ≢ [] → t.unit.bytes ≢ [] → s.unit.bytes ≡ t.unit.bytes
   pub number : (a b : ℕ) → spn_at g i ≡ Some a → spn_at h j ≡ Some b → a ≡ b

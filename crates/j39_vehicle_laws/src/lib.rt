@@ -43,7 +43,7 @@ pub fn values_are_passed_on()
 {}
 
 /// Of a vehicle without findings, what can be a message of the group that a copy hears can be one of the group that
-/// it sends: by its length, and by what tells groups of one PGN apart.
+/// it sends: by its length, and by what distinguishes groups of one PGN.
 pub fn copies_can_be_sent()
     ensures { (v : Vehicle) → AreFindings v [] → CopiesCanBeSent v }
 {}

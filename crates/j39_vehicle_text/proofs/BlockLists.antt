@@ -90,12 +90,12 @@ module _ (bus : BusPlan) (left all : List BusPlan) (before middle after : List �
     (block : List ℕ) (so : BlocksSoFar (bus ∷ left) all before middle count times) (are : ArePlanFindings bus.plan wrong)
     (is : IsBlock bus wrong.others.items block) (put : after ≡ middle ++ block)
     (counts : next ≡ count + (length wrong.findings.items + length wrong.others.items))
-    (tells : more ≡ (times && are_of_times wrong.findings.items wrong.others.items)) (few : next ≤ count + 2 ^ 64) where
+    (states : more ≡ (times && are_of_times wrong.findings.items wrong.others.items)) (few : next ≤ count + 2 ^ 64) where
   next_is : next ≡ count + count_of bus wrong.others.items
   next_is = counts ∙ ap (λ (fs : List Finding). count + (length fs + length wrong.others.items)) are.listed
 
   more_is : more ≡ (times && are_of_times (found bus.plan) wrong.others.items)
-  more_is = tells ∙ ap (λ (fs : List Finding). times && are_of_times fs wrong.others.items) are.listed
+  more_is = states ∙ ap (λ (fs : List Finding). times && are_of_times fs wrong.others.items) are.listed
 
   length_done : length (so.done ++ bus ∷ []) ≡ length so.done + 1
   length_done = length-append so.done (bus ∷ [])

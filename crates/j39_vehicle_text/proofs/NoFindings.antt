@@ -51,7 +51,7 @@ timed_of bus others none =
     let calm : others ≡ [] = empty others (omega (arith, none)) in
     rw (nothing, calm) refl
 
--- and times are told
+-- and times are reported
 pub plans_timed : (buses : List BusPlan) (others : List (List LoadFinding)) → count_of_plans buses others ≡ 0 → all_are_of_times buses others ≡ true
 plans_timed [] others none = refl
 plans_timed (bus ∷ buses) [] none = refl

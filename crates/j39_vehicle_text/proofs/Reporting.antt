@@ -17,10 +17,10 @@ ok_then (Ok v) is says = says v is
 ok_then (Err e) is says = tt
 
 -- the lines of forwards and needs, and what is found beside them
-pub told_times : (v : Vehicle) (delays : Delays) (old middle new : List ℕ) → AreDelays v delays → middle ≡ old ++ forward_lines v delays
+pub reported_times : (v : Vehicle) (delays : Delays) (old middle new : List ℕ) → AreDelays v delays → middle ≡ old ++ forward_lines v delays
     → new ≡ middle ++ vehicle_need_lines v delays → (found : BeyondPlans) → AreAllFound v delays found
     → (lines : List ℕ) × IsFoundBeyond v true lines found × (new ≡ old ++ lines)
-told_times v delays old middle new are forwards needs found (paths, times, queues) = (
+reported_times v delays old middle new are forwards needs found (paths, times, queues) = (
   forward_lines v delays ++ vehicle_need_lines v delays,
   (paths, (delays, are, refl, times, queues)),
   needs ∙ ap (λ (t : List ℕ). t ++ vehicle_need_lines v delays) forwards
@@ -30,7 +30,7 @@ told_times v delays old middle new are forwards needs found (paths, times, queue
 module _ (v : Vehicle) (others : List (List LoadFinding)) (blocks lines : List ℕ) (beyond : BeyondPlans) (count : ℕ) (verdict : Verdict)
     (are : AreBlocks v.buses.items others blocks) (is : IsFoundBeyond v (all_are_of_times v.buses.items others) lines beyond)
     (counts : count ≡ count_of_plans v.buses.items others + count_beyond beyond) (certified : count ≡ 0 → IsCertifiedVehicle v)
-    (tells : verdict ≡ end_verdict count) where
+    (states : verdict ≡ end_verdict count) where
   -- the whole text
   pub whole : (first second third last : List ℕ) → first ≡ [] ++ blocks → second ≡ first ++ lines → third ≡ second ++ beyond_lines v beyond
       → last ≡ third ++ end_line v count → IsVehicleReport v last verdict
@@ -48,5 +48,5 @@ module _ (v : Vehicle) (others : List (List LoadFinding)) (blocks lines : List �
         (three ∙ ap (λ (t : List ℕ). t ++ beyond_lines v beyond) (two ∙ ap (λ (t : List ℕ). t ++ lines) one))
         ∙ append_assoc (blocks ++ lines) (beyond_lines v beyond) (end_line v count)
         ∙ append_assoc blocks lines (beyond_lines v beyond ++ end_line v count);
-    verdict_is = tells;
+    verdict_is = states;
   }

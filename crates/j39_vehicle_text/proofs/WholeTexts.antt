@@ -13,8 +13,8 @@ use Rattle.j39_vehicle.specs.declared.vehicle.bus_plan.BusPlan.{BusPlan}
 use Rattle.j39_vehicle_text.specs.VehicleText.{IsVehicleText, RefusesWith}
 
 -- what is put is said in other words
-pub put_said : {V W : Type 0} {P Q : List ℕ → V → Type 0} {state : W → SinkState} {told ended : W} (r : Result V StreamFault)
-    → ((text : List ℕ) (answer : V) → P text answer → Q text answer) → PutsText P state told ended r → PutsText Q state told ended r
+pub put_said : {V W : Type 0} {P Q : List ℕ → V → Type 0} {state : W → SinkState} {start ended : W} (r : Result V StreamFault)
+    → ((text : List ℕ) (answer : V) → P text answer → Q text answer) → PutsText P state start ended r → PutsText Q state start ended r
 put_said (Ok answer) says puts =
     let (text, is, put) = puts.written in
     record {

@@ -61,9 +61,9 @@ back_text [] = []
 back_text (n ∷ ns) = back_text ns ++ place_field (codes " ") n
 
 -- by which forwards it comes, from the origin on, where there are any
-unfoldable pub told_way_text : List ℕ → List ℕ
-told_way_text [] = []
-told_way_text (n ∷ ns) = codes " by" ++ back_text (n ∷ ns)
+unfoldable pub reported_way_text : List ℕ → List ℕ
+reported_way_text [] = []
+reported_way_text (n ∷ ns) = codes " by" ++ back_text (n ∷ ns)
 
 -- ---- how old it is
 
@@ -78,19 +78,19 @@ need_age_text None (Some ms) = codes " old" ++ (limit_text (Some ms) ++ codes " 
 need_age_text None None = []
 
 -- which flow's age it is, where several meet the need
-unfoldable pub told_flow_text : Vehicle → VehicleNeed → ℕ → Option ℕ → List ℕ
-told_flow_text v d flow (Some age) = if nat_lt 1 (need_flow_count v d) then place_field (codes " flow ") flow else []
-told_flow_text v d flow None = []
+unfoldable pub reported_flow_text : Vehicle → VehicleNeed → ℕ → Option ℕ → List ℕ
+reported_flow_text v d flow (Some age) = if nat_lt 1 (need_flow_count v d) then place_field (codes " flow ") flow else []
+reported_flow_text v d flow None = []
 
 -- ---- the line
 
 -- of the flow that meets the need what its origin sends, by which forwards, how old it is, and which flow it is, where several meet the need
-unfoldable pub told_text : Vehicle → VehicleNeed → NeedFlow → List ℕ
-told_text v d told = let p = point_on d.unit.bus told.flow d.signal in
-    origin_text v p ++ (told_way_text (way_back v p) ++ (need_age_text told.age d.within ++ told_flow_text v d told.flow told.age))
+unfoldable pub reported_text : Vehicle → VehicleNeed → NeedFlow → List ℕ
+reported_text v d stated = let p = point_on d.unit.bus stated.flow d.signal in
+    origin_text v p ++ (reported_way_text (way_back v p) ++ (need_age_text stated.age d.within ++ reported_flow_text v d stated.flow stated.age))
 
 unfoldable pub met_text : Vehicle → VehicleNeed → Option NeedFlow → List ℕ
-met_text v d (Some told) = told_text v d told
+met_text v d (Some stated) = reported_text v d stated
 met_text v d None = codes " unmet"
 
 unfoldable pub vehicle_need_line : Vehicle → Delays → ℕ → VehicleNeed → List ℕ

@@ -22,9 +22,9 @@ abbrev pub IsLoadOf : Plan → Option Timing → List ℕ → Type 0
 IsLoadOf plan None text = text ≡ []
 IsLoadOf plan (Some timing) text = (stays : UnitPlan → Bool) × DecidesWhoStays plan stays × (text ≡ load_line timing (asked_of timing plan stays))
 
--- where it is to be told
+-- where it is to be reported
 abbrev pub IsLoadWhere : Bool → Plan → List ℕ → Type 0
-IsLoadWhere is_told plan text = MatchBool is_told (IsLoadOf plan (timing_of plan) text) (text ≡ [])
+IsLoadWhere is_stated plan text = MatchBool is_stated (IsLoadOf plan (timing_of plan) text) (text ≡ [])
 
 -- this is written of a bus, with whose plan's load these are wrong: the bus, what check writes of its plan, and, where each finding is one of
 -- times, how full the bus is

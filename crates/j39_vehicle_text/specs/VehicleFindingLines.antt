@@ -2,7 +2,7 @@
 use Rattle.std.specs.Prelude.{ℕ, List, [], ◌∷◌, ◌++◌, codes}
 use Rattle.std.specs.List.{slice_get}
 use Rattle.std.specs.Option.{option_map_or}
-use Rattle.j39_text.specs.Texts.{place_field}
+use Rattle.j39_text.specs.Texts.{labels_text, place_field, places_text}
 use Rattle.j39_load.specs.LineLists.{lines_of_each}
 use Rattle.j39_vehicle.specs.declared.vehicle.Vehicle.{Vehicle}
 use Rattle.j39_vehicle.specs.declared.vehicle.forward.Forward.{Forward}
@@ -24,10 +24,10 @@ vehicle_finding_text v (NoOutput n) = place_field (codes "G3 NoOutput ") n
 vehicle_finding_text v (ManyOutputs n) = place_field (codes "G4 ManyOutputs ") n
 vehicle_finding_text v (LayoutDiffers n) = place_field (codes "G5 LayoutDiffers ") n
 vehicle_finding_text v (SignalDiffers n t) = place_field (codes "G6 SignalDiffers ") n ++ (codes " " ++ sent_signal_label v n t)
-vehicle_finding_text v (TwoForwards n m) = place_field (codes "G7 TwoForwards ") n ++ place_field (codes " ") m
+vehicle_finding_text v (TwoForwards n m) = places_text (codes "G7 TwoForwards ") n m
 vehicle_finding_text v (ForwardLoop n) = place_field (codes "G8 ForwardLoop ") n
 vehicle_finding_text v (NeedUnmet d) = place_field (codes "G9 NeedUnmet ") d
-vehicle_finding_text v (SharedQueue k b) = codes "G14 SharedQueue " ++ (gateway_label v k ++ (codes " " ++ bus_label v b))
+vehicle_finding_text v (SharedQueue k b) = labels_text (codes "G14 SharedQueue ") (gateway_label v k) (bus_label v b)
 
 unfoldable pub time_finding_text : TimeFinding → List ℕ
 time_finding_text (TooOften n) = place_field (codes "G10 TooOften ") n

@@ -25,7 +25,7 @@ use Rattle.j39_vehicle_text.specs.VehicleFileText.{IsVehicleRefusal, vehicle_fau
 use Rattle.j39_vehicle_text.specs.declared.beyond_plans.BeyondPlans.{BeyondPlans}
 use Rattle.j39_vehicle_text.specs.VehicleFindingLines.{time_finding_lines, vehicle_finding_lines}
 
--- ---- what is told beyond the plans
+-- ---- what is reported beyond the plans
 
 -- the lines of forwards and needs, and what is wrong with times and queues
 abbrev pub ShowsTimes : Vehicle → List ℕ → BeyondPlans → Type 0
@@ -70,7 +70,7 @@ end_line v count = if count == 0 then vehicle_ok_line v else field (codes "findi
 abbrev pub end_verdict : ℕ → Verdict
 end_verdict count = if count == 0 then Done else Findings
 
--- what is written of a vehicle, with the verdict: what is told of the plan of each bus, the lines of forwards and needs, all that is wrong
+-- what is written of a vehicle, with the verdict: what is reported of the plan of each bus, the lines of forwards and needs, all that is wrong
 -- beyond the plans, and how many findings there are
 pub record IsVehicleReport (v : Vehicle) (text : List ℕ) (verdict : Verdict) : Type 0 where
   pub others : List (List LoadFinding)

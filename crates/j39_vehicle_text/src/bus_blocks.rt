@@ -34,16 +34,16 @@ fn write_load_of(alloc: Global, text: &mut TextBuffer, plan: &Plan) -> Result<()
     }
 }
 
-// The same, where it is to be told.
+// The same, where it is to be reported.
 fn write_load_where(
     alloc: Global,
     text: &mut TextBuffer,
     plan: &Plan,
-    is_told: bool,
+    is_stated: bool,
 ) -> Result<(), AllocError>
-    ensures { OnOk result ((load : List ℕ) × IsLoadWhere is_told plan.now load × (text.new ≡ text.old ++ load)) }
+    ensures { OnOk result ((load : List ℕ) × IsLoadWhere is_stated plan.now load × (text.new ≡ text.old ++ load)) }
 {
-    if is_told {
+    if is_stated {
         write_load_of(alloc, text, plan)
     } else {
         Ok(())
@@ -89,7 +89,7 @@ pub(super) fn write_blocks(
     buses: &[BusPlan],
 ) -> Result<PlansFound, AllocError>
     requires { length buses.now ≤ bus_limit }
-    ensures told { IfOk result (λ all. (others : List (List LoadFaults)) × (blocks : List ℕ)
+    ensures stated { IfOk result (λ all. (others : List (List LoadFaults)) × (blocks : List ℕ)
         × AreBlocks buses.now others blocks
         × (text.new ≡ text.old ++ blocks) × (all.count ≡ count_of_plans buses.now others)
         × (all.are_of_times ≡ all_are_of_times buses.now others)) }

@@ -1,13 +1,11 @@
 //! The lines of findings.
 ghost use Rattle.std.specs.Prelude.{◌≡◌, ◌++◌, OnOk};
-ghost use Rattle.j39_load.specs.LineLists.{lines_of_each};
-ghost use Rattle.j39_vehicle_findings.specs.declared.finding.VehicleFinding.TheVariants.{SharedQueue, SignalDiffers, TwoForwards};
-ghost use Rattle.j39_vehicle_text.specs.VehicleFindingLines.{sent_signal_label, time_finding_line, time_finding_lines};
-ghost use Rattle.j39_vehicle_text.specs.VehicleFindingLines.{time_finding_text};
-ghost use Rattle.j39_vehicle_text.specs.VehicleFindingLines.{vehicle_finding_line, vehicle_finding_lines};
-ghost use Rattle.j39_vehicle_text.specs.VehicleFindingLines.{vehicle_finding_text};
+ghost use Rattle.j39_vehicle_findings.specs.declared.finding.VehicleFinding.TheVariants.{SignalDiffers};
+ghost use Rattle.j39_vehicle_text.specs.VehicleFindingLines.{sent_signal_label, time_finding_lines, time_finding_text};
+ghost use Rattle.j39_vehicle_text.specs.VehicleFindingLines.{vehicle_finding_lines, vehicle_finding_text};
 
 use crate::labels::{bus_label, gateway_label, signal_label_at};
+use j39_plan_text::{WriteLines, write_each};
 use j39_text::TextBuffer;
 use j39_vehicle::Vehicle;
 use j39_vehicle_findings::VehicleFinding;
@@ -35,36 +33,7 @@ fn write_signal_differs(
     ensures { OnOk result (text.new ≡ text.old ++ vehicle_finding_text vehicle.now (SignalDiffers forward signal)) }
 {
     text.place("G6 SignalDiffers ", forward)?;
-    text.word(" ")?;
-    text.word(sent_signal_label(vehicle, forward, signal))
-}
-
-#[tactic(auto, unfolding(crate::specs::VehicleFindingLines::vehicle_finding_text))]
-fn write_two_forwards(
-    text: &mut TextBuffer,
-    vehicle: &Vehicle,
-    first: usize,
-    second: usize,
-) -> Result<(), AllocError>
-    ensures { OnOk result (text.new ≡ text.old ++ vehicle_finding_text vehicle.now (TwoForwards first second)) }
-{
-    text.place("G7 TwoForwards ", first)?;
-    text.place(" ", second)
-}
-
-#[tactic(auto, unfolding(crate::specs::VehicleFindingLines::vehicle_finding_text))]
-fn write_shared_queue(
-    text: &mut TextBuffer,
-    vehicle: &Vehicle,
-    gateway: usize,
-    bus: usize,
-) -> Result<(), AllocError>
-    ensures { OnOk result (text.new ≡ text.old ++ vehicle_finding_text vehicle.now (SharedQueue gateway bus)) }
-{
-    text.word("G14 SharedQueue ")?;
-    text.word(gateway_label(vehicle, gateway))?;
-    text.word(" ")?;
-    text.word(bus_label(vehicle, bus))
+    text.label(sent_signal_label(vehicle, forward, signal))
 }
 
 #[tactic(auto, unfolding(crate::specs::VehicleFindingLines::vehicle_finding_text))]
@@ -82,10 +51,14 @@ fn write_finding(
         VehicleFinding::ManyOutputs(n) => text.place("G4 ManyOutputs ", n),
         VehicleFinding::LayoutDiffers(n) => text.place("G5 LayoutDiffers ", n),
         VehicleFinding::SignalDiffers(n, t) => write_signal_differs(text, vehicle, n, t),
-        VehicleFinding::TwoForwards(n, m) => write_two_forwards(text, vehicle, n, m),
+        VehicleFinding::TwoForwards(n, m) => text.places("G7 TwoForwards ", n, m),
         VehicleFinding::ForwardLoop(n) => text.place("G8 ForwardLoop ", n),
         VehicleFinding::NeedUnmet(d) => text.place("G9 NeedUnmet ", d),
-        VehicleFinding::SharedQueue(k, b) => write_shared_queue(text, vehicle, k, b),
+        VehicleFinding::SharedQueue(k, b) => text.labels(
+            "G14 SharedQueue ",
+            gateway_label(vehicle, k),
+            bus_label(vehicle, b),
+        ),
     }
 }
 
@@ -101,28 +74,48 @@ fn write_time_finding(text: &mut TextBuffer, finding: TimeFinding) -> Result<(),
     }
 }
 
-#[tactic(auto, unfolding(crate::specs::VehicleFindingLines::vehicle_finding_line))]
-fn write_line(
-    text: &mut TextBuffer,
-    vehicle: &Vehicle,
-    finding: VehicleFinding,
-) -> Result<(), AllocError>
-    ensures { OnOk result (text.new ≡ text.old ++ vehicle_finding_line vehicle.now finding) }
-{
-    write_finding(text, vehicle, finding)?;
-    text.end_line()
+// Writes a line for each finding of buses, forwards and needs.
+#[derive(Drop)]
+struct FindingLines<'a>(&'a Vehicle);
+
+impl WriteLines<VehicleFinding> for FindingLines<'_> {
+    ghost use Rattle.j39_vehicle_text.specs.VehicleFindingLines.{vehicle_finding_line};
+
+    ghost lines = { λ w _. vehicle_finding_line w.0.now };
+
+    #[tactic(auto, unfolding(crate::specs::VehicleFindingLines::vehicle_finding_line))]
+    fn write(
+        &self,
+        text: &mut TextBuffer,
+        _at: usize,
+        finding: &VehicleFinding,
+    ) -> Result<(), AllocError> {
+        write_finding(text, self.0, *finding)?;
+        text.end_line()
+    }
 }
 
-#[tactic(auto, unfolding(crate::specs::VehicleFindingLines::time_finding_line))]
-fn write_time_line(text: &mut TextBuffer, finding: TimeFinding) -> Result<(), AllocError>
-    ensures { OnOk result (text.new ≡ text.old ++ time_finding_line finding) }
-{
-    write_time_finding(text, finding)?;
-    text.end_line()
+// Writes a line for each finding of times.
+struct TimeFindingLines;
+
+impl WriteLines<TimeFinding> for TimeFindingLines {
+    ghost use Rattle.j39_vehicle_text.specs.VehicleFindingLines.{time_finding_line};
+
+    ghost lines = { λ _ _. time_finding_line };
+
+    #[tactic(auto, unfolding(crate::specs::VehicleFindingLines::time_finding_line))]
+    fn write(
+        &self,
+        text: &mut TextBuffer,
+        _at: usize,
+        finding: &TimeFinding,
+    ) -> Result<(), AllocError> {
+        write_time_finding(text, *finding)?;
+        text.end_line()
+    }
 }
 
 /// Writes a line for each of these findings.
-#[tactic(auto, unfolding(j39_load::specs::LineLists::lines_of_each))]
 pub(super) fn write_findings(
     text: &mut TextBuffer,
     vehicle: &Vehicle,
@@ -130,22 +123,15 @@ pub(super) fn write_findings(
 ) -> Result<(), AllocError>
     ensures { OnOk result (text.new ≡ text.old ++ vehicle_finding_lines vehicle.now findings.now) }
 {
-    for finding in findings {
-        write_line(text, vehicle, *finding)?;
-    }
-    Ok(())
+    write_each(text, &FindingLines(vehicle), findings)
 }
 
 /// Writes a line for each finding of times.
-#[tactic(auto, unfolding(j39_load::specs::LineLists::lines_of_each))]
 pub(super) fn write_time_findings(
     text: &mut TextBuffer,
     findings: &[TimeFinding],
 ) -> Result<(), AllocError>
     ensures { OnOk result (text.new ≡ text.old ++ time_finding_lines findings.now) }
 {
-    for finding in findings {
-        write_time_line(text, *finding)?;
-    }
-    Ok(())
+    write_each(text, &TimeFindingLines, findings)
 }

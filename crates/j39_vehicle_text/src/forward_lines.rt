@@ -1,10 +1,10 @@
 //! The lines of forwards.
 ghost use Rattle.std.specs.Prelude.{◌≡◌, ◌++◌, Some, None, OnOk};
-ghost use Rattle.j39_load.specs.LineLists.{lines_of_each};
-ghost use Rattle.j39_vehicle_text.specs.ForwardLines.{queued_text_where, forward_line, forward_lines, forward_text};
+ghost use Rattle.j39_vehicle_text.specs.ForwardLines.{queued_text_where, forward_lines, forward_text};
 ghost use Rattle.j39_vehicle_text.specs.ForwardLines.{output_jitter, queued_text};
 
 use crate::labels::{gateway_label, write_group_at};
+use j39_plan_text::{WriteLines, write_each};
 use j39_text::TextBuffer;
 use j39_vehicle::{Forward, Vehicle};
 use j39_vehicle_findings::Routes;
@@ -78,34 +78,38 @@ fn write_forward(
     ensures { OnOk result (text.new ≡ text.old ++ forward_text vehicle.now place forward.now) }
 {
     text.place("forward ", place)?;
-    text.word(" ")?;
-    text.word(gateway_label(vehicle, forward.gateway))?;
+    text.label(gateway_label(vehicle, forward.gateway))?;
     write_group_at(text, " ", vehicle, forward.input)?;
     write_group_at(text, " to ", vehicle, forward.output)
 }
 
-#[tactic(auto, unfolding(crate::specs::ForwardLines::forward_line))]
-fn write_line(
-    text: &mut TextBuffer,
-    routes: &Routes<'_>,
-    delays: &Delays,
-    place: usize,
-    forward: &Forward,
-) -> Result<(), AllocError>
-    ensures { OnOk result (text.new ≡ text.old ++ forward_line routes.now.vehicle.now delays.now place forward.now) }
-{
-    write_forward(text, routes.vehicle, place, forward)?;
-    write_asked(
-        text,
-        is_late_asked(routes.vehicle, place),
-        queued(routes, delays, place),
-        output_jitter(routes.vehicle, forward),
-    )?;
-    text.end_line()
+// Writes each forward, and when its messages are queued where it is asked.
+#[derive(Drop)]
+struct ForwardDelays<'a> {
+    routes: &'a Routes<'a>,
+    delays: &'a Delays,
+}
+
+impl WriteLines<Forward> for ForwardDelays<'_> {
+    ghost use Rattle.j39_vehicle_text.specs.ForwardLines.{forward_line};
+
+    ghost lines = { λ w. forward_line w.routes.now.vehicle.now w.delays.now };
+
+    #[tactic(auto, unfolding(crate::specs::ForwardLines::forward_line))]
+    fn write(&self, text: &mut TextBuffer, at: usize, forward: &Forward) -> Result<(), AllocError> {
+        let vehicle = self.routes.vehicle;
+        write_forward(text, vehicle, at, forward)?;
+        write_asked(
+            text,
+            is_late_asked(vehicle, at),
+            queued(self.routes, self.delays, at),
+            output_jitter(vehicle, forward),
+        )?;
+        text.end_line()
+    }
 }
 
 /// Writes a line for each forward.
-#[tactic(auto, unfolding(j39_load::specs::LineLists::lines_of_each))]
 pub(super) fn write_forwards(
     text: &mut TextBuffer,
     routes: &Routes<'_>,
@@ -113,8 +117,9 @@ pub(super) fn write_forwards(
 ) -> Result<(), AllocError>
     ensures { OnOk result (text.new ≡ text.old ++ forward_lines routes.now.vehicle.now delays.now) }
 {
-    for (place, forward) in routes.vehicle.forwards.iter().enumerate() {
-        write_line(text, routes, delays, place, forward)?;
-    }
-    Ok(())
+    write_each(
+        text,
+        &ForwardDelays { routes, delays },
+        &routes.vehicle.forwards,
+    )
 }

@@ -1,13 +1,13 @@
 //! The lines of needs.
 ghost use Rattle.std.specs.Prelude.{◌≡◌, ◌++◌, Some, None, OnOk};
-ghost use Rattle.j39_load.specs.LineLists.{lines_of_each};
-ghost use Rattle.j39_vehicle_times.specs.declared.needs.NeedFlow.{NeedFlow as ToldFlows};
-ghost use Rattle.j39_vehicle_text.specs.NeedLines.{told_flow_text, content_text, group_of_flow, limit_text, meant_text, met_text};
-ghost use Rattle.j39_vehicle_text.specs.NeedLines.{need_age_text, origin_content, origin_text, told_text};
-ghost use Rattle.j39_vehicle_text.specs.NeedLines.{vehicle_need_line, vehicle_need_lines, vehicle_need_text};
+ghost use Rattle.j39_vehicle_times.specs.declared.needs.NeedFlow.{NeedFlow as ReportedFlows};
+ghost use Rattle.j39_vehicle_text.specs.NeedLines.{reported_flow_text, content_text, group_of_flow, limit_text, meant_text, met_text};
+ghost use Rattle.j39_vehicle_text.specs.NeedLines.{need_age_text, origin_content, origin_text, reported_text};
+ghost use Rattle.j39_vehicle_text.specs.NeedLines.{vehicle_need_lines, vehicle_need_text};
 
 use crate::labels::{group_label_at, signal_label_at, write_unit_at};
 use crate::ways::write_way;
+use j39_plan_text::{WriteLines, write_each};
 use j39_text::TextBuffer;
 use j39_vehicle::{GroupAt, Vehicle, VehicleNeed};
 use j39_vehicle_findings::{FlowAt, Point, Routes, flows_on};
@@ -25,10 +25,7 @@ fn write_meant(
     ensures { OnOk result (text.new ≡ text.old ++ meant_text vehicle.now group signal) }
 {
     match signal {
-        Some(signal) => {
-            text.word(" ")?;
-            text.word(signal_label_at(vehicle, group, signal))
-        }
+        Some(signal) => text.label(signal_label_at(vehicle, group, signal)),
         None => Ok(()),
     }
 }
@@ -43,8 +40,7 @@ fn write_content(
 ) -> Result<(), AllocError>
     ensures { OnOk result (text.new ≡ text.old ++ content_text vehicle.now group signal) }
 {
-    text.word(" ")?;
-    text.word(group_label_at(vehicle, group))?;
+    text.label(group_label_at(vehicle, group))?;
     write_meant(text, vehicle, group, signal)
 }
 
@@ -156,42 +152,42 @@ fn write_age(text: &mut TextBuffer, age: Option<u64>, within: Option<u16>) -> Re
 }
 
 // Which flow's age it is, where several meet the need.
-#[tactic(auto, unfolding(crate::specs::NeedLines::told_flow_text))]
+#[tactic(auto, unfolding(crate::specs::NeedLines::reported_flow_text))]
 fn write_age_flow(
     text: &mut TextBuffer,
     routes: &Routes<'_>,
     need: &VehicleNeed,
-    told: NeedFlow,
+    stated: NeedFlow,
 ) -> Result<(), AllocError>
-    ensures { OnOk result (text.new ≡ text.old ++ told_flow_text routes.now.vehicle.now need.now told.flow told.age) }
+    ensures { OnOk result (text.new ≡ text.old ++ reported_flow_text routes.now.vehicle.now need.now stated.flow stated.age) }
 {
-    match told.age {
-        Some(_) if 1 < need_flow_count(routes, need) => text.place(" flow ", told.flow),
+    match stated.age {
+        Some(_) if 1 < need_flow_count(routes, need) => text.place(" flow ", stated.flow),
         _ => Ok(()),
     }
 }
 
 // Of the flow that meets the need what its origin sends, by which forwards, and how old it is.
-#[tactic(auto, unfolding(crate::specs::NeedLines::told_text))]
-fn write_told(
+#[tactic(auto, unfolding(crate::specs::NeedLines::reported_text))]
+fn write_reported(
     alloc: Global,
     text: &mut TextBuffer,
     routes: &Routes<'_>,
     need: &VehicleNeed,
-    told: NeedFlow,
+    stated: NeedFlow,
 ) -> Result<(), AllocError>
-    ensures { OnOk result (text.new ≡ text.old ++ told_text routes.now.vehicle.now need.now told) }
+    ensures { OnOk result (text.new ≡ text.old ++ reported_text routes.now.vehicle.now need.now stated) }
 {
     let at = FlowAt {
         bus: need.unit.bus,
-        flow: told.flow,
+        flow: stated.flow,
     };
     let signal = need.signal;
     let start = Point { at, signal };
     write_origin(text, routes, start)?;
     write_way(alloc, text, routes, start)?;
-    write_age(text, told.age, need.within)?;
-    write_age_flow(text, routes, need, told)
+    write_age(text, stated.age, need.within)?;
+    write_age_flow(text, routes, need, stated)
 }
 
 // The same, or that no flow meets it.
@@ -206,35 +202,39 @@ fn write_met(
     ensures { OnOk result (text.new ≡ text.old ++ met_text routes.now.vehicle.now need.now met) }
 {
     match met {
-        Some(told) => write_told(alloc, text, routes, need, told),
+        Some(stated) => write_reported(alloc, text, routes, need, stated),
         None => text.word(" unmet"),
     }
 }
 
-#[tactic(auto, unfolding(crate::specs::NeedLines::vehicle_need_line))]
-fn write_line(
+// Writes each need, and what of it is known.
+#[derive(Drop)]
+struct NeedAges<'a> {
     alloc: Global,
-    text: &mut TextBuffer,
-    routes: &Routes<'_>,
-    delays: &Delays,
-    place: usize,
-    need: &VehicleNeed,
-) -> Result<(), AllocError>
-    ensures { OnOk result (text.new ≡ text.old ++ vehicle_need_line routes.now.vehicle.now delays.now place need.now) }
-{
-    write_need(text, routes.vehicle, place, need)?;
-    write_met(
-        alloc,
-        text,
-        routes,
-        need,
-        flow_of_need(routes, delays, need),
-    )?;
-    text.end_line()
+    routes: &'a Routes<'a>,
+    delays: &'a Delays,
+}
+
+impl WriteLines<VehicleNeed> for NeedAges<'_> {
+    ghost use Rattle.j39_vehicle_text.specs.NeedLines.{vehicle_need_line};
+
+    ghost lines = { λ w. vehicle_need_line w.routes.now.vehicle.now w.delays.now };
+
+    #[tactic(auto, unfolding(crate::specs::NeedLines::vehicle_need_line))]
+    fn write(
+        &self,
+        text: &mut TextBuffer,
+        at: usize,
+        need: &VehicleNeed,
+    ) -> Result<(), AllocError> {
+        write_need(text, self.routes.vehicle, at, need)?;
+        let met = flow_of_need(self.routes, self.delays, need);
+        write_met(self.alloc, text, self.routes, need, met)?;
+        text.end_line()
+    }
 }
 
 /// Writes a line for each need.
-#[tactic(auto, unfolding(j39_load::specs::LineLists::lines_of_each))]
 pub(super) fn write_needs(
     alloc: Global,
     text: &mut TextBuffer,
@@ -243,8 +243,10 @@ pub(super) fn write_needs(
 ) -> Result<(), AllocError>
     ensures { OnOk result (text.new ≡ text.old ++ vehicle_need_lines routes.now.vehicle.now delays.now) }
 {
-    for (place, need) in routes.vehicle.needs.iter().enumerate() {
-        write_line(alloc, text, routes, delays, place, need)?;
-    }
-    Ok(())
+    let writer = NeedAges {
+        alloc,
+        routes,
+        delays,
+    };
+    write_each(text, &writer, &routes.vehicle.needs)
 }

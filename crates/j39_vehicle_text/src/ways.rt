@@ -1,6 +1,6 @@
 //! By which forwards what a flow brings comes from its origin.
 ghost use Rattle.std.specs.Prelude.{◌≡◌, ◌≢◌, ◌++◌, [], IfOk, OnErr, OnOk};
-ghost use Rattle.j39_vehicle_text.specs.NeedLines.{back_text, way_back, told_way_text};
+ghost use Rattle.j39_vehicle_text.specs.NeedLines.{back_text, way_back, reported_way_text};
 
 use j39_text::TextBuffer;
 use j39_vehicle_findings::{Point, Routes};
@@ -39,9 +39,9 @@ fn write_back(text: &mut TextBuffer, back: &[usize]) -> Result<(), AllocError>
 }
 
 // Writes by which forwards something comes, where there are any.
-#[tactic(auto, unfolding(crate::specs::NeedLines::told_way_text))]
+#[tactic(auto, unfolding(crate::specs::NeedLines::reported_way_text))]
 fn write_forwards(text: &mut TextBuffer, back: &[usize]) -> Result<(), AllocError>
-    ensures { OnOk result (text.new ≡ text.old ++ told_way_text back.now) }
+    ensures { OnOk result (text.new ≡ text.old ++ reported_way_text back.now) }
 {
     if back.is_empty() {
         return Ok(());
@@ -57,7 +57,7 @@ pub(super) fn write_way(
     routes: &Routes<'_>,
     start: Point,
 ) -> Result<(), AllocError>
-    ensures { OnOk result (text.new ≡ text.old ++ told_way_text (way_back routes.now.vehicle.now start)) }
+    ensures { OnOk result (text.new ≡ text.old ++ reported_way_text (way_back routes.now.vehicle.now start)) }
 {
     let back = way_back(alloc, routes, start)?;
     write_forwards(text, &back)

@@ -76,7 +76,7 @@ fed_parts v delays steps at time n feeder is =
 -- what no direct forward feeds isn't sent on
 pub not_sent_on : (v : Vehicle) (delays : Delays) (at : FlowAt) → direct_feeder v at ≡ None → ¬ IsSentOn v delays at
 not_sent_on v delays at none (from, is) =
-    let (bits, told, rest) = and_then_some (λ (bits : ℕ). option_and_then (first_input_at v) (direct_feeder v at)) (delay_at delays at) from is in
+    let (bits, stated, rest) = and_then_some (λ (bits : ℕ). option_and_then (first_input_at v) (direct_feeder v at)) (delay_at delays at) from is in
     let (n, feeder, input) = and_then_some (first_input_at v) (direct_feeder v at) from rest in
     none-some n (sym none ∙ feeder)
 
@@ -102,7 +102,7 @@ in_sum : (last queue end x y before within own : ℕ) → last ≤ queue + of_us
     → last ≤ y + of_us (before + (within + own))
 in_sum last queue end x y before within own ends soon timely release = omega (arith, ends, soon, timely, release)
 
-module _ (v : Vehicle) (delays : Delays) (told : AreDelays v delays) (seen : SeenBuses) (by : ℕ) (is : IsSeenVehicle v delays seen by) where
+module _ (v : Vehicle) (delays : Delays) (stated : AreDelays v delays) (seen : SeenBuses) (by : ℕ) (is : IsSeenVehicle v delays seen by) where
   module _ (at : FlowAt) (among : is.scope.flows at ≡ true) (time : ℕ) (one : IsOneFlow v delays seen at time) where
     inside : is.scope.buses at.bus ≡ true
     inside = is.closed.its_bus at among
@@ -239,7 +239,7 @@ module _ (v : Vehicle) (delays : Delays) (told : AreDelays v delays) (seen : See
 
   flow_of : (at : FlowAt) → is.scope.flows at ≡ true → (time : ℕ) → own v delays at ≡ Some time → IsOneFlow v delays seen at time
   flow_of at among time known =
-      one_flow v delays told at time (own_parts v delays at time known) is.scope (is.closed.its_bus at among) among seen is.kept known
+      one_flow v delays stated at time (own_parts v delays at time known) is.scope (is.closed.its_bus at among) among seen is.kept known
 
   -- what is sent on directly to a flow of the scope is of the scope too
   pub source_among : (at : FlowAt) → is.scope.flows at ≡ true → (n : Forward) (source : FlowAt) (time : ℕ) → direct_feeder v at ≡ Some n

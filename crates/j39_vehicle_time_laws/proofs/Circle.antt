@@ -110,9 +110,9 @@ viewed v scope b timing inside timed = go (scope.buses b) refl (timing_on v.buse
     go true d None e in_it is = absurd (none-some timing is)
     go true d (Some x) e in_it is = (record { inside = d; timing = x; timed = e }, refl)
 
-module _ (v : Vehicle) (scope : Scope) (delays : Delays) (told : AreDelays v delays) (seen : SeenBuses) where
+module _ (v : Vehicle) (scope : Scope) (delays : Delays) (stated : AreDelays v delays) (seen : SeenBuses) where
   abbrev pub of_bus : {b : ℕ} → (t : TimedBus v scope b) → IsKnownBus v delays b t.timing
-  of_bus {b} t = known_bus v delays told b t.timing t.timed
+  of_bus {b} t = known_bus v delays stated b t.timing t.timed
 
   abbrev pub all_of : {b : ℕ} → TimedBus v scope b → List (Option FlowFrames)
   all_of t = frames_asked (asked_on (of_bus t))
@@ -142,7 +142,7 @@ module _ (v : Vehicle) (scope : Scope) (delays : Delays) (told : AreDelays v del
     release = (seen b).release;
   }
 
-  -- ---- numbers of streams, where they are those of flows of which a delay is told
+  -- ---- numbers of streams, where they are those of flows of which a delay is reported
 
   abbrev pub direct_with : (b i : ℕ) → Option (TimedBus v scope b) → Bool
   direct_with b i None = false
@@ -164,15 +164,15 @@ module _ (v : Vehicle) (scope : Scope) (delays : Delays) (told : AreDelays v del
       (of_us (queued_value b i) + longest_bit v b * (wait_with b i (Some t) + (stream_of t i).bits))
       (longest_bit v b * delay_of (stream_of t i) (wait_with b i (Some t)))
 
-  -- ---- one flow of which a delay is told
+  -- ---- one flow of which a delay is reported
 
-  pub record IsTold (b i : ℕ) (t : TimedBus v scope b) : Type 0 where
+  pub record IsStated (b i : ℕ) (t : TimedBus v scope b) : Type 0 where
     pub flow : FlowPlan
     pub its : flow_at v.buses.items (at_of b i) ≡ Some flow
     pub bits : ℕ
     pub delayed : delay_at delays (at_of b i) ≡ Some bits
 
-  module _ (b i : ℕ) (t : TimedBus v scope b) (is : IsTold b i t) where
+  module _ (b i : ℕ) (t : TimedBus v scope b) (is : IsStated b i t) where
     abbrev pub time : ℕ
     time = own_of t.timing is.flow is.bits
 
@@ -183,16 +183,16 @@ module _ (v : Vehicle) (scope : Scope) (delays : Delays) (told : AreDelays v del
     owns = own_from v delays (at_of b i) t.timing is.flow is.bits t.timed is.its is.delayed
 
     abbrev pub bounded_here : IsBounded t.timing (asked_on (of_bus t)) i is.bits
-    bounded_here = bound v delays told (at_of b i) (own_of t.timing is.flow is.bits) has
+    bounded_here = bound v delays stated (at_of b i) (own_of t.timing is.flow is.bits) has
 
     pub frames_are : planned_at (all_of t ++ Rattle.j39_load.specs.Damage.damage_frames t.timing) i ≡ bounded_here.frames
-    frames_are = placed v delays told (at_of b i) (own_of t.timing is.flow is.bits) has
+    frames_are = placed v delays stated (at_of b i) (own_of t.timing is.flow is.bits) has
 
     pub stream_is : stream_of t i ≡ bounded_here.frames.stream
     stream_is = ap (λ (f : FlowFrames). f.stream) frames_are
 
     pub streamed : HasStream t.timing is.flow bounded_here.frames bounded_here.load.limit
-    streamed = its_stream v delays told (at_of b i) (own_of t.timing is.flow is.bits) has
+    streamed = its_stream v delays stated (at_of b i) (own_of t.timing is.flow is.bits) has
 
     pub single_here : IsSingle (stream_of t i)
     single_here = subst (λ (x : Stream). IsSingle x) (sym stream_is) streamed.single
@@ -207,17 +207,17 @@ module _ (v : Vehicle) (scope : Scope) (delays : Delays) (told : AreDelays v del
     own_value =
         let same : longest_bit v b * (wait_with b i (Some t) + (stream_of t i).bits) ≡ longest_bit v b * (bounded_here.wait + bounded_here.frames.stream.bits) =
         ap (λ (w : ℕ). longest_bit v b * (w + (stream_of t i).bits)) wait_is ∙ ap (λ (x : Stream). longest_bit v b * (bounded_here.wait + x.bits)) stream_is in
-        let fits = own_is v delays told (at_of b i) (own_of t.timing is.flow is.bits) has in
+        let fits = own_is v delays stated (at_of b i) (own_of t.timing is.flow is.bits) has in
         omega (arith, same, fits)
 
     pub release_value : behind_release v delays (at_of b i) ≡ Some (us_of_bits t.timing is.bits)
-    release_value = release_is v delays told (at_of b i) (own_of t.timing is.flow is.bits) has
+    release_value = release_is v delays stated (at_of b i) (own_of t.timing is.flow is.bits) has
 
     pub release_room : longest_bit v b * delay_of (stream_of t i) (wait_with b i (Some t)) ≤ of_us (us_of_bits t.timing is.bits)
     release_room =
         let same : longest_bit v b * delay_of (stream_of t i) (wait_with b i (Some t)) ≡ longest_bit v b * delay_of bounded_here.frames.stream bounded_here.wait =
         ap (λ (w : ℕ). longest_bit v b * delay_of (stream_of t i) w) wait_is ∙ ap (λ (x : Stream). longest_bit v b * delay_of x bounded_here.wait) stream_is in
-        let fits = release_fits v delays told (at_of b i) (own_of t.timing is.flow is.bits) has in
+        let fits = release_fits v delays stated (at_of b i) (own_of t.timing is.flow is.bits) has in
         omega (arith, same, fits)
 
     -- its jitter, and its period, in true time
@@ -225,7 +225,7 @@ module _ (v : Vehicle) (scope : Scope) (delays : Delays) (told : AreDelays v del
     late_value =
         let same : shortest_bit v b * (stream_of t i).jitter ≡ shortest_bit v b * bounded_here.frames.stream.jitter =
         ap (λ (x : Stream). shortest_bit v b * x.jitter) stream_is in
-        let room = jitter_room v delays told (at_of b i) (own_of t.timing is.flow is.bits) has in
+        let room = jitter_room v delays stated (at_of b i) (own_of t.timing is.flow is.bits) has in
         omega (arith, same, room)
 
     pub period_value : longest_bit v b * (stream_of t i).period ≤ 1000 * streamed.period * shortest_million t.timing
@@ -236,7 +236,7 @@ module _ (v : Vehicle) (scope : Scope) (delays : Delays) (told : AreDelays v del
         omega (arith, same, near)
 
   -- what is known to come behind its release has room for what is reckoned with here
-  pub behind_value : (b i : ℕ) (t : TimedBus v scope b) (is : IsTold b i t) (total : ℕ) → behind_at v delays (at_of b i) ≡ Some total
+  pub behind_value : (b i : ℕ) (t : TimedBus v scope b) (is : IsStated b i t) (total : ℕ) → behind_at v delays (at_of b i) ≡ Some total
       → behind_with b i (Some t) ≤ of_us total
   behind_value b i t is total known = some_cases (direct_feeder v (at_of b i)) (behind_with b i (Some t) ≤ of_us total)
       (λ none.

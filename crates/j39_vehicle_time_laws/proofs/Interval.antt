@@ -58,7 +58,7 @@ earlier p t before within own time to sum high before_t = omega arith
 shorter : (t before within own time to : ℕ) → time ≡ before + (within + own) → t + of_us time ≤ to → t + of_us before ≤ to
 shorter t before within own time to sum high = omega arith
 
-module _ (v : Vehicle) (delays : Delays) (told : AreDelays v delays) (seen : SeenBuses) (by : ℕ) (is : IsSeenVehicle v delays seen by)
+module _ (v : Vehicle) (delays : Delays) (stated : AreDelays v delays) (seen : SeenBuses) (by : ℕ) (is : IsSeenVehicle v delays seen by)
     (start : Point) (has : HasWay v is.scope start) (from : ℕ) (pauses : KeepPauses v seen start from by) where
   -- of what is sent on directly
   passed_on : (x y : FlowAt) → is.scope.flows y ≡ true → (pause : ℕ) (n : Forward) → direct_feeder v y ≡ Some n → first_input_at v n ≡ Some x
@@ -70,9 +70,9 @@ module _ (v : Vehicle) (delays : Delays) (told : AreDelays v delays) (seen : See
       let fed = fed_parts v delays steps y time n feeder known in
       let same : fed.source ≡ x = same_Some _ _ (sym fed.source_is ∙ source) in
       let before : behind_by v delays steps x ≡ Some fed.before = subst (λ (f : FlowAt). behind_by v delays steps f ≡ Some fed.before) same fed.before_is in
-      let too : is.scope.flows x ≡ true = source_among v delays told seen by is y among n x fed.own_time feeder source fed.own_is in
+      let too : is.scope.flows x ≡ true = source_among v delays stated seen by is y among n x fed.own_time feeder source fed.own_is in
       sends_releases x y among pause n feeder source fed.within fed.before fed.own_time time fed.promised fed.sum
-      (is_behind v delays told seen by is steps x too fed.before before) (is_behind v delays told seen by is (suc steps) y among time known)
+      (is_behind v delays stated seen by is steps x too fed.before before) (is_behind v delays stated seen by is (suc steps) y among time known)
       (keeps too steps fed.before before)
     where
       sends_releases : (x y : FlowAt) → is.scope.flows y ≡ true → (pause : ℕ) (n : Forward) → direct_feeder v y ≡ Some n → first_input_at v n ≡ Some x
@@ -80,7 +80,7 @@ module _ (v : Vehicle) (delays : Delays) (told : AreDelays v delays) (seen : See
           → within_of n ≡ Some within → time ≡ before + (within + own) → IsBehind v delays seen by x before → IsBehind v delays seen by y time
           → KeepsOn v seen x pause before from by → KeepsOn v seen y pause time from by
       sends_releases x y among pause n feeder source within before own time promised sum input output keeps t low high =
-          let (place, feeding, sent) = sends_directly v delays told seen by is y among n x within before output.own_time feeder source promised output.one input in
+          let (place, feeding, sent) = sends_directly v delays stated seen by is y among n x within before output.own_time feeder source promised output.one input in
           let (p, its, before_t, near) = keeps t low (shorter t before within own time by sum high) in
           let (q, it, what) = sent.each p (input.begun p its (earlier ((seen x.bus).release p) t before within own time by sum high before_t)) in
           let release : (seen y.bus).release q ≡ (seen x.bus).release p = subst (λ (r : ℕ). (seen y.bus).release q ≡ (seen x.bus).release r) what

@@ -34,7 +34,7 @@ use Rattle.j39_vehicle_time_laws.specs.KeptBuses.{AreKeptBuses, IsKnownBus, aske
 use Rattle.j39_vehicle_time_laws.specs.Prompt.{ArePrompt, HaveOwnReleases, IsScope, IsSentDirectly, Scope, scope_on, sent_from}
 use Rattle.j39_vehicle_time_laws.specs.Seen.{SeenBuses, frames_at, longest_bit, of_us}
 use Rattle.j39_vehicle_time_laws.proofs.Behind.{fed_never, fed_parts, unfed_release}
-use Rattle.j39_vehicle_time_laws.proofs.Circle.{IsTold, TimedBus, all_of, at_of, behind_value, behind_with, bounded_here, bus_with, direct_with, is_some_false}
+use Rattle.j39_vehicle_time_laws.proofs.Circle.{IsStated, TimedBus, all_of, at_of, behind_value, behind_with, bounded_here, bus_with, direct_with, is_some_false}
 use Rattle.j39_vehicle_time_laws.proofs.Circle.{is_some_true, late_value, of_bus, owns, period_value, queued_value, single_here, stream_of, streamed}
 use Rattle.j39_vehicle_time_laws.proofs.Circle.{view, viewed, wait_is, wait_with, within_value}
 use Rattle.j39_vehicle_time_laws.proofs.Feeders.{feeder_is}
@@ -55,7 +55,7 @@ behind_own v delays steps at total known = some_cases (direct_feeder v at) ((n :
     by_steps n feeder zero known = absurd (fed_never v delays at total n feeder known)
     by_steps n feeder (suc k) known = let fed = fed_parts v delays k at total n feeder known in (fed.own_time, fed.own_is)
 
--- whoever tells who stays, the streams are the same
+-- whoever reports who stays, the streams are the same
 pub one_traffic : (v : Vehicle) (delays : Delays) (b : ℕ) (timing other : Timing) (one : IsKnownBus v delays b timing) (two : IsKnownBus v delays b other)
     → streams_of timing (frames_asked (asked_on one)) ≡ streams_of other (frames_asked (asked_on two))
 one_traffic v delays b timing other one two =
@@ -84,11 +84,11 @@ abbrev carrier_of : Bus → ℕ → Carrier
 carrier_of bus i =
     record { schedule = bus.schedule; clock = bus.clock; planned = bus.planned; of = bus.of; source = i; release = bus.release; born = bus.release }
 
-module _ (v : Vehicle) (scope : Scope) (delays : Delays) (told : AreDelays v delays) (closed : IsScope v delays scope) (seen : SeenBuses)
+module _ (v : Vehicle) (scope : Scope) (delays : Delays) (stated : AreDelays v delays) (closed : IsScope v delays scope) (seen : SeenBuses)
     (kept : AreOtherwiseKept v delays scope seen) (prompt : ArePrompt v delays scope seen) (own_releases : HaveOwnReleases v delays scope seen)
     (timely : AreForwardsTimely v delays) where
   abbrev with_bus : (b : ℕ) → Option (TimedBus v scope b) → Bus
-  with_bus b o = bus_with v scope delays told seen b o
+  with_bus b o = bus_with v scope delays stated seen b o
 
   -- how far the releases of a flow of a bus are apart, by the fastest clock
   abbrev apart_of : ℕ → FlowPlan → ℕ
@@ -99,35 +99,35 @@ module _ (v : Vehicle) (scope : Scope) (delays : Delays) (told : AreDelays v del
 
   abbrev vehicle : Rattle.j39_gateways.specs.Vehicles.Vehicle
   vehicle = record {
-    bus = λ b. bus_with v scope delays told seen b (view v scope b);
-    direct = λ b i. direct_with v scope delays told seen b i (view v scope b);
+    bus = λ b. bus_with v scope delays stated seen b (view v scope b);
+    direct = λ b i. direct_with v scope delays stated seen b i (view v scope b);
     from_bus = λ b i. bus_value (sent_from v delays (at_of b i));
     from_stream = λ b i. flow_value (sent_from v delays (at_of b i));
-    within = λ b i. of_us (within_value v scope delays told seen b i);
-    wait = λ b i. wait_with v scope delays told seen b i (view v scope b);
-    behind = λ b i. behind_with v scope delays told seen b i (view v scope b);
+    within = λ b i. of_us (within_value v scope delays stated seen b i);
+    wait = λ b i. wait_with v scope delays stated seen b i (view v scope b);
+    behind = λ b i. behind_with v scope delays stated seen b i (view v scope b);
     apart = λ b i. apart_value b i;
   }
 
   abbrev keeps : {b : ℕ} → (t : TimedBus v scope b)
-      → IsOtherwiseKept v delays b t.timing (all_of v scope delays told seen t) (scope_on scope b) (seen b)
-  keeps {b} t = kept b t.timing (of_bus v scope delays told seen t) t.inside
+      → IsOtherwiseKept v delays b t.timing (all_of v scope delays stated seen t) (scope_on scope b) (seen b)
+  keeps {b} t = kept b t.timing (of_bus v scope delays stated seen t) t.inside
 
   shortest_there : (b : ℕ) (t : TimedBus v scope b) → shortest_on v.buses.items b ≡ shortest_million t.timing
   shortest_there b t = ap (λ (o : Option Timing). option_map_or shortest_million o 1000000) t.timed
 
-  apart_is : (b i : ℕ) (t : TimedBus v scope b) (is : IsTold v scope delays told seen b i t)
-      → apart_value b i ≡ 1000 * (streamed v scope delays told seen b i t is).period * shortest_on v.buses.items b
+  apart_is : (b i : ℕ) (t : TimedBus v scope b) (is : IsStated v scope delays stated seen b i t)
+      → apart_value b i ≡ 1000 * (streamed v scope delays stated seen b i t is).period * shortest_on v.buses.items b
   apart_is b i t is =
       ap (λ (o : Option FlowPlan). option_map_or (apart_of b) o 0) is.its
-      ∙ ap (λ (o : Option ℕ). option_map_or (λ (ms : ℕ). 1000 * ms * shortest_on v.buses.items b) o 0) (streamed v scope delays told seen b i t is).period_is
+      ∙ ap (λ (o : Option ℕ). option_map_or (λ (ms : ℕ). 1000 * ms * shortest_on v.buses.items b) o 0) (streamed v scope delays stated seen b i t is).period_is
 
   -- ---- one flow that is sent on directly
 
   record Link (b i : ℕ) : Type 0 where
     t : TimedBus v scope b
     view_is : view v scope b ≡ Some t
-    here : IsTold v scope delays told seen b i t
+    here : IsStated v scope delays stated seen b i t
     x : FlowAt
     from : sent_from v delays (at_of b i) ≡ Some x
     among : scope.flows x ≡ true
@@ -136,7 +136,7 @@ module _ (v : Vehicle) (scope : Scope) (delays : Delays) (told : AreDelays v del
     input : first_input_at v n ≡ Some x
     tx : TimedBus v scope x.bus
     view_x : view v scope x.bus ≡ Some tx
-    there : IsTold v scope delays told seen x.bus x.flow tx
+    there : IsStated v scope delays stated seen x.bus x.flow tx
     before : ℕ
     before_is : behind_at v delays x ≡ Some before
     within : ℕ
@@ -188,12 +188,12 @@ module _ (v : Vehicle) (scope : Scope) (delays : Delays) (told : AreDelays v del
             );
       }
 
-  link : (b i : ℕ) → direct_with v scope delays told seen b i (view v scope b) ≡ true → Link b i
+  link : (b i : ℕ) → direct_with v scope delays stated seen b i (view v scope b) ≡ true → Link b i
   link b i direct = some_cases (view v scope b) (Link b i)
-      (λ none. absurd (false≢true (subst (λ (o : Option (TimedBus v scope b)). direct_with v scope delays told seen b i o ≡ true) none direct)))
+      (λ none. absurd (false≢true (subst (λ (o : Option (TimedBus v scope b)). direct_with v scope delays stated seen b i o ≡ true) none direct)))
       (λ t view_is.
       let (x, from) = is_some_true (sent_from v delays (at_of b i)) (subst (λ (o : Option
-      (TimedBus v scope b)). direct_with v scope delays told seen b i o ≡ true) view_is direct) in
+      (TimedBus v scope b)). direct_with v scope delays stated seen b i o ≡ true) view_is direct) in
       link_of b i t view_is x from)
 
   module _ (b i : ℕ) (l : Link b i) where
@@ -207,10 +207,10 @@ module _ (v : Vehicle) (scope : Scope) (delays : Delays) (told : AreDelays v del
     at_source_bus : (P : Option (TimedBus v scope l.x.bus) → Type 0) → P (Some l.tx) → P (view v scope l.x.bus)
     at_source_bus P p = subst P (sym l.view_x) p
 
-    within_is : within_value v scope delays told seen b i ≡ l.within
+    within_is : within_value v scope delays stated seen b i ≡ l.within
     within_is = ap (λ (o : Option Forward). option_map_or (λ n. unwrap_or (within_of n) 0) o 0) l.feeder ∙ ap (λ (o : Option ℕ). unwrap_or o 0) l.promised
 
-    queued_is : queued_value v scope delays told seen b i ≡ l.before + l.within
+    queued_is : queued_value v scope delays stated seen b i ≡ l.before + l.within
     queued_is =
         ap (λ (o : Option Forward). option_map_or (λ n. unwrap_or (queued_of v delays n) 0) o 0) l.feeder
         ∙ ap (λ (o : Option ℕ). unwrap_or o 0) (ap (λ (o : Option ℕ). sum_known o (within_of l.n)) (ap (option_and_then (behind_at v delays)) l.input
@@ -227,30 +227,30 @@ module _ (v : Vehicle) (scope : Scope) (delays : Delays) (told : AreDelays v del
         )
 
     handed_on : IsHandedOn (carrier_of (with_bus (bus_value (sent_from v delays (at_of b i))) (view v scope (bus_value (sent_from v delays (at_of b i)))))
-        (flow_value (sent_from v delays (at_of b i)))) (carrier_of (with_bus b (view v scope b)) i) (of_us (within_value v scope delays told seen b i))
+        (flow_value (sent_from v delays (at_of b i)))) (carrier_of (with_bus b (view v scope b)) i) (of_us (within_value v scope delays stated seen b i))
     handed_on =
-        at_source (λ a k. IsHandedOn (carrier_of (with_bus a (view v scope a)) k) (carrier_of (with_bus b (view v scope b)) i) (of_us (within_value v scope delays told seen b i)))
-        (at_source_bus (λ o. IsHandedOn (carrier_of (with_bus l.x.bus o) l.x.flow) (carrier_of (with_bus b (view v scope b)) i) (of_us (within_value v scope delays told seen b i)))
-        (at_bus (λ o. IsHandedOn (carrier_of (with_bus l.x.bus (Some l.tx)) l.x.flow) (carrier_of (with_bus b o) i) (of_us (within_value v scope delays told seen b i)))
+        at_source (λ a k. IsHandedOn (carrier_of (with_bus a (view v scope a)) k) (carrier_of (with_bus b (view v scope b)) i) (of_us (within_value v scope delays stated seen b i)))
+        (at_source_bus (λ o. IsHandedOn (carrier_of (with_bus l.x.bus o) l.x.flow) (carrier_of (with_bus b (view v scope b)) i) (of_us (within_value v scope delays stated seen b i)))
+        (at_bus (λ o. IsHandedOn (carrier_of (with_bus l.x.bus (Some l.tx)) l.x.flow) (carrier_of (with_bus b o) i) (of_us (within_value v scope delays stated seen b i)))
         (subst (λ (w : ℕ). IsHandedOn (frames_at v seen l.x) (frames_at v seen (at_of b i)) (of_us w)) (sym within_is) sent.1.handed)))
 
     its_single : IsSingle ((with_bus b (view v scope b)).traffic.stream i)
-    its_single = at_bus (λ o. IsSingle ((with_bus b o).traffic.stream i)) (single_here v scope delays told seen b i l.t l.here)
+    its_single = at_bus (λ o. IsSingle ((with_bus b o).traffic.stream i)) (single_here v scope delays stated seen b i l.t l.here)
 
     input_single : IsSingle ((with_bus (bus_value (sent_from v delays (at_of b i))) (view v scope (bus_value (sent_from v delays (at_of b i))))).traffic.stream
         (flow_value (sent_from v delays (at_of b i))))
     input_single = at_source (λ a k. IsSingle ((with_bus a (view v scope a)).traffic.stream k))
-        (at_source_bus (λ o. IsSingle ((with_bus l.x.bus o).traffic.stream l.x.flow)) (single_here v scope delays told seen l.x.bus l.x.flow l.tx l.there))
+        (at_source_bus (λ o. IsSingle ((with_bus l.x.bus o).traffic.stream l.x.flow)) (single_here v scope delays stated seen l.x.bus l.x.flow l.tx l.there))
 
     -- the law of delays of the bus on which it is heard
     begun_there : (by : ℕ) → by ≤ (seen l.x.bus).schedule.now → KeepsItsStreamsUntil (with_bus l.x.bus (Some l.tx)) by
-        → AreBegunUntil (seen l.x.bus).schedule (seen l.x.bus).planned (seen l.x.bus).of l.x.flow (wait_with v scope delays told seen l.x.bus l.x.flow (Some l.tx)) by
+        → AreBegunUntil (seen l.x.bus).schedule (seen l.x.bus).planned (seen l.x.bus).of l.x.flow (wait_with v scope delays stated seen l.x.bus l.x.flow (Some l.tx)) by
     begun_there by now streams p in_p is source early =
-        let ofb = of_bus v scope delays told seen l.tx in
-        let at_place = delay_here v delays told l.x _ (Rattle.j39_vehicle_time_laws.proofs.Circle.has v scope delays told seen l.x.bus l.x.flow l.tx l.there) in
-        let same : wait_with v scope delays told seen l.x.bus l.x.flow (Some l.tx) ≡ (bounded_here v scope delays told seen l.x.bus l.x.flow l.tx l.there).wait =
-        wait_is v scope delays told seen l.x.bus l.x.flow l.tx l.there in
-        let frames = frames_then l.tx.timing (all_of v scope delays told seen l.tx) (seen l.x.bus).schedule (seen l.x.bus).controllers (seen l.x.bus).planned
+        let ofb = of_bus v scope delays stated seen l.tx in
+        let at_place = delay_here v delays stated l.x _ (Rattle.j39_vehicle_time_laws.proofs.Circle.has v scope delays stated seen l.x.bus l.x.flow l.tx l.there) in
+        let same : wait_with v scope delays stated seen l.x.bus l.x.flow (Some l.tx) ≡ (bounded_here v scope delays stated seen l.x.bus l.x.flow l.tx l.there).wait =
+        wait_is v scope delays stated seen l.x.bus l.x.flow l.tx l.there in
+        let frames = frames_then l.tx.timing (all_of v scope delays stated seen l.tx) (seen l.x.bus).schedule (seen l.x.bus).controllers (seen l.x.bus).planned
         (seen l.x.bus).of l.x.flow
         ((keeps l.tx).frames l.x.flow l.there.bits l.among at_place) by now streams in
         let legal = Rattle.j39_timing.proofs.AnyPrefixes.still_legal_in_any_order (seen l.x.bus).schedule (seen l.x.bus).controllers by
@@ -259,7 +259,7 @@ module _ (v : Vehicle) (scope : Scope) (delays : Delays) (told : AreDelays v del
         (Rattle.j39_timing.specs.Prefixes.seen_until (seen l.x.bus).schedule by (Rattle.j39_load.specs.PlannedFrames.others_of l.tx.timing).least)
         (seen l.x.bus).controllers
         (Rattle.j39_timing.specs.Prefixes.planned_until (seen l.x.bus).schedule (seen l.x.bus).planned by) (seen l.x.bus).of legal frames in
-        let soon : (seen l.x.bus).schedule.queued p + (bounded_here v scope delays told seen l.x.bus l.x.flow l.tx l.there).wait < by = omega (arith, early, same) in
+        let soon : (seen l.x.bus).schedule.queued p + (bounded_here v scope delays stated seen l.x.bus l.x.flow l.tx l.there).wait < by = omega (arith, early, same) in
         let start = started p in_p (then_is_planned (seen l.x.bus).schedule (seen l.x.bus).planned by p is (omega (arith, soon))) source soon in
         omega (arith, start, same)
 
@@ -269,75 +269,75 @@ module _ (v : Vehicle) (scope : Scope) (delays : Delays) (told : AreDelays v del
         (with_bus (bus_value (sent_from v delays (at_of b i))) (view v scope (bus_value (sent_from v delays (at_of b i))))).planned
         (with_bus (bus_value (sent_from v delays (at_of b i))) (view v scope (bus_value (sent_from v delays (at_of b i))))).of
         (flow_value (sent_from v delays (at_of b i)))
-        (wait_with v scope delays told seen (bus_value (sent_from v delays (at_of b i))) (flow_value (sent_from v delays (at_of b i)))
+        (wait_with v scope delays stated seen (bus_value (sent_from v delays (at_of b i))) (flow_value (sent_from v delays (at_of b i)))
         (view v scope (bus_value (sent_from v delays (at_of b i))))) by
     input_begun by = at_source (λ a k. by ≤ (with_bus a (view v scope a)).schedule.now → KeepsItsStreamsUntil (with_bus a (view v scope a)) by
-        → AreBegunUntil (with_bus a (view v scope a)).schedule (with_bus a (view v scope a)).planned (with_bus a (view v scope a)).of k (wait_with v scope delays told seen a k
+        → AreBegunUntil (with_bus a (view v scope a)).schedule (with_bus a (view v scope a)).planned (with_bus a (view v scope a)).of k (wait_with v scope delays stated seen a k
         (view v scope a)) by)
         (at_source_bus (λ o. by ≤ (with_bus l.x.bus o).schedule.now → KeepsItsStreamsUntil (with_bus l.x.bus o) by
         → AreBegunUntil (with_bus l.x.bus o).schedule (with_bus l.x.bus o).planned (with_bus l.x.bus o).of l.x.flow
-        (wait_with v scope delays told seen l.x.bus l.x.flow o) by)
+        (wait_with v scope delays stated seen l.x.bus l.x.flow o) by)
         (begun_there by))
 
     -- ---- numbers
 
-    before_value : behind_with v scope delays told seen l.x.bus l.x.flow (Some l.tx) ≤ of_us l.before
-    before_value = behind_value v scope delays told seen l.x.bus l.x.flow l.tx l.there l.before l.before_is
+    before_value : behind_with v scope delays stated seen l.x.bus l.x.flow (Some l.tx) ≤ of_us l.before
+    before_value = behind_value v scope delays stated seen l.x.bus l.x.flow l.tx l.there l.before l.before_is
 
-    source_behind : behind_with v scope delays told seen (bus_value (sent_from v delays (at_of b i))) (flow_value (sent_from v delays (at_of b i)))
+    source_behind : behind_with v scope delays stated seen (bus_value (sent_from v delays (at_of b i))) (flow_value (sent_from v delays (at_of b i)))
         (view v scope (bus_value (sent_from v delays (at_of b i)))) ≤ of_us l.before
-    source_behind = at_source (λ a k. behind_with v scope delays told seen a k (view v scope a) ≤ of_us l.before)
-        (at_source_bus (λ o. behind_with v scope delays told seen l.x.bus l.x.flow o ≤ of_us l.before) before_value)
+    source_behind = at_source (λ a k. behind_with v scope delays stated seen a k (view v scope a) ≤ of_us l.before)
+        (at_source_bus (λ o. behind_with v scope delays stated seen l.x.bus l.x.flow o ≤ of_us l.before) before_value)
 
-    jitter_enough : behind_with v scope delays told seen (bus_value (sent_from v delays (at_of b i))) (flow_value (sent_from v delays (at_of b i)))
-        (view v scope (bus_value (sent_from v delays (at_of b i)))) + of_us (within_value v scope delays told seen b i)
+    jitter_enough : behind_with v scope delays stated seen (bus_value (sent_from v delays (at_of b i))) (flow_value (sent_from v delays (at_of b i)))
+        (view v scope (bus_value (sent_from v delays (at_of b i)))) + of_us (within_value v scope delays stated seen b i)
         ≤ (with_bus b (view v scope b)).clock.shortest * ((with_bus b (view v scope b)).traffic.stream i).jitter
     jitter_enough =
         let one = source_behind in
         let two = within_is in
         let most = l.in_jitter in
-        at_bus (λ o. behind_with v scope delays told seen (bus_value (sent_from v delays (at_of b i))) (flow_value (sent_from v delays (at_of b i)))
-        (view v scope (bus_value (sent_from v delays (at_of b i)))) + of_us (within_value v scope delays told seen b i)
+        at_bus (λ o. behind_with v scope delays stated seen (bus_value (sent_from v delays (at_of b i))) (flow_value (sent_from v delays (at_of b i)))
+        (view v scope (bus_value (sent_from v delays (at_of b i)))) + of_us (within_value v scope delays stated seen b i)
         ≤ (with_bus b o).clock.shortest * ((with_bus b o).traffic.stream i).jitter)
-        (let late = late_value v scope delays told seen b i l.t l.here in omega (arith, one, two, most, late))
+        (let late = late_value v scope delays stated seen b i l.t l.here in omega (arith, one, two, most, late))
 
-    behind_is : behind_with v scope delays told seen b i (Some l.t)
-        ≡ of_us (queued_value v scope delays told seen b i)
-        + longest_bit v b * (wait_with v scope delays told seen b i (Some l.t) + (stream_of v scope delays told seen l.t i).bits)
+    behind_is : behind_with v scope delays stated seen b i (Some l.t)
+        ≡ of_us (queued_value v scope delays stated seen b i)
+        + longest_bit v b * (wait_with v scope delays stated seen b i (Some l.t) + (stream_of v scope delays stated seen l.t i).bits)
     behind_is = ap (λ (o : Option FlowAt). Rattle.std.proofs.Common.cond (is_some o)
-        (of_us (queued_value v scope delays told seen b i)
-        + longest_bit v b * (wait_with v scope delays told seen b i (Some l.t) + (stream_of v scope delays told seen l.t i).bits))
-        (longest_bit v b * delay_of (stream_of v scope delays told seen l.t i) (wait_with v scope delays told seen b i (Some l.t)))) l.from
+        (of_us (queued_value v scope delays stated seen b i)
+        + longest_bit v b * (wait_with v scope delays stated seen b i (Some l.t) + (stream_of v scope delays stated seen l.t i).bits))
+        (longest_bit v b * delay_of (stream_of v scope delays stated seen l.t i) (wait_with v scope delays stated seen b i (Some l.t)))) l.from
 
-    behind_enough : behind_with v scope delays told seen (bus_value (sent_from v delays (at_of b i))) (flow_value (sent_from v delays (at_of b i)))
-        (view v scope (bus_value (sent_from v delays (at_of b i)))) + of_us (within_value v scope delays told seen b i)
+    behind_enough : behind_with v scope delays stated seen (bus_value (sent_from v delays (at_of b i))) (flow_value (sent_from v delays (at_of b i)))
+        (view v scope (bus_value (sent_from v delays (at_of b i)))) + of_us (within_value v scope delays stated seen b i)
         + (with_bus b (view v scope b)).clock.longest
-        * (wait_with v scope delays told seen b i (view v scope b) + ((with_bus b (view v scope b)).traffic.stream i).bits)
-        ≤ behind_with v scope delays told seen b i (view v scope b)
+        * (wait_with v scope delays stated seen b i (view v scope b) + ((with_bus b (view v scope b)).traffic.stream i).bits)
+        ≤ behind_with v scope delays stated seen b i (view v scope b)
     behind_enough =
         let one = source_behind in
         let two = within_is in
         let three = queued_is in
-        at_bus (λ o. behind_with v scope delays told seen (bus_value (sent_from v delays (at_of b i))) (flow_value (sent_from v delays (at_of b i)))
-        (view v scope (bus_value (sent_from v delays (at_of b i)))) + of_us (within_value v scope delays told seen b i)
-        + (with_bus b o).clock.longest * (wait_with v scope delays told seen b i o + ((with_bus b o).traffic.stream i).bits)
-        ≤ behind_with v scope delays told seen b i o)
+        at_bus (λ o. behind_with v scope delays stated seen (bus_value (sent_from v delays (at_of b i))) (flow_value (sent_from v delays (at_of b i)))
+        (view v scope (bus_value (sent_from v delays (at_of b i)))) + of_us (within_value v scope delays stated seen b i)
+        + (with_bus b o).clock.longest * (wait_with v scope delays stated seen b i o + ((with_bus b o).traffic.stream i).bits)
+        ≤ behind_with v scope delays stated seen b i o)
         (let four = behind_is in omega (arith, one, two, three, four))
 
     often_enough : (with_bus b (view v scope b)).clock.longest * ((with_bus b (view v scope b)).traffic.stream i).period ≤ apart_value b i
     often_enough =
-        let own = streamed v scope delays told seen b i l.t l.here in
+        let own = streamed v scope delays stated seen b i l.t l.here in
         let apart = apart_is b i l.t l.here in
         at_bus (λ o. (with_bus b o).clock.longest * ((with_bus b o).traffic.stream i).period ≤ apart_value b i)
-        (let near = period_value v scope delays told seen b i l.t l.here in
+        (let near = period_value v scope delays stated seen b i l.t l.here in
         let same : 1000 * own.period * shortest_on v.buses.items b ≡ 1000 * own.period * shortest_million l.t.timing =
         ap (λ (n : ℕ). 1000 * own.period * n) (shortest_there b l.t) in
         omega (arith, near, apart, same))
 
     apart_there : apart_value b i ≤ apart_value (bus_value (sent_from v delays (at_of b i))) (flow_value (sent_from v delays (at_of b i)))
     apart_there =
-        let own = streamed v scope delays told seen b i l.t l.here in
-        let other = streamed v scope delays told seen l.x.bus l.x.flow l.tx l.there in
+        let own = streamed v scope delays stated seen b i l.t l.here in
+        let other = streamed v scope delays stated seen l.x.bus l.x.flow l.tx l.there in
         let (q, its, far) = l.no_nearer own.period own.period_is in
         let same : q ≡ other.period = same_Some _ _ (sym its ∙ other.period_is) in
         let one = apart_is b i l.t l.here in
@@ -351,13 +351,13 @@ module _ (v : Vehicle) (scope : Scope) (delays : Delays) (told : AreDelays v del
   -- of a flow that is sent on directly, and of any other
   module _ (b : ℕ) (t : TimedBus v scope b) (p : ℕ) (in_p : p < (seen b).schedule.count) (is : (seen b).planned p ≡ true) where
     own_frame : is_some (sent_from v delays (at_of b ((seen b).of.source p))) ≡ false
-        → KeepsStream (seen b).schedule (streams_of t.timing (all_of v scope delays told seen t)).count (streams_of t.timing (all_of v scope delays told seen t)).stream
+        → KeepsStream (seen b).schedule (streams_of t.timing (all_of v scope delays stated seen t)).count (streams_of t.timing (all_of v scope delays stated seen t)).stream
         (seen b).of p
     own_frame own = (keeps t).own p in_p is (is_some_false (sent_from v delays (at_of b ((seen b).of.source p))) own)
 
-    any_frame : ((seen b).of.source p < (streams_of t.timing (all_of v scope delays told seen t)).count)
-        × ((seen b).schedule.bits p ≤ (stream_of v scope delays told seen t ((seen b).of.source p)).bits)
-        × ((seen b).of.turn p < (stream_of v scope delays told seen t ((seen b).of.source p)).frames)
+    any_frame : ((seen b).of.source p < (streams_of t.timing (all_of v scope delays stated seen t)).count)
+        × ((seen b).schedule.bits p ≤ (stream_of v scope delays stated seen t ((seen b).of.source p)).bits)
+        × ((seen b).of.turn p < (stream_of v scope delays stated seen t ((seen b).of.source p)).frames)
     any_frame = elim (cases_Bool (is_some (sent_from v delays (at_of b ((seen b).of.source p))))) [
       | inl sent ↦ (keeps t).sent_on p in_p is (is_some_true (sent_from v delays (at_of b ((seen b).of.source p))) sent)
       | inr own ↦ let one = own_frame own in (one.known, one.bits_at_most, one.turns)
@@ -381,19 +381,19 @@ module _ (v : Vehicle) (scope : Scope) (delays : Delays) (told : AreDelays v del
     turns = λ b. case_view v scope b (λ o. (p : ℕ) → IsPlannedOn (with_bus b o) p
         → (with_bus b o).of.turn p < ((with_bus b o).traffic.stream ((with_bus b o).of.source p)).frames)
         (λ p its. absurd (omega (arith, its.0))) (λ t p its. (any_frame b t p its.0 its.1).2) (view v scope b);
-    own_first = λ b. case_view v scope b (λ o. (p : ℕ) → IsPlannedOn (with_bus b o) p → direct_with v scope delays told seen b ((with_bus b o).of.source p) o ≡ false
+    own_first = λ b. case_view v scope b (λ o. (p : ℕ) → IsPlannedOn (with_bus b o) p → direct_with v scope delays stated seen b ((with_bus b o).of.source p) o ≡ false
         → (with_bus b o).of.since p ≤ (with_bus b o).schedule.queued p)
         (λ p its. absurd (omega (arith, its.0))) (λ t p its own. (own_frame b t p its.0 its.1 own).release_first) (view v scope b);
-    own_jitter = λ b. case_view v scope b (λ o. (p : ℕ) → IsPlannedOn (with_bus b o) p → direct_with v scope delays told seen b ((with_bus b o).of.source p) o ≡ false
+    own_jitter = λ b. case_view v scope b (λ o. (p : ℕ) → IsPlannedOn (with_bus b o) p → direct_with v scope delays stated seen b ((with_bus b o).of.source p) o ≡ false
         → (with_bus b o).schedule.queued p ≤ (with_bus b o).of.since p + ((with_bus b o).traffic.stream ((with_bus b o).of.source p)).jitter)
         (λ p its. absurd (omega (arith, its.0))) (λ t p its own. (own_frame b t p its.0 its.1 own).jitter_at_most) (view v scope b);
-    own_release = λ b. case_view v scope b (λ o. (p : ℕ) → IsPlannedOn (with_bus b o) p → direct_with v scope delays told seen b ((with_bus b o).of.source p) o ≡ false
+    own_release = λ b. case_view v scope b (λ o. (p : ℕ) → IsPlannedOn (with_bus b o) p → direct_with v scope delays stated seen b ((with_bus b o).of.source p) o ≡ false
         → (with_bus b o).release p ≡ Rattle.j39_gateways.specs.Gateways.time_of (with_bus b o).clock ((with_bus b o).of.since p))
         (λ p its. absurd (omega (arith, its.0)))
         (λ t p its own. own_releases (at_of b ((seen b).of.source p)) t.inside (is_some_false (sent_from v delays (at_of b ((seen b).of.source p))) own) p
         (its.0, its.1, refl)) (view v scope b);
     own_spaced = λ b. case_view v scope b (λ o. (p q : ℕ) → IsPlannedOn (with_bus b o) p → IsPlannedOn (with_bus b o) q → p ≢ q
-        → direct_with v scope delays told seen b ((with_bus b o).of.source p) o ≡ false
+        → direct_with v scope delays stated seen b ((with_bus b o).of.source p) o ≡ false
         → (with_bus b o).of.source p ≡ (with_bus b o).of.source q → (with_bus b o).of.turn p ≡ (with_bus b o).of.turn q
         → ((with_bus b o).of.since p + ((with_bus b o).traffic.stream ((with_bus b o).of.source p)).period ≤ (with_bus b o).of.since q)
         ⊎ ((with_bus b o).of.since q + ((with_bus b o).traffic.stream ((with_bus b o).of.source p)).period ≤ (with_bus b o).of.since p))
@@ -405,29 +405,29 @@ module _ (v : Vehicle) (scope : Scope) (delays : Delays) (told : AreDelays v del
     input_single = λ b i direct. input_single b i (link b i direct);
     input_begun = λ b i by direct. input_begun b i (link b i direct) by;
     own_apart = λ b i p q its other differ single. case_view v scope b (λ o. IsIts (carrier_of (with_bus b o) i) p → IsIts (carrier_of (with_bus b o) i) q
-        → IsSingle ((with_bus b o).traffic.stream i) → direct_with v scope delays told seen b i o ≡ false
+        → IsSingle ((with_bus b o).traffic.stream i) → direct_with v scope delays stated seen b i o ≡ false
         → ((with_bus b o).release p + apart_value b i ≤ (with_bus b o).release q) ⊎ ((with_bus b o).release q + apart_value b i ≤ (with_bus b o).release p))
         (λ none. absurd (omega (arith, none.0))) (λ t it too one own. own_releases_apart b i t p q it too differ one own) (view v scope b) its other single;
     jitter_enough = λ b i direct. jitter_enough b i (link b i direct);
     often_enough = λ b i direct. often_enough b i (link b i direct);
-    behind_own = λ b i. case_view v scope b (λ o. direct_with v scope delays told seen b i o ≡ false
-        → (with_bus b o).clock.longest * delay_of ((with_bus b o).traffic.stream i) (wait_with v scope delays told seen b i o)
-        ≤ behind_with v scope delays told seen b i o)
+    behind_own = λ b i. case_view v scope b (λ o. direct_with v scope delays stated seen b i o ≡ false
+        → (with_bus b o).clock.longest * delay_of ((with_bus b o).traffic.stream i) (wait_with v scope delays stated seen b i o)
+        ≤ behind_with v scope delays stated seen b i o)
         (λ own. omega arith) (λ t own. own_behind b i t own) (view v scope b);
     behind_direct = λ b i direct. behind_enough b i (link b i direct);
     apart_direct = λ b i direct. apart_there b i (link b i direct);
   }
     where
       own_behind : (b i : ℕ) (t : TimedBus v scope b) → is_some (sent_from v delays (at_of b i)) ≡ false
-          → longest_bit v b * delay_of (stream_of v scope delays told seen t i) (wait_with v scope delays told seen b i (Some t))
-          ≤ behind_with v scope delays told seen b i (Some t)
+          → longest_bit v b * delay_of (stream_of v scope delays stated seen t i) (wait_with v scope delays stated seen b i (Some t))
+          ≤ behind_with v scope delays stated seen b i (Some t)
       own_behind b i t own =
-          let same : behind_with v scope delays told seen b i (Some t)
-          ≡ longest_bit v b * delay_of (stream_of v scope delays told seen t i) (wait_with v scope delays told seen b i (Some t)) =
+          let same : behind_with v scope delays stated seen b i (Some t)
+          ≡ longest_bit v b * delay_of (stream_of v scope delays stated seen t i) (wait_with v scope delays stated seen b i (Some t)) =
           ap (λ (c : Bool). Rattle.std.proofs.Common.cond c
-          (of_us (queued_value v scope delays told seen b i)
-          + longest_bit v b * (wait_with v scope delays told seen b i (Some t) + (stream_of v scope delays told seen t i).bits))
-          (longest_bit v b * delay_of (stream_of v scope delays told seen t i) (wait_with v scope delays told seen b i (Some t)))) own in
+          (of_us (queued_value v scope delays stated seen b i)
+          + longest_bit v b * (wait_with v scope delays stated seen b i (Some t) + (stream_of v scope delays stated seen t i).bits))
+          (longest_bit v b * delay_of (stream_of v scope delays stated seen t i) (wait_with v scope delays stated seen b i (Some t)))) own in
           omega (arith, same)
 
       -- the releases of two frames are apart by nothing
@@ -438,7 +438,7 @@ module _ (v : Vehicle) (scope : Scope) (delays : Delays) (told : AreDelays v del
       ]
 
       own_releases_apart : (b i : ℕ) (t : TimedBus v scope b) (p q : ℕ) → IsIts (carrier_of (with_bus b (Some t)) i) p
-          → IsIts (carrier_of (with_bus b (Some t)) i) q → p ≢ q → IsSingle (stream_of v scope delays told seen t i)
+          → IsIts (carrier_of (with_bus b (Some t)) i) q → p ≢ q → IsSingle (stream_of v scope delays stated seen t i)
           → is_some (sent_from v delays (at_of b i)) ≡ false
           → ((seen b).release p + apart_value b i ≤ (seen b).release q) ⊎ ((seen b).release q + apart_value b i ≤ (seen b).release p)
       own_releases_apart b i t p q its other differ single own =
@@ -459,7 +459,7 @@ module _ (v : Vehicle) (scope : Scope) (delays : Delays) (told : AreDelays v del
           (is_some_false (sent_from v delays (at_of b ((seen b).of.source p)))
           (subst (λ (j : ℕ). is_some (sent_from v delays (at_of b j)) ≡ false) source own))
           (its.2 ∙ sym other.2)
-          (subst (λ (j : ℕ). IsSingle (stream_of v scope delays told seen t j)) source single)
+          (subst (λ (j : ℕ). IsSingle (stream_of v scope delays stated seen t j)) source single)
           (subst (λ (j : ℕ). flow_at v.buses.items (at_of b j) ≡ Some flow) source its_flow) its_period)))
 
   -- ---- so each bus keeps to its plan
@@ -472,7 +472,7 @@ module _ (v : Vehicle) (scope : Scope) (delays : Delays) (told : AreDelays v del
       let timed_here : timing_on v.buses.items b ≡ Some timing = ap (option_and_then (λ (bus : BusPlan). timing_of bus.plan)) its.its ∙ its.timed in
       let (t, view_is) = viewed v scope b timing inside timed_here in
       let streams : KeepsItsStreams (with_bus b (Some t)) = subst (λ (o : Option (TimedBus v scope b)). KeepsItsStreams (with_bus b o)) view_is (streams_kept b) in
-      let same = one_traffic v delays b t.timing timing (of_bus v scope delays told seen t) its in
+      let same = one_traffic v delays b t.timing timing (of_bus v scope delays stated seen t) its in
       record {
         clock = (kept b timing its inside).clock;
         legal = (kept b timing its inside).legal;
@@ -482,5 +482,5 @@ module _ (v : Vehicle) (scope : Scope) (delays : Delays) (told : AreDelays v del
       }
 
 pub streams_are_kept : (v : Vehicle) (delays : Delays) → AreStreamsKept v delays
-streams_are_kept v delays timely told scope closed seen kept prompt own_releases =
-    buses_kept v scope delays told closed seen kept prompt own_releases timely
+streams_are_kept v delays timely stated scope closed seen kept prompt own_releases =
+    buses_kept v scope delays stated closed seen kept prompt own_releases timely

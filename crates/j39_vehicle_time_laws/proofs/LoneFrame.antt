@@ -1,4 +1,4 @@
--- A bus on which one frame is seen, of a flow of which a delay is told, or none: that it keeps to its plan.
+-- A bus on which one frame is seen, of a flow of which a delay is reported, or none: that it keeps to its plan.
 use Rattle.std.proofs.Common.{◌≡◌, ℕ, zero, suc, ◌*◌, ◌<◌, ◌≤◌, Bool, true, List, [], ◌∷◌, ◌++◌, length, Option, Some, None, refl, sym, ap, ◌∙◌, subst, inl}
 use Rattle.std.proofs.Common.{arith}
 use Rattle.std.proofs.lemmas.Bool.{true≢false}
@@ -81,7 +81,7 @@ none_others : (queued ident by c from to : ℕ) → others_queued (one_frame que
 unfolding total
 none_others queued ident by c from to = omega arith
 
--- ---- a flow of which a delay is told
+-- ---- a flow of which a delay is reported
 
 pub record Fits (traffic : Traffic) (flow ident : ℕ) : Type 0 where
   pub inside : flow < traffic.count

@@ -148,7 +148,7 @@ old_there from old pause before within m r c time late near order so = omega ari
 
 -- ---- values
 
-module _ (v : Vehicle) (delays : Delays) (none : AreFindings v []) (told : AreDelays v delays) (seen : SeenBuses) (by : ℕ) (is : IsSeenVehicle v delays seen by)
+module _ (v : Vehicle) (delays : Delays) (none : AreFindings v []) (stated : AreDelays v delays) (seen : SeenBuses) (by : ℕ) (is : IsSeenVehicle v delays seen by)
     (start : Point) (has : HasWay v is.scope start) (from : ℕ) (pauses : KeepPauses v seen start from by) where
   -- each message that has ended says what was so no more than `old` before its release, where this is so much behind the time from which on pauses
   -- are kept, and brings it from its origin
@@ -160,7 +160,7 @@ module _ (v : Vehicle) (delays : Delays) (none : AreFindings v []) (told : AreDe
   at_origin : (p : Point) (old : ℕ) → IsOnTheWay v start p → next_forward v p ≡ None → old ≡ 0 → (k time : ℕ) → behind_by v delays k p.at ≡ Some time → IsOldAtMost p old
   at_origin p old way last zero_old k time behind_p q its ended late =
       let (born, says, so, written) = is.origins p (has p way) last q its.0 in
-      let till = queued_till_end v delays seen by is p.at time (is_behind v delays told seen by is k p.at (has p way) time behind_p) q its.0 in (
+      let till = queued_till_end v delays seen by is p.at time (is_behind v delays stated seen by is k p.at (has p way) time behind_p) q its.0 in (
         born,
         says,
         omega (arith, so, zero_old),
@@ -179,10 +179,10 @@ module _ (v : Vehicle) (delays : Delays) (none : AreFindings v []) (told : AreDe
       go (Some feeder) feeds_it zero known = absurd (fed_never v delays p.at time feeder feeds_it known)
       go (Some feeder) feeds_it (suc steps) known =
           let fed = fed_parts v delays steps p.at time feeder feeds_it known in
-          let too = source_among v delays told seen by is p.at (has p way) feeder fed.source fed.own_time feeds_it fed.source_is fed.own_is in
-          let behind_x = is_behind v delays told seen by is steps fed.source too fed.before fed.before_is in
-          let behind_p = is_behind v delays told seen by is (suc steps) p.at (has p way) time known in
-          let (place, found, sent_there) = sends_directly v delays told seen by is p.at (has p way) feeder fed.source fed.within fed.before behind_p.own_time feeds_it
+          let too = source_among v delays stated seen by is p.at (has p way) feeder fed.source fed.own_time feeds_it fed.source_is fed.own_is in
+          let behind_x = is_behind v delays stated seen by is steps fed.source too fed.before fed.before_is in
+          let behind_p = is_behind v delays stated seen by is (suc steps) p.at (has p way) time known in
+          let (place, found, sent_there) = sends_directly v delays stated seen by is p.at (has p way) feeder fed.source fed.within fed.before behind_p.own_time feeds_it
           fed.source_is
           fed.promised behind_p.one behind_x in
           let same : n ≡ place = one_feeder v none p n place forward feeder next its direct found in
@@ -225,11 +225,11 @@ module _ (v : Vehicle) (delays : Delays) (none : AreFindings v []) (told : AreDe
       let sent = is.prompt.periodic n forward x.at p.at within pause before
       (record { its = its; output = next_feeds v p n forward next its; input = goes_on_input v p x n forward its on; promised = promised }) periodic (has p here) pauses_x
       behind_x in
-      let of_x = is_behind v delays told seen by is (length v.forwards.items) x.at (has x way) before behind_x in
-      let of_p = is_behind v delays told seen by is steps p.at (has p here) time known in
+      let of_x = is_behind v delays stated seen by is (length v.forwards.items) x.at (has x way) before behind_x in
+      let of_p = is_behind v delays stated seen by is steps p.at (has p here) time known in
       let (ns, ns_is, made) = map_some (λ (ns : ℕ). div_ceil ns 1000) (interval v x.at) pause pauses_x in
       let enough : 1000 * ns ≤ of_us pause = subst (λ (us : ℕ). 1000 * ns ≤ of_us us) made (in_us ns) in
-      let keeps : KeepsOn v seen x.at ns before from by = keeps_on v delays told seen by is start has from pauses x way (length v.forwards.items) ns ns_is
+      let keeps : KeepsOn v seen x.at ns before from by = keeps_on v delays stated seen by is start has from pauses x way (length v.forwards.items) ns ns_is
       (length v.forwards.items) before behind_x in
       λ q it ended late.
       let till = queued_till_end v delays seen by is p.at time of_p q it.0 in
@@ -245,10 +245,10 @@ module _ (v : Vehicle) (delays : Delays) (none : AreFindings v []) (told : AreDe
       (not_too_old from old pause before within ((seen p.at.bus).release q) ((seen x.at.bus).release r) _ late near later) in
       let over_by = trans3 _ _ _ _ over till ended in
       let order = in_order v delays seen by is x.at before of_x r c rits carried newer in
-      let (born, tells, so, past, whence) = input c carried over_by
+      let (born, states, so, past, whence) = input c carried over_by
       (still_late from old pause before within ((seen p.at.bus).release q) ((seen x.at.bus).release r) ((seen x.at.bus).release c) late near order) in (
         born,
-        says ∙ tells,
+        says ∙ states,
         old_there from old pause before within ((seen p.at.bus).release q) ((seen x.at.bus).release r) ((seen x.at.bus).release c) born late near order so,
         trans3 _ _ _ _ past over till,
         record {

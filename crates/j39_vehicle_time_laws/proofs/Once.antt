@@ -77,20 +77,20 @@ unit_true v b timing timed =
     sym (ap (λ (o : Option Timing). option_map_or (λ (t : Timing). of_us (bit_time t.bitrate)) o million) timed) in
     subst (λ (u : ℕ). IsTrueTime timing (λ t. u * t)) same (agreed_time timing)
 
-module _ (v : Vehicle) (delays : Delays) (told : AreDelays v delays) (n : ℕ) (forward : Forward) (x y : FlowAt) (within by : ℕ)
+module _ (v : Vehicle) (delays : Delays) (stated : AreDelays v delays) (n : ℕ) (forward : Forward) (x y : FlowAt) (within by : ℕ)
     (lone : IsLoneForward v delays n forward x y within) (room : 100 ≤ by) where
-  told_at : (at : FlowAt) (bits : ℕ) → delay_at delays at ≡ Some bits → slice_get (delays_on delays at.bus) at.flow ≡ Some (Some (Within bits))
-  told_at at bits delayed =
+  stated_at : (at : FlowAt) (bits : ℕ) → delay_at delays at ≡ Some bits → slice_get (delays_on delays at.bus) at.flow ≡ Some (Some (Within bits))
+  stated_at at bits delayed =
       let (d, here, within) = and_then_some bits_within (slice_get (delays_on delays at.bus) at.flow) bits delayed in
       here ∙ ap (λ (o : Option Delay). Some o) (within_some d bits within)
 
-  fits_x : (ident : ℕ) × Fits (streams_of lone.timed_x.0 (frames_asked (asked_on (known_bus v delays told x.bus lone.timed_x.0 lone.timed_x.1)))) x.flow ident
-  fits_x = fits v delays x.bus lone.timed_x.0 (known_bus v delays told x.bus lone.timed_x.0 lone.timed_x.1) x.flow lone.told_x.0
-      (told_at x lone.told_x.0 lone.told_x.1)
+  fits_x : (ident : ℕ) × Fits (streams_of lone.timed_x.0 (frames_asked (asked_on (known_bus v delays stated x.bus lone.timed_x.0 lone.timed_x.1)))) x.flow ident
+  fits_x = fits v delays x.bus lone.timed_x.0 (known_bus v delays stated x.bus lone.timed_x.0 lone.timed_x.1) x.flow lone.stated_x.0
+      (stated_at x lone.stated_x.0 lone.stated_x.1)
 
-  fits_y : (ident : ℕ) × Fits (streams_of lone.timed_y.0 (frames_asked (asked_on (known_bus v delays told y.bus lone.timed_y.0 lone.timed_y.1)))) y.flow ident
-  fits_y = fits v delays y.bus lone.timed_y.0 (known_bus v delays told y.bus lone.timed_y.0 lone.timed_y.1) y.flow lone.told_y.0
-      (told_at y lone.told_y.0 lone.told_y.1)
+  fits_y : (ident : ℕ) × Fits (streams_of lone.timed_y.0 (frames_asked (asked_on (known_bus v delays stated y.bus lone.timed_y.0 lone.timed_y.1)))) y.flow ident
+  fits_y = fits v delays y.bus lone.timed_y.0 (known_bus v delays stated y.bus lone.timed_y.0 lone.timed_y.1) y.flow lone.stated_y.0
+      (stated_at y lone.stated_y.0 lone.stated_y.1)
 
   ident_x : ℕ
   ident_x = fits_x.0
@@ -98,11 +98,11 @@ module _ (v : Vehicle) (delays : Delays) (told : AreDelays v delays) (n : ℕ) (
   ident_y : ℕ
   ident_y = fits_y.0
 
-  fits_of_x : Fits (streams_of lone.timed_x.0 (frames_asked (asked_on (known_bus v delays told x.bus lone.timed_x.0 lone.timed_x.1)))) x.flow ident_x
+  fits_of_x : Fits (streams_of lone.timed_x.0 (frames_asked (asked_on (known_bus v delays stated x.bus lone.timed_x.0 lone.timed_x.1)))) x.flow ident_x
   unfolding ident_x
   fits_of_x = fits_x.1
 
-  fits_of_y : Fits (streams_of lone.timed_y.0 (frames_asked (asked_on (known_bus v delays told y.bus lone.timed_y.0 lone.timed_y.1)))) y.flow ident_y
+  fits_of_y : Fits (streams_of lone.timed_y.0 (frames_asked (asked_on (known_bus v delays stated y.bus lone.timed_y.0 lone.timed_y.1)))) y.flow ident_y
   unfolding ident_y
   fits_of_y = fits_y.1
 
@@ -169,7 +169,7 @@ module _ (v : Vehicle) (delays : Delays) (told : AreDelays v delays) (n : ℕ) (
   is_sent_on : IsSentOn v delays y
   is_sent_on = (
     x,
-    ap (λ (o : Option ℕ). option_and_then (λ (bits : ℕ). option_and_then (first_input_at v) (direct_feeder v y)) o) lone.told_y.1
+    ap (λ (o : Option ℕ). option_and_then (λ (bits : ℕ). option_and_then (first_input_at v) (direct_feeder v y)) o) lone.stated_y.1
         ∙ (ap (option_and_then (first_input_at v)) lone.fed ∙ lone.sends.input),
   )
 
@@ -184,7 +184,7 @@ module _ (v : Vehicle) (delays : Delays) (told : AreDelays v delays) (n : ℕ) (
         (subst (λ (c : ℕ). (other : IsKnownBus v delays c timing) → IsOtherwiseKept v delays c timing (frames_asked (asked_on other)) (scope_on whole_vehicle c) bus_x) (sym same)
         (λ other. one_kept timing (unit_at v x.bus) (unit_true v x.bus timing (timed_of x.bus timing other)) (frames_asked (asked_on other)) x.flow 0 ident_x by
         (subst (λ (tr : Traffic). Fits tr x.flow ident_x)
-        (one_traffic v delays x.bus lone.timed_x.0 timing (known_bus v delays told x.bus lone.timed_x.0 lone.timed_x.1) other) fits_of_x)
+        (one_traffic v delays x.bus lone.timed_x.0 timing (known_bus v delays stated x.bus lone.timed_x.0 lone.timed_x.1) other) fits_of_x)
         (lone.in_order x.bus timing other) v delays x.bus (scope_on whole_vehicle x.bus) (λ own. refl)) of_bus)
     | inr isnt ↦ elim (cases_Bool (eqb b y.bus)) [
       | inl is ↦
@@ -193,7 +193,7 @@ module _ (v : Vehicle) (delays : Delays) (told : AreDelays v delays) (n : ℕ) (
           (subst (λ (c : ℕ). (other : IsKnownBus v delays c timing) → IsOtherwiseKept v delays c timing (frames_asked (asked_on other)) (scope_on whole_vehicle c) bus_y) (sym same)
           (λ other. one_kept timing (unit_at v y.bus) (unit_true v y.bus timing (timed_of y.bus timing other)) (frames_asked (asked_on other)) y.flow 8 ident_y by
           (subst (λ (tr : Traffic). Fits tr y.flow ident_y)
-          (one_traffic v delays y.bus lone.timed_y.0 timing (known_bus v delays told y.bus lone.timed_y.0 lone.timed_y.1) other) fits_of_y)
+          (one_traffic v delays y.bus lone.timed_y.0 timing (known_bus v delays stated y.bus lone.timed_y.0 lone.timed_y.1) other) fits_of_y)
           (lone.in_order y.bus timing other) v delays y.bus (scope_on whole_vehicle y.bus) (λ own. absurd (own is_sent_on))) of_bus)
       | inr neither ↦
           subst (λ (s : SeenBus). IsOtherwiseKept v delays b timing (frames_asked (asked_on of_bus)) (scope_on whole_vehicle b) s) (sym (seen_none b isnt neither))
@@ -284,7 +284,7 @@ module _ (v : Vehicle) (delays : Delays) (told : AreDelays v delays) (n : ℕ) (
 
   prompt : ArePrompt v delays whole_vehicle seen
   prompt = record {
-    direct = λ m other a b time sends direct inside told_a told_b. elim (cases_eq m n) [
+    direct = λ m other a b time sends direct inside stated_a stated_b. elim (cases_eq m n) [
       | inl same ↦
           let one : other ≡ forward = same_Some _ _ (sym sends.its ∙ (ap (forward_at v) same ∙ lone.sends.its)) in
           let heard : a ≡ x = same_Some _ _ (sym (subst (λ (f : Forward). first_input_at v f ≡ Some a) one sends.input) ∙ lone.sends.input) in
@@ -355,4 +355,4 @@ module _ (v : Vehicle) (delays : Delays) (told : AreDelays v delays) (n : ℕ) (
   }
 
 pub sent_on_once : (v : Vehicle) (delays : Delays) → AreSentOnOnce v delays
-sent_on_once v delays told n forward x y within by lone room = can_be_sent_on v delays told n forward x y within by lone room
+sent_on_once v delays stated n forward x y within by lone room = can_be_sent_on v delays stated n forward x y within by lone room

@@ -1,4 +1,4 @@
--- One flow of which a delay is told, on its own bus.
+-- One flow of which a delay is reported, on its own bus.
 use Rattle.std.proofs.Common.{◌≡◌, ◌≢◌, ℕ, ◌+◌, ◌*◌, ◌-◌, ◌<◌, ◌≤◌, ◌⊎◌, Bool, true, false, List, [], ◌++◌, if◌then◌else◌, Option, Some, refl, sym, ap, ◌∙◌}
 use Rattle.std.proofs.Common.{subst, arith}
 use Rattle.std.proofs.lemmas.Bool.{leb-true}
@@ -43,7 +43,7 @@ use Rattle.j39_vehicle_time_laws.specs.Prompt.{Scope, scope_on}
 use Rattle.j39_vehicle_time_laws.specs.Seen.{SeenBuses, clock_on, frames_at, longest_bit, of_us, shortest_bit}
 use Rattle.j39_vehicle_time_laws.proofs.Starts.{starts_within}
 use Rattle.j39_vehicle_time_laws.proofs.Parts.{within_some}
-use Rattle.j39_vehicle_time_laws.proofs.TrueTimes.{clock_is, room_here, told_here}
+use Rattle.j39_vehicle_time_laws.proofs.TrueTimes.{clock_is, room_here, reported_here}
 
 -- ---- what its own time has for parts
 
@@ -63,13 +63,13 @@ own_parts v delays at time is =
     let (bits, delayed, sum) = map_some (own_of timing flow) (delay_at delays at) time last in
     record { timing = timing; timed = timed; flow = flow; its = its; bits = bits; delayed = delayed; sum = sym sum }
 
--- ---- what is told of its bus
+-- ---- what is reported of its bus
 
 pub known_bus : (v : Vehicle) (delays : Delays) → AreDelays v delays → (b : ℕ) (timing : Timing) → timing_on v.buses.items b ≡ Some timing
     → IsKnownBus v delays b timing
-known_bus v delays told b timing timed =
+known_bus v delays stated b timing timed =
     let (bus, its, has) = and_then_some (λ (bus : BusPlan). timing_of bus.plan) (slice_get v.buses.items b) timing timed in
-    let (stays, asks) = subst (λ (o : Option Timing). AreDelaysOn bus.plan o (delays_on delays b)) has (told.each b bus its) in
+    let (stays, asks) = subst (λ (o : Option Timing). AreDelaysOn bus.plan o (delays_on delays b)) has (stated.each b bus its) in
     record { bus = bus; its = its; timed = has; stays = stays; asks = asks }
 
 pub own_from : (v : Vehicle) (delays : Delays) (at : FlowAt) (timing : Timing) (flow : FlowPlan) (bits : ℕ) → timing_on v.buses.items at.bus ≡ Some timing
@@ -123,9 +123,9 @@ pub stream_of : (timing : Timing) (plan : Plan) (stays : UnitPlan → Bool) (pla
     → (load : FlowLoad) → slice_get (loads_of timing plan stays) place ≡ Some (Some load) → (frames : FlowFrames) → load.messages ≡ Short frames
     → HasStream timing flow frames load.limit
 stream_of timing plan stays place flow its load at frames short =
-    let told : load_of_flow timing plan stays flow ≡ Some load =
+    let stated : load_of_flow timing plan stays flow ≡ Some load =
     same_Some _ _ (sym (slice_get-map (load_of_flow timing plan stays) plan.flows.items place ∙ ap (option_map (load_of_flow timing plan stays)) its) ∙ at) in
-    let (pace, paced, rest) = and_then_some _ flow.pace load told in
+    let (pace, paced, rest) = and_then_some _ flow.pace load stated in
     let (group, of, made) = map_some (flow_load timing plan.units.items stays flow pace) (slice_get plan.groups.items flow.group) load rest in
     let is_short : messages_of timing plan.units.items stays flow pace group ≡ Short frames = ap (λ (l : FlowLoad). l.messages) made ∙ short in
     let same : single_frames timing plan.units.items stays flow pace group ≡ frames = short_frames timing plan.units.items stays flow pace group frames is_short
@@ -155,9 +155,9 @@ pub group_of : (timing : Timing) (plan : Plan) (stays : UnitPlan → Bool) (plac
     → (load : FlowLoad) → slice_get (loads_of timing plan stays) place ≡ Some (Some load) → (frames : FlowFrames) → load.messages ≡ Short frames
     → (group : GroupPlan) × (slice_get plan.groups.items flow.group ≡ Some group) × (group.most ≤ 8)
 group_of timing plan stays place flow its load at frames short =
-    let told : load_of_flow timing plan stays flow ≡ Some load =
+    let stated : load_of_flow timing plan stays flow ≡ Some load =
     same_Some _ _ (sym (slice_get-map (load_of_flow timing plan stays) plan.flows.items place ∙ ap (option_map (load_of_flow timing plan stays)) its) ∙ at) in
-    let (pace, paced, rest) = and_then_some _ flow.pace load told in
+    let (pace, paced, rest) = and_then_some _ flow.pace load stated in
     let (group, of, made) = map_some (flow_load timing plan.units.items stays flow pace) (slice_get plan.groups.items flow.group) load rest in
     let is_short : messages_of timing plan.units.items stays flow pace group ≡ Short frames = ap (λ (l : FlowLoad). l.messages) made ∙ short in
     (group, of, leb-true group.most 8 (short_is_short timing plan.units.items stays flow pace group frames is_short))
@@ -187,12 +187,12 @@ pub record IsOneFlow (v : Vehicle) (delays : Delays) (seen : SeenBuses) (at : Fl
   pub spaced : (p q : ℕ) → IsIts (frames_at v seen at) p → IsIts (frames_at v seen at) q → p ≢ q
       → ((seen at.bus).of.since p + stream.period ≤ (seen at.bus).of.since q) ⊎ ((seen at.bus).of.since q + stream.period ≤ (seen at.bus).of.since p)
 
-module _ (v : Vehicle) (delays : Delays) (told : AreDelays v delays) (at : FlowAt) (time : ℕ) (has : HasOwn v delays at time) where
+module _ (v : Vehicle) (delays : Delays) (stated : AreDelays v delays) (at : FlowAt) (time : ℕ) (has : HasOwn v delays at time) where
   abbrev pub timing : Timing
   timing = has.timing
 
   abbrev pub of_bus : IsKnownBus v delays at.bus has.timing
-  of_bus = known_bus v delays told at.bus has.timing has.timed
+  of_bus = known_bus v delays stated at.bus has.timing has.timed
 
   abbrev pub asked : Asked
   asked = asked_on of_bus
@@ -233,9 +233,9 @@ module _ (v : Vehicle) (delays : Delays) (told : AreDelays v delays) (at : FlowA
       let total = bound.sum in
       let late = its_stream.jitter in
       let rest : has.bits - bits_at_most has.timing (jitter_ms has.flow) ≡ bound.wait + bound.frames.stream.bits = omega (arith, total, late) in
-      let told = told_here v at.bus has.timing has.timed (bound.wait + bound.frames.stream.bits) in
+      let stated = reported_here v at.bus has.timing has.timed (bound.wait + bound.frames.stream.bits) in
       let same : time ≡ us_of_bits has.timing (bound.wait + bound.frames.stream.bits) = has.sum ∙ ap (us_of_bits has.timing) rest in
-      omega (arith, told, same)
+      omega (arith, stated, same)
 
   pub release_is : behind_release v delays at ≡ Some (us_of_bits has.timing has.bits)
   release_is =
@@ -246,7 +246,7 @@ module _ (v : Vehicle) (delays : Delays) (told : AreDelays v delays) (at : FlowA
 
   pub release_fits : longest_bit v at.bus * delay_of bound.frames.stream bound.wait ≤ of_us (us_of_bits has.timing has.bits)
   release_fits = subst (λ (n : ℕ). longest_bit v at.bus * n ≤ of_us (us_of_bits has.timing has.bits)) bound.sum
-      (told_here v at.bus has.timing has.timed has.bits)
+      (reported_here v at.bus has.timing has.timed has.bits)
 
   module _ (scope : Scope) (inside : scope.buses at.bus ≡ true) (among : scope.flows at ≡ true) (seen : SeenBuses)
       (kept : AreKeptBuses v delays scope seen) where

@@ -1,4 +1,4 @@
--- Frames of a flow of which a delay is told begin within its wait from when they are queued, as far as their bus is seen.
+-- Frames of a flow of which a delay is reported begin within its wait from when they are queued, as far as their bus is seen.
 use Rattle.std.proofs.Common.{◌≡◌, ℕ, ◌≤◌, Bool, true, false, List, ◌++◌, get_or, All, IfSome, Option, Some, None, refl, sym, subst}
 use Rattle.std.proofs.Common.{inl, arith}
 use Rattle.std.specs.Bool.{MatchBool}
@@ -17,7 +17,8 @@ use Rattle.j39_load.specs.Damage.{damage_frames}
 use Rattle.j39_load.specs.Delays.{IsShortDelay, any_delay, need_of}
 use Rattle.j39_load.specs.LoadFindings.{AsksOfBus}
 use Rattle.j39_load.specs.PlannedFrames.{AreFramesInAnyOrder, IsBounded, others_of, planned_at, traffic_of}
-use Rattle.j39_load.proofs.AnyTraffic.{begun, have, own_ordered, placed, positive, demand_fits, wait_of_queue_group}
+use Rattle.j39_load.proofs.AnyTraffic.{have, own_ordered, placed, demand_fits}
+use Rattle.j39_load.proofs.QueueGroupFrames.{begun, positive, wait_of_queue_group}
 use Rattle.j39_load.proofs.BoundedFlows.{bounded, judged_within, within_late}
 use Rattle.j39_load.proofs.PositivePeriods.{ArePaced, HasPeriod, all_paced, of_loads}
 use Rattle.j39_load.proofs.Sending.{IsSent, all_sent}
@@ -49,12 +50,12 @@ module _ (timing : Timing) (asked : List (Option FlowFrames)) (paced : All HasPe
       (subst (λ (own : FlowFrames). IsSingle own.stream) (sym is_placed) single)
       (subst (λ (own : FlowFrames). delay_of own.stream wait ≤ own.stream.period) (sym is_placed) fits)
 
--- ---- flows of which a delay is told
+-- ---- flows of which a delay is reported
 
-told_wait : (frames : FlowFrames) (limit bits : ℕ) (wait : Option ℕ) → Within bits ≡ any_delay frames limit wait
+stated_wait : (frames : FlowFrames) (limit bits : ℕ) (wait : Option ℕ) → Within bits ≡ any_delay frames limit wait
     → (w : ℕ) × (wait ≡ Some w) × (bits ≡ delay_of frames.stream w)
-told_wait frames limit bits None told = absurd (within_late bits told)
-told_wait frames limit bits (Some w) told = (w, refl, (judged_within frames limit (delay_of frames.stream w) bits told).0)
+stated_wait frames limit bits None stated = absurd (within_late bits stated)
+stated_wait frames limit bits (Some w) stated = (w, refl, (judged_within frames limit (delay_of frames.stream w) bits stated).0)
 
 module _ (plan : Plan) (timing : Timing) (stays : UnitPlan → Bool) (delays : List (Option Delay)) (asks : AsksOfBus plan timing stays delays)
     (flow bits : ℕ) (at : slice_get delays flow ≡ Some (Some (Within bits))) where
@@ -75,7 +76,7 @@ module _ (plan : Plan) (timing : Timing) (stays : UnitPlan → Bool) (delays : L
     by_order : keep_order bound.frames ≡ true → (passed : Bool) → may_be_passed bound.buffering bound.frames.greatest_ident ≡ passed
         → MatchBool passed (Within bits ≡ Late) (IsShortDelay timing bound.buffering.frames flow bound.frames bound.load.limit (Within bits))
         → AreBegunWithin s planned of flow bound.wait
-    by_order ordered true passed told = absurd (within_late bits told)
+    by_order ordered true passed stated = absurd (within_late bits stated)
     by_order ordered false passed (wait, inside, least, sum) =
         let total = bound.sum in
         let fits = inside.within in
@@ -88,8 +89,8 @@ module _ (plan : Plan) (timing : Timing) (stays : UnitPlan → Bool) (delays : L
 
     by_queue_group : keep_order bound.frames ≡ false → Within bits ≡ any_delay bound.frames bound.load.limit (get_or bound.buffering.waits flow None)
         → AreBegunWithin s planned of flow bound.wait
-    by_queue_group kept told =
-        let (wait, known_wait, sum) = told_wait bound.frames bound.load.limit bits (get_or bound.buffering.waits flow None) told in
+    by_queue_group kept stated =
+        let (wait, known_wait, sum) = stated_wait bound.frames bound.load.limit bits (get_or bound.buffering.waits flow None) stated in
         let total = bound.sum in
         let same : wait ≡ bound.wait = omega (arith, sum, total) in
         let is_wait = wait_of_queue_group timing (frames_asked asked) (all_paced timing plan stays)
@@ -108,5 +109,5 @@ module _ (plan : Plan) (timing : Timing) (stays : UnitPlan → Bool) (delays : L
             (MatchBool (may_be_passed bound.buffering bound.frames.greatest_ident) (Within bits ≡ Late)
             (IsShortDelay timing bound.buffering.frames flow bound.frames bound.load.limit (Within bits)))
             (Within bits ≡ any_delay bound.frames bound.load.limit (get_or bound.buffering.waits flow None)) → AreBegunWithin s planned of flow bound.wait
-        go true keeps told = by_order keeps (may_be_passed bound.buffering bound.frames.greatest_ident) refl told
-        go false keeps told = by_queue_group keeps told
+        go true keeps stated = by_order keeps (may_be_passed bound.buffering bound.frames.greatest_ident) refl stated
+        go false keeps stated = by_queue_group keeps stated

@@ -77,7 +77,7 @@ bus_of buses b k f is = go (slice_get buses b) refl is
     go None there is = absurd (let inside = slice_get_within [] k f is in omega (arith, inside))
     go (Some bus) there is = (bus, there)
 
-module _ (v : Vehicle) (delays : Delays) (none : AreFindings v []) (told : AreDelays v delays) (in_time : AreTimeFindings v delays [])
+module _ (v : Vehicle) (delays : Delays) (none : AreFindings v []) (stated : AreDelays v delays) (in_time : AreTimeFindings v delays [])
     (at : FlowAt) (bits : ℕ) (n : Forward) (delayed : delay_at delays at ≡ Some bits) (feeder : direct_feeder v at ≡ Some n) where
   place : ℕ
   place = (feeder_is v at n feeder).0
@@ -162,7 +162,7 @@ module _ (v : Vehicle) (delays : Delays) (none : AreFindings v []) (told : AreDe
   no_delays : timing_of bus.plan ≡ None → ⊥
   no_delays untimed =
       let empty : delays_on delays at.bus ≡ [] = subst (λ (o : Option Timing). AreDelaysOn bus.plan o (delays_on delays at.bus)) untimed
-      (told.each at.bus bus bus_is) in
+      (stated.each at.bus bus bus_is) in
       let (d, here, within) = and_then_some bits_within (slice_get (delays_on delays at.bus) at.flow) bits delayed in
       let inside = slice_get_within [] at.flow d (subst (λ (xs : List (Option Delay)). slice_get xs at.flow ≡ Some d) empty here) in
       omega (arith, inside)
@@ -178,8 +178,8 @@ module _ (v : Vehicle) (delays : Delays) (none : AreFindings v []) (told : AreDe
       let time : timing_on v.buses.items at.bus ≡ Some timing = ap (option_and_then (λ (x : BusPlan). timing_of x.plan)) bus_is ∙ timed in
       let has : HasOwn v delays at (Rattle.j39_vehicle_times.specs.Times.own_of timing sends.flow bits) =
       record { timing = timing; timed = time; flow = sends.flow; its = sends.its; bits = bits; delayed = delayed; sum = refl } in
-      let (short, of_flow, few) = short_group v delays told at (Rattle.j39_vehicle_times.specs.Times.own_of timing sends.flow bits) has in
-      let its_bus : (known_bus v delays told at.bus timing time).bus ≡ bus = same_Some _ _ (sym (known_bus v delays told at.bus timing time).its ∙ bus_is) in
+      let (short, of_flow, few) = short_group v delays stated at (Rattle.j39_vehicle_times.specs.Times.own_of timing sends.flow bits) has in
+      let its_bus : (known_bus v delays stated at.bus timing time).bus ≡ bus = same_Some _ _ (sym (known_bus v delays stated at.bus timing time).its ∙ bus_is) in
       let here : slice_get bus.plan.groups.items sends.flow.group ≡ Some group =
       subst (λ (o : Option BusPlan). slice_get (option_map_or (λ (x : BusPlan). x.plan.groups.items) o []) sends.flow.group ≡ Some group) bus_is
       (subst (λ (b : ℕ). slice_get (groups_on v.buses.items b) sends.flow.group ≡ Some group) sends.bus its) in
@@ -295,4 +295,4 @@ module _ (v : Vehicle) (delays : Delays) (none : AreFindings v []) (told : AreDe
   }
 
 pub are_timely : (v : Vehicle) (delays : Delays) → AreFindings v [] → AreDelays v delays → AreTimeFindings v delays [] → AreForwardsTimely v delays
-are_timely v delays none told in_time at bits n delayed feeder = is_timely v delays none told in_time at bits n delayed feeder
+are_timely v delays none stated in_time at bits n delayed feeder = is_timely v delays none stated in_time at bits n delayed feeder

@@ -9,7 +9,7 @@ use Rattle.j39_network.specs.declared.plan.timing.Bitrate.TheVariants.{Kbit125, 
 use Rattle.j39_network.specs.declared.plan.timing.Timing.{Timing}
 use Rattle.j39_load.specs.Clocks.{IsTrueTime, bit_time, longest_million, million, shortest_million}
 use Rattle.j39_load.specs.Loads.{bits_at_least, bits_at_most, bits_per_ms, us_of_bits}
-use Rattle.j39_load.proofs.Milliseconds.{faster, slower, some_slow, told_in_time}
+use Rattle.j39_load.proofs.Milliseconds.{faster, slower, some_slow, stated_in_time}
 use Rattle.j39_gateways.specs.Gateways.{IsClock}
 use Rattle.j39_vehicle.specs.declared.vehicle.Vehicle.{Vehicle}
 use Rattle.j39_vehicle_times.specs.Times.{timing_on}
@@ -55,15 +55,15 @@ clock_is v seen b timing timed is = record {
       omega (arith, most, same);
 }
 
--- ---- what is told suffices
+-- ---- what is reported suffices
 
-pub told_here : (v : Vehicle) (b : ℕ) (timing : Timing) → timing_on v.buses.items b ≡ Some timing → (bits : ℕ)
+pub reported_here : (v : Vehicle) (b : ℕ) (timing : Timing) → timing_on v.buses.items b ≡ Some timing → (bits : ℕ)
     → longest_bit v b * bits ≤ of_us (us_of_bits timing bits)
-told_here v b timing timed bits =
-    let told = told_in_time timing bits in
+reported_here v b timing timed bits =
+    let stated = stated_in_time timing bits in
     let same : longest_bit v b * bits ≡ bits * bit_time timing.bitrate * longest_million timing =
     ap (λ (u : ℕ). u * bits) (longest_is v b timing timed) ∙ grind arith in
-    omega (arith, told, same)
+    omega (arith, stated, same)
 
 late_by : (bitrate : Bitrate) (f s ms c : ℕ) → ms * bits_per_ms bitrate * f ≤ c * s → ms * million ≤ ms * f → 1000 * ms * million ≤ bit_time bitrate * s * c
 late_by Kbit125 f s ms c few more = omega (arith, few, more)

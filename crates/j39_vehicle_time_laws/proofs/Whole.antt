@@ -39,7 +39,7 @@ abbrev pub seen_vehicle : (v : Vehicle) (delays : Delays) → IsSoundVehicle v d
 seen_vehicle v delays sound seen by is = record {
   scope = is.scope;
   closed = is.closed;
-  kept = streams_are_kept v delays (are_timely v delays sound.paths sound.told sound.times) sound.told is.scope is.closed seen is.kept is.prompt
+  kept = streams_are_kept v delays (are_timely v delays sound.paths sound.stated sound.times) sound.stated is.scope is.closed seen is.kept is.prompt
       is.own_releases;
   until = is.until;
   prompt = is.prompt;
@@ -51,7 +51,7 @@ seen_vehicle v delays sound seen by is = record {
 
 pub ages_kept : (v : Vehicle) (delays : Delays) → IsSoundVehicle v delays → AreAgesKept v delays
 ages_kept v delays sound seen p most from t known room is has pauses =
-    brought_young v delays sound.paths sound.told seen p most from t known room (seen_vehicle v delays sound seen t is) has pauses
+    brought_young v delays sound.paths sound.stated seen p most from t known room (seen_vehicle v delays sound seen t is) has pauses
 
 -- the first of so many numbers of which a statement holds that can be decided, or it holds of none
 searched : (P : ℕ → Type 0) → ((k : ℕ) → P k ⊎ (¬ P k)) → (n : ℕ) → ((k : ℕ) × P k) ⊎ ((k : ℕ) → k < n → ¬ P k)
@@ -179,9 +179,9 @@ pauses_kept v delays sound seen by at timing flow ms time from to (source, sent)
     let (bits, delayed, rest) = and_then_some (λ (bits : ℕ). option_and_then (first_input_at v) (direct_feeder v at)) (delay_at delays at) source sent in
     let (n, feeder, input) = and_then_some (first_input_at v) (direct_feeder v at) source rest in
     let whole = seen_vehicle v delays sound seen by is in
-    let (interval, interval_is, few) = keeps_rarely v delays sound.paths sound.told sound.times at bits n delayed feeder flow its source input ms paused in
+    let (interval, interval_is, few) = keeps_rarely v delays sound.paths sound.stated sound.times at bits n delayed feeder flow its source input ms paused in
     let keeps : KeepsOn v seen at interval time from by =
-    source_keeps_on v delays sound.told seen by whole (record { at = at; signal = None }) has from pauses
+    source_keeps_on v delays sound.stated seen by whole (record { at = at; signal = None }) has from pauses
     (record { at = at; signal = None }) itself source interval n feeder input interval_is (length v.forwards.items) time known in
     let slowest : ms * longest_on v.buses.items at.bus ≡ ms * longest_million timing =
     ap (λ (o : Option Timing). ms * option_map_or longest_million o 1000000) timed in

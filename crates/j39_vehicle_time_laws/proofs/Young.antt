@@ -16,13 +16,13 @@ use Rattle.j39_vehicle_time_laws.specs.Seen.{of_us}
 use Rattle.j39_vehicle_time_laws.proofs.Interval.{keeps_on}
 
 pub brought_young : (v : Vehicle) (delays : Delays) → AreAgesBounds v delays
-brought_young v delays none told seen p most from t known room is has pauses =
+brought_young v delays none stated seen p most from t known room is has pauses =
     let (old_p, rest, of_old, of_rest, sum) = sum_some (old v delays p) (sum_known (interval_us v p.at) (behind_at v delays p.at)) most known in
     let (pause, time, of_pause, of_time, more) = sum_some (interval_us v p.at) (behind_at v delays p.at) rest of_rest in
     let (ns, ns_is, made) = map_some (λ (ns : ℕ). div_ceil ns 1000) (interval v p.at) pause of_pause in
     let enough : 1000 * ns ≤ of_us pause = subst (λ (us : ℕ). 1000 * ns ≤ of_us us) made (in_us ns) in
-    let keeps = keeps_on v delays told seen t is p has from pauses p itself (length v.forwards.items) ns ns_is (length v.forwards.items) time of_time in
-    let ends = is_behind v delays told seen t is (length v.forwards.items) p.at (has p itself) time of_time in
+    let keeps = keeps_on v delays stated seen t is p has from pauses p itself (length v.forwards.items) ns ns_is (length v.forwards.items) time of_time in
+    let ends = is_behind v delays stated seen t is (length v.forwards.items) p.at (has p itself) time of_time in
     let (q, its, before, near) = keeps (t - of_us time) (omega arith) (omega arith) in
     let begun = ends.begun q its (omega arith) in
     let ended = ends.ended q begun in
@@ -32,7 +32,7 @@ brought_young v delays none told seen p most from t known room is has pauses =
       ended = omega arith;
       newest = λ r it later over.
           let order = in_order v delays seen t is p.at time ends q r its it later in
-          let (born, says, so, past, whence) = old_at_most v delays none told seen t is p has from pauses (length v.forwards.items) p old_p itself of_old
+          let (born, says, so, past, whence) = old_at_most v delays none stated seen t is p has from pauses (length v.forwards.items) p old_p itself of_old
           (length v.forwards.items) time of_time r it over (omega arith) in
           record {
             born = born;

@@ -1,4 +1,4 @@
--- Buses that keep to the plans of a vehicle: the premises of each delay that is told of a flow.
+-- Buses that keep to the plans of a vehicle: the premises of each delay that is reported of a flow.
 use Rattle.std.specs.Prelude.{◌≡◌, ℕ, ◌≤◌, Bool, true, List, Option, Some}
 use Rattle.std.specs.List.{slice_get}
 use Rattle.j39_network.specs.declared.plan.timing.Timing.{Timing}
@@ -20,7 +20,7 @@ use Rattle.j39_vehicle_times.specs.Times.{timing_on}
 use Rattle.j39_vehicle_time_laws.specs.Prompt.{Scope, scope_on}
 use Rattle.j39_vehicle_time_laws.specs.Seen.{SeenBus, SeenBuses, clock_on}
 
--- what is told of a bus of the vehicle that has timing: by who stays, the delay of each of its flows
+-- what is reported of a bus of the vehicle that has timing: by who stays, the delay of each of its flows
 pub record IsKnownBus (v : Vehicle) (delays : Delays) (b : ℕ) (timing : Timing) : Type 0 where
   pub bus : BusPlan
   pub its : slice_get v.buses.items b ≡ Some bus
@@ -31,12 +31,12 @@ pub record IsKnownBus (v : Vehicle) (delays : Delays) (b : ℕ) (timing : Timing
 abbrev pub asked_on : {v : Vehicle} {delays : Delays} {b : ℕ} {timing : Timing} → IsKnownBus v delays b timing → Asked
 asked_on {timing = timing} of_bus = asked_of timing of_bus.bus.plan of_bus.stays
 
--- the planned frames of the bus are those of its plan's flows, and what else is on it keeps to what is told of it, while frames of these flows wait,
--- as far as a delay is told of them; and its bits last as long as its clock can have them
-pub record IsKeptBus (timing : Timing) (asked : Asked) (told : List (Option Delay)) (flows : ℕ → Bool) (bus : SeenBus) : Type 0 where
+-- the planned frames of the bus are those of its plan's flows, and what else is on it keeps to what is reported of it, while frames of these flows wait,
+-- as far as a delay is reported of them; and its bits last as long as its clock can have them
+pub record IsKeptBus (timing : Timing) (asked : Asked) (stated : List (Option Delay)) (flows : ℕ → Bool) (bus : SeenBus) : Type 0 where
   pub clock : IsTrueTime timing bus.time
   pub legal : IsLegalInAnyOrder bus.schedule bus.controllers
-  pub frames : (flow bits : ℕ) → flows flow ≡ true → slice_get told flow ≡ Some (Some (Within bits))
+  pub frames : (flow bits : ℕ) → flows flow ≡ true → slice_get stated flow ≡ Some (Some (Within bits))
       → AreFramesInAnyOrder timing (frames_asked asked) bus.schedule bus.controllers bus.planned bus.of flow
 
 -- so it is of each bus of the scope that has timing

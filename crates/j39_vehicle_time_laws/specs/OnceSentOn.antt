@@ -24,8 +24,8 @@ pub record IsLoneForward (v : Vehicle) (delays : Delays) (n : ℕ) (forward : Fo
   pub direct : is_direct forward ≡ true
   pub timed_x : (timing : Timing) × (timing_on v.buses.items x.bus ≡ Some timing)
   pub timed_y : (timing : Timing) × (timing_on v.buses.items y.bus ≡ Some timing)
-  pub told_x : IsDelayKnown delays x
-  pub told_y : IsDelayKnown delays y
+  pub stated_x : IsDelayKnown delays x
+  pub stated_y : IsDelayKnown delays y
   pub other_bus : x.bus ≢ y.bus
   pub first : direct_feeder v x ≡ None
   pub fed : direct_feeder v y ≡ Some forward

@@ -26,7 +26,7 @@ whole_vehicle = record { buses = λ b. true; flows = λ at. true }
 abbrev pub scope_on : Scope → ℕ → ℕ → Bool
 scope_on scope b flow = scope.flows (record { bus = b; flow = flow })
 
--- a delay is told of the flow: each of its messages goes in one frame
+-- a delay is reported of the flow: each of its messages goes in one frame
 abbrev pub IsDelayKnown : Delays → FlowAt → Type 0
 IsDelayKnown delays at = (bits : ℕ) × (delay_at delays at ≡ Some bits)
 
@@ -62,7 +62,7 @@ pub record IsSentAtItsBeat (v : Vehicle) (seen : SeenBuses) (n : ℕ) (x y : Flo
       × (end_time (frames_at v seen x) r ≤ queue_time (frames_at v seen y) q) × ((seen y.bus).born q t ≡ (seen x.bus).born r s)
       × ((forward : Forward) → forward_at v n ≡ Some forward → KeepsContents v forward (Some ((seen x.bus).bytes r)) ((seen y.bus).bytes q))
 
--- gateways do so, of flows of which a delay is told, where they send directly to a bus of the scope, or a flow of it at its own releases; no message
+-- gateways do so, of flows of which a delay is reported, where they send directly to a bus of the scope, or a flow of it at its own releases; no message
 -- is too old for them before the next one has to be there
 pub record ArePrompt (v : Vehicle) (delays : Delays) (scope : Scope) (seen : SeenBuses) : Type 0 where
   pub direct : (n : ℕ) (forward : Forward) (x y : FlowAt) (within : ℕ) → SendsOn v n forward x y within → is_direct forward ≡ true
@@ -71,7 +71,7 @@ pub record ArePrompt (v : Vehicle) (delays : Delays) (scope : Scope) (seen : See
       → scope.flows y ≡ true → interval_us v x ≡ Some pause → behind_at v delays x ≡ Some time
       → IsSentAtItsBeat v seen n x y within (pause + (time + within))
 
--- the flow that a direct forward takes for its input, for a flow of which a delay is told: each of its messages goes in one frame
+-- the flow that a direct forward takes for its input, for a flow of which a delay is reported: each of its messages goes in one frame
 abbrev pub sent_from : Vehicle → Delays → FlowAt → Option FlowAt
 sent_from v delays at = option_and_then (λ (bits : ℕ). option_and_then (first_input_at v) (direct_feeder v at)) (delay_at delays at)
 

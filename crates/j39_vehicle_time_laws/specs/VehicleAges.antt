@@ -18,27 +18,20 @@ use Rattle.j39_vehicle_times.specs.TimeFindings.{AreTimeFindings}
 use Rattle.j39_vehicle_times.specs.Times.{age, behind_at, flow_at, timing_on}
 use Rattle.j39_vehicle_times.specs.declared.bus_delays.Delays.{Delays}
 use Rattle.j39_vehicle_time_laws.specs.ForwardedStreams.{AreOtherwiseKept}
-use Rattle.j39_vehicle_time_laws.specs.KeptBuses.{AreKeptBuses, AreSeenUntil}
-use Rattle.j39_vehicle_time_laws.specs.Prompt.{ArePrompt, HaveOwnReleases, IsScope, IsSentOn, SayWhatIsSo, Scope}
+use Rattle.j39_vehicle_time_laws.specs.KeptBuses.{AreKeptBuses}
+use Rattle.j39_vehicle_time_laws.specs.Prompt.{IsSentOn}
 use Rattle.j39_vehicle_time_laws.specs.Seen.{SeenBuses, frames_at, of_us}
-use Rattle.j39_vehicle_time_laws.specs.YoungValues.{HasWay, IsBroughtFrom, IsBroughtYoung, KeepPauses}
+use Rattle.j39_vehicle_time_laws.specs.YoungValues.{HasWay, IsBroughtFrom, IsBroughtYoung, IsSeenKeeping, KeepPauses}
 
 -- nothing is wrong with its paths, nor with its times
 pub record IsSoundVehicle (v : Vehicle) (delays : Delays) : Type 0 where
-  pub told : AreDelays v delays
+  pub stated : AreDelays v delays
   pub paths : AreFindings v []
   pub times : AreTimeFindings v delays []
 
--- what is asked of what is seen of it up to a time, of the buses and flows of a scope, which may be the whole vehicle: they keep to their plans, but
--- for when messages are queued that are sent on directly; gateways that send to them are prompt; and at its origin a message says what is so
-pub record IsPromptVehicle (v : Vehicle) (delays : Delays) (seen : SeenBuses) (by : ℕ) : Type 0 where
-  pub scope : Scope
-  pub closed : IsScope v delays scope
-  pub kept : AreOtherwiseKept v delays scope seen
-  pub until : AreSeenUntil v scope seen by
-  pub prompt : ArePrompt v delays scope seen
-  pub own_releases : HaveOwnReleases v delays scope seen
-  pub origins : SayWhatIsSo v scope seen
+-- what is asked of what is seen of it up to a time: its buses and flows keep to their plans, but for when messages are queued that are sent on directly
+abbrev pub IsPromptVehicle : Vehicle → Delays → SeenBuses → ℕ → Type 0
+IsPromptVehicle = IsSeenKeeping AreOtherwiseKept
 
 -- ---- ages
 

@@ -96,15 +96,20 @@ pub record IsBroughtYoung (v : Vehicle) (seen : SeenBuses) (p : Point) (age t : 
   pub newest : (q : ℕ) → HasBegun (frames_at v seen p.at) q → end_time (frames_at v seen p.at) frame ≤ end_time (frames_at v seen p.at) q
       → end_time (frames_at v seen p.at) q ≤ t → SaysYoung v seen p age t q
 
--- what is asked of what is seen of a vehicle up to a time: some of its buses keep to their plans, and gateways that send to them are prompt
-pub record IsSeenVehicle (v : Vehicle) (delays : Delays) (seen : SeenBuses) (by : ℕ) : Type 0 where
+-- what is asked of what is seen of a vehicle up to a time, of the buses and flows of a scope, which may be the whole vehicle: they keep to their plans
+-- so; gateways that send to them are prompt; and at its origin a message says what is so
+pub record IsSeenKeeping (Keep : Vehicle → Delays → Scope → SeenBuses → Type 0) (v : Vehicle) (delays : Delays) (seen : SeenBuses) (by : ℕ) : Type 0 where
   pub scope : Scope
   pub closed : IsScope v delays scope
-  pub kept : AreKeptBuses v delays scope seen
+  pub kept : Keep v delays scope seen
   pub until : AreSeenUntil v scope seen by
   pub prompt : ArePrompt v delays scope seen
   pub own_releases : HaveOwnReleases v delays scope seen
   pub origins : SayWhatIsSo v scope seen
+
+-- they keep to their plans in all
+abbrev pub IsSeenVehicle : Vehicle → Delays → SeenBuses → ℕ → Type 0
+IsSeenVehicle = IsSeenKeeping AreKeptBuses
 
 -- each age that is known bounds how old what the flow brings is: at each time before which pauses were kept for as long
 abbrev pub AreAgesBounds : Vehicle → Delays → Type 0

@@ -39,7 +39,7 @@ pub fn sound_vehicles_keep_ages()
 {}
 
 /// Of a vehicle of whose times nothing is found, in the words of its plans: what goes on directly keeps what `load` of
-/// the next bus takes for granted of it, also where no age is told. A flow that is sent only where it is asked for comes
+/// the next bus takes for granted of it, also where no age is reported. A flow that is sent only where it is asked for comes
 /// of one that is (`answers`), and what has a deadline is queued within the jitter of its flow (`deadlines`). What
 /// has an age isn't sent only where it is asked for (`ages`), and the clock of each bus without `drift` runs by its
 /// bitrate (`clocks`), in each vehicle.

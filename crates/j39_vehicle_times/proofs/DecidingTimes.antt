@@ -77,8 +77,8 @@ with_output v n at i = option_map (λ f. record { at = at; input = i; output = f
 abbrev with_input : Vehicle → Forward → FlowAt → Option Ends
 with_input v n at = option_and_then (with_output v n at) (flow_at v.buses.items at)
 
-ends_told : (v : Vehicle) (n : Forward) (ends : Ends) → ends_of v n ≡ Some ends → HasEnds v n ends
-ends_told v n ends is =
+ends_reported : (v : Vehicle) (n : Forward) (ends : Ends) → ends_of v n ≡ Some ends → HasEnds v n ends
+ends_reported v n ends is =
     let a = and_then_some (with_input v n) (first_input_at v n) ends is in
     let i = and_then_some (with_output v n a.0) (flow_at v.buses.items a.0) ends a.2 in
     let f = map_some (λ (f : FlowPlan). record { at = a.0; input = i.0; output = f }) (first_output v n) ends i.2 in
@@ -105,9 +105,9 @@ between_decides : {test : Ends → Bool} (v : Vehicle) (n : Forward) (P : Ends �
 between_decides v n P by =
     Decides-like _
     (λ h.
-    let told = of_if (is_direct n && is_timed_bus v n.output.bus) (ends_of v n) h.0 h.1 in
-    let direct = (direct_decides v n).0 told.0 in
-    let ends = ends_told v n h.0 told.1 in
+    let stated = of_if (is_direct n && is_timed_bus v n.output.bus) (ends_of v n) h.0 h.1 in
+    let direct = (direct_decides v n).0 stated.0 in
+    let ends = ends_reported v n h.0 stated.1 in
     record {
       direct = direct.0;
       timing = direct.1;
@@ -169,20 +169,20 @@ Decides-is_too_rare v n =
 abbrev IsFlowOf : Vehicle → VehicleNeed → ℕ → Type 0
 IsFlowOf v d f = ValueAt (IsNeedFlow v d f) (flows_of_need v d) f
 
-abbrev flows_told : Vehicle → Delays → VehicleNeed → List NeedFlow
-flows_told v delays d = in_each (need_flows_at v delays d) 0 (flows_of_need v d)
+abbrev flows_reported : Vehicle → Delays → VehicleNeed → List NeedFlow
+flows_reported v delays d = in_each (need_flows_at v delays d) 0 (flows_of_need v d)
 
--- what is told of a flow of the need
-record IsTold (v : Vehicle) (delays : Delays) (d : VehicleNeed) (r : NeedFlow) : Type 0 where
+-- what is reported of a flow of the need
+record IsStated (v : Vehicle) (delays : Delays) (d : VehicleNeed) (r : NeedFlow) : Type 0 where
   pub flow : IsFlowOf v d r.flow
   pub age : r.age ≡ age v delays (point_on d.unit.bus r.flow d.signal)
 
-flow_told : (v : Vehicle) (delays : Delays) (d : VehicleNeed) (r : NeedFlow) → Contains (flows_told v delays d) r → IsTold v delays d r
-flow_told v delays d r h =
+flow_stated : (v : Vehicle) (delays : Delays) (d : VehicleNeed) (r : NeedFlow) → Contains (flows_reported v delays d) r → IsStated v delays d r
+flow_stated v delays d r h =
     let found = of_in_each (need_flows_at v delays d) 0 (flows_of_need v d) r h in
     let one = of_found_if (is_need_flow v d found.place found.value) (need_flow_at v delays d found.place) r found.among in
     let at : found.k ≡ found.place = omega arith in
-    let there : IsTold v delays d (need_flow_at v delays d found.place) = record {
+    let there : IsStated v delays d (need_flow_at v delays d found.place) = record {
       flow = record {
         value = found.value;
         value_is = ap (slice_get (flows_of_need v d)) (sym at) ∙ found.value_is;
@@ -190,10 +190,10 @@ flow_told v delays d r h =
       };
       age = refl;
     } in
-    subst (IsTold v delays d) (sym one.1) there
+    subst (IsStated v delays d) (sym one.1) there
 
-told_flow : (v : Vehicle) (delays : Delays) (d : VehicleNeed) (f : ℕ) → IsFlowOf v d f → Contains (flows_told v delays d) (need_flow_at v delays d f)
-told_flow v delays d f m =
+reported_flow : (v : Vehicle) (delays : Delays) (d : VehicleNeed) (f : ℕ) → IsFlowOf v d f → Contains (flows_reported v delays d) (need_flow_at v delays d f)
+reported_flow v delays d f m =
     in_each_of (need_flows_at v delays d) 0 (flows_of_need v d) (need_flow_at v delays d f) f f m.value (omega arith) m.value_is
     (found_if_of (is_need_flow v d f m.value) (need_flow_at v delays d f) ((need_flow_decides v d f m.value).1 m.meets))
 
@@ -213,26 +213,26 @@ none_younger : (v : Vehicle) (delays : Delays) (d : VehicleNeed) (most : ℕ) (r
 none_younger v delays d most r is older f young =
     let a = young.age in
     older (least_within most r.age a.0 a.2
-    (youngest_least (flows_told v delays d) r (need_flow_at v delays d f) a.0 is (told_flow v delays d f young.flow) a.1))
+    (youngest_least (flows_reported v delays d) r (need_flow_at v delays d f) a.0 is (reported_flow v delays d f young.flow) a.1))
 
 older_from : (v : Vehicle) (delays : Delays) (d : VehicleNeed) (ms : ℕ) → IsOlder v delays d ms
     → (r : NeedFlow) × (flow_of_need v delays d ≡ Some r) × (¬ IsKnownWithin (us_of_ms ms) r.age)
 older_from v delays d ms h = elim (some_or_none (flow_of_need v delays d)) [
-  | inl none ↦ absurd (youngest_some (flows_told v delays d) (need_flow_at v delays d h.0.0) (told_flow v delays d h.0.0 h.0.1) none)
+  | inl none ↦ absurd (youngest_some (flows_reported v delays d) (need_flow_at v delays d h.0.0) (reported_flow v delays d h.0.0 h.0.1) none)
   | inr (r, is) ↦
-      let told = flow_told v delays d r (youngest_among (flows_told v delays d) r is) in
-      (r, is, λ within. h.1 r.flow (record { flow = told.flow; age = subst (IsKnownWithin (us_of_ms ms)) told.age within }))
+      let stated = flow_stated v delays d r (youngest_among (flows_reported v delays d) r is) in
+      (r, is, λ within. h.1 r.flow (record { flow = stated.flow; age = subst (IsKnownWithin (us_of_ms ms)) stated.age within }))
 ]
 
 older_decides : (v : Vehicle) (delays : Delays) (d : VehicleNeed) (ms : ℕ) → Decides (is_older v delays d ms) (IsOlder v delays d ms)
 older_decides v delays d ms =
     Decides-like _
     (λ h. (
-      (h.0.flow, (flow_told v delays d h.0 (youngest_among (flows_told v delays d) h.0 h.1)).flow),
+      (h.0.flow, (flow_stated v delays d h.0 (youngest_among (flows_reported v delays d) h.0 h.1)).flow),
       none_younger v delays d (us_of_ms ms) h.0 h.1 h.2,
     ))
     (older_from v delays d ms)
-    (some_decides (λ (told : NeedFlow). ¬ IsKnownWithin (us_of_ms ms) told.age) (λ told. Decides-not _ (within_decides (us_of_ms ms) told.age))
+    (some_decides (λ (stated : NeedFlow). ¬ IsKnownWithin (us_of_ms ms) stated.age) (λ stated. Decides-not _ (within_decides (us_of_ms ms) stated.age))
     (flow_of_need v delays d))
 
 pub Decides-is_need_too_old : (v : Vehicle) (delays : Delays) (d : VehicleNeed) → Decides (is_need_too_old v delays d) (IsNeedTooOld v delays d)

@@ -4,5 +4,5 @@ pub mod Feeding
 pub mod Hops
 pub mod Sums
 pub mod TimeLaws
-pub mod Told
+pub mod Stated
 pub mod Youngest

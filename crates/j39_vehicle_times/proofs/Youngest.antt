@@ -1,4 +1,4 @@
--- Of several flows of a need the one that is told.
+-- Of several flows of a need the one that is reported.
 use Rattle.std.proofs.Common.{◌≡◌, ℕ, zero, suc, ◌≤◌, List, [], ◌∷◌, ◌++◌, Bool, true, false, if◌then◌else◌, Option, Some, None, Contains}
 use Rattle.std.proofs.Common.{nat_lt, refl, sym, ap, ◌∙◌, subst, arith}
 use Rattle.std.proofs.lemmas.Bool.{false≢true, false_from_ne_true, ltb-false}
@@ -68,7 +68,7 @@ pub youngest_append : (xs ys : List NeedFlow) → youngest (xs ++ ys) ≡ joined
 youngest_append [] ys = refl
 youngest_append (x ∷ xs) ys = ap (joined (Some x)) (youngest_append xs ys) ∙ sym (joined_assoc (Some x) (youngest xs) (youngest ys))
 
--- ---- the one that is told
+-- ---- the one that is reported
 
 -- an age is known, and at most so large
 pub record IsLeast (r : Option ℕ) (a : ℕ) : Type 0 where
@@ -108,7 +108,7 @@ least_after r s a onward least =
     let high = least.less in
     record { age = more.age; age_is = more.age_is; less = omega (arith, low, high) }
 
--- a flow of the list is told
+-- a flow of the list is reported
 one_of : (x y : NeedFlow) (p : Bool) → is_younger y.age x.age ≡ p → (xs : List NeedFlow) → Contains xs y → Contains (x ∷ xs) (younger_of x y)
 one_of x y true p xs (k, less, at) = subst (Contains (x ∷ xs)) (sym (takes x y p)) (suc k, omega arith, at)
 one_of x y false p xs h = subst (Contains (x ∷ xs)) (sym (keeps x y p)) (zero, omega arith, refl)

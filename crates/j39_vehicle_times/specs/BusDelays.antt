@@ -19,7 +19,7 @@ AreDelaysOn plan (Some timing) delays = (stays : UnitPlan → Bool) × AsksOfBus
 
 -- those that stand at the place of a bus
 abbrev pub delays_on : Delays → ℕ → List (Option Delay)
-delays_on delays b = option_map_or (λ told. told.items) (slice_get delays.of_buses.items b) []
+delays_on delays b = option_map_or (λ stated. stated.items) (slice_get delays.of_buses.items b) []
 
 -- so it is of each bus
 pub record AreDelays (v : Vehicle) (delays : Delays) : Type 0 where

@@ -1,4 +1,4 @@
--- The findings of times as a list: a test for each statement, and the list of all that pass; and of the flows of a need the one that is told.
+-- The findings of times as a list: a test for each statement, and the list of all that pass; and of the flows of a need the one that is reported.
 use Rattle.std.specs.Prelude.{ℕ, ◌*◌, List, [], ◌∷◌, ◌++◌, length, Bool, true, false, not, ◌&&◌, ◌||◌, nat_lt, nat_le, if◌then◌else◌, Option, Some, None}
 use Rattle.std.specs.List.{slice_get}
 use Rattle.std.specs.Option.{option_and_then, option_map, option_map_or}
@@ -127,7 +127,7 @@ abbrev pub need_flow_count : Vehicle → VehicleNeed → ℕ
 need_flow_count v d = length (in_each (need_places_at v d) 0 (flows_of_need v d))
 
 abbrev pub is_older : Vehicle → Delays → VehicleNeed → ℕ → Bool
-is_older v delays d ms = option_map_or (λ (told : NeedFlow). not (is_known_within (us_of_ms ms) told.age)) (flow_of_need v delays d) false
+is_older v delays d ms = option_map_or (λ (stated : NeedFlow). not (is_known_within (us_of_ms ms) stated.age)) (flow_of_need v delays d) false
 
 abbrev pub is_need_too_old : Vehicle → Delays → VehicleNeed → Bool
 is_need_too_old v delays d = option_map_or (is_older v delays d) d.within false

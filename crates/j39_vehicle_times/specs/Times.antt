@@ -50,14 +50,14 @@ shortest_on buses b = option_map_or shortest_million (timing_on buses b) million
 abbrev pub flow_at : List BusPlan → FlowAt → Option FlowPlan
 flow_at buses at = slice_get (flows_on buses at.bus) at.flow
 
--- what is told of a flow, where something is known of its bus
+-- what is reported of a flow, where something is known of its bus
 abbrev pub timed : Vehicle → FlowAt → (Timing → FlowPlan → Option ℕ) → Option ℕ
 timed v at f = option_and_then (λ timing. option_and_then (f timing) (flow_at v.buses.items at)) (timing_on v.buses.items at.bus)
 
 abbrev pub jitter_ms : FlowPlan → ℕ
 jitter_ms flow = option_map_or (λ (pace : Pace). pace.jitter) flow.pace 0
 
--- a delay in bits, where it is told so
+-- a delay in bits, where it is reported so
 abbrev pub bits_within : Option Delay → Option ℕ
 bits_within (Some (Within bits)) = Some bits
 bits_within _ = None

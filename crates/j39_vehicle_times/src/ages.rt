@@ -42,7 +42,7 @@ fn aged(routes: &Routes<'_>, delays: &Delays, forward: &Forward, heard: FlowAt) 
     }
 }
 
-// The same by the forward at a place.
+// How much older data becomes until what the forward at a place sends has its release.
 fn aged_by(routes: &Routes<'_>, delays: &Delays, forward: usize, heard: FlowAt) -> Option<u64>
     ensures value { result ≡ aged_by routes.now.vehicle.now delays.now forward heard }
     ensures few { IfSome result (λ aged. aged < 2 ^ 48) }

@@ -17,7 +17,7 @@ pub struct Delays {
     pub of_buses: Vec<Vec<Option<Delay>>>,
 }
 
-// The bits of a delay that is told in bits.
+// The bits of a delay that is reported in bits.
 fn bits_within(delay: Option<Delay>) -> Option<u32>
     ensures { result ≡ bits_within delay }
 {
@@ -31,17 +31,17 @@ fn bits_within(delay: Option<Delay>) -> Option<u32>
     }
 }
 
-// Those of the flows of the bus at a place.
+// The delays of the flows of the bus at a place.
 fn delays_on(delays: &Delays, bus: usize) -> &[Option<Delay>]
     ensures { result.now ≡ delays_on delays.now bus }
 {
     match delays.of_buses.get(bus) {
-        Some(told) => told.as_slice(),
+        Some(stated) => stated.as_slice(),
         None => &[],
     }
 }
 
-/// The delay of a flow in bits, where it is told so.
+/// The delay of a flow in bits, where it is reported so.
 pub fn delay_at(delays: &Delays, at: FlowAt) -> Option<u32>
     ensures { result ≡ delay_at delays.now at }
 {
@@ -65,14 +65,14 @@ fn delays_by(alloc: Global, plan: &Plan) -> Result<Vec<Option<Delay>>, AllocErro
 
 /// The delays of the flows of all buses, each as its plan asks of it.
 pub fn delays_of(alloc: Global, vehicle: &Vehicle) -> Result<Delays, AllocError>
-    ensures told { IfOk result (λ delays. AreDelays vehicle.now delays) }
+    ensures stated { IfOk result (λ delays. AreDelays vehicle.now delays) }
     ensures memory { OnErr result (vehicle.now.buses.items ≢ []) }
 {
     let mut of_buses = Vec::new(alloc);
     for place in 0..vehicle.buses.len() {
         let bus = &vehicle.buses[place];
-        let told = delays_by(alloc, &bus.plan)?;
-        of_buses.push(told)?;
+        let stated = delays_by(alloc, &bus.plan)?;
+        of_buses.push(stated)?;
     }
     Ok(Delays { of_buses })
 }

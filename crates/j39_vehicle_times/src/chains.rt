@@ -44,7 +44,7 @@ fn hop(vehicle: &Vehicle, delays: &Delays, forward: &Forward, at: FlowAt) -> Opt
     }
 }
 
-// The same of the forward at a place.
+// How long the forward at a place takes, and what it sends until that has ended.
 fn hop_by(vehicle: &Vehicle, delays: &Delays, forward: usize, at: FlowAt) -> Option<u64>
     ensures value { result ≡ hop_by vehicle.now delays.now forward at }
     ensures few { IfSome result (λ hop. hop < 2 ^ 36) }

@@ -1,8 +1,9 @@
 //! Everything that is wrong with the times of what the gateways of a vehicle send on.
 ghost use Rattle.std.specs.Prelude.{◌≡◌, ◌≢◌, [], IfOk, OnErr};
 ghost use Rattle.j39_search.specs.Adding.{Adds};
-ghost use Rattle.j39_vehicle_times.specs.FoundTimes.{forward_time_findings, is_need_too_old, is_too_late, is_too_often};
-ghost use Rattle.j39_vehicle_times.specs.FoundTimes.{is_too_rare, need_time_findings, time_findings};
+ghost use Rattle.j39_search.specs.ListPlaces.{each};
+ghost use Rattle.j39_vehicle_times.specs.FoundTimes.{forward_time_findings, is_need_too_old, need_time_findings, time_findings};
+ghost use Rattle.j39_vehicle_times.specs.inside.DirectFaults.{direct_fault_at, has_direct_fault};
 
 use crate::bus_delays::Delays;
 use crate::ends::{is_too_late, is_too_often, is_too_rare};
@@ -16,67 +17,42 @@ use std::alloc::{AllocError, Global};
 /// What is wrong with the times of a vehicle, in order.
 pub type TimeFindings = Vec<TimeFinding>;
 
+/// What can be wrong with the times of a direct forward.
 #[derive(Clone, Copy)]
-struct TooOften<'a> {
-    vehicle: &'a Vehicle,
-}
-
-impl TestRule<Forward, TimeFinding> for TooOften<'_> {
-    ghost use Rattle.j39_vehicle_times.specs.declared.finding.TimeFinding.TheVariants.{TooOften as IsTooOften};
-
-    ghost test = { λ rule. is_too_often rule.vehicle.now };
-
-    ghost make = { λ _ n. IsTooOften n };
-
-    fn holds(&self, forward: &Forward) -> bool {
-        is_too_often(self.vehicle, forward)
-    }
-
-    fn finding(&self, place: usize) -> TimeFinding {
-        TimeFinding::TooOften(place)
-    }
+pub enum DirectFault {
+    TooOften,
+    TooLate,
+    TooRare,
 }
 
 #[derive(Clone, Copy)]
-struct TooLate<'a> {
+struct FaultyDirect<'a> {
     routes: Routes<'a>,
     delays: &'a Delays,
+    fault: DirectFault,
 }
 
-impl TestRule<Forward, TimeFinding> for TooLate<'_> {
-    ghost use Rattle.j39_vehicle_times.specs.declared.finding.TimeFinding.TheVariants.{TooLate as IsTooLate};
+impl TestRule<Forward, TimeFinding> for FaultyDirect<'_> {
+    ghost use Rattle.j39_vehicle_times.specs.inside.DirectFaults.{direct_fault_at, has_direct_fault};
 
-    ghost test = { λ rule. is_too_late rule.routes.vehicle.now rule.delays.now };
+    ghost test = { λ rule. has_direct_fault rule.routes.vehicle.now rule.delays.now rule.fault };
 
-    ghost make = { λ _ n. IsTooLate n };
+    ghost make = { λ rule. direct_fault_at rule.fault };
 
     fn holds(&self, forward: &Forward) -> bool {
-        is_too_late(&self.routes, self.delays, forward)
+        match self.fault {
+            DirectFault::TooOften => is_too_often(self.routes.vehicle, forward),
+            DirectFault::TooLate => is_too_late(&self.routes, self.delays, forward),
+            DirectFault::TooRare => is_too_rare(&self.routes, forward),
+        }
     }
 
     fn finding(&self, place: usize) -> TimeFinding {
-        TimeFinding::TooLate(place)
-    }
-}
-
-#[derive(Clone, Copy)]
-struct TooRare<'a> {
-    routes: Routes<'a>,
-}
-
-impl TestRule<Forward, TimeFinding> for TooRare<'_> {
-    ghost use Rattle.j39_vehicle_times.specs.declared.finding.TimeFinding.TheVariants.{TooRare as IsTooRare};
-
-    ghost test = { λ rule. is_too_rare rule.routes.vehicle.now };
-
-    ghost make = { λ _ n. IsTooRare n };
-
-    fn holds(&self, forward: &Forward) -> bool {
-        is_too_rare(&self.routes, forward)
-    }
-
-    fn finding(&self, place: usize) -> TimeFinding {
-        TimeFinding::TooRare(place)
+        match self.fault {
+            DirectFault::TooOften => TimeFinding::TooOften(place),
+            DirectFault::TooLate => TimeFinding::TooLate(place),
+            DirectFault::TooRare => TimeFinding::TooRare(place),
+        }
     }
 }
 
@@ -102,6 +78,24 @@ impl TestRule<VehicleNeed, TimeFinding> for TooOld<'_> {
     }
 }
 
+// Adds the forwards with the times of which this is wrong.
+fn find_faulty(
+    findings: &mut TimeFindings,
+    routes: &Routes<'_>,
+    delays: &Delays,
+    fault: DirectFault,
+) -> Result<(), AllocError>
+    ensures { let v = routes.now.vehicle.now in
+        Adds result findings.old.items findings.new.items (each (has_direct_fault v delays.now fault) (direct_fault_at fault) 0 v.forwards.items) }
+{
+    let rule = FaultyDirect {
+        routes: *routes,
+        delays,
+        fault,
+    };
+    find_tested(findings, &rule, &routes.vehicle.forwards)
+}
+
 // Adds what is wrong with the times of the forwards.
 #[tactic(auto, unfolding(crate::specs::FoundTimes::forward_time_findings))]
 fn find_in_forwards(
@@ -111,26 +105,9 @@ fn find_in_forwards(
 ) -> Result<(), AllocError>
     ensures { Adds result findings.old.items findings.new.items (forward_time_findings routes.now.vehicle.now delays.now) }
 {
-    find_tested(
-        findings,
-        &TooOften {
-            vehicle: routes.vehicle,
-        },
-        &routes.vehicle.forwards,
-    )?;
-    find_tested(
-        findings,
-        &TooLate {
-            routes: *routes,
-            delays,
-        },
-        &routes.vehicle.forwards,
-    )?;
-    find_tested(
-        findings,
-        &TooRare { routes: *routes },
-        &routes.vehicle.forwards,
-    )
+    find_faulty(findings, routes, delays, DirectFault::TooOften)?;
+    find_faulty(findings, routes, delays, DirectFault::TooLate)?;
+    find_faulty(findings, routes, delays, DirectFault::TooRare)
 }
 
 // Adds the needs for what isn't shown to be young enough.

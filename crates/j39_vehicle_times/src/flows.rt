@@ -43,7 +43,7 @@ fn pause_ns(timing: Timing, flow: &FlowPlan) -> Option<u64>
     }
 }
 
-/// The same of the flow at a place.
+/// In how many nanoseconds a message of the flow at a place has its release, on its bus.
 pub fn pause_on(vehicle: &Vehicle, at: FlowAt, flow: &FlowPlan) -> Option<u64>
     ensures value { result ≡ pause_on vehicle.now at flow.now }
     ensures few { IfSome result (λ pause. pause < 2 ^ 36) }
@@ -137,7 +137,7 @@ pub fn input_at(vehicle: &Vehicle, forward: &Forward) -> Option<FlowAt>
     }
 }
 
-/// The same of the forward at a place, by the tables.
+/// The flow that the forward at a place hears, by the tables of routes.
 pub fn input_by(routes: &Routes<'_>, forward: usize) -> Option<FlowAt>
     ensures { result ≡ input_by routes.now.vehicle.now forward }
 {

@@ -134,7 +134,7 @@ fn is_older(routes: &Routes<'_>, delays: &Delays, need: &VehicleNeed, ms: u16) -
     ensures { result ≡ is_older routes.now.vehicle.now delays.now need.now ms }
 {
     match flow_of_need(routes, delays, need) {
-        Some(told) => !is_within(us_of_ms(ms), told.age),
+        Some(stated) => !is_within(us_of_ms(ms), stated.age),
         None => false,
     }
 }

@@ -8,7 +8,7 @@ use Rattle.j39_world.specs.Transfers.{Outgoing}
 use Rattle.j39_world.specs.World.{World}
 use Rattle.j39_world.specs.Run.{RunsThrough}
 
--- it goes on with what was begun: no unit is switched, tells or hears of addresses, and none begins a message or sends one alone
+-- it goes on with what was begun: no unit is switched, sends or hears claims, and none begins a message or sends one alone
 abbrev pub IsOfTransfers : Step → Type 0
 IsOfTransfers (Up u) = ⊥
 IsOfTransfers (Down u) = ⊥

@@ -27,7 +27,7 @@ ArePlannedApartTo limit units =
 
 -- ---- who stays
 
--- the same, told in rising order of NAME: whether a unit stays is told by those of smaller NAME
+-- the same, by rising NAME: whether a unit stays depends on those of smaller NAME
 abbrev pub StaysByOthers : List PlannedUnit → ℕ → Type 0
 StaysByOthers units u =
     IsFirstThere units u × (IsOutsidePool units u ⊎ EachSmaller units u (λ v. is_arbitrary (unit_at units v).name ≡ true → Stays units v))

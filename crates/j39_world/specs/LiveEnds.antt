@@ -3,7 +3,7 @@
 use Rattle.std.specs.Prelude.{◌≡◌, ◌≢◌, ℕ, true, List, [], Some, Contains}
 use Rattle.std.specs.List.{slice_get}
 use Rattle.j39_claim.specs.declared.item.Say.TheVariants.{Claim}
-use Rattle.j39_claim.specs.declared.item.Item.TheVariants.{Told}
+use Rattle.j39_claim.specs.declared.item.Item.TheVariants.{AddressClaimed}
 use Rattle.j39_network.specs.declared.plan.Plan.{Plan}
 use Rattle.j39_network.specs.declared.plan.to.To.TheVariants.{One}
 use Rattle.j39_world.specs.declared.flow.Flow.{Flow}
@@ -26,7 +26,7 @@ pub record StandsAlone (plan : Plan) (w : World) (u : ℕ) : Type 0 where
   pub on : (w.stations u).on ≡ true
   pub held : (w.stations u).address ≡ Some (unit_at (units_of plan) u).preferred
   pub alone : EachOther (units_of plan) u (λ v. (w.stations v).on ≡ true → (w.stations v).address ≢ Some (unit_at (units_of plan) u).preferred)
-  pub unclaimed : (v : ℕ) → ¬ Contains (w.claims v u) (Told (Claim (unit_at (units_of plan) u).preferred))
+  pub unclaimed : (v : ℕ) → ¬ Contains (w.claims v u) (AddressClaimed (Claim (unit_at (units_of plan) u).preferred))
 
 pub record AreEndsUndisturbed (plan : Plan) (w : World) : Type 0 where
   -- who sends a message, and the unit that it is for, where it is for one that is on still

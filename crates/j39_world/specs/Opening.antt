@@ -26,7 +26,7 @@ pub record AreFirstThatMayBeOne (plan : Plan) (i j : ℕ) : Type 0 where
 -- a bus needs as many choosers as units, units of which no two may be one, and groups that can be sent
 pub record CanOpen (choosers : ℕ) (plan : Plan) : Type 0 where
   pub count : choosers ≡ length plan.units.items
-  pub told_apart : AreDistinctUnits plan
+  pub are_apart : AreDistinctUnits plan
   pub groups : All IsSendable plan.groups.items
 
 -- the first cause, in this order

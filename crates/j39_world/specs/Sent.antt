@@ -1,4 +1,4 @@
--- The frames that tell of addresses: those of SAE J1939-81, address claimed and cannot claim address, and the request
+-- The frames about addresses: those of SAE J1939-81, address claimed and cannot claim address, and the request
 -- for them. All go to the global address with one priority; the identifier's layout is that of SAE J1939-21.
 use Rattle.std.specs.Prelude.{ℕ, List, Option, Some, None}
 use Rattle.j39_id.specs.Addresses.{null_address, global_address}
@@ -10,7 +10,7 @@ use Rattle.j39_id.specs.Pgn.{pgn_bytes}
 use Rattle.j39_claim.specs.declared.item.Say.{Say}
 use Rattle.j39_claim.specs.declared.item.Say.TheVariants.{Claim, Cannot}
 use Rattle.j39_claim.specs.declared.item.Item.{Item}
-use Rattle.j39_claim.specs.declared.item.Item.TheVariants.{Told, Request}
+use Rattle.j39_claim.specs.declared.item.Item.TheVariants.{AddressClaimed, Request}
 
 -- a frame on the bus: the 29 bits of its identifier and its bytes
 pub record Sent : Type 0 where
@@ -31,10 +31,10 @@ claimed_by Cannot = None
 abbrev pub to_all : ℕ → ℕ → ℕ
 to_all pgn source = identifier_of claim_priority pgn global_address source
 
--- the frame of an item that a unit of this NAME tells which holds this address. A claim carries the NAME, a request the
+-- the frame of an item that a unit of this NAME sends which holds this address. A claim carries the NAME, a request the
 -- PGN that is asked for, each with its least significant byte first
 abbrev pub frame_of : ℕ → Option ℕ → Item → Sent
-frame_of name held (Told say) = record { identifier = to_all address_claimed (source_of (claimed_by say)); payload = name_bytes name }
+frame_of name held (AddressClaimed say) = record { identifier = to_all address_claimed (source_of (claimed_by say)); payload = name_bytes name }
 frame_of name held Request = record { identifier = to_all request (source_of held); payload = pgn_bytes address_claimed }
 
 -- a frame of the program, as it is on the bus

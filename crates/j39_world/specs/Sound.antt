@@ -10,14 +10,14 @@ use Rattle.j39_world.specs.Transfers.{Outgoing, Begun, Reported}
 use Rattle.j39_world.specs.declared.wired.Wired.TheVariants.{Alone}
 use Rattle.j39_id.specs.Name.{is_arbitrary}
 use Rattle.j39_claim.specs.declared.item.Say.TheVariants.{Claim, Cannot}
-use Rattle.j39_claim.specs.declared.item.Item.TheVariants.{Told}
+use Rattle.j39_claim.specs.declared.item.Item.TheVariants.{AddressClaimed}
 use Rattle.j39_network.specs.declared.plan.Plan.{Plan}
 use Rattle.j39_network.specs.PlannedUnits.{units_of, unit_at}
 use Rattle.j39_world.specs.World.{World, Undelivered}
 
 -- a claim of this address is undelivered between the two
 abbrev pub IsClaimUndelivered : Undelivered → ℕ → ℕ → ℕ → Type 0
-IsClaimUndelivered claims u v a = Contains (claims u v) (Told (Claim a)) ⊎ Contains (claims v u) (Told (Claim a))
+IsClaimUndelivered claims u v a = Contains (claims u v) (AddressClaimed (Claim a)) ⊎ Contains (claims v u) (AddressClaimed (Claim a))
 
 pub record AreAddressesSound (plan : Plan) (w : World) : Type 0 where
   -- each unit that is on holds an address, a fixed one its planned address
@@ -29,7 +29,7 @@ pub record AreAddressesSound (plan : Plan) (w : World) : Type 0 where
 
 -- no claim is undelivered; a request may be
 abbrev pub IsQuiet : Undelivered → Type 0
-IsQuiet claims = (u v : ℕ) → ((a : ℕ) → ¬ Contains (claims u v) (Told (Claim a))) × ¬ Contains (claims u v) (Told Cannot)
+IsQuiet claims = (u v : ℕ) → ((a : ℕ) → ¬ Contains (claims u v) (AddressClaimed (Claim a))) × ¬ Contains (claims u v) (AddressClaimed Cannot)
 
 -- two units that are on hold different addresses
 abbrev pub AreAddressesDifferent : World → Type 0

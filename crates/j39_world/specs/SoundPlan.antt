@@ -31,7 +31,7 @@ use Rattle.j39_world.specs.Strangers.{HasStrangers}
 abbrev pub Always : Plan → (World → Type 0) → Type 0
 Always plan Holds = (steps : List Step) (w : World) → Run plan all_off steps w → Holds w
 
--- it holds in every world of every run of the plan with strangers, of which at most so many come as it tells
+-- it holds in every world of every run of the plan with strangers, of which at most so many come as it has
 abbrev pub AlwaysBeside : Plan → (Plan → World → Type 0) → Type 0
 AlwaysBeside plan Holds = (joined : Plan) (strangers : List UnitPlan) → HasStrangers plan joined strangers → Always joined (Holds joined)
 

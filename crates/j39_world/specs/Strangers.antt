@@ -17,8 +17,8 @@ use Rattle.j39_network.specs.Staying.{EachOther}
 
 -- the second plan is the first with these strangers: it may have any groups and flows
 pub record HasStrangers (plan joined : Plan) (strangers : List UnitPlan) : Type 0 where
-  -- the plan tells of strangers, and of no fewer than these
-  pub told : 0 < plan.strangers
+  -- the plan has strangers, and no fewer than these
+  pub stated : 0 < plan.strangers
   pub few : length strangers ≤ plan.strangers
   -- they stand behind its units
   pub behind : joined.units.items ≡ plan.units.items ++ strangers
@@ -26,7 +26,7 @@ pub record HasStrangers (plan joined : Plan) (strangers : List UnitPlan) : Type 
   pub claim : All (λ s. s.claims ≡ true) strangers
   pub choose : All (λ s. is_arbitrary s.name ≡ true) strangers
   pub names : AreNamesDistinct (units_of joined)
-  -- none is set to the address of a unit that never claims, which would be told nothing of it and tell nothing
+  -- none is set to the address of a unit that never claims, which would hear nothing of it and send nothing
   pub apart : All (λ s. All (λ u. u.claims ≡ false → u.address ≢ s.address) plan.units.items) strangers
   -- no stranger knows what the plan keeps free: each unit may choose any address, so that what these choose is among it, and what those
   -- choose that pass over it
@@ -57,8 +57,8 @@ pub record ComesSilent (joined : Plan) (u : ℕ) : Type 0 where
 -- the second plan is the first, a live one, with these units: their messages are none of its flows
 pub record ComeBesideLive (plan joined : Plan) (strangers : List UnitPlan) : Type 0 where
   pub live : plan.live ≡ true
-  -- the plan tells of strangers, and of no fewer than those of these that need an address of 128 to 247
-  pub told : 0 < plan.strangers
+  -- the plan has strangers, and no fewer than those of these that need an address of 128 to 247
+  pub stated : 0 < plan.strangers
   pub few : (m : ℕ) × SoManyMeet (NeedsPoolAddress empty) strangers m × (m ≤ plan.strangers)
   -- they stand behind its units, and no two of all of them may be one
   pub behind : joined.units.items ≡ plan.units.items ++ strangers

@@ -47,7 +47,7 @@ session_without u (Some s) = Some (without_target u s)
 abbrev pub sessions_without : ℕ → Sessions → Sessions
 sessions_without u sessions = changed (λ s. session_without u (sessions s)) u None
 
--- u is off. What it told of addresses is heard later, and what was received whole stays
+-- u is off. What it sent of addresses is heard later, and what was received whole stays
 abbrev pub switched_off : World → ℕ → World
 switched_off w u =
     record w {

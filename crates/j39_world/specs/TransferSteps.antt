@@ -1,4 +1,4 @@
--- The steps of transfers (SAE J1939-21, transport protocol functions). What senders and receivers do is told by the rules of
+-- The steps of transfers (SAE J1939-21, transport protocol functions). What senders and receivers do is given by the rules of
 -- a sender and of a receiver; here is what becomes of it on a bus.
 use Rattle.std.specs.Prelude.{◌≡◌, ℕ, true, false, if◌then◌else◌, List, [], ◌∷◌, ◌++◌, length, map, Option, Some, None}
 use Rattle.std.specs.List.{range_with_len, filter}

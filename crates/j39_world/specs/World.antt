@@ -56,6 +56,6 @@ changed f u x v = cond (nat_eq v u) x (f v)
 abbrev pub changed_pair : {X : Type 0} → (ℕ → ℕ → X) → ℕ → ℕ → X → ℕ → ℕ → X
 changed_pair f u v x s t = cond (nat_eq s u && nat_eq t v) x (f s t)
 
--- v is on, and another than u: it hears what u tells all
+-- v is on, and another than u: it hears what u sends to all
 abbrev pub is_other_on : Stations → ℕ → ℕ → Bool
 is_other_on stations u v = (stations v).on && not (nat_eq v u)

@@ -7,7 +7,7 @@ pub enum BusError {
     /// There isn't one chooser for each unit.
     #[error("ChooserCount")]
     ChooserCount,
-    /// The units at these places may be one: nothing but serial numbers tells them apart, and not both are given, or
+    /// The units at these places may be one: nothing but serial numbers distinguishes them, and not both are given, or
     /// they have one NAME.
     #[error("SameName")]
     SameName(usize, usize),

@@ -10,9 +10,9 @@ pub struct Flow {
     pub priority: u8,
     /// The length of the shortest message in bytes.
     pub length: u16,
-    /// That of the longest.
+    /// The length of the longest message in bytes.
     pub most: u16,
-    /// Bits by whose number messages of the group are told from those of others of its PGN.
+    /// Bits by whose number messages of the group are distinguished from those of others of its PGN.
     pub when: Option<Selector>,
     pub sender: usize,
     pub to: To,

@@ -30,7 +30,7 @@ impl Short {
         Short { bytes: payload }
     }
 
-    /// Its bytes.
+    /// The bytes of the frame or packet.
     pub fn bytes(&self) -> &[u8]
         ensures value { result.now ≡ self.now }
         ensures range { length result.now ≤ 8 }
@@ -49,7 +49,7 @@ pub enum Wired {
 }
 
 impl Wired {
-    /// The same again.
+    /// A second one of the same bytes.
     pub fn copy(&self) -> Self
         ensures { result ≡ self.now }
     {

@@ -54,7 +54,7 @@ fn packets_are_read_and_sent_again(rt: HostRuntime) -> Result<(), Fail> {
 }
 
 #[test]
-fn a_message_is_told_as_it_was_given(rt: HostRuntime) -> Result<(), Fail> {
+fn a_message_is_reported_as_it_was_given(rt: HostRuntime) -> Result<(), Fail> {
     let message = message()?;
     assert!(rt; (message.pgn().number(), message.size().bytes()) == (65260, 17));
     assert!(rt; message.bytes() == TEXT.as_slice());

@@ -1,30 +1,59 @@
 -- What an audit keeps of the lines that were read.
-use Rattle.std.specs.Prelude.{◌≡◌, ◌≤◌, ℕ, if◌then◌else◌, List, length, Option}
+use Rattle.std.specs.Prelude.{◌≡◌, ◌≤◌, ℕ, Bool, if◌then◌else◌, List, length, Option}
 use Rattle.std.specs.Io.KnownBytes.{Consumes, IsAtEnd}
 use Rattle.j39_id.specs.Lines.{Line, lines}
 use Rattle.j39_id.specs.declared.frame.Frame.{Frame}
 use Rattle.j39_follow.specs.inside.FollowedSoFar.{interface_of}
 use Rattle.j39_log.specs.LineCounting.{AreWithin}
+use Rattle.j39_network.specs.declared.plan.Plan.{Plan}
 use Rattle.j39_stream.specs.declared.verdict.Verdict.{Verdict}
 use Rattle.j39_tp.specs.declared.packet.Packet.{Packet}
-use Rattle.j39_audit.specs.AuditText.{AuditPast, AuditsLines, AuditsShort, accusation_count, is_of_asking, is_of_broadcasts, is_of_moments, log_ended, nothing_read, text_by, verdict_by, past_with_frame, is_of_load, mark_by_bus}
-use Rattle.j39_audit.specs.Counting.{key_of}
+use Rattle.j39_audit.specs.AuditText.{AuditPast, AuditsLines, AuditsShort, Look, accusation_count, flow_seen, request_seen, unit_seen, is_of_asking, is_of_broadcasts, is_of_moments, log_ended, nothing_read, text_by, verdict_by, past_with_frame, is_of_load, mark_by_bus}
+use Rattle.j39_audit.specs.Asking.{with_sign_of}
+use Rattle.j39_audit.specs.BegunBroadcasts.{broadcasts_behind, packet_with}
+use Rattle.j39_audit.specs.Below.{each_below}
+use Rattle.j39_audit.specs.Claiming.{Knowledge}
+use Rattle.j39_audit.specs.Counting.{Noted, key_of}
 use Rattle.j39_audit.specs.Looking.{IsPacketOf}
-use Rattle.j39_audit.specs.Settings.{Settings}
+use Rattle.j39_audit.specs.MessageStreams.{nothing_sighted, sighted_behind}
+use Rattle.j39_audit.specs.Moments.{moments_behind, with_packet_stream}
+use Rattle.j39_audit.specs.Settings.{Settings, by_load as judged_by_load}
+use Rattle.j39_audit.specs.declared.announcements.Announcement.{Announcement}
 use Rattle.j39_audit.specs.declared.audit_log.AuditLog.{AuditLog}
 use Rattle.j39_audit.specs.declared.mark.Mark.{Mark}
-use Rattle.j39_audit.specs.declared.tally.Told.{Told}
+use Rattle.j39_audit.specs.declared.mark.Word.{Word}
+use Rattle.j39_audit.specs.declared.mark.Word.TheVariants.{Seen, Asked}
+use Rattle.j39_audit.specs.declared.pauses.Ending.{Ending}
+use Rattle.j39_audit.specs.declared.tally.Occurrences.{Occurrences}
 use Rattle.j39_audit.specs.inside.Recalling.{AreCounted, AreNear, KnowsClaims, RecallsAsking, RecallsBroadcasts, RecallsMoments, tallied_at, settings_of}
 
 -- what was found of a mark
-abbrev pub tallied : AuditLog → Mark → Told
+unfoldable pub tallied : AuditLog → Mark → Occurrences
 tallied log m =
     if is_of_moments m.word then tallied_at log.moments.untimely (key_of m)
     else if is_of_load m.word then tallied_at log.by_load.untimely (key_of (mark_by_bus m))
     else if is_of_asking m.word then tallied_at log.asking.deaf (key_of m)
     else if is_of_broadcasts m.word then tallied_at log.broadcasts.late (key_of m) else tallied_at log.tally (key_of m)
 
--- the claims, what was noted, the newest time, what times tell, who is asked and the planned broadcasts are these
+-- ---- what was seen
+
+-- of how many flows, requests or units a word is counted, and what is written of each
+abbrev pub seen_places : Word → Plan → ℕ
+seen_places Seen plan = length plan.flows.items
+seen_places Asked plan = length plan.requests.items
+seen_places _ plan = length plan.units.items
+
+abbrev pub seen_at : Word → Plan → Look → ℕ → List ℕ
+seen_at Seen plan look = flow_seen plan look
+seen_at Asked plan look = request_seen plan look
+seen_at _ plan look = unit_seen plan look
+
+abbrev pub all_seen : Word → Plan → Look → List ℕ
+all_seen word plan look = each_below (seen_at word plan look) (seen_places word plan)
+
+-- ---- a log
+
+-- the claims, what was noted, the newest time, what times report, who is asked and the planned broadcasts are these
 pub record AccordsWith (log : AuditLog) (past : AuditPast) : Type 0 where
   pub knows : KnowsClaims (settings_of log.basis) log.known past.claims
   pub counted : AreCounted log.tally past.noted
@@ -43,6 +72,32 @@ pub record RecallsAudit (log : AuditLog) (past : AuditPast) : Type 0 where
   pub skipped_are : log.counts.skipped ≡ past.skipped
   pub bad_are : log.counts.bad ≡ past.bad
   pub elsewhere_are : log.counts.elsewhere ≡ past.elsewhere
+
+-- what times report, who is asked and the planned broadcasts are these
+pub record RecallsTimes (s : Settings) (log : AuditLog) (past : AuditPast) : Type 0 where
+  pub moments : RecallsMoments log.moments past.moments
+  pub by_load : RecallsMoments log.by_load past.by_load
+  pub asking : RecallsAsking s log.asking past.asking
+  pub broadcasts : RecallsBroadcasts s log.broadcasts past.broadcasts
+
+-- nothing but this is new
+abbrev pub AreOnlyTimesNew : AuditLog → AuditLog → Type 0
+AreOnlyTimesNew old new = new ≡ record old { moments = new.moments; by_load = new.by_load; asking = new.asking; broadcasts = new.broadcasts }
+
+-- for whom a frame counts of which this was noted
+abbrev pub noted_unit : List Noted → Option ℕ
+noted_unit noted = (sighted_behind nothing_sighted noted).unit
+
+-- what it is behind a frame of this time and line, of which this was noted, at which these pauses end, and which announces this
+abbrev pub times_behind : Settings → Knowledge → Bool → Bool → Option ℕ → Frame → ℕ → List Noted → Ending → Option Announcement → AuditPast → AuditPast
+times_behind s k broken anew time f line noted ending announced past = record past {
+  moments = with_packet_stream s time line (packet_with s.plan.timing (noted_unit noted) f past.broadcasts)
+      (moments_behind s broken anew time f line noted ending past.moments);
+  by_load = moments_behind (judged_by_load s) broken anew time f line noted ending past.by_load;
+  asking = with_sign_of s.plan.timing (noted_unit noted) (moments_behind s broken anew time f line noted ending past.moments).since past.asking;
+  broadcasts = broadcasts_behind s k (noted_unit noted) f announced time (moments_behind s broken anew time f line noted ending past.moments).since line
+      past.broadcasts;
+}
 
 -- a frame of this time and of a line of this interface, as some packet or none, leads to what is followed now
 pub record TakesFrame (new : AuditLog) (past : AuditPast) (time : Option ℕ) (named : Option (List ℕ)) (f : Frame) : Type 0 where

@@ -6,7 +6,7 @@ use Rattle.j39_network.specs.declared.plan.Plan.{Plan}
 use Rattle.j39_audit.specs.Asking.{Asking}
 use Rattle.j39_audit.specs.BegunBroadcasts.{BegunBroadcasts}
 use Rattle.j39_audit.specs.Claiming.{HeardClaims, Knowledge, knowledge}
-use Rattle.j39_audit.specs.Counting.{Key, Noted, is_same_key, never, told_at}
+use Rattle.j39_audit.specs.Counting.{Key, Noted, is_same_key, never, reported_at}
 use Rattle.j39_audit.specs.Moments.{Moments}
 use Rattle.j39_audit.specs.SentMessages.{SentMessage}
 use Rattle.j39_audit.specs.Settings.{Settings}
@@ -27,7 +27,7 @@ use Rattle.j39_audit.specs.declared.pauses.Pauses.{Pauses}
 use Rattle.j39_audit.specs.declared.senders.SureSender.{SureSender}
 use Rattle.j39_audit.specs.declared.senders.SureSender.TheVariants.{Unit as OfUnit, Nobody, Unknown}
 use Rattle.j39_audit.specs.declared.tally.MarkTally.{MarkTally}
-use Rattle.j39_audit.specs.declared.tally.Told.{Told}
+use Rattle.j39_audit.specs.declared.tally.Occurrences.{Occurrences}
 
 abbrev pub settings_of : Basis → Settings
 settings_of basis = record {
@@ -39,15 +39,22 @@ settings_of basis = record {
   bound = basis.bound;
 }
 
+-- ---- places
+
+-- this is kept of each place, as of each unit or flow; where it isn't open, nothing is
+pub record IsKeptAt {X : Type 0} (items : List (Option X)) (is_open : Bool) (table : ℕ → Option X) : Type 0 where
+  pub places : (n : ℕ) → slice_index_or items n None ≡ table n
+  pub closed : is_open ≡ false → (n : ℕ) → table n ≡ None
+
 -- ---- counts
 
 -- what was found of a mark
-abbrev pub tallied_at : MarkTally → Key → Told
+abbrev pub tallied_at : MarkTally → Key → Occurrences
 tallied_at tally key = unwrap_or (get is_same_key tally.found key) never
 
 -- what was noted is counted
 abbrev pub AreCounted : MarkTally → List Noted → Type 0
-AreCounted tally noted = (key : Key) → tallied_at tally key ≡ told_at noted key
+AreCounted tally noted = (key : Key) → tallied_at tally key ≡ reported_at noted key
 
 -- what is counted behind a call is these more
 pub record Notes (old new : MarkTally) (more : List Noted) : Type 0 where
@@ -71,11 +78,9 @@ newest_in pauses n = slice_index_or pauses.newest.items n None
 abbrev pub last_in_pauses : Pauses → ℕ → Option LastFrame
 last_in_pauses pauses u = slice_index_or pauses.last.items u None
 
--- where none is open, none is kept
 pub record RecallsPauses (pauses : Pauses) (m : Moments) : Type 0 where
-  pub newest : (n : ℕ) → newest_in pauses n ≡ m.newest n
-  pub last : (u : ℕ) → last_in_pauses pauses u ≡ m.last u
-  pub closed : pauses.open ≡ false → ((n : ℕ) → m.newest n ≡ None) × ((u : ℕ) → m.last u ≡ None)
+  pub newest : IsKeptAt pauses.newest.items pauses.open m.newest
+  pub last : IsKeptAt pauses.last.items pauses.open m.last
 
 pub record ArePausesNear (pauses : Pauses) : Type 0 where
   pub newest : (n : ℕ) → IfSome (newest_in pauses n) (λ x. x.moment < far_ahead)
@@ -83,7 +88,7 @@ pub record ArePausesNear (pauses : Pauses) : Type 0 where
   pub newest_size : length pauses.newest.items ≡ 512
   pub last_size : length pauses.last.items ≡ 128
 
--- what the times tell is kept
+-- what the times report is kept
 pub record RecallsMoments (kept : KeptMoments) (m : Moments) : Type 0 where
   pub before : kept.before ≡ m.before
   pub since : kept.since ≡ m.since
@@ -102,11 +107,10 @@ pub record AreNear (kept : KeptMoments) : Type 0 where
 abbrev pub request_in : KeptAsking → ℕ → Option ClaimRequest
 request_in kept u = slice_index_or kept.asked.items u None
 
--- who is asked is kept; where it isn't open, nobody is
+-- who is asked is kept
 pub record RecallsAsking (s : Settings) (kept : KeptAsking) (a : Asking) : Type 0 where
   pub size : length kept.asked.items ≡ length s.plan.units.items
-  pub asked : (u : ℕ) → request_in kept u ≡ a.asked u
-  pub closed : kept.open ≡ false → (u : ℕ) → a.asked u ≡ None
+  pub asked : IsKeptAt kept.asked.items kept.open a.asked
   pub counted : AreCounted kept.deaf a.deaf
 
 -- ---- broadcasts
@@ -114,11 +118,10 @@ pub record RecallsAsking (s : Settings) (kept : KeptAsking) (a : Asking) : Type 
 abbrev pub begun_in : KeptBroadcasts → ℕ → Option BegunBroadcast
 begun_in kept u = slice_index_or kept.begun.items u None
 
--- those that have begun are kept; where it isn't open, none has
+-- those that have begun are kept
 pub record RecallsBroadcasts (s : Settings) (kept : KeptBroadcasts) (b : BegunBroadcasts) : Type 0 where
   pub size : length kept.begun.items ≡ length s.plan.units.items
-  pub begun : (u : ℕ) → begun_in kept u ≡ b.begun u
-  pub closed : kept.open ≡ false → (u : ℕ) → b.begun u ≡ None
+  pub begun : IsKeptAt kept.begun.items kept.open b.begun
   pub counted : AreCounted kept.late b.late
 
 -- ---- claims
@@ -132,7 +135,7 @@ taken_in known a = slice_index_or known.taken.items a false
 abbrev pub known_by : Known → Knowledge
 known_by known = record { last = last_in known; taken = taken_in known }
 
--- what these claims tell is known
+-- what these claims report is known
 pub record KnowsClaims (s : Settings) (known : Known) (claims : HeardClaims) : Type 0 where
   pub last_size : length known.last.items ≡ length s.plan.units.items
   pub taken_size : length known.taken.items ≡ 256

@@ -10,7 +10,7 @@ use Rattle.j39_network.specs.declared.plan.flow_plan.FlowPlan.{FlowPlan}
 abbrev pub is_sender_of : Plan → ℕ → ℕ → Bool
 is_sender_of plan u g = list_any (λ (f : FlowPlan). f.group == g && f.sender == u) plan.flows.items
 
--- as a row of each unit tells it
+-- as a row of each unit reports it
 abbrev pub sent_in : List (Vec Bool Global) → ℕ → ℕ → Bool
 sent_in rows u g = option_map_or (λ (row : Vec Bool Global). slice_index_or row.items g false) (slice_get rows u) false
 

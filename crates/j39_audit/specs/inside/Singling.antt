@@ -1,4 +1,4 @@
--- The only place of a list at which a test passes, as a loop over the list tells it.
+-- The only place of a list at which a test passes, as a loop over the list reports it.
 use Rattle.std.specs.Prelude.{◌≡◌, ◌≤◌, ◌&&◌, ℕ, Bool, true, false, List, [], ◌∷◌, count_by, length, take, Option, Some, None}
 use Rattle.std.specs.Option.{option_or}
 use Rattle.std.specs.List.{list_any}

@@ -1,5 +1,5 @@
 -- What a network keeps true, and where its steps lead.
-use Rattle.std.specs.Prelude.{◌≡◌, ℕ, ◌<◌, ◌≤◌, Bool, true, nat_eq, List, [], ◌∷◌, ◌++◌, map, length, Option, None, is_some, slice_index_or, slice_set}
+use Rattle.std.specs.Prelude.{◌≡◌, ℕ, ◌<◌, ◌≤◌, Bool, true, not, ◌&&◌, nat_eq, List, [], ◌∷◌, ◌++◌, map, length, Option, None, is_some, slice_index_or, slice_set, vec_len, vec_capacity}
 use Rattle.std.specs.List.{list_any}
 use Rattle.std.specs.FinMap.{get}
 use Rattle.j39_id.specs.Limits.{unit_limit}
@@ -12,18 +12,21 @@ use Rattle.j39_network.specs.declared.plan.Plan.{Plan}
 use Rattle.j39_network.specs.declared.steps.Step.{Step}
 use Rattle.j39_network.specs.declared.steps.Step.TheVariants.{Up, Down, Give, Ask, Begin, Send, Emit, Take, Lose, LateSender, LateReceiver, Rest}
 use Rattle.j39_bus.specs.declared.network.Network.{Network}
+use Rattle.j39_signal.specs.Selectors.{is_selected}
 use Rattle.j39_world.specs.declared.step_error.StepError.{StepError}
+use Rattle.j39_world.specs.declared.step_error.StepError.TheVariants.{Busy, NoAddress, NoSuchFlow, NotSettled, NotStarted, WrongLength, WrongSelector}
 use Rattle.j39_world.specs.Sent.{sent_of}
 use Rattle.j39_world.specs.World.{World, changed_pair}
 use Rattle.j39_world.specs.declared.flow.Flow.{Flow}
 use Rattle.j39_world.specs.Transfers.{added}
-use Rattle.j39_world.specs.TransferSteps.{TakenFrom}
-use Rattle.j39_world.specs.Run.{StepsTo, can_emit, is_waiting, refusal_among}
+use Rattle.j39_world.specs.TransferSteps.{TakenFrom, targets_of}
+use Rattle.j39_world.specs.Flows.{can_be_sent}
+use Rattle.j39_world.specs.Run.{StepsTo, at_ends, can_emit, has_address, is_nothing_undelivered, is_on, is_waiting, refusal_among}
 use Rattle.j39_bus.specs.Stations.{absent_unit, station_at}
 use Rattle.j39_bus.specs.BusState.{BusState, Histories, session_at, world_of}
 use Rattle.j39_bus.specs.Reports.{reported_of}
 use Rattle.j39_bus.specs.Stands.{HoldTaken, IsPlannedBy}
-use Rattle.j39_bus.specs.inside.KeptMessages.{IsTraffic}
+use Rattle.j39_bus.specs.inside.KeptMessages.{HasRoomTo, IsFlow, IsTraffic}
 use Rattle.j39_queues.specs.Queued.{IsTable, pair_in}
 
 abbrev pub planned_units : List ClaimerValue → List PlannedUnit
@@ -109,9 +112,28 @@ TakesOldest old u v new =
 abbrev pub refusal_in : Network → Histories → Step → Option StepError
 refusal_in net h step = refusal_among net.live (length net.claimers.items) net.flows.items (world_in h net) step
 
+-- of these bytes by a flow in a world with so many units, where the flow's sender is busy or not, and the flow may have such bytes or not
+abbrev pub flow_refusals : Bool → ℕ → World → Flow → List ℕ → Bool → Bool → List (StepError × Bool)
+flow_refusals live count w flow bytes busy fits =
+    (NoSuchFlow, not (can_be_sent flow))
+    ∷ (NotStarted, not (at_ends (is_on w.stations) flow.sender flow.to))
+    ∷ (NotSettled, not live && not (is_nothing_undelivered count w.claims))
+    ∷ (NoAddress, not (at_ends (has_address w.stations) flow.sender flow.to))
+    ∷ (Busy, busy)
+    ∷ (WrongLength, not fits)
+    ∷ (WrongSelector, not (is_selected flow.when bytes))
+    ∷ []
+
 -- this is the first cause, whatever histories the network has
 pub record IsRefusal (net : Network) (step : Step) (cause : Option StepError) : Type 0 where
   pub is : (h : Histories) → refusal_in net h step ≡ cause
+
+-- it has room for what goes by a flow to these units, which are those that the flow goes to, and for its frame
+pub record IsReadyFor (net : Network) (flow : Flow) (targets : List ℕ) : Type 0 where
+  pub planned : IsFlow (length net.claimers.items) flow
+  pub reached : targets ≡ targets_of (length net.claimers.items) (station_at net.claimers.items) flow.sender flow.to
+  pub wire : HasRoomTo net.wire flow.sender targets
+  pub frames : vec_len net.frames < vec_capacity net.frames
 
 -- two units of a network
 abbrev pub AreInside : Network → ℕ → ℕ → Type 0

@@ -9,8 +9,9 @@ ghost use Rattle.j39_bus.specs.BusState.{Histories};
 ghost use Rattle.j39_bus.specs.inside.Network.{HasHeld, IsAllowed, IsNetwork, IsSameNetwork, KeepsPlan, TakesOldest};
 ghost use Rattle.j39_bus.specs.inside.Network.{has_taken, world_in, Steps};
 ghost use Rattle.j39_bus.specs.inside.KeptMessages.{packet_heard};
-ghost use Rattle.j39_world.specs.TransferSteps.{alone_report, hearing, packets_in, reaction_of, receiver_replies};
+ghost use Rattle.j39_world.specs.TransferSteps.{hearing, packets_in, reaction_of, receiver_replies};
 ghost use Rattle.j39_world.specs.TransferSteps.{report, sender_replies};
+ghost use Rattle.j39_world.specs.World.{changed_pair};
 
 use crate::network::Network;
 use crate::report::Report;
@@ -73,52 +74,40 @@ impl Network {
         ensures same { OnErr result (IsSameNetwork self.old self.new) }
     {
         match item {
-            Wired::Short(short) => self.take_short(from, to, short.bytes()),
+            Wired::Short(short) => {
+                let flow = sessions::flow_of(self.sessions.as_slice(), from);
+                self.take_one_frame(from, to, flow, short.bytes(), false)
+            }
             Wired::Packet(packet) => self.take_packet(from, to, packet),
-            Wired::Alone(flow, short) => self.take_alone(from, to, *flow, short.bytes()),
+            Wired::Alone(flow, short) => self.take_one_frame(from, to, *flow, short.bytes(), true),
         }
     }
 
-    fn take_short(&mut self, from: usize, to: usize, bytes: &[u8]) -> Result<(), AllocError>
-        requires network { IsNetwork self.old }
-        requires from { from < length self.old.claimers.items }
-        requires to { to < length self.old.claimers.items }
-        requires oldest { pair_in self.old.wire.lists from to
-            ≡ Wired.Short bytes.now ∷ drop 1 (pair_in self.old.wire.lists from to) }
-        ensures network { IsNetwork self.new }
-        ensures plan { KeepsPlan self.old self.new }
-        ensures takes { OnOk result (TakesOldest self.old from to self.new) }
-        ensures same { OnErr result (IsSameNetwork self.old self.new) }
-    {
-        let copy = Vec::from_slice(*self.frames.allocator(), bytes)?;
-        self.reports.reserve(1)?;
-        drop(self.wire.pop(from, to));
-        self.report(from, to, copy);
-        Ok(())
-    }
-
-    // A frame that was sent alone: no session has its flow.
-    fn take_alone(
+    // A frame that has all bytes of a message by a flow, or that was sent alone by it.
+    fn take_one_frame(
         &mut self,
         from: usize,
         to: usize,
         flow: usize,
         bytes: &[u8],
+        alone: bool,
     ) -> Result<(), AllocError>
         requires network { IsNetwork self.old }
         requires from { from < length self.old.claimers.items }
         requires to { to < length self.old.claimers.items }
-        requires oldest { pair_in self.old.wire.lists from to
-            ≡ Wired.Alone flow bytes.now ∷ drop 1 (pair_in self.old.wire.lists from to) }
         ensures network { IsNetwork self.new }
         ensures plan { KeepsPlan self.old self.new }
-        ensures takes { OnOk result (TakesOldest self.old from to self.new) }
+        ensures receivers { self.new.receivers ≡ self.old.receivers }
+        ensures world { OnOk result ((h : Histories) → let w = world_in h self.old in world_in h self.new ≡ record w {
+          wire = changed_pair w.wire from to (drop 1 (w.wire from to));
+          reports = w.reports ++ record { receiver = to; sender = from; flow = flow; bytes = bytes.now; alone = alone } ∷ [];
+        }) }
         ensures same { OnErr result (IsSameNetwork self.old self.new) }
     {
         let copy = Vec::from_slice(*self.frames.allocator(), bytes)?;
         self.reports.reserve(1)?;
         drop(self.wire.pop(from, to));
-        self.report_alone(from, to, flow, copy);
+        self.report_by(from, to, flow, copy, alone);
         Ok(())
     }
 
@@ -209,29 +198,23 @@ impl Network {
             (world_in h self.old) { reports = (world_in h self.old).reports ++ report (world_in h self.old) from to bytes.items ∷ [] } }
     {
         let flow = sessions::flow_of(self.sessions.as_slice(), from);
-        self.reports.push_reserved(Report {
-            receiver: to,
-            sender: from,
-            flow,
-            bytes,
-            alone: false,
-        });
+        self.report_by(from, to, flow, bytes, false);
     }
 
-    /// The second unit reports a frame that the first sent alone by a flow.
-    fn report_alone(&mut self, from: usize, to: usize, flow: usize, bytes: Vec<u8>)
-        requires network { IsNetwork self.old }
+    /// The second unit reports what the first sent by a flow, in a message or in a frame alone.
+    fn report_by(&mut self, from: usize, to: usize, flow: usize, bytes: Vec<u8>, alone: bool)
         requires room { vec_len self.old.reports < vec_capacity self.old.reports }
         ensures rest { self.new ≡ record self.old { reports = self.new.reports } }
-        ensures world { (h : Histories) → world_in h self.new ≡ record
-            (world_in h self.old) { reports = (world_in h self.old).reports ++ alone_report from to flow bytes.items ∷ [] } }
+        ensures world { (h : Histories) → let w = world_in h self.old in world_in h self.new ≡ record w {
+          reports = w.reports ++ record { receiver = to; sender = from; flow = flow; bytes = bytes.items; alone = alone } ∷ [];
+        } }
     {
         self.reports.push_reserved(Report {
             receiver: to,
             sender: from,
             flow,
             bytes,
-            alone: true,
+            alone,
         });
     }
 }

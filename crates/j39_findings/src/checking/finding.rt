@@ -5,7 +5,7 @@ ghost use Rattle.std.specs.Prelude.{◌≡◌};
 /// places.
 #[derive(Clone, Copy, PartialEq, Eq)]
 pub enum Finding {
-    /// F1: two units may be one: they have one NAME, or nothing but serial numbers tells them apart, and not both are
+    /// F1: two units may be one: they have one NAME, or nothing but serial numbers distinguishes them, and not both are
     /// given.
     SameName(usize, usize),
     /// F2: two fixed units that claim have one address.

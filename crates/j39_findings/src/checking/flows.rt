@@ -1,29 +1,13 @@
 //! What is wrong with the flows of a plan.
 ghost use Rattle.std.specs.Prelude.{◌≡◌};
 ghost use Rattle.j39_search.specs.Adding.{Adds};
-ghost use Rattle.j39_findings.specs.Found.{is_one_frame_to_all, may_be_one_frame_to_all, cannot_go_to_one};
-ghost use Rattle.j39_findings.specs.Found.{goes_to_its_sender, are_one_flow, flow_findings};
+ghost use Rattle.j39_findings.specs.Found.{are_one_flow, cannot_go_to_one, flow_findings, goes_to_its_sender};
 
 use crate::checking::finding::Finding;
-use j39_id::limits::FRAME_BYTES;
-use j39_id::{PDU2_FIRST, pf_of};
+use crate::sending::is_one_frame_to_all;
 use j39_network::{FlowPlan, GroupPlan, To};
 use j39_search::{PairRule, TestRule, find_pairs, find_tested};
 use std::alloc::AllocError;
-
-/// Whether each message of the group is sent in one frame, which has no destination.
-pub fn is_one_frame_to_all(group: &GroupPlan) -> bool
-    ensures { result ≡ is_one_frame_to_all group.now }
-{
-    pf_of(group.pgn) >= PDU2_FIRST && usize::from(group.most) <= FRAME_BYTES
-}
-
-/// Whether some message of the group is sent in one frame, which has no destination.
-pub fn may_be_one_frame_to_all(group: &GroupPlan) -> bool
-    ensures { result ≡ may_be_one_frame_to_all group.now }
-{
-    pf_of(group.pgn) >= PDU2_FIRST && usize::from(group.length) <= FRAME_BYTES
-}
 
 fn cannot_go_to_one(groups: &[GroupPlan], flow: &FlowPlan) -> bool
     ensures { result ≡ cannot_go_to_one groups.now flow.now }
@@ -93,6 +77,7 @@ impl PairRule<FlowPlan, Finding> for FlowRepeated {
     }
 }
 
+#[tactic(auto, using(j39_search::proofs::AddingLemmas::refuses, j39_search::proofs::AddingLemmas::some_left, j39_search::proofs::AddingLemmas::some_right, j39_search::proofs::AddingLemmas::adds_behind), unfolding(crate::specs::Found::flow_findings, j39_search::specs::ListPlaces::each))]
 pub fn find_in_flows(
     findings: &mut Vec<Finding>,
     groups: &[GroupPlan],

@@ -119,6 +119,7 @@ impl PairRule<GroupPlan, Finding> for SamePgn<'_> {
     }
 }
 
+#[tactic(auto, using(j39_search::proofs::AddingLemmas::refuses, j39_search::proofs::AddingLemmas::some_left, j39_search::proofs::AddingLemmas::some_right, j39_search::proofs::AddingLemmas::adds_behind), unfolding(crate::specs::Found::group_findings, j39_search::specs::ListPlaces::each))]
 pub fn find_in_groups(
     findings: &mut Vec<Finding>,
     groups: &[GroupPlan],

@@ -31,7 +31,7 @@ impl TestRule<NeedPlan, Finding> for NeedUnmet<'_> {
 }
 
 /// Adds the needs that no flow meets. Of each need the flows are looked at up to the first that meets it, and one
-/// number tells most of them apart from it. Requests are looked at only for flows that are sent as answers.
+/// number distinguishes most of them from it. Requests are looked at only for flows that are sent as answers.
 #[tactic(auto, unfolding(crate::specs::Found::need_findings))]
 pub fn find_in_needs(
     findings: &mut Vec<Finding>,

@@ -1,53 +1,14 @@
 //! Which flows send private groups.
 ghost use Rattle.std.specs.Prelude.{◌≡◌};
 ghost use Rattle.j39_search.specs.Adding.{Adds};
-ghost use Rattle.j39_findings.specs.Found.{sends, do_receivers_meet, sends_beside, is_sent_beside, sends_first};
-ghost use Rattle.j39_findings.specs.Found.{are_sent_together, is_sent, is_private_unsent, unsent_findings};
+ghost use Rattle.j39_findings.specs.Found.{are_sent_together, is_private_unsent, is_sent, is_sent_beside, sends_first};
+ghost use Rattle.j39_findings.specs.Found.{unsent_findings};
 
 use crate::checking::finding::Finding;
-use crate::checking::flows::may_be_one_frame_to_all;
-use j39_network::{FlowPlan, GroupPlan, To};
+use crate::sending::{sends, sends_beside};
+use j39_network::{FlowPlan, GroupPlan};
 use j39_search::{TestRule, find_tested};
 use std::alloc::AllocError;
-
-// Whether the flow sends the group, which its label names.
-fn sends(groups: &[GroupPlan], group: &GroupPlan, flow: &FlowPlan) -> bool
-    ensures { result ≡ sends groups.now group.now flow.now }
-{
-    match groups.get(flow.group) {
-        Some(sent) => sent.label.as_str() == group.label.as_str(),
-        None => false,
-    }
-}
-
-// Whether one unit can hear a message of either flow.
-fn do_receivers_meet(
-    first: &GroupPlan,
-    second: &GroupPlan,
-    flow: &FlowPlan,
-    other: &FlowPlan,
-) -> bool
-    ensures { result ≡ do_receivers_meet first.now second.now flow.now other.now }
-{
-    flow.to == To::All
-        || other.to == To::All
-        || flow.to == other.to
-        || may_be_one_frame_to_all(first) && may_be_one_frame_to_all(second)
-}
-
-fn sends_beside(
-    groups: &[GroupPlan],
-    first: &GroupPlan,
-    second: &GroupPlan,
-    flow: &FlowPlan,
-    other: &FlowPlan,
-) -> bool
-    ensures { result ≡ sends_beside groups.now first.now second.now flow.now other.now }
-{
-    other.sender == flow.sender
-        && sends(groups, second, other)
-        && do_receivers_meet(first, second, flow, other)
-}
 
 fn is_sent_beside(
     groups: &[GroupPlan],

@@ -1,30 +1,17 @@
 //! Which requests are answered, and how.
 ghost use Rattle.std.specs.Prelude.{◌≡◌};
 ghost use Rattle.j39_search.specs.Adding.{Adds};
-ghost use Rattle.j39_findings.specs.Found.{ask_the_same, ask_for_one_number, is_all_astray, is_answered_astray};
-ghost use Rattle.j39_findings.specs.Found.{is_one_astray, is_served_to_all};
-ghost use Rattle.j39_findings.specs.Found.{is_served_to_one, goes_unanswered, goes_unheard, may_name_receiver};
-ghost use Rattle.j39_findings.specs.Found.{request_findings, serves_all, serves_one};
-ghost use Rattle.j39_network.specs.Serving.{is_served, serves};
+ghost use Rattle.j39_findings.specs.Found.{ask_for_one_number, ask_the_same, goes_unanswered, goes_unheard, is_all_astray};
+ghost use Rattle.j39_findings.specs.Found.{is_answered_astray, is_one_astray, is_served_to_all, is_served_to_one};
+ghost use Rattle.j39_findings.specs.Found.{request_findings};
+ghost use Rattle.j39_network.specs.Serving.{is_served};
 
 use crate::checking::finding::Finding;
-use crate::checking::flows::is_one_frame_to_all;
 use crate::checking::groups::WhenOutside;
-use j39_network::{FlowPlan, GroupPlan, RequestPlan, To, is_served, serves};
+use crate::sending::{may_name_receiver, serves_all, serves_one};
+use j39_network::{FlowPlan, GroupPlan, RequestPlan, To, is_served};
 use j39_search::{PairRule, TestRule, find_pairs, find_tested};
 use std::alloc::AllocError;
-
-fn serves_one(request: &RequestPlan, flow: &FlowPlan) -> bool
-    ensures { result ≡ serves_one request.now flow.now }
-{
-    serves(request, flow) && flow.to != To::All
-}
-
-fn serves_all(request: &RequestPlan, flow: &FlowPlan) -> bool
-    ensures { result ≡ serves_all request.now flow.now }
-{
-    serves(request, flow) && flow.to == To::All
-}
 
 fn is_served_to_one(flows: &[FlowPlan], request: &RequestPlan) -> bool
     ensures { result ≡ is_served_to_one flows.now request.now }
@@ -36,16 +23,6 @@ fn is_served_to_all(flows: &[FlowPlan], request: &RequestPlan) -> bool
     ensures { result ≡ is_served_to_all flows.now request.now }
 {
     flows.iter().any(|flow| serves_all(request, flow))
-}
-
-// Whether some message of the group that is asked for can name a receiver.
-fn may_name_receiver(groups: &[GroupPlan], request: &RequestPlan) -> bool
-    ensures { result ≡ may_name_receiver groups.now request.now }
-{
-    match groups.get(request.group) {
-        Some(group) => !is_one_frame_to_all(group),
-        None => false,
-    }
 }
 
 // Whether one unit is asked, and only answers to all, though it could answer to one.

@@ -146,6 +146,7 @@ impl Rule<GroupPlan, Finding> for Overlaps {
     }
 }
 
+#[tactic(auto, using(j39_search::proofs::AddingLemmas::refuses, j39_search::proofs::AddingLemmas::some_left, j39_search::proofs::AddingLemmas::some_right, j39_search::proofs::AddingLemmas::adds_behind), unfolding(crate::specs::Found::signal_findings))]
 pub fn find_in_signals(findings: &mut Vec<Finding>, groups: &[GroupPlan]) -> Result<(), AllocError>
     ensures { Adds result findings.old.items findings.new.items (signal_findings groups.now) }
 {

@@ -58,6 +58,7 @@ impl TestRule<UnitPlan, Finding> for SilentInPool<'_> {
     }
 }
 
+#[tactic(auto, using(j39_search::proofs::AddingLemmas::refuses, j39_search::proofs::AddingLemmas::some_left, j39_search::proofs::AddingLemmas::some_right, j39_search::proofs::AddingLemmas::adds_behind), unfolding(crate::specs::Found::silent_findings, j39_search::specs::ListPlaces::each))]
 pub fn find_silent(
     findings: &mut Vec<Finding>,
     kept: &AddressSet,

@@ -80,6 +80,7 @@ fn needed_addresses(kept: &AddressSet, strangers: u8, units: &[UnitPlan]) -> usi
     planned + usize::from(strangers)
 }
 
+#[tactic(auto, using(j39_search::proofs::AddingLemmas::refuses, j39_search::proofs::AddingLemmas::some_left, j39_search::proofs::AddingLemmas::some_right, j39_search::proofs::AddingLemmas::adds_behind), unfolding(crate::specs::Found::unit_findings))]
 pub fn find_in_units(
     findings: &mut Vec<Finding>,
     kept: &AddressSet,

@@ -5,7 +5,7 @@ ghost use Rattle.j39_network.specs.PrivateGroups.{HasNoPrivate, OneGroupFits};
 ghost use Rattle.j39_findings.specs.WithoutPrivate.{IsFoundAsBefore};
 
 /// In a clean plan a message of some number, from some unit to another or to all, can be one of one group at most:
-/// private groups of one number are told apart by who sends them to whom.
+/// private groups of one number are distinguished by who sends them to whom.
 pub fn one_group_fits()
     ensures { (plan : Plan) → Clean plan → OneGroupFits plan }
 {}

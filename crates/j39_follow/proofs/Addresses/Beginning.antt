@@ -1,7 +1,7 @@
 -- The contest that a claim begins.
 use Rattle.std.proofs.Common.{◌≡◌, ◌<◌, ℕ, ◌||◌, not, nat_lt, Bool, true, false, if◌then◌else◌, List, Option, Some, None, is_some, inl, inr, refl, sym, ap}
 use Rattle.std.proofs.Common.{subst, ◌∙◌}
-use Rattle.std.proofs.lemmas.Bool.{cases_Bool, or_cases, lt-ltb, ltb-true, false≢true, not-true}
+use Rattle.std.proofs.lemmas.Bool.{cases_Bool, or_cases, lt-ltb, ltb-true, false≢true, not-true, or_left, or_parts}
 use Rattle.std.proofs.lemmas.Option.{none-some}
 use Rattle.j39_id.specs.Addresses.{in_pool}
 use Rattle.j39_id.specs.FrameMeaning.{cannot_claim, claims_address, name_in}
@@ -19,15 +19,10 @@ use Rattle.j39_follow.specs.inside.Hearing.{is_same_party}
 use Rattle.j39_follow.proofs.Addresses.Contending.{defended_so, left_so, one_guess, one_met, place_some, run_so, some_place, run_then, undefended}
 use Rattle.j39_follow.proofs.Addresses.Heard.{party_again, party_same}
 use Rattle.j39_follow.proofs.Addresses.HolderLaws.{same_name}
-use Rattle.j39_follow.proofs.Addresses.Recounts.{or_left}
 
 not_so : (b : Bool) → b ≡ false → not b ≡ true
 not_so true e = cc
 not_so false e = refl
-
-both_false : (a b : Bool) → (a || b) ≡ false → (a ≡ false) × (b ≡ false)
-both_false true b e = absurd (false≢true (sym e))
-both_false false b e = (refl, e)
 
 not_below : (n m : ℕ) → nat_lt n m ≡ false → n < m → ⊥
 not_below n m e less = false≢true (sym e ∙ lt-ltb n m less)
@@ -48,7 +43,7 @@ module _ (plan : Plan) (before : List Timed) (x : Timed) (k : Claim) (at : IsCla
           ],
         ))
     | inr not_met ↦
-        let parts = both_false (nat_lt holder k.name) (not (is_defended old.contest old.since k)) not_met in
+        let parts = or_parts (nat_lt holder k.name) (not (is_defended old.contest old.since k)) not_met in
         subst (λ (b : Bool). IsMet plan before old x k (if b then Some holder else None)) (sym not_met)
         (λ m meets. elim meets [
           | inl there ↦
@@ -162,8 +157,8 @@ module _ (plan : Plan) (before : List Timed) (x : Timed) (k : Claim) (at : IsCla
 
   -- ---- what is known of the address behind it
 
-  told_of : (claims_address x.frame || cannot_claim x.frame) ≡ true
-  told_of = or_left (claims_address x.frame) (cannot_claim x.frame) at.claims.claim
+  stated_of : (claims_address x.frame || cannot_claim x.frame) ≡ true
+  stated_of = or_left (claims_address x.frame) (cannot_claim x.frame) at.claims.claim
 
   party_is : k.claimant.party ≡ likely_named plan (name_in x.frame)
   party_is = at.claimant.party ∙ ap (likely_named plan) (sym at.claims.name_is)
@@ -173,7 +168,7 @@ module _ (plan : Plan) (before : List Timed) (x : Timed) (k : Claim) (at : IsCla
 
   pub contest_kept : (old : Contention) → IsBegun plan before old x k.address None
       → IsContestBehind plan before old x k.address (remaining_of k.claimant.party old.contest)
-  contest_kept old none = left_so plan before old x k.address none old.contest k.claimant.party refl party_is told_of
+  contest_kept old none = left_so plan before old x k.address none old.contest k.claimant.party refl party_is stated_of
 
   pub taken_held : (old : Contention) → HoldsByFrames (frames_of before) k.name k.address → IsTakenBehind plan before old x k.address old.taken
   taken_held old holds =

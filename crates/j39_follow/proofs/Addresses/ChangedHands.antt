@@ -1,8 +1,10 @@
 -- Pairs of which an address has another party, address after address.
-use Rattle.std.proofs.Common.{◌≡◌, ◌==◌, ◌&&◌, ◌||◌, ◌+◌, ◌<◌, ◌≤◌, ℕ, nat_lt, Bool, true, false, if◌then◌else◌, List, Option, inl, inr, refl, sym, ap, ◌∙◌}
+use Rattle.std.proofs.Common.{◌≡◌, ◌==◌, ◌&&◌, ◌||◌, ◌+◌, ◌<◌, ◌≤◌, ℕ, nat_lt, Bool, true, false, if◌then◌else◌, List, Option, inl, inr, sym, ap, ◌∙◌}
 use Rattle.std.proofs.Common.{arith, eqb-true}
 use Rattle.std.proofs.lemmas.Bool.{cases_Bool, eqb-false, lt-ltb}
-use Rattle.j39_log.specs.inside.Listening.{is_of_pair}
+use Rattle.std.proofs.Math.Bool.{and-false, or-false, or-true}
+use Rattle.j39_log.specs.PairListeners.{is_of_pair}
+use Rattle.j39_log.proofs.Forgetting.{if_or, or_swap}
 use Rattle.j39_follow.specs.declared.address.who.Who.{Who}
 use Rattle.j39_follow.specs.inside.Hearing.{differs_at, is_changed}
 use Rattle.j39_follow.proofs.Addresses.Tables.{lt_next_other}
@@ -12,18 +14,6 @@ abbrev pub is_changed_below : List Who → List Who → Option ℕ → ℕ → �
 is_changed_below old new replaced many source destination =
     (nat_lt source many && differs_at old new replaced source) || (nat_lt destination many && differs_at old new replaced destination)
 
-or_true : (x : Bool) → (x || true) ≡ true
-or_true true = refl
-or_true false = refl
-
-or_false : (x : Bool) → (x || false) ≡ x
-or_false true = refl
-or_false false = refl
-
-and_false : (x : Bool) → (x && false) ≡ false
-and_false true = refl
-and_false false = refl
-
 next_yes : (differs : ℕ → Bool) (s k : ℕ) → differs k ≡ true → (nat_lt s (k + 1) && differs s) ≡ ((nat_lt s k && differs s) || k == s)
 next_yes differs s k apart = elim (cases_Bool (k == s)) [
   | inl same ↦
@@ -31,10 +21,10 @@ next_yes differs s k apart = elim (cases_Bool (k == s)) [
       let less : nat_lt s (k + 1) ≡ true = lt-ltb s (k + 1) (omega arith) in
       let here : differs s ≡ true = sym (ap differs is) ∙ apart in
       ap (λ (b : Bool). b && differs s) less ∙ here
-      ∙ sym (ap (λ (b : Bool). (nat_lt s k && differs s) || b) same ∙ or_true (nat_lt s k && differs s))
+      ∙ sym (ap (λ (b : Bool). (nat_lt s k && differs s) || b) same ∙ or-true (nat_lt s k && differs s))
   | inr other ↦
       ap (λ (b : Bool). b && differs s) (lt_next_other s k (eqb-false k s other))
-      ∙ sym (ap (λ (b : Bool). (nat_lt s k && differs s) || b) other ∙ or_false (nat_lt s k && differs s))
+      ∙ sym (ap (λ (b : Bool). (nat_lt s k && differs s) || b) other ∙ or-false (nat_lt s k && differs s))
 ]
 
 next_no : (differs : ℕ → Bool) (s k : ℕ) → differs k ≡ false → (nat_lt s (k + 1) && differs s) ≡ (nat_lt s k && differs s)
@@ -42,20 +32,13 @@ next_no differs s k together = elim (cases_Bool (k == s)) [
   | inl same ↦
       let is : k ≡ s = eqb-true k s same in
       let here : differs s ≡ false = sym (ap differs is) ∙ together in
-      ap (λ (b : Bool). nat_lt s (k + 1) && b) here ∙ and_false (nat_lt s (k + 1))
-      ∙ sym (ap (λ (b : Bool). nat_lt s k && b) here ∙ and_false (nat_lt s k))
+      ap (λ (b : Bool). nat_lt s (k + 1) && b) here ∙ and-false (nat_lt s (k + 1))
+      ∙ sym (ap (λ (b : Bool). nat_lt s k && b) here ∙ and-false (nat_lt s k))
   | inr other ↦ ap (λ (b : Bool). b && differs s) (lt_next_other s k (eqb-false k s other))
 ]
 
 merged : {A : Type 0} (a b c d : Bool) (f x : A) → (if a || b then f else (if c || d then f else x)) ≡ (if (c || a) || (d || b) then f else x)
-merged true b true d f x = refl
-merged true b false d f x = refl
-merged false true true d f x = refl
-merged false true false true f x = refl
-merged false true false false f x = refl
-merged false false true d f x = refl
-merged false false false true f x = refl
-merged false false false false f x = refl
+merged a b c d f x = if_or (a || b) (c || d) f x ∙ ap (λ (any : Bool). if any then f else x) (or_swap c d a b)
 
 -- a party that differs
 pub changed_here : {A : Type 0} (old new : List Who) (replaced : Option ℕ) (k s d : ℕ) (f x now before : A) → differs_at old new replaced k ≡ true

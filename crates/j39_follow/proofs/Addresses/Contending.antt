@@ -1,7 +1,7 @@
 -- What is known of the contests for an address, once one line more was read.
 use Rattle.std.proofs.Common.{◌≡◌, ◌+◌, ◌<◌, ◌≤◌, ℕ, ◌&&◌, ◌||◌, nat_le, nat_lt, Bool, true, false, if◌then◌else◌}
 use Rattle.std.proofs.Common.{List, [], ◌∷◌, ◌++◌, Option, Some, None, inl, inr, refl, sym, ap, subst, ◌∙◌, arith, append_assoc, eqb-true, eq-eqb}
-use Rattle.std.proofs.lemmas.Bool.{and_parts, cases_Bool, or_cases, le-leb, leb-true, lt-ltb, ltb-true, false≢true}
+use Rattle.std.proofs.lemmas.Bool.{and_parts, cases_Bool, or_cases, le-leb, leb-true, lt-ltb, ltb-true, false≢true, and_from, or_left, or_right}
 use Rattle.std.proofs.lemmas.List.{append-nil}
 use Rattle.std.proofs.lemmas.Option.{none-some, same_Some}
 use Rattle.j39_id.specs.FrameMeaning.{cannot_claim, claims_address, name_in}
@@ -20,13 +20,9 @@ use Rattle.j39_follow.specs.inside.Contesting.{since_of}
 use Rattle.j39_follow.specs.inside.Hearing.{is_same_party}
 use Rattle.j39_follow.proofs.Addresses.Heard.{party_again, party_same}
 use Rattle.j39_follow.proofs.Addresses.HolderLaws.{same_name}
-use Rattle.j39_follow.proofs.Addresses.Recounts.{TellsNothing, claim_tells, or_left, or_right}
+use Rattle.j39_follow.proofs.Addresses.Recounts.{HoldsNothing, claim_reports}
 
 -- ---- a contest that runs
-
-both_true : (a b : Bool) → a ≡ true → b ≡ true → (a && b) ≡ true
-both_true true b x y = y
-both_true false b x y = cc
 
 pub run_so : (kept : Option Contest) (time : Option ℕ) (c : Contest) → running_of kept time ≡ Some c → Runs kept time c
 run_so None time c e = absurd (none-some c e)
@@ -47,7 +43,7 @@ run_so (Some d) (Some now) c e = elim (cases_Bool (is_lasting d now)) [
 
 pub runs_at : (c : Contest) (now : ℕ) → c.since ≤ now → now < c.since + claim_wait → is_lasting c now ≡ true
 runs_at c now begun lasts =
-    both_true (nat_le c.since now) (nat_lt now (c.since + claim_wait)) (le-leb c.since now begun) (lt-ltb now (c.since + claim_wait) lasts)
+    and_from (nat_le c.since now) (nat_lt now (c.since + claim_wait)) (le-leb c.since now begun) (lt-ltb now (c.since + claim_wait) lasts)
 
 pub run_then : (kept : Option Contest) (time : Option ℕ) (c : Contest) → Runs kept time c → running_of kept time ≡ Some c
 run_then kept time c r =
@@ -123,7 +119,7 @@ module _ (plan : Plan) (before : List Timed) (x : Timed) (old : Contention) (k :
   pub defended_then : Defends plan (frames_of before) old x.time k.address k.name → is_defended old.contest (since_of holder old.since) k ≡ true
   defended_then (inl last) =
       or_left again (defends_in (running_of old.contest k.time) k.claimant.party)
-      (both_true (is_place k.claimant.address k.address) (is_soon (since_of holder old.since) k.time)
+      (and_from (is_place k.claimant.address k.address) (is_soon (since_of holder old.since) k.time)
       (some_place k.claimant.address k.address (at.claimant.claims k.address last.0))
       (subst (λ (t : Option ℕ). is_soon (since_of holder old.since) t ≡ true) (sym at.time)
       (soon_held (frames_of before) k.address holder old.since x.time holds last.1)))
@@ -265,12 +261,12 @@ module _ (plan : Plan) (before : List Timed) (old : Contention) (x : Timed) (a :
 
   pub left_so : (o : Option Contest) (party : Who) → old.contest ≡ o → party ≡ likely_named plan (name_in x.frame)
       → (claims_address x.frame || cannot_claim x.frame) ≡ true → IsContestBehind plan before old x a (remaining_of party o)
-  left_so None party is named told = kept_none is
-  left_so (Some c) party is named told = elim (cases_Bool (is_same_party party c.defender)) [
+  left_so None party is named stated = kept_none is
+  left_so (Some c) party is named stated = elim (cases_Bool (is_same_party party c.defender)) [
     | inl same ↦
         let ends : EndsContest plan x.frame c = (
           name_in x.frame,
-          record { either = told; name_is = refl },
+          record { either = stated; name_is = refl },
           subst (λ (w : Who). IsSameParty w c.defender) named (party_same party c.defender same),
         ) in
         subst (λ (b : Bool). IsContestBehind plan before old x a (if b then None else Some c)) (sym same) (
@@ -293,21 +289,21 @@ pub begins_none : (plan : Plan) (before : List Timed) (old : Contention) (x : Ti
     → BeginsNone plan before old x a
 begins_none plan before old x a none c begins = none begins.claimant begins.claims
 
-pub silent_behind : (plan : Plan) (before : List Timed) (old : Contention) (x : Timed) (a : ℕ) → TellsNothing x.frame
+pub silent_behind : (plan : Plan) (before : List Timed) (old : Contention) (x : Timed) (a : ℕ) → HoldsNothing x.frame
     → IsContentionBehind plan before old x a old
 silent_behind plan before old x a silent = record {
-  since = inr ((λ takes. silent (name_in x.frame) (claim_tells x.frame (name_in x.frame) a takes.0)), refl);
-  taken = inr (inr ((λ takes. silent (name_in x.frame) (claim_tells x.frame (name_in x.frame) a takes.0)), refl));
-  contest = kept_so plan before old x a (λ c begins. silent begins.claimant (claim_tells x.frame begins.claimant a begins.claims)) old.contest refl
+  since = inr ((λ takes. silent (name_in x.frame) (claim_reports x.frame (name_in x.frame) a takes.0)), refl);
+  taken = inr (inr ((λ takes. silent (name_in x.frame) (claim_reports x.frame (name_in x.frame) a takes.0)), refl));
+  contest = kept_so plan before old x a (λ c begins. silent begins.claimant (claim_reports x.frame begins.claimant a begins.claims)) old.contest refl
       (λ c ends. silent ends.0 ends.1);
 }
 
--- one that tells of this NAME and doesn't claim the address
+-- one that reports of this NAME and doesn't claim the address
 pub left_behind : (plan : Plan) (before : List Timed) (old : Contention) (x : Timed) (a : ℕ) (party : Who) → party ≡ likely_named plan (name_in x.frame)
     → (claims_address x.frame || cannot_claim x.frame) ≡ true → ((name : ℕ) → ¬ Claims x.frame name a)
     → IsContentionBehind plan before old x a (remaining_at party old)
-left_behind plan before old x a party named told none = record {
+left_behind plan before old x a party named stated none = record {
   since = inr ((λ takes. none (name_in x.frame) takes.0), refl);
   taken = inr (inr ((λ takes. none (name_in x.frame) takes.0), refl));
-  contest = left_so plan before old x a (begins_none plan before old x a none) old.contest party refl named told;
+  contest = left_so plan before old x a (begins_none plan before old x a none) old.contest party refl named stated;
 }

@@ -1,20 +1,14 @@
 -- Within 250 ms of its beginning a contest says who is behind an address.
-use Rattle.std.proofs.Common.{◌≡◌, ℕ, List, Option, Some, inl, inr, refl, sym, ap, subst, ◌∙◌}
-use Rattle.std.proofs.lemmas.List.{same_from_push}
-use Rattle.std.proofs.lemmas.Option.{none-some, same_Some}
+use Rattle.std.proofs.Common.{◌≡◌, ℕ, List, Some, inl, inr, refl, sym, ap, subst, ◌∙◌}
+use Rattle.std.proofs.lemmas.Option.{same_Some}
 use Rattle.j39_network.specs.declared.plan.Plan.{Plan}
 use Rattle.j39_follow.specs.Contests.{IsContention, IsContested, IsNow, IsTaken, Timed}
 use Rattle.j39_follow.specs.declared.address.contest.Contention.{Contention}
 use Rattle.j39_follow.specs.declared.address.contest.Contest.{Contest}
 use Rattle.j39_follow.specs.declared.address.who.Who.{Who}
 use Rattle.j39_follow.proofs.Addresses.Contending.{one_contention}
-use Rattle.j39_follow.specs.ContestTimes.{ContestsLastAWait, IsToldWithin, MaySendInContest}
-
--- the last line has one time
-one_time : (log : List Timed) (s t : Option ℕ) → IsNow log s → IsNow log t → s ≡ t
-one_time log s t p q =
-    let same = same_from_push p.0 q.0 p.1 q.1 (sym p.2 ∙ q.2) in
-    sym p.3 ∙ ap (λ (x : Timed). x.time) same.1 ∙ q.3
+use Rattle.j39_follow.specs.ContestTimes.{ContestsLastAWait, IsReportedWithin, MaySendInContest}
+use Rattle.j39_follow.proofs.Addresses.Contested.{one_now}
 
 module _ (plan : Plan) (log : List Timed) (address : ℕ) (g : Contention) (c : Contest) (now : ℕ) (of : IsContention plan log address g)
     (kept : g.contest ≡ Some c) (timed : IsNow log (Some now)) where
@@ -24,7 +18,7 @@ module _ (plan : Plan) (log : List Timed) (address : ℕ) (g : Contention) (c : 
       same_Some d c (sym is.runs.kept_is ∙ ap (λ (h : Contention). h.contest) (one_contention plan log address is.contention g is.contention_is of) ∙ kept)
 
   this_time : (d : Contest) (is : IsContested plan log address d) → is.runs.now ≡ now
-  this_time d is = same_Some is.runs.now now (sym is.runs.now_is ∙ one_time log is.time (Some now) is.time_is timed)
+  this_time d is = same_Some is.runs.now now (sym is.runs.now_is ∙ one_now log is.time (Some now) is.time_is timed)
 
   goes_on : MaySendInContest c now → IsContested plan log address c
   goes_on may = record {
@@ -43,15 +37,15 @@ module _ (plan : Plan) (log : List Timed) (address : ℕ) (g : Contention) (c : 
   may_send d is =
       subst (λ e. MaySendInContest e now) (this_one d is) (subst (λ t. MaySendInContest d t) (this_time d is) (may_at d is))
 
-  told_within : (who : Who) → IsTaken plan log address who → IsToldWithin plan log address c now who
-  told_within who (inl (d, is, told)) = record {
-    within = λ may. told ∙ ap (λ (e : Contest). e.defender) (this_one d is);
+  reported_within : (who : Who) → IsTaken plan log address who → IsReportedWithin plan log address c now who
+  reported_within who (inl (d, is, stated)) = record {
+    within = λ may. stated ∙ ap (λ (e : Contest). e.defender) (this_one d is);
     else_stands = λ not. absurd (not (may_send d is));
   }
-  told_within who (inr (none, stands)) = record {
+  reported_within who (inr (none, stands)) = record {
     within = λ may. absurd (none c (goes_on may));
     else_stands = λ not. stands;
   }
 
 pub contests_last : ContestsLastAWait
-contests_last plan log address g c now who of kept timed taken = told_within plan log address g c now of kept timed who taken
+contests_last plan log address g c now who of kept timed taken = reported_within plan log address g c now of kept timed who taken

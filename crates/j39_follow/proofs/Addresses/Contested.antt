@@ -1,7 +1,7 @@
 -- Who is taken to be behind an address within a contest.
 use Rattle.std.proofs.Common.{◌≡◌, ◌+◌, ◌≤◌, ℕ, ◌==◌, ◌&&◌, ◌||◌, nat_le, Bool, true, false, if◌then◌else◌}
 use Rattle.std.proofs.Common.{List, [], ◌∷◌, ◌++◌, length, Option, Some, None, is_some, inl, inr, refl, sym, ap, subst, ◌∙◌, eqb-true}
-use Rattle.std.proofs.lemmas.Bool.{and_parts, cases_Bool, or_cases, le-leb, leb-true, ltb-true, false≢true}
+use Rattle.std.proofs.lemmas.Bool.{and_parts, cases_Bool, or_cases, le-leb, leb-true, ltb-true, false≢true, and_from}
 use Rattle.std.proofs.lemmas.List.{same_from_push}
 use Rattle.std.proofs.lemmas.Option.{none-some, same_Some}
 use Rattle.j39_id.specs.Addresses.{is_address, null_address}
@@ -25,11 +25,11 @@ use Rattle.j39_follow.proofs.Addresses.Claimed.{known_still}
 use Rattle.j39_follow.proofs.Addresses.Contending.{contention_on, one_contention, runs_at, silent_behind}
 use Rattle.j39_follow.proofs.Addresses.Knowing.{timed_more}
 use Rattle.j39_follow.proofs.Addresses.Parties.{one_who}
-use Rattle.j39_follow.proofs.Addresses.Recounts.{TellsNothing}
+use Rattle.j39_follow.proofs.Addresses.Recounts.{HoldsNothing}
 
 -- ---- within a contest
 
-one_now : (log : List Timed) (s t : Option ℕ) → IsNow log s → IsNow log t → s ≡ t
+pub one_now : (log : List Timed) (s t : Option ℕ) → IsNow log s → IsNow log t → s ≡ t
 one_now log s t p q =
     let same = same_from_push p.0 q.0 p.1 q.1 (sym p.2 ∙ q.2) in
     sym p.3 ∙ ap (λ (x : Timed). x.time) same.1 ∙ q.3
@@ -41,10 +41,6 @@ heard_so (Some t) now e since is = subst (λ (s : ℕ). s + claim_wait ≤ now) 
 heard_then : (taken : Option ℕ) (now : ℕ) → IsHeard taken now → is_heard taken now ≡ true
 heard_then None now h = refl
 heard_then (Some t) now h = le-leb (t + claim_wait) now (h t refl)
-
-both_true : (a b : Bool) → a ≡ true → b ≡ true → (a && b) ≡ true
-both_true true b x y = y
-both_true false b x y = cc
 
 one_contested : (plan : Plan) (log : List Timed) (a : ℕ) (c d : Contest) → IsContested plan log a c → IsContested plan log a d → c ≡ d
 one_contested plan log a c d p q =
@@ -91,7 +87,7 @@ module _ (plan : Plan) (log : List Timed) (a : ℕ) (g : Contention) (time : Opt
         let heard : is_heard c.taken now ≡ true =
         subst (λ (e : Contest). is_heard e.taken now ≡ true) same
         (subst (λ (n : ℕ). is_heard d.taken n ≡ true) now_is (heard_then d.taken is.runs.now is.heard)) in
-        false≢true (sym without ∙ both_true (is_lasting c now) (is_heard c.taken now) runs heard))
+        false≢true (sym without ∙ and_from (is_lasting c now) (is_heard c.taken now) runs heard))
   ]
 
 pub defends : (plan : Plan) (log : List Timed) (a : ℕ) (g : Contention) (time : Option ℕ) → IsContention plan log a g → IsNow log time
@@ -115,9 +111,9 @@ one_taken plan log a v w (inl p) (inr q) = absurd (q.0 p.0 p.1)
 one_taken plan log a v w (inr p) (inl q) = absurd (p.0 q.0 q.1)
 one_taken plan log a v w (inr p) (inr q) = one_who plan (frames_of log) a v w p.1 q.1
 
--- ---- a line that tells of no address
+-- ---- a line that reports of no address
 
-pub contests_on : (plan : Plan) (contests : Contests) (log : List Timed) (x : Timed) → TellsNothing x.frame → AreContests plan contests log
+pub contests_on : (plan : Plan) (contests : Contests) (log : List Timed) (x : Timed) → HoldsNothing x.frame → AreContests plan contests log
     → AreContests plan contests (log ++ x ∷ [])
 contests_on plan contests log x silent of = record {
   contentions = λ a less.
@@ -150,10 +146,10 @@ guessed_so plan frames a Unknown o is at =
     subst (IsGuess plan frames a) (sym at)
     (λ n guess. is.1 guess.1 (record { value = guess.2.unit; value_is = guess.2.unit_is; meets = guess.2.may }))
 
--- what tells of a NAME has eight bytes
+-- what reports of a NAME has eight bytes
 pub eight : (f : Frame) → (claims_address f || cannot_claim f) ≡ true → length f.payload.items ≡ 8
-eight f told =
-    let carries : carries_name f ≡ true = elim (or_cases (claims_address f) (cannot_claim f) told) [
+eight f stated =
+    let carries : carries_name f ≡ true = elim (or_cases (claims_address f) (cannot_claim f) stated) [
       | inl claims ↦ (and_parts (carries_name f) (is_address f.ident.sa) claims).0
       | inr cannot ↦ (and_parts (carries_name f) (f.ident.sa == null_address) cannot).0
     ] in

@@ -1,13 +1,13 @@
 -- What a pair heard since one of its addresses last changed hands, once one frame more was sent.
 use Rattle.std.proofs.Common.{◌≡◌, ◌⊎◌, ◌<◌, ℕ, Bool, true, false, not, List, [], ◌∷◌, ◌++◌, All, Option, Some, None, inl, inr, refl, sym, ap, subst, ◌∙◌}
-use Rattle.std.proofs.Common.{append_assoc, if◌then◌else◌, ◌||◌, ◌&&◌, eq-eqb, eqb-true}
-use Rattle.std.proofs.lemmas.Bool.{cases_Bool, false≢true, not-false}
+use Rattle.std.proofs.Common.{append_assoc, if◌then◌else◌, ◌||◌, eq-eqb, eqb-true}
+use Rattle.std.proofs.lemmas.Bool.{cases_Bool, false≢true, not-false, and_from, and_parts, or_parts, cond-false, cond-true}
 use Rattle.std.proofs.lemmas.List.{append-nil}
 use Rattle.std.proofs.lemmas.List.Elements.{All-tail}
 use Rattle.j39_id.specs.declared.frame.Frame.{Frame}
 use Rattle.j39_network.specs.declared.plan.Plan.{Plan}
 use Rattle.j39_log.specs.LogPairs.{Seen, heard, heard_of, is_heard_by}
-use Rattle.j39_log.specs.inside.Listening.{AreAllInRange, IsInRange, ListenerRow, after_all, listener_of_pair}
+use Rattle.j39_log.specs.PairListeners.{AreAllInRange, IsInRange, ListenerRow, after_all, listener_of_pair}
 use Rattle.j39_log.proofs.PairLists.{heard_in_range, heard_more, one_turn}
 use Rattle.j39_tp.specs.Packets.{InRange}
 use Rattle.j39_tp.specs.Receiver.{fresh, receives}
@@ -24,12 +24,8 @@ use Rattle.j39_follow.proofs.Pairs.Ways.{no_way_yet, nothing_open, way_more}
 use Rattle.j39_follow.specs.Who.{ChangesHands, IsSameParty, stranger_of, unit_of}
 use Rattle.j39_follow.specs.declared.address.who.Who.{Who}
 use Rattle.j39_follow.specs.inside.Recounting.{ArePartiesOf, party_at}
-use Rattle.j39_follow.proofs.Addresses.Holding.{one_more}
+use Rattle.j39_follow.proofs.Addresses.Holding.{one_more, no_row}
 use Rattle.j39_follow.proofs.Addresses.Parties.{one_who}
-
-no_row : {A : Type 0} (front : List A) (x : A) (back : List A) → [] ≡ front ++ x ∷ back → ⊥
-no_row [] x back e = cc
-no_row (y ∷ front) x back e = cc
 
 -- before the first frame nothing was heard
 nothing_since : (plan : Plan) (s d : ℕ) → (is : HeardSince plan [] s d []) × (is.since ≡ [])
@@ -129,22 +125,14 @@ number_itself : (a : Option ℕ) → is_same_number a a ≡ true
 number_itself None = refl
 number_itself (Some x) = eq-eqb x x refl
 
-both : (a b : Bool) → (a && b) ≡ true → (a ≡ true) × (b ≡ true)
-both true b e = (refl, e)
-both false b e = cc
-
-both_so : (a b : Bool) → a ≡ true → b ≡ true → (a && b) ≡ true
-both_so true b first second = second
-both_so false b first second = cc
-
 pub party_same : (a b : Who) → is_same_party a b ≡ true → IsSameParty a b
 party_same a b e =
-    let parts = both (is_same_number (unit_of a) (unit_of b)) (is_same_number (stranger_of a) (stranger_of b)) e in
+    let parts = and_parts (is_same_number (unit_of a) (unit_of b)) (is_same_number (stranger_of a) (stranger_of b)) e in
     record { unit = same_number (unit_of a) (unit_of b) parts.0; stranger = same_number (stranger_of a) (stranger_of b) parts.1 }
 
 pub party_again : (a b : Who) → IsSameParty a b → is_same_party a b ≡ true
 party_again a b same =
-    both_so (is_same_number (unit_of a) (unit_of b)) (is_same_number (stranger_of a) (stranger_of b))
+    and_from (is_same_number (unit_of a) (unit_of b)) (is_same_number (stranger_of a) (stranger_of b))
     (subst (λ (u : Option ℕ). is_same_number (unit_of a) u ≡ true) same.unit (number_itself (unit_of a)))
     (subst (λ (n : Option ℕ). is_same_number (stranger_of a) n ≡ true) same.stranger (number_itself (stranger_of a)))
 
@@ -155,10 +143,6 @@ not_true false e d = cc
 one_of : (a b : Bool) → (a || b) ≡ true → (a ≡ true) ⊎ (b ≡ true)
 one_of true b e = inl refl
 one_of false b e = inr e
-
-none_of : (a b : Bool) → (a || b) ≡ false → (a ≡ false) × (b ≡ false)
-none_of true b e = cc
-none_of false b e = (refl, e)
 
 changes : (plan : Plan) (frames : List Frame) (f : Frame) (olds news : List Who) (replaced : Option ℕ) (a : ℕ) → ArePartiesOf plan frames olds
     → ArePartiesOf plan (frames ++ f ∷ []) news → AreReplaced frames f replaced → a < 256 → differs_at olds news replaced a ≡ true
@@ -181,7 +165,7 @@ stays : (plan : Plan) (frames : List Frame) (f : Frame) (olds news : List Who) (
 stays plan frames f olds news replaced a before after are less same ch =
     let old = one_who plan frames a ch.old (party_at olds a) ch.old_is (before a less) in
     let new = one_who plan (frames ++ f ∷ []) a ch.new (party_at news a) ch.new_is (after a less) in
-    let parts = none_of (not (is_same_party (party_at olds a) (party_at news a))) (is_same_number replaced (Some a)) same in
+    let parts = or_parts (not (is_same_party (party_at olds a) (party_at news a))) (is_same_number replaced (Some a)) same in
     elim ch.another [
       | inl parties ↦
           parties (subst (λ (w : Who). IsSameParty w ch.new) (sym old) (subst (IsSameParty (party_at olds a)) (sym new)
@@ -204,19 +188,11 @@ stays_at : (plan : Plan) (seen : List Seen) (x : Seen) (olds news : List Who) (r
     → ArePartiesOf plan (frames_seen seen) olds → ArePartiesOf plan (frames_seen seen ++ x.frame ∷ []) news
     → AreReplaced (frames_seen seen) x.frame replaced → s < 256 → d < 256 → is_changed olds news replaced s d ≡ false → ¬ OneChangesHands plan seen x s d
 stays_at plan seen x olds news replaced s d before after are ls ld together one =
-    let same = none_of (differs_at olds news replaced s) (differs_at olds news replaced d) together in
+    let same = or_parts (differs_at olds news replaced s) (differs_at olds news replaced d) together in
     elim one [
       | inl source ↦ stays plan (frames_seen seen) x.frame olds news replaced s before after are ls same.0 source
       | inr destination ↦ stays plan (frames_seen seen) x.frame olds news replaced d before after are ld same.1 destination
     ]
-
-if_true : {A : Type 0} (b : Bool) (x y : A) → b ≡ true → (if b then x else y) ≡ x
-if_true true x y e = refl
-if_true false x y e = cc
-
-if_false : {A : Type 0} (b : Bool) (x y : A) → b ≡ false → (if b then x else y) ≡ y
-if_false true x y e = cc
-if_false false x y e = refl
 
 -- once the pairs of which an address has changed hands have begun anew
 pub heard_anew : (plan : Plan) (seen : List Seen) (x : Seen) (olds news : List Who) (replaced : Option ℕ) (mid new : HeardPairs)
@@ -234,19 +210,19 @@ heard_anew plan seen x olds news replaced mid new before after are changed kept 
           record {
             packets = [];
             is = one.0;
-            listener = changed s d ls ld ∙ if_true b (fresh Listening) (listener_between mid s d) is;
-            kept = none_kept plan new (seen ++ x ∷ []) s d [] one.0 one.1 (kept s d ls ld ∙ if_true b None (kept_between mid s d) is);
+            listener = changed s d ls ld ∙ cond-true b (fresh Listening) (listener_between mid s d) is;
+            kept = none_kept plan new (seen ++ x ∷ []) s d [] one.0 one.1 (kept s d ls ld ∙ cond-true b None (kept_between mid s d) is);
           }
       | inr together ↦
           let one = more s d ls ld in
           let on = goes_on plan seen x s d one.packets one.is (stays_at plan seen x olds news replaced s d before after are ls ld together) in
-          let same : kept_between new s d ≡ kept_between mid s d = kept s d ls ld ∙ if_false b None (kept_between mid s d) together in
+          let same : kept_between new s d ≡ kept_between mid s d = kept s d ls ld ∙ cond-false b None (kept_between mid s d) together in
           let row : way_packets s d on.0.since ≡ way_packets s d one.is.since ++ way_packet s d x.frame.ident x.packet =
           ap (way_packets s d) on.1 ∙ way_more s d one.is.since x in
           record {
             packets = one.packets ++ heard_of s d x.frame.ident x.packet;
             is = on.0;
-            listener = changed s d ls ld ∙ if_false b (fresh Listening) (listener_between mid s d) together ∙ one.listener;
+            listener = changed s d ls ld ∙ cond-false b (fresh Listening) (listener_between mid s d) together ∙ one.listener;
             kept = subst (λ (c : Option Collected). IsCollectedOf c (way_packets s d on.0.since)) (sym same)
                 (subst (IsCollectedOf (kept_between mid s d)) (sym row) one.kept);
           }
@@ -266,8 +242,8 @@ pub heard_on : (plan : Plan) (seen : List Seen) (x : Seen) (parties : List Who) 
     → AreReplaced (frames_seen seen) x.frame None → HaveHeardOneMore plan pairs seen x → HaveHeardSince plan pairs (seen ++ x ∷ [])
 heard_on plan seen x parties pairs before after are more =
     heard_anew plan seen x parties parties None pairs pairs before after are
-    (λ s d ls ld. sym (if_false (is_changed parties parties None s d) (fresh Listening) (listener_between pairs s d) (unchanged_hands parties s d)))
-    (λ s d ls ld. sym (if_false (is_changed parties parties None s d) None (kept_between pairs s d) (unchanged_hands parties s d))) more
+    (λ s d ls ld. sym (cond-false (is_changed parties parties None s d) (fresh Listening) (listener_between pairs s d) (unchanged_hands parties s d)))
+    (λ s d ls ld. sym (cond-false (is_changed parties parties None s d) None (kept_between pairs s d) (unchanged_hands parties s d))) more
 
 -- ---- a frame
 

@@ -5,7 +5,7 @@ use Rattle.std.proofs.lemmas.List.Elements.{All-contains, Contains-append_right}
 use Rattle.j39_id.specs.declared.frame.Frame.{Frame}
 use Rattle.j39_id.specs.FrameMeaning.{name_in}
 use Rattle.j39_follow.specs.Holders.{HoldsByFrames, HoldsOneAddress, HasOneHolder, TakesFrom}
-use Rattle.j39_follow.proofs.Addresses.Recounts.{claim_tells}
+use Rattle.j39_follow.proofs.Addresses.Recounts.{claim_reports}
 
 tails : {A : Type 0} (x y : A) (xs ys : List A) → x ∷ xs ≡ y ∷ ys → xs ≡ ys
 tails x y xs ys e = cc
@@ -45,7 +45,7 @@ pub one_address : HoldsOneAddress
 one_address frames n a b h k = elim (two_places h.before h.claim h.behind k.before k.claim k.behind (sym h.row ∙ k.row)) [
   | inl same ↦ sym h.claims.source_is ∙ ap (λ (f : Frame). f.ident.sa) same ∙ k.claims.source_is
   | inr (inl later) ↦
-      absurd (All-contains (λ (f : Frame). ¬ TakesFrom n a f) h.behind k.claim h.kept later (inl (claim_tells k.claim n b k.claims)))
+      absurd (All-contains (λ (f : Frame). ¬ TakesFrom n a f) h.behind k.claim h.kept later (inl (claim_reports k.claim n b k.claims)))
   | inr (inr later) ↦
-      absurd (All-contains (λ (f : Frame). ¬ TakesFrom n b f) k.behind h.claim k.kept later (inl (claim_tells h.claim n a h.claims)))
+      absurd (All-contains (λ (f : Frame). ¬ TakesFrom n b f) k.behind h.claim k.kept later (inl (claim_reports h.claim n a h.claims)))
 ]

@@ -5,6 +5,11 @@ use Rattle.std.proofs.lemmas.List.Elements.{All-nil, All-cons, All-head, All-tai
 use Rattle.j39_id.specs.declared.frame.Frame.{Frame}
 use Rattle.j39_follow.specs.Holders.{Claims, HoldsByFrames, IsNameHeard, TakesFrom, ClaimsOrCannot}
 
+-- an empty list has no place
+pub no_row : {A : Type 0} (front : List A) (x : A) (back : List A) → [] ≡ front ++ x ∷ back → ⊥
+no_row [] x back e = cc
+no_row (y ∷ front) x back e = cc
+
 -- a list is empty or has a last element
 pub ending : {A : Type 0} (xs : List A) → (xs ≡ []) ⊎ ((front : List A) × (last : A) × (xs ≡ front ++ last ∷ []))
 ending [] = inl refl
@@ -69,23 +74,23 @@ held_by frames f name address h = elim (one_more frames f h.before h.claim h.beh
       )
 ]
 
--- ---- NAMEs of which something was told
+-- ---- NAMEs of which something was reported
 
-pub told_new : (frames : List Frame) (f : Frame) (name : ℕ) → ClaimsOrCannot f name → IsNameHeard (frames ++ f ∷ []) name
-told_new frames f name tells = record { before = frames; frame = f; behind = []; row = refl; says = tells }
+pub reported_new : (frames : List Frame) (f : Frame) (name : ℕ) → ClaimsOrCannot f name → IsNameHeard (frames ++ f ∷ []) name
+reported_new frames f name states = record { before = frames; frame = f; behind = []; row = refl; says = states }
 
-pub told_on : (frames : List Frame) (f : Frame) (name : ℕ) → IsNameHeard frames name → IsNameHeard (frames ++ f ∷ []) name
-told_on frames f name told = record {
-  before = told.before;
-  frame = told.frame;
-  behind = told.behind ++ f ∷ [];
-  row = ap (λ (t : List Frame). t ++ f ∷ []) told.row ∙ append_assoc told.before (told.frame ∷ told.behind) (f ∷ []);
-  says = told.says;
+pub reported_on : (frames : List Frame) (f : Frame) (name : ℕ) → IsNameHeard frames name → IsNameHeard (frames ++ f ∷ []) name
+reported_on frames f name stated = record {
+  before = stated.before;
+  frame = stated.frame;
+  behind = stated.behind ++ f ∷ [];
+  row = ap (λ (t : List Frame). t ++ f ∷ []) stated.row ∙ append_assoc stated.before (stated.frame ∷ stated.behind) (f ∷ []);
+  says = stated.says;
 }
 
-pub told_by : (frames : List Frame) (f : Frame) (name : ℕ) → IsNameHeard (frames ++ f ∷ []) name → ClaimsOrCannot f name ⊎ IsNameHeard frames name
-told_by frames f name told = elim (one_more frames f told.before told.frame told.behind told.row) [
-  | inl last ↦ inl (subst (λ (g : Frame). ClaimsOrCannot g name) last.0 told.says)
+pub stated_by : (frames : List Frame) (f : Frame) (name : ℕ) → IsNameHeard (frames ++ f ∷ []) name → ClaimsOrCannot f name ⊎ IsNameHeard frames name
+stated_by frames f name stated = elim (one_more frames f stated.before stated.frame stated.behind stated.row) [
+  | inl last ↦ inl (subst (λ (g : Frame). ClaimsOrCannot g name) last.0 stated.says)
   | inr earlier ↦
-      inr (record { before = told.before; frame = told.frame; behind = earlier.0; row = earlier.2; says = told.says })
+      inr (record { before = stated.before; frame = stated.frame; behind = earlier.0; row = earlier.2; says = stated.says })
 ]

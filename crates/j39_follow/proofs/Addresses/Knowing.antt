@@ -1,4 +1,4 @@
--- What a directory knows behind a frame that tells of no address, and the frames of lines.
+-- What a directory knows behind a frame that reports of no address, and the frames of lines.
 use Rattle.std.proofs.Common.{◌≡◌, ◌++◌, ◌∷◌, [], ℕ, List, refl, ap, ◌∙◌}
 use Rattle.j39_id.specs.declared.frame.Frame.{Frame}
 use Rattle.j39_network.specs.declared.plan.Plan.{Plan}
@@ -9,16 +9,16 @@ use Rattle.j39_follow.specs.declared.address.directory.Directory.{Directory}
 use Rattle.j39_follow.specs.inside.FrameWriting.{frames_with}
 use Rattle.j39_follow.specs.inside.Recounting.{Knows, party_at}
 use Rattle.j39_follow.proofs.Addresses.Parties.{who_as_well}
-use Rattle.j39_follow.proofs.Addresses.Recounts.{TellsNothing, nothing_told}
+use Rattle.j39_follow.proofs.Addresses.Recounts.{HoldsNothing, nothing_reported}
 
-pub knows_on : (plan : Plan) (directory : Directory) (frames : List Frame) (f : Frame) → TellsNothing f → Knows plan directory frames
+pub knows_on : (plan : Plan) (directory : Directory) (frames : List Frame) (f : Frame) → HoldsNothing f → Knows plan directory frames
     → Knows plan directory (frames ++ f ∷ [])
 knows_on plan directory frames f silent of =
-    let told = nothing_told plan directory.holders.value frames f silent of.recounts in
+    let stated = nothing_reported plan directory.holders.value frames f silent of.recounts in
     record {
-      recounts = told;
+      recounts = stated;
       parties = λ a less.
-          who_as_well plan directory.holders.value frames (frames ++ f ∷ []) a (party_at directory.parties.all a) of.recounts told (of.parties a less);
+          who_as_well plan directory.holders.value frames (frames ++ f ∷ []) a (party_at directory.parties.all a) of.recounts stated (of.parties a less);
       names = of.names;
     }
 

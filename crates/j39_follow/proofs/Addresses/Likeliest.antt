@@ -12,7 +12,7 @@ use Rattle.j39_follow.specs.Who.{IsLikeliest, MayHold}
 use Rattle.j39_follow.specs.inside.Likeliest.{IsBelowBest, IsBestOf, IsNotBelow}
 
 -- a place below the next is this one or an earlier
-below_next : (v i : ℕ) → v < i + 1 → (v ≡ i) ⊎ (v < i)
+pub below_next : (v i : ℕ) → v < i + 1 → (v ≡ i) ⊎ (v < i)
 below_next v i less = elim (cases_Bool (v == i)) [
   | inl same ↦ inl (eqb-true v i same)
   | inr other ↦ (let differ = eqb-false v i other in inr (omega (arith, less, differ)))

@@ -1,4 +1,4 @@
--- Who stands behind an address: one party, which a table of holders tells.
+-- Who stands behind an address: one party, which a table of holders reports.
 use Rattle.std.proofs.Common.{◌≡◌, ◌<◌, ◌≤◌, ℕ, List, Some, None, inl, inr, refl, sym, ap, ◌∙◌, arith}
 use Rattle.std.specs.List.{slice_get}
 use Rattle.std.proofs.lemmas.Bool.{cases_Bool, cases_order}
@@ -66,7 +66,7 @@ one_who plan frames address Unknown (Likely v) x y = absurd (x.1 v (likely_there
 one_who plan frames address Unknown (LikelyStranger m) x y = absurd y
 one_who plan frames address Unknown Unknown x y = refl
 
--- ---- frames of which one table tells
+-- ---- frames of which one table reports
 
 may_as_well : (plan : Plan) (h : Holders) (frames others : List Frame) (address u : ℕ) (unit : UnitPlan) → Recounts plan h frames
     → Recounts plan h others → slice_get plan.units.items u ≡ Some unit → MayHold plan frames address u unit → MayHold plan others address u unit

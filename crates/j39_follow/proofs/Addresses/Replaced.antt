@@ -9,7 +9,7 @@ use Rattle.j39_follow.specs.Who.{IsReplaced}
 use Rattle.j39_follow.specs.inside.Hearing.{AreReplaced}
 use Rattle.j39_follow.proofs.Addresses.HolderLaws.{same_name}
 use Rattle.j39_follow.proofs.Addresses.Holding.{held_by, holds_new}
-use Rattle.j39_follow.proofs.Addresses.Recounts.{TellsNothing, held_before}
+use Rattle.j39_follow.proofs.Addresses.Recounts.{HoldsNothing, held_before}
 
 -- the frame claims each such address
 claimed : (frames : List Frame) (f : Frame) (a : ℕ) (r : IsReplaced frames f a) → Claims f r.new a
@@ -61,9 +61,9 @@ another_holds frames f holder claims holds other = record {
   only = λ a r. ap Some (claimed frames f a r).source_is;
 }
 
--- none at a frame that tells of no NAME
-pub none_told : (frames : List Frame) (f : Frame) → TellsNothing f → AreReplaced frames f None
-none_told frames f silent = record {
+-- none at a frame that reports of no NAME
+pub none_stated : (frames : List Frame) (f : Frame) → HoldsNothing f → AreReplaced frames f None
+none_stated frames f silent = record {
   one = λ a e. absurd (none-some a e);
   only = λ a r. absurd (r.another (same_name frames a r.old r.new r.old_holds (held_before frames f r.new a silent r.new_holds)));
 }

@@ -1,8 +1,8 @@
 -- Where units stand, by a table of holders.
-use Rattle.std.proofs.Common.{◌≡◌, ◌⊎◌, ◌==◌, ◌<◌, ◌≤◌, ◌+◌, ℕ, zero, suc, true, false, List, [], ◌∷◌, ◌++◌, length, codes, Option, Some, None, inl, inr, refl}
-use Rattle.std.proofs.Common.{sym, ap, subst, ◌∙◌, arith, eqb-true}
+use Rattle.std.proofs.Common.{◌≡◌, ◌⊎◌, ◌<◌, ◌≤◌, ◌+◌, ℕ, zero, suc, true, false, List, [], ◌∷◌, ◌++◌, length, codes, Option, Some, None, inl, inr, refl}
+use Rattle.std.proofs.Common.{sym, ap, subst, ◌∙◌, arith}
 use Rattle.std.specs.List.{slice_get}
-use Rattle.std.proofs.lemmas.Bool.{cases_Bool, cases_order, eqb-false, true≢false}
+use Rattle.std.proofs.lemmas.Bool.{cases_Bool, cases_order, true≢false}
 use Rattle.std.proofs.lemmas.Option.{slice_get_within, none-some, same_Some}
 use Rattle.j39_id.specs.declared.frame.Frame.{Frame}
 use Rattle.j39_network.specs.declared.plan.Plan.{Plan}
@@ -12,13 +12,8 @@ use Rattle.j39_follow.specs.FollowText.{AreUnitLines, HoldsForUnit, IsUnitLine, 
 use Rattle.j39_follow.specs.Who.{IsUnitHeard, is_name_of}
 use Rattle.j39_follow.specs.declared.address.holders.Holders.{Holders}
 use Rattle.j39_follow.specs.inside.Recounting.{HasNameAt, IsHeldByUnit, IsLatestBelow, Recounts, claimed_at, is_marked}
-use Rattle.j39_follow.proofs.Addresses.Recounts.{claim_tells}
-
-below_next : (v i : ℕ) → v < i + 1 → (v ≡ i) ⊎ (v < i)
-below_next v i less = elim (cases_Bool (v == i)) [
-  | inl same ↦ inl (eqb-true v i same)
-  | inr other ↦ (let differ = eqb-false v i other in inr (omega (arith, less, differ)))
-]
+use Rattle.j39_follow.proofs.Addresses.Recounts.{claim_reports}
+use Rattle.j39_follow.proofs.Addresses.Likeliest.{below_next}
 
 module _ (plan : Plan) (holders : Holders) (u : ℕ) (unit : UnitPlan) where
   -- ---- the address that was claimed last, address after address
@@ -71,7 +66,7 @@ module _ (plan : Plan) (holders : Holders) (u : ℕ) (unit : UnitPlan) where
     ],
   )
 
-  -- ---- what a table tells of a unit
+  -- ---- what a table reports of a unit
 
   module _ (frames : List Frame) (of : Recounts plan holders frames) where
     pub is_held : (a : ℕ) → HoldsForUnit plan frames u unit a → IsHeldByUnit plan holders u unit a
@@ -169,10 +164,10 @@ one_place plan frames u unit a b s t =
     let claim = same_spot h.before k.before h.claim k.claim h.behind k.behind size (sym h.row ∙ k.row) in
     sym h.claims.source_is ∙ ap (λ (f : Frame). f.ident.sa) claim ∙ k.claims.source_is
 
--- whose NAME holds an address was told of
-holder_is_told : (plan : Plan) (frames : List Frame) (u : ℕ) (unit : UnitPlan) (address : ℕ) → HoldsForUnit plan frames u unit address
+-- whose NAME holds an address was reported of
+holder_is_reported : (plan : Plan) (frames : List Frame) (u : ℕ) (unit : UnitPlan) (address : ℕ) → HoldsForUnit plan frames u unit address
     → IsUnitHeard plan frames u unit
-holder_is_told plan frames u unit address there =
+holder_is_reported plan frames u unit address there =
     let h = there.holds in
     record {
       name = there.name;
@@ -182,7 +177,7 @@ holder_is_told plan frames u unit address there =
         frame = h.claim;
         behind = h.behind;
         row = h.row;
-        says = claim_tells h.claim there.name address h.claims;
+        says = claim_reports h.claim there.name address h.claims;
       };
     }
 
@@ -191,11 +186,11 @@ one_unit_line : (plan : Plan) (frames : List Frame) (u : ℕ) (unit : UnitPlan) 
 one_unit_line plan frames u unit t s (inl a) (inl b) =
     a.2 ∙ ap (λ (n : ℕ). unit_end_line unit (field (codes " address ") n)) (one_place plan frames u unit a.0 b.0 a.1 b.1) ∙ sym b.2
 one_unit_line plan frames u unit t s (inl a) (inr (inl b)) = absurd (b.1 a.0 a.1.there)
-one_unit_line plan frames u unit t s (inl a) (inr (inr b)) = absurd (b.0 (holder_is_told plan frames u unit a.0 a.1.there))
+one_unit_line plan frames u unit t s (inl a) (inr (inr b)) = absurd (b.0 (holder_is_reported plan frames u unit a.0 a.1.there))
 one_unit_line plan frames u unit t s (inr (inl a)) (inl b) = absurd (a.1 b.0 b.1.there)
 one_unit_line plan frames u unit t s (inr (inl a)) (inr (inl b)) = a.2 ∙ sym b.2
 one_unit_line plan frames u unit t s (inr (inl a)) (inr (inr b)) = absurd (b.0 a.0)
-one_unit_line plan frames u unit t s (inr (inr a)) (inl b) = absurd (a.0 (holder_is_told plan frames u unit b.0 b.1.there))
+one_unit_line plan frames u unit t s (inr (inr a)) (inl b) = absurd (a.0 (holder_is_reported plan frames u unit b.0 b.1.there))
 one_unit_line plan frames u unit t s (inr (inr a)) (inr (inl b)) = absurd (a.0 b.0)
 one_unit_line plan frames u unit t s (inr (inr a)) (inr (inr b)) = a.1 ∙ sym b.1
 

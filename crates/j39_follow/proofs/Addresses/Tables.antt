@@ -1,5 +1,5 @@
 -- Tables of holders of which one place is written.
-use Rattle.std.proofs.Common.{◌≡◌, ◌≢◌, ◌==◌, ◌&&◌, ◌<◌, ◌≤◌, ◌+◌, ℕ, zero, suc, Bool, true, false, if◌then◌else◌, nat_lt, List, [], ◌∷◌, ◌++◌}
+use Rattle.std.proofs.Common.{◌≡◌, ◌≢◌, ◌==◌, ◌&&◌, ◌<◌, ◌≤◌, ◌+◌, ℕ, zero, suc, Bool, true, false, if◌then◌else◌, nat_lt, List, [], ◌∷◌}
 use Rattle.std.proofs.Common.{length, Option, Some, None, inl, inr, refl, sym, ap, subst, ◌∙◌, arith, eqb-true}
 use Rattle.std.specs.Prelude.{slice_set, slice_index_or, replicate, IfSome}
 use Rattle.std.specs.List.{slice_get}
@@ -13,6 +13,7 @@ use Rattle.j39_network.specs.declared.plan.Plan.{Plan}
 use Rattle.j39_network.specs.declared.plan.unit_plan.UnitPlan.{UnitPlan}
 use Rattle.j39_follow.specs.Who.{is_name_of}
 use Rattle.j39_follow.specs.inside.Recounting.{HasNameAt, IsClaimedBehind, IsLeft, IsMarked, IsMoved, Recounts, is_marked}
+use Rattle.j39_follow.proofs.Addresses.Holding.{no_row}
 
 get_set_same : {A : Type 0} (xs : List A) (i : ℕ) (y : A) → i < length xs → slice_get (slice_set xs i y) i ≡ Some y
 get_set_same [] i y less = absurd (omega arith)
@@ -31,10 +32,6 @@ there_same x y e = cc
 
 empty_there : {A : Type 0} (x : A) → Some None ≡ Some (Some x) → ⊥
 empty_there x e = cc
-
-no_row : (before : List Frame) (f : Frame) (behind : List Frame) → [] ≡ before ++ f ∷ behind → ⊥
-no_row [] f behind e = cc
-no_row (g ∷ before) f behind e = cc
 
 there_none : {A B : Type 0} (x : A) → Some None ≡ Some (Some x) → B
 there_none x e = absurd (empty_there x e)
@@ -76,7 +73,7 @@ empty_recounts plan h vacant unmarked = record {
   held = λ a n at. absurd (vacant a n at);
   holds = λ a n h. absurd (no_row h.before h.claim h.behind h.row);
   heard = λ u unit at yes. absurd (false≢true (sym (unmarked u) ∙ yes));
-  unheard = λ u unit at no told. no_row told.heard.before told.heard.frame told.heard.behind told.heard.row;
+  unheard = λ u unit at no stated. no_row stated.heard.before stated.heard.frame stated.heard.behind stated.heard.row;
   since = λ a n h. absurd (no_row h.before h.claim h.behind h.row);
 }
 
@@ -137,7 +134,7 @@ left_all old new name k past of = record {
   stays = λ a n there. of.stays a n there.0 there.1;
 }
 
--- ---- a NAME that is told elsewhere
+-- ---- a NAME that is reported elsewhere
 
 pub put : (plan : Plan) (old left new : Holders) (name address count : ℕ) → IsLeft old left name → address < length left.names
     → new.names ≡ slice_set left.names address (Some name)
@@ -237,8 +234,8 @@ mark_not plan old new unit name k here other of = λ u unit' there. elim (cases_
       ∙ ap (λ (b : Bool). if is_name_of plan u unit' name && b then true else slice_index_or old u false) (sym (lt_next_other u k (eqb-false k u differs)))
 ]
 
-pub none_marked : (plan : Plan) (told : List Bool) (name : ℕ) → IsMarkedBelow plan told told name 0
-none_marked plan told name = λ u unit there. none_below (is_name_of plan u unit name) (nat_lt u 0) (slice_index_or told u false) (not_below_zero u)
+pub none_marked : (plan : Plan) (stated : List Bool) (name : ℕ) → IsMarkedBelow plan stated stated name 0
+none_marked plan stated name = λ u unit there. none_below (is_name_of plan u unit name) (nat_lt u 0) (slice_index_or stated u false) (not_below_zero u)
 
 pub all_marked : (plan : Plan) (old new : Holders) (name k : ℕ) → length plan.units.items ≤ k → IsMarkedBelow plan old.heard new.heard name k
     → IsMarked plan old new name

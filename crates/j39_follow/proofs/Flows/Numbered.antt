@@ -7,7 +7,7 @@ use Rattle.std.proofs.lemmas.Bool.{false≢true}
 use Rattle.j39_network.specs.declared.plan.Plan.{Plan}
 use Rattle.j39_network.specs.declared.plan.group_plan.GroupPlan.{GroupPlan}
 use Rattle.j39_log.specs.declared.catalog.Span.{Span}
-use Rattle.j39_log.specs.inside.Listening.{HasAllOf, IsSpanOf, has_number}
+use Rattle.j39_log.specs.GroupSpans.{HasAllOf, IsSpanOf, has_number}
 use Rattle.j39_log.proofs.Indexes.{first_place, no_place}
 use Rattle.j39_follow.specs.Fits.{MayBeGroup}
 use Rattle.j39_follow.specs.declared.flow.sending.Sending.{Sending}

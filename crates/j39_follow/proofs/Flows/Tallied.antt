@@ -45,7 +45,7 @@ counted p sent y old new true few was passes is =
     is ∙ (let same : min (old + 1) (2 ^ 64 - 1) ≡ count_by p (sent ++ y ∷ []) = omega (arith, most, one, was, few) in same)
 counted p sent y old new false few was passes is = is ∙ was ∙ sym (count_failed p sent y passes)
 
--- the number of the group at a place tells whether it is the first that was found
+-- the number of the group at a place says whether it is the first that was found
 first_or_not : (plan : Plan) (pgn first g : ℕ) (group : GroupPlan) → position (λ (h : GroupPlan). h.pgn == pgn) plan.groups.items ≡ Some first
     → slice_get plan.groups.items g ≡ Some group → is_first_of plan g group ≡ true → is_other group.pgn (Other pgn) ≡ (first == g)
 first_or_not plan pgn first g group found at leads = elim (cases_Bool (pgn == group.pgn)) [

@@ -111,17 +111,17 @@ direction_of : (c : ℕ) (word : List ℕ) → IsDirectionLetter c → word ≡ 
 direction_of c word (inl is) e = inl (e ∙ ap (λ (n : ℕ). n ∷ []) is)
 direction_of c word (inr is) e = inr (e ∙ ap (λ (n : ℕ). n ∷ []) is)
 
--- it tells the direction, if its letter does
+-- it reports the direction, if its letter does
 pub direction_letter : (line : List ℕ) (stop : ℕ) → 0 < stop → stop ≤ length line → IsDirectionLetter (slice_index line (stop - 1))
     → IsDirection (slice_range line (stop - 1) stop)
-direction_letter line stop some within tells =
+direction_letter line stop some within states =
     let one : stop - (stop - 1) ≡ 1 = omega arith in
     let word : slice_range line (stop - 1) stop ≡ slice_index line (stop - 1) ∷ [] =
     ap (λ (n : ℕ). take n (drop (stop - 1) line)) one
     ∙ ap (take 1) (drop_more line (stop - 1) 0 (omega arith)) in
-    direction_of (slice_index line (stop - 1)) (slice_range line (stop - 1) stop) tells word
+    direction_of (slice_index line (stop - 1)) (slice_range line (stop - 1) stop) states word
 
--- a direction's word ends where the words of its line do, is parted, and its letter tells it
+-- a direction's word ends where the words of its line do, is parted, and its letter reports it
 pub record IsDirectionAt (line : List ℕ) (stop : ℕ) : Type 0 where
   pub some : 0 < stop
   pub letter : IsDirectionLetter (slice_index line (stop - 1))

@@ -1,7 +1,7 @@
 -- Numbers of at most 12 digits.
-use Rattle.std.proofs.Common.{◌≡◌, ℕ, ◌+◌, ◌-◌, ◌*◌, ◌<◌, ◌≤◌, zero, suc, Bool, true, false, ◌&&◌, nat_lt, codes, slice_index_or, List, [], ◌∷◌, ◌++◌, length}
+use Rattle.std.proofs.Common.{◌≡◌, ℕ, ◌+◌, ◌-◌, ◌*◌, ◌<◌, ◌≤◌, zero, suc, true, ◌&&◌, nat_lt, codes, slice_index_or, List, [], ◌∷◌, ◌++◌, length}
 use Rattle.std.proofs.Common.{take, get_or, refl, sym, ap, ◌∙◌, arith}
-use Rattle.std.proofs.lemmas.Bool.{and_parts, ltb-true}
+use Rattle.std.proofs.lemmas.Bool.{and_parts, ltb-true, and_from}
 use Rattle.std.proofs.lemmas.Int.Digits.{digits_value_more}
 use Rattle.std.proofs.lemmas.Str.{digit_value_digit}
 use Rattle.std.proofs.lemmas.Str.Parse.{numerals_by_value, tells_all_ascii_digits, tells_digits, digit_at, digits_value-take-le, digits_value_short}
@@ -45,22 +45,18 @@ six_of (a ∷ (b ∷ (c ∷ (d ∷ [])))) = refl
 six_of (a ∷ (b ∷ (c ∷ (d ∷ (e ∷ []))))) = refl
 six_of (a ∷ (b ∷ (c ∷ (d ∷ (e ∷ (f ∷ rest)))))) = refl
 
-both_so : (a b : Bool) → a ≡ true → b ≡ true → (a && b) ≡ true
-both_so true b x y = y
-both_so false b x y = cc
-
 all_taken : (n : ℕ) (xs : List ℕ) → list_all is_ascii_digit xs ≡ true → list_all is_ascii_digit (take n xs) ≡ true
 all_taken zero xs all = refl
 all_taken (suc n) [] all = refl
 all_taken (suc n) (x ∷ xs) all =
     let parts = and_parts (is_ascii_digit x) (list_all is_ascii_digit xs) all in
-    both_so (is_ascii_digit x) (list_all is_ascii_digit (take n xs)) parts.0 (all_taken n xs parts.1)
+    and_from (is_ascii_digit x) (list_all is_ascii_digit (take n xs)) parts.0 (all_taken n xs parts.1)
 
 all_joined : (xs ys : List ℕ) → list_all is_ascii_digit xs ≡ true → list_all is_ascii_digit ys ≡ true → list_all is_ascii_digit (xs ++ ys) ≡ true
 all_joined [] ys all rest = rest
 all_joined (x ∷ xs) ys all rest =
     let parts = and_parts (is_ascii_digit x) (list_all is_ascii_digit xs) all in
-    both_so (is_ascii_digit x) (list_all is_ascii_digit (xs ++ ys)) parts.0 (all_joined xs ys parts.1 rest)
+    and_from (is_ascii_digit x) (list_all is_ascii_digit (xs ++ ys)) parts.0 (all_joined xs ys parts.1 rest)
 
 pub six_digits : (ds : List ℕ) → list_all is_ascii_digit ds ≡ true → list_all is_ascii_digit (take 6 (ds ++ codes "000000")) ≡ true
 six_digits ds all = all_taken 6 (ds ++ codes "000000") (all_joined ds (codes "000000") all refl)

@@ -11,7 +11,7 @@ use Rattle.std.proofs.lemmas.List.Elements.{All-head, All-tail}
 use Rattle.std.proofs.lemmas.Option.{none-some, same_Some}
 use Rattle.j39_tp.specs.Carried.{chunks_to}
 use Rattle.j39_tp.specs.Chunks.{packets_of, unused, chunk}
-use Rattle.j39_tp.specs.HonestPackets.{GoesOn, TellsLast}
+use Rattle.j39_tp.specs.HonestPackets.{GoesOn, StatesLast}
 use Rattle.j39_tp.specs.Sender.{announcement}
 use Rattle.j39_tp.specs.declared.packet.Packet.{Packet}
 use Rattle.j39_tp.specs.declared.packet.Packet.TheVariants.{Rts, Cts, EndAck, Bam, Abort, Dt}
@@ -89,12 +89,12 @@ starts_as ToOne pgn n size limit other e =
     let numbers : pgn ≡ other = cc in
     (sizes, numbers)
 
-pub received_as_sent : (h : List Packet) (pgn : ℕ) (bytes : List ℕ) → TellsLast h pgn bytes → (size other : ℕ) (message : List ℕ)
+pub received_as_sent : (h : List Packet) (pgn : ℕ) (bytes : List ℕ) → StatesLast h pgn bytes → (size other : ℕ) (message : List ℕ)
     → IsReceived h size other message → (other ≡ pgn) × (message ≡ bytes)
 received_as_sent h pgn bytes t size other message r =
     let a = r.announced in
     let since : List Packet = r.since in
-    let told : Packet = announcement t.dest pgn (length bytes) in
+    let stated : Packet = announcement t.dest pgn (length bytes) in
     let here : slice_get h (length a.before) ≡ Some (Rts size a.limit other) =
     ap (λ (l : List Packet). slice_get l (length a.before)) a.row ∙ there a.before (Rts size a.limit other) since in
     let later : (j : ℕ) → slice_get h (length a.before + suc j) ≡ slice_get since j =
@@ -104,14 +104,14 @@ received_as_sent h pgn bytes t size other message r =
       | inr from ↦ elim (cases_lt (length a.before) t.start) [
         | inl late ↦
             let step : length a.before + suc (t.start - length a.before - 1) ≡ t.start = omega (arith, late) in
-            let at : slice_get since (t.start - length a.before - 1) ≡ Some told =
+            let at : slice_get since (t.start - length a.before - 1) ≡ Some stated =
             sym (later (t.start - length a.before - 1)) ∙ ap (slice_get h) step ∙ t.announced in
-            absurd (no_announcement t.dest pgn (length bytes) other (keeps_there other since (t.start - length a.before - 1) told a.stays at))
+            absurd (no_announcement t.dest pgn (length bytes) other (keeps_there other since (t.start - length a.before - 1) stated a.stays at))
         | inr upto ↦ omega (arith, from, upto)
       ]
     ] in
-    let same : told ≡ Rts size a.limit other =
-    same_Some told (Rts size a.limit other) (sym t.announced ∙ ap (slice_get h) start ∙ here) in
+    let same : stated ≡ Rts size a.limit other =
+    same_Some stated (Rts size a.limit other) (sym t.announced ∙ ap (slice_get h) start ∙ here) in
     let is = starts_as t.dest pgn (length bytes) size a.limit other same in
     let chunks : (k : ℕ) → k < packets_of size → last_bytes since (suc k) ≡ chunk bytes (suc k) = λ k less. elim (some_or_none (last_chunk (suc k) since)) [
       | inl came ↦

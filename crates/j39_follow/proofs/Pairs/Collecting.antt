@@ -1,9 +1,9 @@
 -- What is kept of the packets of a pair, packet after packet.
-use Rattle.std.proofs.Common.{◌≡◌, ◌≢◌, ◌⊎◌, ℕ, zero, suc, ◌+◌, ◌-◌, ◌<◌, ◌≤◌, ◌==◌, Bool, true, false, if◌then◌else◌, List, [], ◌∷◌, ◌++◌, All, length, take}
+use Rattle.std.proofs.Common.{◌≡◌, ◌≢◌, ◌⊎◌, ℕ, zero, suc, ◌+◌, ◌-◌, ◌<◌, ◌≤◌, ◌==◌, Bool, true, false, if◌then◌else◌, List, [], ◌∷◌, ◌++◌, length, take}
 use Rattle.std.proofs.Common.{Option, Some, None, inl, inr, refl, sym, ap, subst, ◌∙◌, arith, eqb-true}
 use Rattle.std.specs.Option.{option_or, unwrap_or}
 use Rattle.std.specs.Prelude.{is_some}
-use Rattle.std.proofs.lemmas.Bool.{cases_Bool, eqb-false, false≢true}
+use Rattle.std.proofs.lemmas.Bool.{cases_Bool, eqb-false, false≢true, cond-false, cond-true}
 use Rattle.std.proofs.lemmas.List.Elements.{All-nil}
 use Rattle.j39_tp.specs.Carried.{chunks_to}
 use Rattle.j39_tp.specs.Chunks.{IsSize, packets_of}
@@ -11,7 +11,7 @@ use Rattle.j39_tp.specs.declared.packet.Packet.{Packet}
 use Rattle.j39_tp.specs.declared.packet.Packet.TheVariants.{Rts, Cts, EndAck, Bam, Abort, Dt}
 use Rattle.j39_follow.specs.Received.{ComesInOrder, IsAnnounced, IsReceived, KeepsOpen, last_bytes, chunk_in, last_chunk}
 use Rattle.j39_follow.specs.declared.pair.collected.Collected.{Collected}
-use Rattle.j39_follow.specs.inside.Collecting.{CameTo, HasNoneOpen, IsCollected, IsCollectedOf, IsMoreOf, IsOpened, CollectsOn, chunk_at, kept_bytes}
+use Rattle.j39_follow.specs.inside.Collecting.{CameTo, Closes, HasNoneOpen, IsCollected, IsMoreOf, IsOpened, CollectsOn, chunk_at, kept_bytes}
 use Rattle.j39_follow.proofs.Pairs.InOrder.{announced_on, announced_so_far, in_order_before, in_order_below, in_order_longer, in_order_next}
 use Rattle.j39_follow.proofs.Pairs.InOrder.{in_order_so_far, last_chunk_more, nothing_in_order, one_announced}
 
@@ -20,14 +20,8 @@ use Rattle.j39_follow.proofs.Pairs.InOrder.{in_order_so_far, last_chunk_more, no
 cts_starts_none : (count first number size limit pgn : ℕ) → Cts count first number ≡ Rts size limit pgn → ⊥
 cts_starts_none count first number size limit pgn e = cc
 
-end_starts_none : (whole number size limit pgn : ℕ) → EndAck whole number ≡ Rts size limit pgn → ⊥
-end_starts_none whole number size limit pgn e = cc
-
 all_starts_none : (whole number size limit pgn : ℕ) → Bam whole number ≡ Rts size limit pgn → ⊥
 all_starts_none whole number size limit pgn e = cc
-
-abort_starts_none : (reason number size limit pgn : ℕ) → Abort reason number ≡ Rts size limit pgn → ⊥
-abort_starts_none reason number size limit pgn e = cc
 
 data_starts_none : (number : ℕ) (chunk : List ℕ) (size limit pgn : ℕ) → Dt number chunk ≡ Rts size limit pgn → ⊥
 data_starts_none number chunk size limit pgn e = cc
@@ -35,11 +29,27 @@ data_starts_none number chunk size limit pgn e = cc
 cts_is_no_data : (count first number k : ℕ) (chunk : List ℕ) → Cts count first number ≡ Dt k chunk → ⊥
 cts_is_no_data count first number k chunk e = cc
 
-end_is_no_data : (whole number k : ℕ) (chunk : List ℕ) → EndAck whole number ≡ Dt k chunk → ⊥
-end_is_no_data whole number k chunk e = cc
+-- ---- what ends a message
 
-abort_is_no_data : (reason number k : ℕ) (chunk : List ℕ) → Abort reason number ≡ Dt k chunk → ⊥
-abort_is_no_data reason number k chunk e = cc
+closing_starts_none : (pgn : ℕ) (p : Packet) → Closes pgn p → (size limit number : ℕ) → p ≢ Rts size limit number
+closing_starts_none pgn p (x, inl is) size limit number e = let other : Abort x pgn ≡ Rts size limit number = sym is ∙ e in cc
+closing_starts_none pgn p (x, inr is) size limit number e = let other : EndAck x pgn ≡ Rts size limit number = sym is ∙ e in cc
+
+closing_is_no_data : (pgn : ℕ) (p : Packet) → Closes pgn p → (k : ℕ) (chunk : List ℕ) → p ≢ Dt k chunk
+closing_is_no_data pgn p (x, inl is) k chunk e = let other : Abort x pgn ≡ Dt k chunk = sym is ∙ e in cc
+closing_is_no_data pgn p (x, inr is) k chunk e = let other : EndAck x pgn ≡ Dt k chunk = sym is ∙ e in cc
+
+closing_is_bare : (pgn : ℕ) (p : Packet) → Closes pgn p → (k : ℕ) → chunk_in k p ≡ None
+closing_is_bare pgn p (x, inl is) k = ap (chunk_in k) is
+closing_is_bare pgn p (x, inr is) k = ap (chunk_in k) is
+
+keeps_others : (pgn : ℕ) (p : Packet) → Closes pgn p → (other : ℕ) → other ≢ pgn → KeepsOpen other p
+keeps_others pgn p (x, inl is) other apart = subst (KeepsOpen other) (sym is) (λ same. apart (sym same))
+keeps_others pgn p (x, inr is) other apart = subst (KeepsOpen other) (sym is) (λ same. apart (sym same))
+
+keeps_no_own : (pgn : ℕ) (p : Packet) → Closes pgn p → (number : ℕ) → KeepsOpen number p → number ≢ pgn
+keeps_no_own pgn p (x, inl is) number keeps same = subst (KeepsOpen number) is keeps (sym same)
+keeps_no_own pgn p (x, inr is) number keeps same = subst (KeepsOpen number) is keeps (sym same)
 
 -- ---- nothing open
 
@@ -117,14 +127,6 @@ if_or : {A : Type 0} (b : Bool) (x : A) (y : Option A) → option_or (if b then 
 if_or true x y = refl
 if_or false x y = refl
 
-if_true : {A : Type 0} (b : Bool) (x y : A) → b ≡ true → (if b then x else y) ≡ x
-if_true true x y e = refl
-if_true false x y e = cc
-
-if_false : {A : Type 0} (b : Bool) (x y : A) → b ≡ false → (if b then x else y) ≡ y
-if_false true x y e = cc
-if_false false x y e = refl
-
 one_number : (a b : ℕ) (x y : List ℕ) → Dt a x ≡ Dt b y → a ≡ b
 one_number a b x y e = cc
 
@@ -140,7 +142,7 @@ holds_on c new since number chunk m reached further = elim (cases_Bool (number =
   | inl next ↦
       let is : number ≡ c.held + 1 = eqb-true number (c.held + 1) next in
       let here : number ≡ suc c.held = omega (arith, is) in
-      let held : new.held ≡ number = m.held_is ∙ if_true (number == c.held + 1) number c.held next in
+      let held : new.held ≡ number = m.held_is ∙ cond-true (number == c.held + 1) number c.held next in
       let next_held : new.held ≡ suc c.held = held ∙ here in
       record {
         reached = subst (ComesInOrder (since ++ Dt number chunk ∷ [])) (sym next_held)
@@ -154,7 +156,7 @@ holds_on c new since number chunk m reached further = elim (cases_Bool (number =
         within = omega (arith, next_held);
       }
   | inr other ↦
-      let held : new.held ≡ c.held = m.held_is ∙ if_false (number == c.held + 1) number c.held other in
+      let held : new.held ≡ c.held = m.held_is ∙ cond-false (number == c.held + 1) number c.held other in
       record {
         reached = subst (ComesInOrder (since ++ Dt number chunk ∷ [])) (sym held) (in_order_longer since (Dt number chunk ∷ []) c.held reached);
         further = λ more. elim (in_order_so_far since (Dt number chunk) new.held more) [
@@ -277,24 +279,13 @@ pub leads_whole : (c new : Collected) (number : ℕ) (chunk : List ℕ) → IsMo
     → CollectsOn (Some c) None (Dt number chunk ∷ [])
 leads_whole c new number chunk m whole = λ h is. none_left c new h number chunk m is whole
 
-pub leads_past_abort : (reason pgn : ℕ) → CollectsOn None None (Abort reason pgn ∷ [])
-leads_past_abort reason pgn = λ h is. none_on h (Abort reason pgn) (abort_starts_none reason pgn) is
+pub leads_past : (pgn : ℕ) (p : Packet) → Closes pgn p → CollectsOn None None (p ∷ [])
+leads_past pgn p closes = λ h is. none_on h p (closing_starts_none pgn p closes) is
 
-pub leads_past_end : (size pgn : ℕ) → CollectsOn None None (EndAck size pgn ∷ [])
-leads_past_end size pgn = λ h is. none_on h (EndAck size pgn) (end_starts_none size pgn) is
+pub leads_on : (c : Collected) (pgn : ℕ) (p : Packet) → Closes pgn p → c.pgn ≢ pgn → CollectsOn (Some c) (Some c) (p ∷ [])
+leads_on c pgn p closes other = λ h is.
+    collected_on c h p (closing_is_bare pgn p closes) (closing_is_no_data pgn p closes) (keeps_others pgn p closes c.pgn other) is
 
-pub leads_on_by_abort : (c : Collected) (reason pgn : ℕ) → c.pgn ≢ pgn → CollectsOn (Some c) (Some c) (Abort reason pgn ∷ [])
-leads_on_by_abort c reason pgn other = λ h is.
-    collected_on c h (Abort reason pgn) (λ k. refl) (abort_is_no_data reason pgn) (λ same. other (sym same)) is
-
-pub leads_on_by_end : (c : Collected) (size pgn : ℕ) → c.pgn ≢ pgn → CollectsOn (Some c) (Some c) (EndAck size pgn ∷ [])
-leads_on_by_end c size pgn other = λ h is.
-    collected_on c h (EndAck size pgn) (λ k. refl) (end_is_no_data size pgn) (λ same. other (sym same)) is
-
-pub leads_off_by_abort : (c : Collected) (reason pgn : ℕ) → c.pgn ≡ pgn → CollectsOn (Some c) None (Abort reason pgn ∷ [])
-leads_off_by_abort c reason pgn same = λ h is.
-    none_behind c h (Abort reason pgn) (abort_starts_none reason pgn) (λ number keeps there. keeps (sym same ∙ sym there)) is
-
-pub leads_off_by_end : (c : Collected) (size pgn : ℕ) → c.pgn ≡ pgn → CollectsOn (Some c) None (EndAck size pgn ∷ [])
-leads_off_by_end c size pgn same = λ h is.
-    none_behind c h (EndAck size pgn) (end_starts_none size pgn) (λ number keeps there. keeps (sym same ∙ sym there)) is
+pub leads_off : (c : Collected) (pgn : ℕ) (p : Packet) → Closes pgn p → c.pgn ≡ pgn → CollectsOn (Some c) None (p ∷ [])
+leads_off c pgn p closes same = λ h is.
+    none_behind c h p (closing_starts_none pgn p closes) (λ number keeps there. keeps_no_own pgn p closes number keeps (there ∙ same)) is

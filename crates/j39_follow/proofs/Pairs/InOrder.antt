@@ -8,7 +8,7 @@ use Rattle.j39_tp.specs.declared.packet.Packet.{Packet}
 use Rattle.j39_tp.specs.declared.packet.Packet.TheVariants.{Rts, Dt}
 use Rattle.std.specs.Prelude.{take}
 use Rattle.j39_follow.specs.Received.{ComesInOrder, IsAnnounced, IsReceived, KeepsOpen, last_bytes, chunk_in, last_chunk}
-use Rattle.j39_follow.proofs.Addresses.Holding.{all_front, one_more}
+use Rattle.j39_follow.proofs.Addresses.Holding.{all_front, one_more, no_row}
 
 -- ---- in order
 
@@ -45,12 +45,8 @@ in_order_so_far s p k (front, chunk, back, row, rest) = elim (one_more s p front
   | inr earlier ↦ inl (front, chunk, earlier.0, earlier.2, rest)
 ]
 
-none_there : (front : List Packet) (p : Packet) (back : List Packet) → [] ≡ front ++ p ∷ back → ⊥
-none_there [] p back e = cc
-none_there (q ∷ front) p back e = cc
-
 pub nothing_in_order : (k : ℕ) → ¬ ComesInOrder [] (suc k)
-nothing_in_order k (front, chunk, back, row, rest) = none_there front (Dt (suc k) chunk) back row
+nothing_in_order k (front, chunk, back, row, rest) = no_row front (Dt (suc k) chunk) back row
 
 -- ---- what was announced last
 

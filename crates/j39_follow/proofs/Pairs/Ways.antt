@@ -1,7 +1,7 @@
 -- The packets of a pair, frame after frame.
 use Rattle.std.proofs.Common.{◌≡◌, ◌≢◌, ◌<◌, ◌==◌, ◌&&◌, ◌||◌, ℕ, Bool, true, false, if◌then◌else◌, List, [], ◌∷◌, ◌++◌, Option, Some, None, inl, inr}
 use Rattle.std.proofs.Common.{refl, sym, ap, subst, ◌∙◌, append_assoc, arith, eq-eqb, eqb-true}
-use Rattle.std.proofs.lemmas.Bool.{cases_Bool, eqb-false, false≢true}
+use Rattle.std.proofs.lemmas.Bool.{cases_Bool, eqb-false, false≢true, and_from}
 use Rattle.std.proofs.lemmas.List.{append-nil}
 use Rattle.std.proofs.lemmas.Option.{none-some, same_Some}
 use Rattle.j39_id.specs.declared.frame.Frame.{Frame}
@@ -16,7 +16,8 @@ use Rattle.j39_follow.specs.Received.{is_of_way, way_packet, way_packets}
 use Rattle.j39_follow.specs.declared.message.Sort.{Sort}
 use Rattle.j39_follow.specs.declared.pair.collected.Collected.{Collected}
 use Rattle.j39_follow.specs.declared.pair.collections.Collections.{Collections}
-use Rattle.j39_follow.specs.inside.Collecting.{HasNoneOpen, IsCollectedOf, CollectsOn, collected_between, collected_for, pair_key, receipt_in, tells_whole}
+use Rattle.j39_follow.specs.inside.Collecting.{HasNoneOpen, IsCollectedOf, CollectsOn, collected_between, collected_for, pair_key, receipt_in, reports_whole}
+use Rattle.j39_follow.proofs.Addresses.Holding.{no_row}
 
 pub way_more : (s d : ℕ) (seen : List Seen) (x : Seen) → way_packets s d (seen ++ x ∷ []) ≡ way_packets s d seen ++ way_packet s d x.frame.ident x.packet
 unfolding way_packets
@@ -29,12 +30,8 @@ pub no_way_yet : (s d : ℕ) → way_packets s d [] ≡ []
 unfolding way_packets
 no_way_yet s d = refl
 
-nothing_before : (front : List Packet) (p : Packet) (back : List Packet) → [] ≡ front ++ p ∷ back → ⊥
-nothing_before [] p back e = cc
-nothing_before (q ∷ front) p back e = cc
-
 pub nothing_open : HasNoneOpen []
-nothing_open = λ size pgn since a. absurd (nothing_before a.before (Rts size a.limit pgn) since a.row)
+nothing_open = λ size pgn since a. absurd (no_row a.before (Rts size a.limit pgn) since a.row)
 
 -- ---- which pairs a packet is of
 
@@ -42,7 +39,7 @@ or_nothing : (a b : Bool) → (a || (false && b)) ≡ a
 or_nothing true b = refl
 or_nothing false b = refl
 
-way_of_receipt : (s d : ℕ) (i : Ident) (p : Packet) → tells_whole p ≡ true → is_of_way s d i p ≡ (i.ps == s && i.sa == d)
+way_of_receipt : (s d : ℕ) (i : Ident) (p : Packet) → reports_whole p ≡ true → is_of_way s d i p ≡ (i.ps == s && i.sa == d)
 way_of_receipt s d i (EndAck size pgn) e = refl
 way_of_receipt s d i (Rts size limit pgn) e = absurd (false≢true e)
 way_of_receipt s d i (Cts count first pgn) e = absurd (false≢true e)
@@ -59,17 +56,13 @@ way_of_abort s d i (Cts count first pgn) e = absurd (false≢true e)
 way_of_abort s d i (Bam size pgn) e = absurd (false≢true e)
 way_of_abort s d i (Dt number chunk) e = absurd (false≢true e)
 
-way_of_other : (s d : ℕ) (i : Ident) (p : Packet) → tells_whole p ≡ false → is_abort p ≡ false → is_of_way s d i p ≡ (i.sa == s && i.ps == d)
+way_of_other : (s d : ℕ) (i : Ident) (p : Packet) → reports_whole p ≡ false → is_abort p ≡ false → is_of_way s d i p ≡ (i.sa == s && i.ps == d)
 way_of_other s d i (EndAck size pgn) e f = absurd (false≢true (sym e))
 way_of_other s d i (Abort reason pgn) e f = absurd (false≢true (sym f))
 way_of_other s d i (Rts size limit pgn) e f = or_nothing (i.sa == s && i.ps == d) (i.ps == s && i.sa == d)
 way_of_other s d i (Cts count first pgn) e f = or_nothing (i.sa == s && i.ps == d) (i.ps == s && i.sa == d)
 way_of_other s d i (Bam size pgn) e f = or_nothing (i.sa == s && i.ps == d) (i.ps == s && i.sa == d)
 way_of_other s d i (Dt number chunk) e f = or_nothing (i.sa == s && i.ps == d) (i.ps == s && i.sa == d)
-
-both_so : (a b : Bool) → a ≡ true → b ≡ true → (a && b) ≡ true
-both_so true b first second = second
-both_so false b first second = cc
 
 -- a pair has one number
 same_key : (x y s d : ℕ) → x < 256 → y < 256 → s < 256 → d < 256 → (pair_key x y == pair_key s d) ≡ (x == s && y == d)
@@ -78,7 +71,7 @@ same_key x y s d lx ly ls ld = elim (cases_Bool (pair_key x y == pair_key s d)) 
       let is : pair_key x y ≡ pair_key s d = eqb-true (pair_key x y) (pair_key s d) same in
       let first : x ≡ s = omega (arith, is, ly, ld) in
       let second : y ≡ d = omega (arith, is, ly, ld) in
-      same ∙ sym (both_so (x == s) (y == d) (eq-eqb x s first) (eq-eqb y d second))
+      same ∙ sym (and_from (x == s) (y == d) (eq-eqb x s first) (eq-eqb y d second))
   | inr other ↦
       let apart = eqb-false (pair_key x y) (pair_key s d) other in
       other ∙ sym (not_both x y s d apart)
@@ -126,7 +119,7 @@ led_between old new p x y s d lx ly ls ld one others =
     subst (λ (b : Bool). CollectsOn (collected_between old s d) (collected_between new s d) (if b then p ∷ [] else [])) (same_key x y s d lx ly ls ld)
     (led_at old new p (pair_key x y) (pair_key s d) one others)
 
-pub led_by_receipt : (old new : Collections) (p : Packet) (i : Ident) → tells_whole p ≡ true
+pub led_by_receipt : (old new : Collections) (p : Packet) (i : Ident) → reports_whole p ≡ true
     → CollectsOn (collected_for old (pair_key i.ps i.sa)) (collected_for new (pair_key i.ps i.sa)) (p ∷ [])
     → ((other : ℕ) → other ≢ pair_key i.ps i.sa → collected_for new other ≡ collected_for old other)
     → (s d : ℕ) → s < 256 → d < 256 → CollectsOn (collected_between old s d) (collected_between new s d) (way_packet s d i (Some p))
@@ -134,7 +127,7 @@ led_by_receipt old new p i is one others = λ s d ls ld.
     subst (λ (b : Bool). CollectsOn (collected_between old s d) (collected_between new s d) (if b then p ∷ [] else [])) (sym (way_of_receipt s d i p is))
     (led_between old new p i.ps i.sa s d i.ps_range i.sa_range ls ld one others)
 
-pub led_by_other : (old new : Collections) (p : Packet) (i : Ident) → tells_whole p ≡ false → is_abort p ≡ false
+pub led_by_other : (old new : Collections) (p : Packet) (i : Ident) → reports_whole p ≡ false → is_abort p ≡ false
     → CollectsOn (collected_for old (pair_key i.sa i.ps)) (collected_for new (pair_key i.sa i.ps)) (p ∷ [])
     → ((other : ℕ) → other ≢ pair_key i.sa i.ps → collected_for new other ≡ collected_for old other)
     → (s d : ℕ) → s < 256 → d < 256 → CollectsOn (collected_between old s d) (collected_between new s d) (way_packet s d i (Some p))

@@ -3,7 +3,7 @@ use Rattle.std.proofs.Common.{◌≡◌, ◌≢◌, ◌==◌, ◌≤◌, ◌<◌
 use Rattle.std.proofs.Common.{inl, inr, refl, sym, ap, ◌∙◌, arith, subst, eqb-true, Some}
 use Rattle.std.specs.Prelude.{cond, count_by, min, slice_set}
 use Rattle.std.specs.List.{filter, slice_get, zip}
-use Rattle.std.proofs.lemmas.Bool.{cases_Bool, eqb-false, false≢true}
+use Rattle.std.proofs.lemmas.Bool.{cases_Bool, eqb-false, false≢true, and_right}
 use Rattle.std.proofs.lemmas.List.{append-nil, length-set}
 use Rattle.std.proofs.lemmas.List.Elements.{filter-append}
 use Rattle.std.proofs.lemmas.List.Sums.{count_by-le-length, length-filter, sum_by_push}
@@ -62,10 +62,6 @@ if_it b e = if b then e ∷ [] else []
 own_with : (q : Event → Bool) (events : List Event) (e : Event) → filter q (events ++ e ∷ []) ≡ filter q events ++ if_it (q e) e
 own_with q events e = filter-append q events (e ∷ [])
 
-and_false : (a b : Bool) → b ≡ false → (a && b) ≡ false
-and_false true b e = e
-and_false false b e = refl
-
 behind_more : (place : ℕ) (q : Event → Bool) (own : List Event) (e : Event) (own_too : Bool) → (q e ≡ true → own_too ≡ true)
     → behind_asking place q (own ++ if_it own_too e) ≡ behind_asking place q own + one_if (ends_asking place own && q e)
 behind_more place q own e true so = pushed place q own e
@@ -74,13 +70,13 @@ behind_more place q own e false so = elim (cases_Bool (q e)) [
   | inr fails ↦
       let none : behind_asking place q own ≡ behind_asking place q own + 0 = omega arith in
       ap (behind_asking place q) (append-nil own) ∙ none
-      ∙ sym (ap (λ (b : Bool). behind_asking place q own + one_if b) (and_false (ends_asking place own) (q e) fails))
+      ∙ sym (ap (λ (b : Bool). behind_asking place q own + one_if b) (and_right (ends_asking place own) (q e) fails))
 ]
 
 -- a question opens, what ends it closes
 opened : (asked was ended : Bool) → (asked || ended) ≡ true → asked ≡ (asked || (was && not ended))
 opened true was ended e = refl
-opened false was true e = sym (and_false was false refl)
+opened false was true e = sym (and_right was false refl)
 opened false was false e = cc
 
 stays_so : (asked was ended : Bool) → (asked || ended) ≡ false → was ≡ (asked || (was && not ended))

@@ -1,4 +1,4 @@
--- What a frame tells of requests.
+-- What a frame reports of requests.
 use Rattle.std.proofs.Common.{◌≡◌, ◌≤◌, ◌+◌, ◌&&◌, ℕ, Bool, true, false, if◌then◌else◌, List, [], ◌∷◌, ◌++◌, length, map, Option, Some, None, inl, inr, refl, sym, ap}
 use Rattle.std.proofs.Common.{subst, ◌∙◌, arith, append_assoc}
 use Rattle.std.specs.Prelude.{option_map, is_some}
@@ -13,7 +13,7 @@ use Rattle.j39_network.specs.declared.plan.Plan.{Plan}
 use Rattle.j39_id.specs.FrameMeaning.{requested_group, requests_group}
 use Rattle.j39_follow.specs.Contests.{IsTaken, Timed}
 use Rattle.j39_follow.specs.FollowReports.{AreEventsOf, IsAnswerWay, IsAsked, IsSendingOf, aim_at, answer_aim, answer_way_text, in_frame, is_to_all}
-use Rattle.j39_follow.specs.FollowReports.{Message, ended_ident, ended_message, frame_events, message_events, notice_events, reply_of, tells_receipt}
+use Rattle.j39_follow.specs.FollowReports.{Message, ended_ident, ended_message, frame_events, message_events, notice_events, reply_of, reports_receipt}
 use Rattle.j39_follow.specs.Received.{turned}
 use Rattle.j39_follow.specs.LoggedRequests.{acknowledged_group, acknowledges, asked_request, asker_address, is_refusal, counted_number as number_of}
 use Rattle.j39_follow.specs.LoggedRequests.{asker_or_source}
@@ -39,7 +39,7 @@ shows_turned plan parties log i shows = record { source = shows.receiver; receiv
 
 pub shows_ended : (plan : Plan) (parties : Parties) (log : List Timed) (f : Frame) → ShowsParties plan parties log f.ident
     → ShowsParties plan parties log (ended_ident f)
-shows_ended plan parties log f shows = elim (cases_Bool (tells_receipt f)) [
+shows_ended plan parties log f shows = elim (cases_Bool (reports_receipt f)) [
   | inl other ↦
       let same : ended_ident f ≡ turned f.ident = ap (λ (b : Bool). if b then turned f.ident else f.ident) other in
       subst (ShowsParties plan parties log) (sym same) (shows_turned plan parties log f.ident shows)
@@ -100,7 +100,7 @@ asks_itself plan parties log f none shows =
     let there : asker_or_source plan f ≡ f.ident.sa = ap (λ (b : Bool). if b then asker_address f else f.ident.sa) none in
     subst (λ (a : ℕ). IsTaken plan log a (party_at parties.all a)) (sym there) shows.source
 
--- ---- what it tells of requests
+-- ---- what it reports of requests
 
 -- in a plan without requests there is nothing to note
 pub none_noted : (plan : Plan) (parties : Parties) (log : List Timed) (f : Frame) (sorts : List Sort) (events : List Event) (kept : Exchanges)
@@ -151,13 +151,13 @@ joined_events events first one g ended =
     ∙ append_assoc events first (one ∷ option_to_list (option_map g ended))
     ∙ ap (λ (t : List Event). events ++ (first ++ one ∷ t)) (mapped g ended)
 
--- a frame tells three events at most
+-- a frame reports three events at most
 pub few_events : (plan : Plan) (log : List Timed) (f : Frame) (sort : Sort) (ended : Option Sort) (events : List Event)
     → AreEventsOf plan log f (sort ∷ option_to_list ended) events → length events ≤ 3
-few_events plan log f sort ended events told =
-    let first : List Event = notice_events plan f told.sent told.asker in
-    let rest : List Event = message_events plan told.sent told.ended (sort ∷ option_to_list ended) in
-    let one : length first ≤ 1 = one_notice_event plan f told.sent told.asker in
-    let two : length rest ≤ 2 = two_messages plan told.sent told.ended sort ended in
-    let all : length events ≡ length first + length rest = ap length told.events_are ∙ length-append first rest in
+few_events plan log f sort ended events stated =
+    let first : List Event = notice_events plan f stated.sent stated.asker in
+    let rest : List Event = message_events plan stated.sent stated.ended (sort ∷ option_to_list ended) in
+    let one : length first ≤ 1 = one_notice_event plan f stated.sent stated.asker in
+    let two : length rest ≤ 2 = two_messages plan stated.sent stated.ended sort ended in
+    let all : length events ≡ length first + length rest = ap length stated.events_are ∙ length-append first rest in
     omega (arith, one, two, all)

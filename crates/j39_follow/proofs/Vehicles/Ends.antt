@@ -1,4 +1,4 @@
--- By two plans that tell alike of the NAMEs of a log, and have the same groups, flows, needs and requests, the same is told of the whole log.
+-- By two plans that report alike of the NAMEs of a log, and have the same groups, flows, needs and requests, the same is reported of the whole log.
 use Rattle.std.proofs.Common.{◌≡◌, ℕ, suc, ◌+◌, ◌==◌, ◌&&◌, Bool, if◌then◌else◌, List, [], ◌∷◌, ◌++◌, map, codes, Option, Some, None, inl, inr}
 use Rattle.std.proofs.Common.{count_by, drop, refl, sym, ap, ◌∙◌, arith, slice_index_or}
 use Rattle.std.specs.List.{filter, position, slice_get, zip}
@@ -14,28 +14,34 @@ use Rattle.j39_network.specs.declared.plan.request_plan.RequestPlan.{RequestPlan
 use Rattle.j39_network.specs.declared.plan.to.To.{To}
 use Rattle.j39_network.specs.declared.plan.to.To.TheVariants.{All as ToAll, One as ToOne}
 use Rattle.j39_network.specs.declared.plan.unit_plan.UnitPlan.{UnitPlan}
+use Rattle.j39_search.specs.ListPlaces.{in_each}
 use Rattle.j39_log.specs.ReadText.{refused_plan_line}
 use Rattle.j39_text.specs.Labels.{group_label, need_signal_text, need_text, signal_label, signals_of, unit_label}
 use Rattle.j39_text.specs.Texts.{field}
-use Rattle.j39_follow.specs.FollowText.{AreUnitLines, HoldsForUnit, IsUnitLine, asked_ends_text, ends_text, flow_end, flow_ends, flow_sent_line, group_end}
+use Rattle.j39_follow.specs.FollowText.{AreUnitLines, HoldsForUnit, IsUnitLine, flow_end, flow_ends, flow_sent_line, group_end}
 use Rattle.j39_follow.specs.FollowText.{group_ends}
 use Rattle.j39_follow.specs.FollowText.{is_other, is_without_flow, need_end, need_ends, need_met_line, request_end}
-use Rattle.j39_follow.specs.FollowText.{request_end_line, request_ends, rest_line, times_met, to_text, unit_end_line}
+use Rattle.j39_follow.specs.FollowText.{request_end_line, request_ends, rest_line, route_text, times_met, to_text, unit_end_line}
 use Rattle.j39_follow.specs.LoggedRequests.{answers, asks_request, asked_number, concerns, is_for_one_unit, is_of_asked, reaches_asker, refuses, replies_to}
 use Rattle.j39_follow.specs.LoggedRequests.{times_answered, times_asked, times_refused, turns}
 use Rattle.j39_follow.specs.declared.request.event.Event.{Event}
 use Rattle.j39_follow.specs.declared.request.event.Event.TheVariants.{Asked, Brought, Refused}
 use Rattle.j39_follow.specs.declared.request.event.Reply.{Reply}
 use Rattle.j39_follow.specs.declared.message.Sort.{Sort}
-use Rattle.j39_follow.proofs.Vehicles.Parties.{TellAll, holder_meets, unit_told, unit_untold}
+use Rattle.j39_follow.proofs.Vehicles.Parties.{ReportAll, holder_meets, unit_stated, unit_unreported}
 use Rattle.j39_follow.proofs.Vehicles.Reports.{same_label}
-use Rattle.j39_follow.proofs.Vehicles.Units.{AreAt, TellAlike, flip, turned}
+use Rattle.j39_follow.proofs.Vehicles.Units.{AreAt, ReportAlike, flip, turned}
 
 -- functions that agree are one
 same_function : {A B : Type 0} (f g : A → B) → ((x : A) → f x ≡ g x) → f ≡ g
 same_function f g same = λ i x. same x i
 
-module _ (G : ℕ → Type 0) (p q : Plan) (same : TellAlike G p q) where
+-- of lists that are one, lines that agree are one text
+same_lines : {A : Type 0} (f g : ℕ → A → List ℕ) (xs ys : List A) → ((n : ℕ) (x : A) → f n x ≡ g n x) → xs ≡ ys → in_each f 0 xs ≡ in_each g 0 ys
+same_lines {A} f g xs ys same list =
+    ap (λ (line : ℕ → A → List ℕ). in_each line 0 xs) (same_function f g (λ n. same_function (f n) (g n) (same n))) ∙ ap (in_each g 0) list
+
+module _ (G : ℕ → Type 0) (p q : Plan) (same : ReportAlike G p q) where
   -- ---- labels
 
   label : (u : ℕ) → unit_label p u ≡ unit_label q u
@@ -59,6 +65,10 @@ module _ (G : ℕ → Type 0) (p q : Plan) (same : TellAlike G p q) where
   same_to ToAll = refl
   same_to (ToOne u) = label u
 
+  same_route : (group sender : ℕ) (to : To) → route_text p group sender to ≡ route_text q group sender to
+  unfolding route_text
+  same_route group sender to = rw (same_group_label group, label sender, same_to to) refl
+
   pub same_refused : (g : ℕ) → refused_plan_line p g ≡ refused_plan_line q g
   unfolding refused_plan_line
   same_refused g = ap (λ (t : List ℕ). codes "refused plan BadGroup " ++ (t ++ 10 ∷ [])) (same_group_label g)
@@ -66,15 +76,12 @@ module _ (G : ℕ → Type 0) (p q : Plan) (same : TellAlike G p q) where
   -- ---- flows
 
   same_flow_line : (n : ℕ) (flow : FlowPlan) (times : ℕ) → flow_sent_line p n flow times ≡ flow_sent_line q n flow times
-  unfolding flow_sent_line ends_text
-  same_flow_line n flow times = rw (same_group_label flow.group, label flow.sender, same_to flow.to) refl
+  unfolding flow_sent_line
+  same_flow_line n flow times = rw (same_route flow.group flow.sender flow.to) refl
 
-  pub same_flow_ends : (sent : List Sort) (n : ℕ) (flows : List FlowPlan) → flow_ends p sent n flows ≡ flow_ends q sent n flows
-  unfolding flow_ends
-  same_flow_ends sent n [] = refl
-  same_flow_ends sent n (flow ∷ flows) =
-      ap (λ (t : List ℕ). t ++ flow_ends p sent (n + 1) flows) (same_flow_line n flow _)
-      ∙ ap (λ (t : List ℕ). flow_end q sent n flow ++ t) (same_flow_ends sent (n + 1) flows)
+  pub same_flow_ends : (sent : List Sort) → flow_ends p sent ≡ flow_ends q sent
+  same_flow_ends sent =
+      same_lines (flow_end p sent) (flow_end q sent) p.flows.items q.flows.items (λ n flow. same_flow_line n flow _) same.flows
 
   -- ---- groups
 
@@ -84,12 +91,8 @@ module _ (G : ℕ → Type 0) (p q : Plan) (same : TellAlike G p q) where
       (if option_eq (λ a b. a == b) (position (λ (h : GroupPlan). h.pgn == group.pgn) gs) (Some g) then count_by (is_other group.pgn) sent else 0))
       same.groups
 
-  pub same_group_ends : (sent : List Sort) (g : ℕ) (groups : List GroupPlan) → group_ends p sent g groups ≡ group_ends q sent g groups
-  unfolding group_ends
-  same_group_ends sent g [] = refl
-  same_group_ends sent g (group ∷ groups) =
-      ap (λ (t : List ℕ). t ++ group_ends p sent (g + 1) groups) (same_group_end sent g group)
-      ∙ ap (λ (t : List ℕ). group_end q sent g group ++ t) (same_group_ends sent (g + 1) groups)
+  pub same_group_ends : (sent : List Sort) → group_ends p sent ≡ group_ends q sent
+  same_group_ends sent = same_lines (group_end p sent) (group_end q sent) p.groups.items q.groups.items (same_group_end sent) same.groups
 
   -- ---- requests
 
@@ -112,40 +115,37 @@ module _ (G : ℕ → Type 0) (p q : Plan) (same : TellAlike G p q) where
   same_concerns : (place : ℕ) (r : RequestPlan) (e : Event) → concerns p place r e ≡ concerns q place r e
   same_concerns place r e = rw (same_answers r e, same_refuses r e) refl
 
-  same_turns : (place : ℕ) (r : RequestPlan) (told : List Event) → turns p place r told ≡ turns q place r told
-  same_turns place r told =
-      ap (λ (test : Event → Bool). let own = filter test told in zip own (drop 1 own))
+  same_turns : (place : ℕ) (r : RequestPlan) (stated : List Event) → turns p place r stated ≡ turns q place r stated
+  same_turns place r stated =
+      ap (λ (test : Event → Bool). let own = filter test stated in zip own (drop 1 own))
       (same_function (concerns p place r) (concerns q place r) (same_concerns place r))
 
-  same_answered : (place : ℕ) (r : RequestPlan) (told : List Event) → times_answered p place r told ≡ times_answered q place r told
-  same_answered place r told =
-      ap (λ (test : Event → Bool). count_by (λ (t : Event × Event). asks_request place t.0 && test t.1) (turns p place r told))
+  same_answered : (place : ℕ) (r : RequestPlan) (stated : List Event) → times_answered p place r stated ≡ times_answered q place r stated
+  same_answered place r stated =
+      ap (λ (test : Event → Bool). count_by (λ (t : Event × Event). asks_request place t.0 && test t.1) (turns p place r stated))
       (same_function (answers p r) (answers q r) (same_answers r))
-      ∙ ap (λ (ts : List (Event × Event)). count_by (λ (t : Event × Event). asks_request place t.0 && answers q r t.1) ts) (same_turns place r told)
+      ∙ ap (λ (ts : List (Event × Event)). count_by (λ (t : Event × Event). asks_request place t.0 && answers q r t.1) ts) (same_turns place r stated)
 
-  same_refusals : (place : ℕ) (r : RequestPlan) (told : List Event) → times_refused p place r told ≡ times_refused q place r told
-  same_refusals place r told =
-      ap (λ (test : Event → Bool). count_by (λ (t : Event × Event). asks_request place t.0 && test t.1) (turns p place r told))
+  same_refusals : (place : ℕ) (r : RequestPlan) (stated : List Event) → times_refused p place r stated ≡ times_refused q place r stated
+  same_refusals place r stated =
+      ap (λ (test : Event → Bool). count_by (λ (t : Event × Event). asks_request place t.0 && test t.1) (turns p place r stated))
       (same_function (refuses p r) (refuses q r) (same_refuses r))
-      ∙ ap (λ (ts : List (Event × Event)). count_by (λ (t : Event × Event). asks_request place t.0 && refuses q r t.1) ts) (same_turns place r told)
+      ∙ ap (λ (ts : List (Event × Event)). count_by (λ (t : Event × Event). asks_request place t.0 && refuses q r t.1) ts) (same_turns place r stated)
 
   same_request_line : (n : ℕ) (r : RequestPlan) (asked answered refused : ℕ) → request_end_line p n r asked answered refused
       ≡ request_end_line q n r asked answered refused
-  unfolding request_end_line asked_ends_text
-  same_request_line n r asked answered refused = rw (same_group_label r.group, label r.sender, same_to r.to) refl
+  unfolding request_end_line
+  same_request_line n r asked answered refused = rw (same_route r.group r.sender r.to) refl
 
-  same_request_end : (told : List Event) (n : ℕ) (r : RequestPlan) → request_end p told n r ≡ request_end q told n r
-  same_request_end told n r =
-      same_request_line n r (times_asked n told) (times_answered p n r told) (times_refused p n r told)
-      ∙ ap (λ (times : ℕ). request_end_line q n r (times_asked n told) times (times_refused p n r told)) (same_answered n r told)
-      ∙ ap (λ (times : ℕ). request_end_line q n r (times_asked n told) (times_answered q n r told) times) (same_refusals n r told)
+  same_request_end : (stated : List Event) (n : ℕ) (r : RequestPlan) → request_end p stated n r ≡ request_end q stated n r
+  same_request_end stated n r =
+      same_request_line n r (times_asked n stated) (times_answered p n r stated) (times_refused p n r stated)
+      ∙ ap (λ (times : ℕ). request_end_line q n r (times_asked n stated) times (times_refused p n r stated)) (same_answered n r stated)
+      ∙ ap (λ (times : ℕ). request_end_line q n r (times_asked n stated) (times_answered q n r stated) times) (same_refusals n r stated)
 
-  pub same_request_ends : (told : List Event) (n : ℕ) (requests : List RequestPlan) → request_ends p told n requests ≡ request_ends q told n requests
-  unfolding request_ends
-  same_request_ends told n [] = refl
-  same_request_ends told n (r ∷ requests) =
-      ap (λ (t : List ℕ). t ++ request_ends p told (n + 1) requests) (same_request_end told n r)
-      ∙ ap (λ (t : List ℕ). request_end q told n r ++ t) (same_request_ends told (n + 1) requests)
+  pub same_request_ends : (stated : List Event) → request_ends p stated ≡ request_ends q stated
+  same_request_ends stated =
+      same_lines (request_end p stated) (request_end q stated) p.requests.items q.requests.items (same_request_end stated) same.requests
 
   -- ---- needs
 
@@ -171,16 +171,12 @@ module _ (G : ℕ → Type 0) (p q : Plan) (same : TellAlike G p q) where
       ∙ ap (λ (rs : List RequestPlan). need_met_line q n need (times_met rs sent need 0 p.flows.items)) same.requests
       ∙ ap (λ (fs : List FlowPlan). need_met_line q n need (times_met q.requests.items sent need 0 fs)) same.flows
 
-  pub same_need_ends : (sent : List Sort) (n : ℕ) (needs : List NeedPlan) → need_ends p sent n needs ≡ need_ends q sent n needs
-  unfolding need_ends
-  same_need_ends sent n [] = refl
-  same_need_ends sent n (need ∷ needs) =
-      ap (λ (t : List ℕ). t ++ need_ends p sent (n + 1) needs) (same_need_end sent n need)
-      ∙ ap (λ (t : List ℕ). need_end q sent n need ++ t) (same_need_ends sent (n + 1) needs)
+  pub same_need_ends : (sent : List Sort) → need_ends p sent ≡ need_ends q sent
+  same_need_ends sent = same_lines (need_end p sent) (need_end q sent) p.needs.items q.needs.items (same_need_end sent) same.needs
 
 -- ---- where units stand
 
-abbrev holds_for : (G : ℕ → Type 0) (p q : Plan) → TellAlike G p q → (frames : List Frame) → TellAll G frames → (u : ℕ) (a b : UnitPlan)
+abbrev holds_for : (G : ℕ → Type 0) (p q : Plan) → ReportAlike G p q → (frames : List Frame) → ReportAll G frames → (u : ℕ) (a b : UnitPlan)
     → AreAt p q u a b → (address : ℕ) → HoldsForUnit p frames u a address → HoldsForUnit q frames u b address
 holds_for G p q same frames all u a b at address h = record {
   name = h.name;
@@ -192,7 +188,7 @@ same_end_line : (a b : UnitPlan) (w : List ℕ) → a.label.bytes ≡ b.label.by
 unfolding unit_end_line
 same_end_line a b w labels = ap (λ (t : List ℕ). codes "unit " ++ (t ++ (w ++ 10 ∷ []))) labels
 
-same_unit_line : (G : ℕ → Type 0) (p q : Plan) → TellAlike G p q → (frames : List Frame) → TellAll G frames → (u : ℕ) (a b : UnitPlan)
+same_unit_line : (G : ℕ → Type 0) (p q : Plan) → ReportAlike G p q → (frames : List Frame) → ReportAll G frames → (u : ℕ) (a b : UnitPlan)
     → AreAt p q u a b → (text : List ℕ) → IsUnitLine p frames u a text → IsUnitLine q frames u b text
 same_unit_line G p q same frames all u a b at text is = go is where
   back : AreAt q p u b a
@@ -210,12 +206,12 @@ same_unit_line G p q same frames all u a b at text is = go is where
     },
     line ∙ words (field (codes " address ") address),
   )
-  go (inr (inl (told, none, line))) = inr (inl (
-    unit_told G p q same frames all u a b at told,
+  go (inr (inl (stated, none, line))) = inr (inl (
+    unit_stated G p q same frames all u a b at stated,
     λ address h. none address (holds_for G q p (flip G p q same) frames all u b a back address h),
     line ∙ words (codes " none"),
   ))
-  go (inr (inr (untold, line))) = inr (inr (unit_untold G p q same frames all u a b at untold, line ∙ words (codes " unclaimed")))
+  go (inr (inr (unstated, line))) = inr (inr (unit_unreported G p q same frames all u a b at unstated, line ∙ words (codes " unclaimed")))
 
 -- the units at the end of the one list are those of a plan, from a place on
 abbrev AreFrom : Plan → ℕ → List UnitPlan → Type 0
@@ -236,7 +232,7 @@ none_from plan n from =
     let here : n ≡ n + 0 = omega arith in
     ap (slice_get plan.units.items) here ∙ sym (from 0)
 
-pub same_unit_lines : (G : ℕ → Type 0) (p q : Plan) → TellAlike G p q → (frames : List Frame) → TellAll G frames → (n : ℕ) (xs ys : List UnitPlan)
+pub same_unit_lines : (G : ℕ → Type 0) (p q : Plan) → ReportAlike G p q → (frames : List Frame) → ReportAll G frames → (n : ℕ) (xs ys : List UnitPlan)
     (text : List ℕ) → AreFrom p n xs → AreFrom q n ys → AreUnitLines p frames n xs text → AreUnitLines q frames n ys text
 same_unit_lines G p q same frames all n [] [] text one other is = is
 same_unit_lines G p q same frames all n [] (y ∷ ys) text one other is =

@@ -1,4 +1,4 @@
--- By two plans that tell alike of the NAMEs of a log its lines lead to the same, and the same is written at them, but for the serial numbers of
+-- By two plans that report alike of the NAMEs of a log its lines lead to the same, and the same is written at them, but for the serial numbers of
 -- boxes.
 use Rattle.std.proofs.Common.{◌≡◌, Bool, ℕ, suc, List, [], ◌∷◌, ◌++◌, length, Option, Some, None, inl, inr}
 use Rattle.std.proofs.Common.{refl, sym, ap, subst, ◌∙◌, append_assoc}
@@ -22,30 +22,28 @@ use Rattle.j39_follow.specs.FollowText.{frames_seen, line_passed_over, lines_wit
 use Rattle.j39_follow.specs.Holders.{ClaimsOrCannot}
 use Rattle.j39_follow.specs.VehicleLogs.{IsButForNumber, NumberedLine, notice_alone, with_numbers, without_numbers}
 use Rattle.j39_follow.specs.declared.message.Sort.{Sort}
-use Rattle.j39_follow.proofs.Vehicles.Parties.{TellAll, same_hands, tell_front}
+use Rattle.j39_follow.proofs.Vehicles.Parties.{ReportAll, same_hands, report_front}
 use Rattle.j39_follow.proofs.Vehicles.Reports.{bare_alike, notice_alike, same_events, same_group_of, same_report}
-use Rattle.j39_follow.proofs.Vehicles.Units.{TellAlike, flip}
+use Rattle.j39_follow.proofs.Vehicles.Units.{ReportAlike, flip}
+use Rattle.j39_follow.proofs.GroupFrames.{frames_both}
 
 -- ---- what a pair heard
 
-frames_both : (a b : List Seen) → frames_seen (a ++ b) ≡ frames_seen a ++ frames_seen b
-frames_both a b = map-append (λ (s : Seen). s.frame) a b
-
-tell_at : (G : ℕ → Type 0) (front : List Seen) (x : Seen) (back : List Seen) → TellAll G (frames_seen (front ++ x ∷ back))
-    → TellAll G (frames_seen front ++ x.frame ∷ [])
-tell_at G front x back all =
+report_at : (G : ℕ → Type 0) (front : List Seen) (x : Seen) (back : List Seen) → ReportAll G (frames_seen (front ++ x ∷ back))
+    → ReportAll G (frames_seen front ++ x.frame ∷ [])
+report_at G front x back all =
     let parted : frames_seen (front ++ x ∷ back) ≡ (frames_seen front ++ x.frame ∷ []) ++ frames_seen back =
     frames_both front (x ∷ back) ∙ sym (append_assoc (frames_seen front) (x.frame ∷ []) (frames_seen back)) in
-    tell_front G (frames_seen front ++ x.frame ∷ []) (frames_seen back) (subst (TellAll G) parted all)
+    report_front G (frames_seen front ++ x.frame ∷ []) (frames_seen back) (subst (ReportAll G) parted all)
 
-one_changes : (G : ℕ → Type 0) (p q : Plan) → TellAlike G p q → (front : List Seen) (x : Seen) (back : List Seen)
-    → TellAll G (frames_seen (front ++ x ∷ back)) → (s d : ℕ) → OneChangesHands p front x s d → OneChangesHands q front x s d
+one_changes : (G : ℕ → Type 0) (p q : Plan) → ReportAlike G p q → (front : List Seen) (x : Seen) (back : List Seen)
+    → ReportAll G (frames_seen (front ++ x ∷ back)) → (s d : ℕ) → OneChangesHands p front x s d → OneChangesHands q front x s d
 one_changes G p q same front x back all s d (inl c) =
-    inl (same_hands G p q same (frames_seen front) x.frame (tell_at G front x back all) s c)
+    inl (same_hands G p q same (frames_seen front) x.frame (report_at G front x back all) s c)
 one_changes G p q same front x back all s d (inr c) =
-    inr (same_hands G p q same (frames_seen front) x.frame (tell_at G front x back all) d c)
+    inr (same_hands G p q same (frames_seen front) x.frame (report_at G front x back all) d c)
 
-heard_since : (G : ℕ → Type 0) (p q : Plan) → TellAlike G p q → (seen : List Seen) → TellAll G (frames_seen seen) → (s d : ℕ) (h : List Packet)
+heard_since : (G : ℕ → Type 0) (p q : Plan) → ReportAlike G p q → (seen : List Seen) → ReportAll G (frames_seen seen) → (s d : ℕ) (h : List Packet)
     (is : HeardSince p seen s d h) → (there : HeardSince q seen s d h) × (there.since ≡ is.since)
 heard_since G p q same seen all s d h is = (
   record {
@@ -57,13 +55,13 @@ heard_since G p q same seen all s d h is = (
       | inr c ↦
           let parted : seen ≡ c.0 ++ c.1 ∷ is.since =
           is.row ∙ ap (λ (t : List Seen). t ++ is.since) c.2 ∙ append_assoc c.0 (c.1 ∷ []) is.since in
-          let known : TellAll G (frames_seen (c.0 ++ c.1 ∷ is.since)) = subst (λ (t : List Seen). TellAll G (frames_seen t)) parted all in
+          let known : ReportAll G (frames_seen (c.0 ++ c.1 ∷ is.since)) = subst (λ (t : List Seen). ReportAll G (frames_seen t)) parted all in
           inr (c.0, c.1, c.2, one_changes G p q same c.0 c.1 is.since known s d c.3)
     ];
     steady = λ front x back row c.
         let parted : seen ≡ (is.before ++ front) ++ x ∷ back =
         is.row ∙ ap (λ (t : List Seen). is.before ++ t) row ∙ sym (append_assoc is.before front (x ∷ back)) in
-        let known : TellAll G (frames_seen ((is.before ++ front) ++ x ∷ back)) = subst (λ (t : List Seen). TellAll G (frames_seen t)) parted all in
+        let known : ReportAll G (frames_seen ((is.before ++ front) ++ x ∷ back)) = subst (λ (t : List Seen). ReportAll G (frames_seen t)) parted all in
         is.steady front x back row (one_changes G q p (flip G p q same) (is.before ++ front) x back known s d c);
     packets_are = is.packets_are;
   },
@@ -72,7 +70,7 @@ heard_since G p q same seen all s d h is = (
 
 -- ---- a frame
 
-module _ (G : ℕ → Type 0) (p q : Plan) (same : TellAlike G p q) (log : List Timed) (all : TellAll G (frames_of log)) where
+module _ (G : ℕ → Type 0) (p q : Plan) (same : ReportAlike G p q) (log : List Timed) (all : ReportAll G (frames_of log)) where
   followed_as : (f : Frame) (packet : Option Packet) → IsFollowedAs p log f packet → IsFollowedAs q log f packet
   followed_as f (Some packet) is = (same_group_of G p q same log all (in_frame f) None is.0, is.1)
   followed_as f None (inl none) = inl none
@@ -103,7 +101,7 @@ module _ (G : ℕ → Type 0) (p q : Plan) (same : TellAlike G p q) (log : List 
       )
   received_report front h size pgn f sorts text (inr none) = inr none
 
-  in_order_report : (before : List Seen) → TellAll G (frames_seen before) → (front : List ℕ) (f : Frame) (packet : Packet) (sorts : List Sort)
+  in_order_report : (before : List Seen) → ReportAll G (frames_seen before) → (front : List ℕ) (f : Frame) (packet : Packet) (sorts : List Sort)
       (text : List ℕ) → IsInOrderReport p before log front f packet sorts text → IsInOrderReport q before log front f packet sorts text
   in_order_report before seen front f packet sorts text is = (
     is.0,
@@ -111,7 +109,7 @@ module _ (G : ℕ → Type 0) (p q : Plan) (same : TellAlike G p q) (log : List 
     carried_report front (is.0 ++ packet ∷ []) (length is.0) f sorts text is.2,
   )
 
-  packet_report : (before : List Seen) → TellAll G (frames_seen before) → (front : List ℕ) (f : Frame) (packet : Option Packet) (sorts : List Sort)
+  packet_report : (before : List Seen) → ReportAll G (frames_seen before) → (front : List ℕ) (f : Frame) (packet : Option Packet) (sorts : List Sort)
       (text : List ℕ) → IsPacketReport p before log front f packet sorts text → IsPacketReport q before log front f packet sorts text
   packet_report before seen front f None sorts text is = is
   packet_report before seen front f (Some (EndAck size pgn)) sorts text is =
@@ -137,12 +135,12 @@ pub record SameStep (p q : Plan) (text : List ℕ) (Leads : List ℕ → Type 0)
 abbrev blank : NumberedLine
 blank = record { notice = []; alone = []; rest = [] }
 
--- the frames with times are those that were seen, and each NAME of which they tell meets G
+-- the frames with times are those that were seen, and each NAME of which they report meets G
 pub record Remembers (G : ℕ → Type 0) (past : FollowedPast) : Type 0 where
   pub frames : frames_of past.timed ≡ frames_seen past.seen
-  pub tells : TellAll G (frames_seen past.seen)
+  pub states : ReportAll G (frames_seen past.seen)
 
-module _ (G : ℕ → Type 0) (p q : Plan) (same : TellAlike G p q) (silent : (name : ℕ) → identity_text q name ≡ []) (all_frames : Bool) where
+module _ (G : ℕ → Type 0) (p q : Plan) (same : ReportAlike G p q) (silent : (name : ℕ) → identity_text q name ≡ []) (all_frames : Bool) where
   frame_alike : (past : FollowedPast) (time : List ℕ) (named : Option (List ℕ)) (f : Frame) (next : FollowedPast) (text : List ℕ)
       → Remembers G past → Remembers G next → FollowsFrame p all_frames past time named f next text
       → SameStep p q text (FollowsFrame q all_frames past time named f next)
@@ -159,10 +157,10 @@ module _ (G : ℕ → Type 0) (p q : Plan) (same : TellAlike G p q) (silent : (n
       bare = a.bare;
       carried = a.carried;
       heard_as = followed_as G p q same log all f a.packet a.heard_as;
-      notice_is = notice_alike G p q same log all silent f tells front a.notice a.notice_is;
+      notice_is = notice_alike G p q same log all silent f states front a.notice a.notice_is;
       report_is = same_report G p q same log all front (in_frame f) a.sort a.report a.report_is;
       bare_is = bare_alike G p q same log all all_frames front f a.notice a.report a.bare a.notice_is a.bare_is;
-      carried_is = packet_report G p q same log all past.seen before.tells front f a.packet a.sorts a.carried a.carried_is;
+      carried_is = packet_report G p q same log all past.seen before.states front f a.packet a.sorts a.carried a.carried_is;
       events_are = same_events G p q same log all f (a.sort ∷ a.sorts) a.events a.events_are;
       text_is = refl;
       next_is = a.next_is;
@@ -175,14 +173,14 @@ module _ (G : ℕ → Type 0) (p q : Plan) (same : TellAlike G p q) (silent : (n
     front : List ℕ
     front = stamp past.number time
 
-    all : TellAll G (frames_of log)
-    all = subst (TellAll G) (sym (ap (λ (r : FollowedPast). frames_of r.timed) (sym a.next_is) ∙ behind.frames)) behind.tells
+    all : ReportAll G (frames_of log)
+    all = subst (ReportAll G) (sym (ap (λ (r : FollowedPast). frames_of r.timed) (sym a.next_is) ∙ behind.frames)) behind.states
 
     last : frames_of log ≡ frames_of past.timed ++ f ∷ []
     last = map-append (λ (t : Timed). t.frame) past.timed _
 
-    tells : (name : ℕ) → ClaimsOrCannot f name → G name
-    tells name t = all (frames_of past.timed) f [] last name t
+    states : (name : ℕ) → ClaimsOrCannot f name → G name
+    states name t = all (frames_of past.timed) f [] last name t
 
     alone : List ℕ
     alone = notice_alone p front f a.notice_is.way a.notice_is.asked a.notice_is.back
@@ -252,11 +250,11 @@ lines_grown p all_frames past (line ∷ all) end text follows =
     joined past follows.0 end (line_grown p all_frames past line follows.0 follows.1 follows.3) (lines_grown p all_frames follows.0 all end follows.2 follows.4)
 
 remembered : (G : ℕ → Type 0) (past end : FollowedPast) → Grown past end → frames_of past.timed ≡ frames_seen past.seen
-    → TellAll G (frames_seen end.seen) → Remembers G past
+    → ReportAll G (frames_seen end.seen) → Remembers G past
 remembered G past end grown frames all =
     let parted : frames_seen end.seen ≡ frames_seen past.seen ++ frames_seen grown.more =
     ap frames_seen grown.seen ∙ frames_both past.seen grown.more in
-    record { frames = frames; tells = tell_front G (frames_seen past.seen) (frames_seen grown.more) (subst (TellAll G) parted all) }
+    record { frames = frames; states = report_front G (frames_seen past.seen) (frames_seen grown.more) (subst (ReportAll G) parted all) }
 
 frames_grown : (past next : FollowedPast) → Grown past next → frames_of past.timed ≡ frames_seen past.seen → frames_of next.timed ≡ frames_seen next.seen
 frames_grown past next grown frames =
@@ -264,7 +262,7 @@ frames_grown past next grown frames =
 
 -- ---- a line
 
-module _ (G : ℕ → Type 0) (p q : Plan) (same : TellAlike G p q) (silent : (name : ℕ) → identity_text q name ≡ []) (all_frames : Bool) where
+module _ (G : ℕ → Type 0) (p q : Plan) (same : ReportAlike G p q) (silent : (name : ℕ) → identity_text q name ≡ []) (all_frames : Bool) where
   part_alike : (past : FollowedPast) (line part : List ℕ) (named : Option (List ℕ)) (next : FollowedPast) (text : List ℕ)
       → Remembers G past → Remembers G next → FollowsPart p all_frames past line part named next text
       → SameStep p q text (FollowsPart q all_frames past line part named next)
@@ -293,7 +291,7 @@ module _ (G : ℕ → Type 0) (p q : Plan) (same : TellAlike G p q) (silent : (n
       but_for_number = inl (refl, refl);
     }
     | inr here ↦
-        let step = part_alike (one_line_more past) line follows.0 follows.1 next text (record { frames = before.frames; tells = before.tells }) behind
+        let step = part_alike (one_line_more past) line follows.0 follows.1 next text (record { frames = before.frames; states = before.states }) behind
         here.1 in
         record {
           row = step.row;
@@ -317,25 +315,25 @@ pub record SameLines (p q : Plan) (all_frames : Bool) (past : FollowedPast) (all
   pub each : length rows ≡ length all
   pub but_for_numbers : All (IsButForNumber p) rows
 
-pub lines_alike : (G : ℕ → Type 0) (p q : Plan) → TellAlike G p q → ((name : ℕ) → identity_text q name ≡ []) → (all_frames : Bool) (all : List Line)
-    (past : FollowedPast) (end : FollowedPast) (text : List ℕ) → frames_of past.timed ≡ frames_seen past.seen → TellAll G (frames_seen end.seen)
+pub lines_alike : (G : ℕ → Type 0) (p q : Plan) → ReportAlike G p q → ((name : ℕ) → identity_text q name ≡ []) → (all_frames : Bool) (all : List Line)
+    (past : FollowedPast) (end : FollowedPast) (text : List ℕ) → frames_of past.timed ≡ frames_seen past.seen → ReportAll G (frames_seen end.seen)
     → FollowsLines p all_frames past all end text → SameLines p q all_frames past all end text
 unfolding with_numbers without_numbers
-lines_alike G p q same silent all_frames [] past end text frames tells follows = record {
+lines_alike G p q same silent all_frames [] past end text frames states follows = record {
   rows = [];
   text_is = follows.1;
   leads = (follows.0, refl);
   each = refl;
   but_for_numbers = All-nil (IsButForNumber p);
 }
-lines_alike G p q same silent all_frames (line ∷ all) past end text frames tells follows =
+lines_alike G p q same silent all_frames (line ∷ all) past end text frames states follows =
     let first = line_grown p all_frames past line follows.0 follows.1 follows.3 in
     let rest = lines_grown p all_frames follows.0 all end follows.2 follows.4 in
     let known = frames_grown past follows.0 first frames in
-    let before = remembered G past end (joined past follows.0 end first rest) frames tells in
-    let behind = remembered G follows.0 end rest known tells in
+    let before = remembered G past end (joined past follows.0 end first rest) frames states in
+    let behind = remembered G follows.0 end rest known states in
     let step = line_alike G p q same silent all_frames past line follows.0 follows.1 before behind follows.3 in
-    let further = lines_alike G p q same silent all_frames all follows.0 end follows.2 known tells follows.4 in
+    let further = lines_alike G p q same silent all_frames all follows.0 end follows.2 known states follows.4 in
     record {
       rows = step.row ∷ further.rows;
       text_is =

@@ -1,5 +1,5 @@
--- Two plans that tell alike of the NAMEs of a log take the same parties to be behind its addresses.
-use Rattle.std.proofs.Common.{◌≡◌, ◌≢◌, ◌⊎◌, ℕ, ◌<◌, ◌≤◌, ◌||◌, nat_lt, Bool, if◌then◌else◌, List, [], ◌∷◌, ◌++◌, Option, Some, None, inl, inr}
+-- Two plans that report alike of the NAMEs of a log take the same parties to be behind its addresses.
+use Rattle.std.proofs.Common.{◌≡◌, ◌≢◌, ◌⊎◌, ℕ, ◌<◌, ◌≤◌, nat_lt, Bool, if◌then◌else◌, List, [], ◌∷◌, ◌++◌, Option, Some, None, inl, inr}
 use Rattle.std.proofs.Common.{refl, sym, ap, subst, ◌∙◌, arith, append_assoc}
 use Rattle.std.specs.List.{slice_get}
 use Rattle.std.specs.Option.{option_map_or}
@@ -7,7 +7,7 @@ use Rattle.std.proofs.lemmas.Bool.{cases_eq, cases_lt}
 use Rattle.std.proofs.lemmas.Bool.Decides.{Decides-ltb}
 use Rattle.std.proofs.lemmas.List.{map-append}
 use Rattle.std.proofs.lemmas.Option.{same_Some}
-use Rattle.j39_id.specs.FrameMeaning.{cannot_claim, name_in}
+use Rattle.j39_id.specs.FrameMeaning.{name_in}
 use Rattle.j39_id.specs.declared.frame.Frame.{Frame}
 use Rattle.j39_network.specs.declared.plan.Plan.{Plan}
 use Rattle.j39_network.specs.declared.plan.unit_plan.UnitPlan.{UnitPlan}
@@ -19,42 +19,40 @@ use Rattle.j39_follow.specs.declared.address.contest.Contention.{Contention}
 use Rattle.j39_follow.specs.declared.address.contest.Contest.{Contest}
 use Rattle.j39_follow.specs.declared.address.who.Who.{Who}
 use Rattle.j39_follow.specs.declared.address.who.Who.TheVariants.{Holder, Likely, LikelyStranger, Stranger, Unknown}
-use Rattle.j39_follow.proofs.Vehicles.Units.{AreAt, TellAlike, above_told, flip, turned}
+use Rattle.j39_follow.proofs.Vehicles.Units.{AreAt, ReportAlike, above_reported, flip, turned}
+use Rattle.j39_follow.proofs.Addresses.Recounts.{claim_reports}
 
--- each NAME of which the frames tell meets G
-abbrev pub TellAll : (ℕ → Type 0) → List Frame → Type 0
-TellAll G frames = (before : List Frame) (f : Frame) (behind : List Frame) → frames ≡ before ++ f ∷ behind → (name : ℕ) → ClaimsOrCannot f name → G name
+-- each NAME of which the frames report meets G
+abbrev pub ReportAll : (ℕ → Type 0) → List Frame → Type 0
+ReportAll G frames = (before : List Frame) (f : Frame) (behind : List Frame) → frames ≡ before ++ f ∷ behind → (name : ℕ) → ClaimsOrCannot f name → G name
 
-pub tell_front : (G : ℕ → Type 0) (a b : List Frame) → TellAll G (a ++ b) → TellAll G a
-tell_front G a b all before f behind is =
+pub report_front : (G : ℕ → Type 0) (a b : List Frame) → ReportAll G (a ++ b) → ReportAll G a
+report_front G a b all before f behind is =
     all before f (behind ++ b) (ap (λ (t : List Frame). t ++ b) is ∙ append_assoc before (f ∷ behind) b)
 
-claim_tells : (f : Frame) (name address : ℕ) → Claims f name address → ClaimsOrCannot f name
-claim_tells f name address c = record { either = ap (λ (b : Bool). b || cannot_claim f) c.claim; name_is = c.name_is }
-
-pub holder_meets : (G : ℕ → Type 0) (frames : List Frame) (name address : ℕ) → TellAll G frames → HoldsByFrames frames name address → G name
-holder_meets G frames name address all h = all h.before h.claim h.behind h.row name (claim_tells h.claim name address h.claims)
+pub holder_meets : (G : ℕ → Type 0) (frames : List Frame) (name address : ℕ) → ReportAll G frames → HoldsByFrames frames name address → G name
+holder_meets G frames name address all h = all h.before h.claim h.behind h.row name (claim_reports h.claim name address h.claims)
 
 -- ---- units
 
-pub unit_told : (G : ℕ → Type 0) (p q : Plan) → TellAlike G p q → (frames : List Frame) → TellAll G frames → (u : ℕ) (a b : UnitPlan)
+pub unit_stated : (G : ℕ → Type 0) (p q : Plan) → ReportAlike G p q → (frames : List Frame) → ReportAll G frames → (u : ℕ) (a b : UnitPlan)
     → AreAt p q u a b → IsUnitHeard p frames u a → IsUnitHeard q frames u b
-unit_told G p q same frames all u a b at t = record {
+unit_stated G p q same frames all u a b at t = record {
   name = t.name;
   name_of = sym (same.names u a b at t.name (all t.heard.before t.heard.frame t.heard.behind t.heard.row t.name t.heard.says)) ∙ t.name_of;
   heard = t.heard;
 }
 
-pub unit_untold : (G : ℕ → Type 0) (p q : Plan) → TellAlike G p q → (frames : List Frame) → TellAll G frames → (u : ℕ) (a b : UnitPlan)
+pub unit_unreported : (G : ℕ → Type 0) (p q : Plan) → ReportAlike G p q → (frames : List Frame) → ReportAll G frames → (u : ℕ) (a b : UnitPlan)
     → AreAt p q u a b → ¬ IsUnitHeard p frames u a → ¬ IsUnitHeard q frames u b
-unit_untold G p q same frames all u a b at none told =
-    none (unit_told G q p (flip G p q same) frames all u b a (turned q p u b a at) told)
+unit_unreported G p q same frames all u a b at none stated =
+    none (unit_stated G q p (flip G p q same) frames all u b a (turned q p u b a at) stated)
 
-may_hold : (G : ℕ → Type 0) (p q : Plan) → TellAlike G p q → (frames : List Frame) → TellAll G frames → (address u : ℕ) (a b : UnitPlan)
+may_hold : (G : ℕ → Type 0) (p q : Plan) → ReportAlike G p q → (frames : List Frame) → ReportAll G frames → (address u : ℕ) (a b : UnitPlan)
     → AreAt p q u a b → MayHold p frames address u a → MayHold q frames address u b
 may_hold G p q same frames all address u a b at m = record {
   prefers = sym (same.address u a b at) ∙ m.prefers;
-  unheard = unit_untold G p q same frames all u a b at m.unheard;
+  unheard = unit_unreported G p q same frames all u a b at m.unheard;
 }
 
 least_kept : (a b c d : ℕ) → nat_lt c a ≡ nat_lt d b → a ≤ c → b ≤ d
@@ -66,7 +64,7 @@ least_kept a b c d e least = elim (cases_lt d b) [
 less_kept : (a b c d : ℕ) → nat_lt a c ≡ nat_lt b d → a < c → b < d
 less_kept a b c d e less = (Decides-ltb b d).0 (sym e ∙ (Decides-ltb a c).1 less)
 
-likeliest : (G : ℕ → Type 0) (p q : Plan) → TellAlike G p q → (frames : List Frame) → TellAll G frames → (address u : ℕ)
+likeliest : (G : ℕ → Type 0) (p q : Plan) → ReportAlike G p q → (frames : List Frame) → ReportAll G frames → (address u : ℕ)
     → IsLikeliest p frames address u → IsLikeliest q frames address u
 likeliest G p q same frames all address u l = record {
   unit = there.0;
@@ -98,7 +96,7 @@ likeliest G p q same frames all address u l = record {
 
 -- ---- who
 
-pub same_who : (G : ℕ → Type 0) (p q : Plan) → TellAlike G p q → (frames : List Frame) → TellAll G frames → (address : ℕ) (w : Who)
+pub same_who : (G : ℕ → Type 0) (p q : Plan) → ReportAlike G p q → (frames : List Frame) → ReportAll G frames → (address : ℕ) (w : Who)
     → IsWho p frames address w → IsWho q frames address w
 same_who G p q same frames all address (Holder u) is =
     (is.0, is.1, sym (same.unit is.0 (holder_meets G frames is.0 address all is.1)) ∙ is.2)
@@ -118,28 +116,28 @@ same_who G p q same frames all address Unknown is = (
       ),
 )
 
-pub same_hands : (G : ℕ → Type 0) (p q : Plan) → TellAlike G p q → (before : List Frame) (f : Frame) → TellAll G (before ++ f ∷ []) → (address : ℕ)
+pub same_hands : (G : ℕ → Type 0) (p q : Plan) → ReportAlike G p q → (before : List Frame) (f : Frame) → ReportAll G (before ++ f ∷ []) → (address : ℕ)
     → ChangesHands p before f address → ChangesHands q before f address
 same_hands G p q same before f all address c = record {
   old = c.old;
   new = c.new;
-  old_is = same_who G p q same before (tell_front G before (f ∷ []) all) address c.old c.old_is;
+  old_is = same_who G p q same before (report_front G before (f ∷ []) all) address c.old c.old_is;
   new_is = same_who G p q same (before ++ f ∷ []) all address c.new c.new_is;
   another = c.another;
 }
 
 -- ---- contests
 
-pub same_named : (G : ℕ → Type 0) (p q : Plan) → TellAlike G p q → (name : ℕ) → G name → likely_named p name ≡ likely_named q name
+pub same_named : (G : ℕ → Type 0) (p q : Plan) → ReportAlike G p q → (name : ℕ) → G name → likely_named p name ≡ likely_named q name
 same_named G p q same name g = ap (λ (o : Option ℕ). option_map_or Likely o (LikelyStranger name)) (same.unit name g)
 
-defends : (G : ℕ → Type 0) (p q : Plan) → TellAlike G p q → (frames : List Frame) (old : Contention) (time : Option ℕ) (address name : ℕ) → G name
+defends : (G : ℕ → Type 0) (p q : Plan) → ReportAlike G p q → (frames : List Frame) (old : Contention) (time : Option ℕ) (address name : ℕ) → G name
     → Defends p frames old time address name → Defends q frames old time address name
 defends G p q same frames old time address name g (inl last) = inl last
 defends G p q same frames old time address name g (inr runs) =
     inr (runs.0, runs.1, subst (λ (w : Who). IsSameParty runs.0.defender w) (same_named G p q same name g) runs.2)
 
-undefended : (G : ℕ → Type 0) (p q : Plan) → TellAlike G p q → (frames : List Frame) (old : Contention) (time : Option ℕ) (address name : ℕ) → G name
+undefended : (G : ℕ → Type 0) (p q : Plan) → ReportAlike G p q → (frames : List Frame) (old : Contention) (time : Option ℕ) (address name : ℕ) → G name
     → ¬ Defends p frames old time address name → ¬ Defends q frames old time address name
 undefended G p q same frames old time address name g none is = none (defends G q p (flip G p q same) frames old time address name g is)
 
@@ -150,19 +148,19 @@ own_party p name u e = ap (λ (o : Option ℕ). option_map_or Likely o (LikelySt
 same_party : (w : Who) → IsSameParty w w
 same_party w = record { unit = refl; stranger = refl }
 
-module _ (G : ℕ → Type 0) (p q : Plan) (same : TellAlike G p q) (before : List Timed) (x : Timed)
-    (all : TellAll G (frames_of before ++ x.frame ∷ [])) (old : Contention) (address : ℕ) where
+module _ (G : ℕ → Type 0) (p q : Plan) (same : ReportAlike G p q) (before : List Timed) (x : Timed)
+    (all : ReportAll G (frames_of before ++ x.frame ∷ [])) (old : Contention) (address : ℕ) where
   abbrev frames : List Frame
   frames = frames_of before
 
-  earlier : TellAll G frames
-  earlier = tell_front G frames (x.frame ∷ []) all
+  earlier : ReportAll G frames
+  earlier = report_front G frames (x.frame ∷ []) all
 
-  told_here : (name : ℕ) → ClaimsOrCannot x.frame name → G name
-  told_here name t = all frames x.frame [] refl name t
+  reported_here : (name : ℕ) → ClaimsOrCannot x.frame name → G name
+  reported_here name t = all frames x.frame [] refl name t
 
   claimed_here : (name : ℕ) → Claims x.frame name address → G name
-  claimed_here name c = told_here name (claim_tells x.frame name address c)
+  claimed_here name c = reported_here name (claim_reports x.frame name address c)
 
   begins : (c : Contest) → Begins p before old x address c → Begins q before old x address c
   begins c b = go b.opposes where
@@ -211,7 +209,7 @@ module _ (G : ℕ → Type 0) (p q : Plan) (same : TellAlike G p q) (before : Li
         let boxed : new.unit.name < b.claimant = less_kept l.unit.name new.unit.name b.claimant b.claimant
         (same.against u l.unit new.unit at b.claimant g other) below in
         let kept : (if nat_lt b.claimant b.opponent then old.taken else None) ≡ (if nat_lt b.claimant new.unit.name then old.taken else None) =
-        ap (λ (t : Bool). if t then old.taken else None) (above_told b.claimant b.opponent less ∙ sym (above_told b.claimant new.unit.name boxed)) in
+        ap (λ (t : Bool). if t then old.taken else None) (above_reported b.claimant b.opponent less ∙ sym (above_reported b.claimant new.unit.name boxed)) in
         record {
           claimant = b.claimant;
           opponent = new.unit.name;
@@ -226,7 +224,7 @@ module _ (G : ℕ → Type 0) (p q : Plan) (same : TellAlike G p q) (before : Li
         }
 
   ends : (c : Contest) → EndsContest p x.frame c → EndsContest q x.frame c
-  ends c e = (e.0, e.1, subst (λ (w : Who). IsSameParty w c.defender) (same_named G p q same e.0 (told_here e.0 e.1)) e.2)
+  ends c e = (e.0, e.1, subst (λ (w : Who). IsSameParty w c.defender) (same_named G p q same e.0 (reported_here e.0 e.1)) e.2)
 
   taken_behind : (taken : Option ℕ) → IsTakenBehind p before old x address taken → IsTakenBehind q before old x address taken
   taken_behind taken (inl t) =
@@ -235,7 +233,7 @@ module _ (G : ℕ → Type 0) (p q : Plan) (same : TellAlike G p q) (before : Li
       inr (inl (t.0, undefended G p q same frames old x.time address (name_in x.frame) (claimed_here (name_in x.frame) t.0.0) t.1, t.2))
   taken_behind taken (inr (inr t)) = inr (inr t)
 
-contest_behind : (G : ℕ → Type 0) (p q : Plan) → TellAlike G p q → (before : List Timed) (x : Timed) → TellAll G (frames_of before ++ x.frame ∷ [])
+contest_behind : (G : ℕ → Type 0) (p q : Plan) → ReportAlike G p q → (before : List Timed) (x : Timed) → ReportAll G (frames_of before ++ x.frame ∷ [])
     → (old : Contention) (address : ℕ) (c : Option Contest) → IsContestBehind p before old x address c → IsContestBehind q before old x address c
 contest_behind G p q same before x all old address (Some c) (inl b) = inl (begins G p q same before x all old address c b)
 contest_behind G p q same before x all old address (Some c) (inr kept) = inr (
@@ -253,15 +251,15 @@ contest_behind G p q same before x all old address None none = (
 frames_more : (before : List Timed) (x : Timed) → frames_of (before ++ x ∷ []) ≡ frames_of before ++ x.frame ∷ []
 frames_more before x = map-append (λ (t : Timed). t.frame) before (x ∷ [])
 
-leads : (G : ℕ → Type 0) (p q : Plan) → TellAlike G p q → (address : ℕ) (before : List Timed) (old : Contention) (rest : List Timed) (new : Contention)
-    → TellAll G (frames_of (before ++ rest)) → Leads p address before old rest new → Leads q address before old rest new
+leads : (G : ℕ → Type 0) (p q : Plan) → ReportAlike G p q → (address : ℕ) (before : List Timed) (old : Contention) (rest : List Timed) (new : Contention)
+    → ReportAll G (frames_of (before ++ rest)) → Leads p address before old rest new → Leads q address before old rest new
 leads G p q same address before old [] new all is = is
 leads G p q same address before old (x ∷ rest) new all is =
     let parted = append_assoc before (x ∷ []) rest in
-    let further : TellAll G (frames_of ((before ++ x ∷ []) ++ rest)) = subst (λ (t : List Timed). TellAll G (frames_of t)) (sym parted) all in
-    let line : TellAll G (frames_of (before ++ x ∷ [])) = tell_front G (frames_of (before ++ x ∷ [])) (frames_of rest)
-    (subst (TellAll G) (map-append (λ (t : Timed). t.frame) (before ++ x ∷ []) rest) further) in
-    let here : TellAll G (frames_of before ++ x.frame ∷ []) = subst (TellAll G) (frames_more before x) line in (
+    let further : ReportAll G (frames_of ((before ++ x ∷ []) ++ rest)) = subst (λ (t : List Timed). ReportAll G (frames_of t)) (sym parted) all in
+    let line : ReportAll G (frames_of (before ++ x ∷ [])) = report_front G (frames_of (before ++ x ∷ [])) (frames_of rest)
+    (subst (ReportAll G) (map-append (λ (t : Timed). t.frame) (before ++ x ∷ []) rest) further) in
+    let here : ReportAll G (frames_of before ++ x.frame ∷ []) = subst (ReportAll G) (frames_more before x) line in (
       is.0,
       record {
         since = is.1.since;
@@ -271,7 +269,7 @@ leads G p q same address before old (x ∷ rest) new all is =
       leads G p q same address (before ++ x ∷ []) is.0 rest new further is.2,
     )
 
-contested : (G : ℕ → Type 0) (p q : Plan) → TellAlike G p q → (log : List Timed) → TellAll G (frames_of log) → (address : ℕ) (c : Contest)
+contested : (G : ℕ → Type 0) (p q : Plan) → ReportAlike G p q → (log : List Timed) → ReportAll G (frames_of log) → (address : ℕ) (c : Contest)
     → IsContested p log address c → IsContested q log address c
 contested G p q same log all address c is = record {
   contention = is.contention;
@@ -282,7 +280,7 @@ contested G p q same log all address c is = record {
   heard = is.heard;
 }
 
-pub same_taken : (G : ℕ → Type 0) (p q : Plan) → TellAlike G p q → (log : List Timed) → TellAll G (frames_of log) → (address : ℕ) (w : Who)
+pub same_taken : (G : ℕ → Type 0) (p q : Plan) → ReportAlike G p q → (log : List Timed) → ReportAll G (frames_of log) → (address : ℕ) (w : Who)
     → IsTaken p log address w → IsTaken q log address w
 same_taken G p q same log all address w (inl is) = inl (is.0, contested G p q same log all address is.0 is.1, is.2)
 same_taken G p q same log all address w (inr is) = inr (

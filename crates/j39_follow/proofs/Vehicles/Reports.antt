@@ -1,4 +1,4 @@
--- Two plans that tell alike of the NAMEs of a log, and have the same groups, flows, needs and requests, report the same of a frame, but for
+-- Two plans that report alike of the NAMEs of a log, and have the same groups, flows, needs and requests, report the same of a frame, but for
 -- the serial numbers of boxes.
 use Rattle.std.proofs.Common.{◌≡◌, ℕ, ◌==◌, ◌&&◌, ◌||◌, nat_lt, Bool, true, false, if◌then◌else◌, List, [], ◌∷◌, ◌++◌, length, map, option_map, codes, Option}
 use Rattle.std.proofs.Common.{Some, None, inl, inr}
@@ -38,8 +38,8 @@ use Rattle.j39_follow.specs.declared.message.Sort.TheVariants.{Grouped, Other}
 use Rattle.j39_follow.specs.declared.flow.sending.Sending.{Sending}
 use Rattle.j39_follow.specs.declared.address.who.Who.{Who}
 use Rattle.j39_follow.specs.declared.address.who.Who.TheVariants.{Holder, Likely, LikelyStranger, Stranger, Unknown}
-use Rattle.j39_follow.proofs.Vehicles.Parties.{TellAll, same_taken}
-use Rattle.j39_follow.proofs.Vehicles.Units.{TellAlike, flip}
+use Rattle.j39_follow.proofs.Vehicles.Parties.{ReportAll, same_taken}
+use Rattle.j39_follow.proofs.Vehicles.Units.{ReportAlike, flip}
 
 -- ---- choices and lists
 
@@ -51,7 +51,7 @@ pub map_same : {A B : Type 0} (f g : A → B) → ((x : A) → f x ≡ g x) → 
 map_same f g same [] = refl
 map_same f g same (x ∷ xs) = ap (λ (y : _). y ∷ map f xs) (same x) ∙ ap (λ (ys : List _). g x ∷ ys) (map_same f g same xs)
 
--- what is written at a frame that tells nothing of addresses
+-- what is written at a frame that reports nothing of addresses
 abbrev asks : Plan → Frame → List ℕ → List ℕ → Option ℕ → List ℕ → List ℕ
 asks plan f front way asked back =
     if requests_group f then asked_line front f way asked else if acknowledges plan f then answer_line front f back else []
@@ -84,7 +84,7 @@ same_emptiness p front f way asked back report =
     empty : List ℕ → Bool
     empty t = length (t ++ report) == 0
 
-module _ (G : ℕ → Type 0) (p q : Plan) (same : TellAlike G p q) where
+module _ (G : ℕ → Type 0) (p q : Plan) (same : ReportAlike G p q) where
   -- ---- labels
 
   pub same_label : (u : ℕ) → unit_label p u ≡ unit_label q u
@@ -167,7 +167,7 @@ module _ (G : ℕ → Type 0) (p q : Plan) (same : TellAlike G p q) where
   same_reading group bytes =
       ap (λ (gs : List GroupPlan). named_lines (first_names (all_numbered gs)) (named_signals group) group bytes) same.groups
 
-same_group : (G : ℕ → Type 0) (p q : Plan) → TellAlike G p q → (pgn : ℕ) (bytes : List ℕ) (sent : Sending) (group : Option ℕ)
+same_group : (G : ℕ → Type 0) (p q : Plan) → ReportAlike G p q → (pgn : ℕ) (bytes : List ℕ) (sent : Sending) (group : Option ℕ)
     → IsSentGroup p pgn bytes sent group → IsSentGroup q pgn bytes sent group
 same_group G p q same pgn bytes sent (Some place) is = (
   may_be G p q same pgn bytes sent place is.0,
@@ -177,7 +177,7 @@ same_group G p q same pgn bytes sent None is = λ place may. is place (may_be G 
 
 -- ---- at a line of the log
 
-module _ (G : ℕ → Type 0) (p q : Plan) (same : TellAlike G p q) (log : List Timed) (all : TellAll G (frames_of log)) where
+module _ (G : ℕ → Type 0) (p q : Plan) (same : ReportAlike G p q) (log : List Timed) (all : ReportAll G (frames_of log)) where
   taken : (address : ℕ) (w : Who) → IsTaken p log address w → IsTaken q log address w
   taken = same_taken G p q same log all
 
@@ -212,12 +212,12 @@ module _ (G : ℕ → Type 0) (p q : Plan) (same : TellAlike G p q) (log : List 
   same_answer_way : (f : Frame) (text : List ℕ) → IsAnswerWay p log f text → IsAnswerWay q log f text
   unfolding answer_way_text
   same_answer_way f text a =
-      let told = same_asker_or_source G p q same f in
+      let stated = same_asker_or_source G p q same f in
       record {
         sender = a.sender;
         asker = a.asker;
         sender_is = taken f.ident.sa a.sender a.sender_is;
-        asker_is = subst (λ (address : ℕ). IsTaken q log address a.asker) told (taken (asker_or_source p f) a.asker a.asker_is);
+        asker_is = subst (λ (address : ℕ). IsTaken q log address a.asker) stated (taken (asker_or_source p f) a.asker a.asker_is);
         text_is =
             a.text_is
             ∙ ap (λ (t : List ℕ). codes " from " ++ (t ++ (codes " to " ++ (if asker_or_source p f == global_address then codes "all"
@@ -225,7 +225,7 @@ module _ (G : ℕ → Type 0) (p q : Plan) (same : TellAlike G p q) (log : List 
             ∙ ap (λ (t : List ℕ). codes " from "
             ++ (who_text q a.sender f.ident.sa ++ (codes " to " ++ (if asker_or_source p f == global_address then codes "all"
             else t)))) (same_who_text G p q same a.asker (asker_or_source p f))
-            ∙ ap (λ (address : ℕ). answer_way_text q a.sender f.ident.sa a.asker address) told;
+            ∙ ap (λ (address : ℕ). answer_way_text q a.sender f.ident.sa a.asker address) stated;
       }
 
   same_notice_events : (f : Frame) (sent : Sending) (asker : Who) → notice_events p f sent asker ≡ notice_events q f sent asker
@@ -245,9 +245,9 @@ module _ (G : ℕ → Type 0) (p q : Plan) (same : TellAlike G p q) (log : List 
       ap (λ (e : Event). e ∷ map (brought_by p ended) sorts) (same_brought sent sort)
       ∙ ap (λ (e : List Event). brought_by q sent sort ∷ e) (map_same (brought_by p ended) (brought_by q ended) (same_brought ended) sorts)
 
-  same_told : (f : Frame) (sorts : List Sort) (events : List Event) → AreEventsOf p log f sorts events → AreEventsOf q log f sorts events
-  same_told f sorts events t =
-      let told = same_asker_or_source G p q same f in
+  same_stated : (f : Frame) (sorts : List Sort) (events : List Event) → AreEventsOf p log f sorts events → AreEventsOf q log f sorts events
+  same_stated f sorts events t =
+      let stated = same_asker_or_source G p q same f in
       let brought = same_messages t.sent t.ended sorts in
       let notice = same_notice_events f t.sent t.asker in
       record {
@@ -256,7 +256,7 @@ module _ (G : ℕ → Type 0) (p q : Plan) (same : TellAlike G p q) (log : List 
         asker = t.asker;
         ended_is = same_sending (ended_message f) t.ended t.ended_is;
         sent_is = same_sending (in_frame f) t.sent t.sent_is;
-        asker_is = subst (λ (address : ℕ). IsTaken q log address t.asker) told (taken (asker_or_source p f) t.asker t.asker_is);
+        asker_is = subst (λ (address : ℕ). IsTaken q log address t.asker) stated (taken (asker_or_source p f) t.asker t.asker_is);
         events_are =
             t.events_are
             ∙ ap (λ (e : List Event). e ++ message_events p t.sent t.ended sorts) notice
@@ -295,7 +295,7 @@ module _ (G : ℕ → Type 0) (p q : Plan) (same : TellAlike G p q) (log : List 
   same_group_of m group is = (is.0, same_sending m is.0 is.1, same_group G p q same m.pgn m.bytes is.0 group is.2)
 
   pub same_events : (f : Frame) (sorts : List Sort) (events : List Event) → AreEventsOf p log f sorts events → AreEventsOf q log f sorts events
-  same_events = same_told
+  same_events = same_stated
 
   -- the line of a frame of which nothing else is written
   pub bare_alike : (all_frames : Bool) (front : List ℕ) (f : Frame) (notice report bare : List ℕ) (n : IsNotice p log front f notice)
@@ -306,9 +306,9 @@ module _ (G : ℕ → Type 0) (p q : Plan) (same : TellAlike G p q) (log : List 
       ap (λ (t : List ℕ). length (t ++ report) == 0) n.text_is ∙ sym (same_emptiness p front f n.way n.asked n.back report) in
       (b.0, same_way f.ident b.0 b.1, b.2 ∙ ap (λ (t : Bool). if all_frames && t then frame_line front b.0 f else []) none)
 
-  -- ---- what is told first
+  -- ---- what is reported first
 
-  module _ (silent : (name : ℕ) → identity_text q name ≡ []) (f : Frame) (tells : (name : ℕ) → ClaimsOrCannot f name → G name) where
+  module _ (silent : (name : ℕ) → identity_text q name ≡ []) (f : Frame) (states : (name : ℕ) → ClaimsOrCannot f name → G name) where
     claim_same : (front : List ℕ) (name address : ℕ) → G name → claim_text q front name address ≡ claim_alone p front name address
     unfolding claim_text claim_alone
     claim_same front name address g =
@@ -325,10 +325,10 @@ module _ (G : ℕ → Type 0) (p q : Plan) (same : TellAlike G p q) (log : List 
     notice_same front way asked back =
         choose_same (claims_address f) _ _ _ _
         (λ claims. claim_same front (name_in f) f.ident.sa
-        (tells (name_in f) (record { either = ap (λ (b : Bool). b || cannot_claim f) claims; name_is = refl })))
+        (states (name_in f) (record { either = ap (λ (b : Bool). b || cannot_claim f) claims; name_is = refl })))
         (λ no. choose_same (cannot_claim f) _ _ _ _
         (λ cannot. cannot_same front (name_in f)
-        (tells (name_in f) (record { either = ap (λ (b : Bool). b || cannot_claim f) no ∙ cannot; name_is = refl })))
+        (states (name_in f) (record { either = ap (λ (b : Bool). b || cannot_claim f) no ∙ cannot; name_is = refl })))
         (λ neither. sym (
         ap (λ (b : Bool). if b then claim_line p front f else if cannot_claim f then cannot_line p front f else asks p f front way asked back) no
         ∙ ap (λ (b : Bool). if b then cannot_line p front f else asks p f front way asked back) neither

@@ -9,9 +9,6 @@ use Rattle.j39_network.specs.PlannedGroups.{IsFirstRefused, IsSendable}
 use Rattle.j39_network.specs.VehiclePlans.{IsVehicleOf}
 use Rattle.j39_network.specs.declared.plan.Plan.{Plan}
 use Rattle.j39_network.specs.declared.plan.group_plan.GroupPlan.{GroupPlan}
-use Rattle.j39_network.specs.declared.plan.flow_plan.FlowPlan.{FlowPlan}
-use Rattle.j39_network.specs.declared.plan.need_plan.NeedPlan.{NeedPlan}
-use Rattle.j39_network.specs.declared.plan.request_plan.RequestPlan.{RequestPlan}
 use Rattle.j39_network.specs.declared.plan.unit_plan.UnitPlan.{UnitPlan}
 use Rattle.j39_network.proofs.VehicleUnits.{unit_of as unit_there}
 use Rattle.j39_log.specs.ReadText.{refused_plan_line}
@@ -19,16 +16,15 @@ use Rattle.j39_stream.specs.declared.verdict.Verdict.{Verdict}
 use Rattle.j39_stream.specs.declared.verdict.Verdict.TheVariants.{Done, Findings, Refused, Unreadable}
 use Rattle.j39_text.specs.Texts.{field}
 use Rattle.j39_follow.specs.FollowReports.{identity_text}
-use Rattle.j39_follow.specs.FollowText.{FollowedPast, IsFollowText, IsFollowedLog, flow_ends, frames_seen, group_ends, need_ends, nothing_followed}
-use Rattle.j39_follow.specs.FollowText.{request_ends}
-use Rattle.j39_follow.specs.VehicleLogs.{DifferInNumbers, IsButForNumber, IsLogOfVehicle, IsOfVehicle, TypesTellVehicles, with_numbers, without_numbers}
+use Rattle.j39_follow.specs.FollowText.{FollowedPast, IsFollowText, IsFollowedLog, frames_seen, nothing_followed}
+use Rattle.j39_follow.specs.FollowText.{behind_reports}
+use Rattle.j39_follow.specs.VehicleLogs.{DifferInNumbers, IsButForNumber, IsLogOfVehicle, IsOfVehicle, TypesStandForVehicles, with_numbers, without_numbers}
 use Rattle.j39_follow.specs.Who.{is_of_any, unit_of_name}
-use Rattle.j39_follow.specs.inside.FollowedSoFar.{behind_reports}
 use Rattle.j39_follow.proofs.OneText.{one_text}
 use Rattle.j39_follow.proofs.Vehicles.Ends.{same_flow_ends, same_group_ends, same_need_ends, same_refused, same_request_ends, same_unit_lines}
 use Rattle.j39_follow.proofs.Vehicles.Lines.{lines_alike}
-use Rattle.j39_follow.proofs.Vehicles.Parties.{TellAll}
-use Rattle.j39_follow.proofs.Vehicles.Units.{TellAlike, tell_alike}
+use Rattle.j39_follow.proofs.Vehicles.Parties.{ReportAll}
+use Rattle.j39_follow.proofs.Vehicles.Units.{ReportAlike, report_alike}
 
 -- ---- no box of a vehicle is of any serial number
 
@@ -49,15 +45,11 @@ module _ (plan vehicle : Plan) (is : IsVehicleOf plan vehicle) (apart : AreDisti
 
 -- ---- behind the reports
 
-same_behind : (G : ℕ → Type 0) (p q : Plan) → TellAlike G p q → (past : FollowedPast) (units : List ℕ)
+same_behind : (G : ℕ → Type 0) (p q : Plan) → ReportAlike G p q → (past : FollowedPast) (units : List ℕ)
     → behind_reports p past units ≡ behind_reports q past units
 same_behind G p q same past units =
-    let flows = same_flow_ends G p q same past.sent 0 p.flows.items ∙ ap (λ (fs : List FlowPlan). flow_ends q past.sent 0 fs) same.flows in
-    let groups = same_group_ends G p q same past.sent 0 p.groups.items ∙ ap (λ (gs : List GroupPlan). group_ends q past.sent 0 gs) same.groups in
-    let requests = same_request_ends G p q same past.events 0 p.requests.items
-    ∙ ap (λ (rs : List RequestPlan). request_ends q past.events 0 rs) same.requests in
-    let needs = same_need_ends G p q same past.sent 0 p.needs.items ∙ ap (λ (ns : List NeedPlan). need_ends q past.sent 0 ns) same.needs in
-    rw (flows, groups, requests, needs) refl
+    rw (same_flow_ends G p q same past.sent, same_group_ends G p q same past.sent, same_request_ends G p q same past.events, same_need_ends G p q same past.sent)
+    refl
 
 -- ---- a log
 
@@ -65,17 +57,17 @@ module _ (plan vehicle : Plan) (is : IsVehicleOf plan vehicle) (apart : AreDisti
   abbrev Given : ℕ → Type 0
   Given = IsOfVehicle plan vehicle
 
-  alike : TellAlike Given plan vehicle
-  alike = tell_alike plan vehicle is apart
+  alike : ReportAlike Given plan vehicle
+  alike = report_alike plan vehicle is apart
 
   followed : (all_frames : Bool) (log numbered alone : List ℕ) (outcome : Verdict) → IsLogOfVehicle plan vehicle all_frames log
       → All IsSendable plan.groups.items
       → IsFollowedLog plan all_frames log numbered → IsFollowText vehicle all_frames log alone outcome
       → (Done ≡ outcome) × DifferInNumbers plan log numbered alone
   followed all_frames log numbered alone outcome given sendable a other =
-      let tells : TellAll Given (frames_seen a.past.seen) = given numbered a in
-      let all = lines_alike Given plan vehicle alike (no_identity plan vehicle is apart) all_frames (lines log) nothing_followed a.past a.reports refl tells a.read in
-      let units = same_unit_lines Given plan vehicle alike (frames_seen a.past.seen) tells 0 plan.units.items vehicle.units.items a.units
+      let states : ReportAll Given (frames_seen a.past.seen) = given numbered a in
+      let all = lines_alike Given plan vehicle alike (no_identity plan vehicle is apart) all_frames (lines log) nothing_followed a.past a.reports refl states a.read in
+      let units = same_unit_lines Given plan vehicle alike (frames_seen a.past.seen) states 0 plan.units.items vehicle.units.items a.units
       (λ k. ap (slice_get plan.units.items) (omega arith)) (λ k. ap (slice_get vehicle.units.items) (omega arith)) a.units_are in
       let built : IsFollowedLog vehicle all_frames log (without_numbers all.rows ++ behind_reports vehicle a.past a.units) = record {
         past = a.past;
@@ -117,10 +109,10 @@ module _ (plan vehicle : Plan) (is : IsVehicleOf plan vehicle) (apart : AreDisti
         },
       )
 
-pub types_tell_vehicles : TypesTellVehicles
-types_tell_vehicles plan vehicle all_frames log numbered alone Done outcome is apart given one other =
+pub types_stand_for_vehicles : TypesStandForVehicles
+types_stand_for_vehicles plan vehicle all_frames log numbered alone Done outcome is apart given one other =
     followed plan vehicle is apart all_frames log numbered alone outcome given one.0 one.1 other
-types_tell_vehicles plan vehicle all_frames log numbered alone Refused outcome is apart given one other =
+types_stand_for_vehicles plan vehicle all_frames log numbered alone Refused outcome is apart given one other =
     refused plan vehicle is apart all_frames log numbered alone outcome one other
-types_tell_vehicles plan vehicle all_frames log numbered alone Findings outcome is apart given one other = absurd one
-types_tell_vehicles plan vehicle all_frames log numbered alone Unreadable outcome is apart given one other = absurd one
+types_stand_for_vehicles plan vehicle all_frames log numbered alone Findings outcome is apart given one other = absurd one
+types_stand_for_vehicles plan vehicle all_frames log numbered alone Unreadable outcome is apart given one other = absurd one

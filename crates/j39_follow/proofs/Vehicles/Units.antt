@@ -1,4 +1,4 @@
--- Two plans that tell a NAME as one unit: the plan of a type, and that of a vehicle.
+-- Two plans that report a NAME as one unit: the plan of a type, and that of a vehicle.
 use Rattle.std.proofs.Common.{◌≡◌, ◌≢◌, ℕ, ◌<◌, ◌==◌, ◌&&◌, nat_lt, not, Bool, true, false, if◌then◌else◌, List, [], ◌∷◌, get_or, Option, Some, None, inl}
 use Rattle.std.proofs.Common.{inr, refl, sym, ap, subst, ◌∙◌, arith, eqb-true, eq-eqb}
 use Rattle.std.specs.List.{slice_get, position}
@@ -20,11 +20,11 @@ use Rattle.j39_follow.proofs.Addresses.UnitNames.{names_are_of_their_units}
 
 -- ---- numbers
 
-pub less_told : (m n : ℕ) → m < n → nat_lt m n ≡ true
-less_told m n less = (Decides-ltb m n).1 less
+pub less_reported : (m n : ℕ) → m < n → nat_lt m n ≡ true
+less_reported m n less = (Decides-ltb m n).1 less
 
-pub above_told : (m n : ℕ) → n < m → nat_lt m n ≡ false
-above_told m n less = elim (cases_Bool (nat_lt m n)) [
+pub above_reported : (m n : ℕ) → n < m → nat_lt m n ≡ false
+above_reported m n less = elim (cases_Bool (nat_lt m n)) [
   | inl below ↦ let h = (Decides-ltb m n).0 below in absurd (omega (arith, h, less))
   | inr is ↦ is
 ]
@@ -47,8 +47,8 @@ pub record AreAt (p q : Plan) (u : ℕ) (a b : UnitPlan) : Type 0 where
 pub turned : (p q : Plan) (u : ℕ) (a b : UnitPlan) → AreAt q p u b a → AreAt p q u a b
 turned p q u a b at = record { first = at.second; second = at.first }
 
--- both plans tell alike of each NAME that meets G
-pub record TellAlike (G : ℕ → Type 0) (p q : Plan) : Type 0 where
+-- both plans report alike of each NAME that meets G
+pub record ReportAlike (G : ℕ → Type 0) (p q : Plan) : Type 0 where
   pub unit : (name : ℕ) → G name → unit_of_name p name ≡ unit_of_name q name
   pub there : (u : ℕ) (a : UnitPlan) → slice_get p.units.items u ≡ Some a → (b : UnitPlan) × AreAt p q u a b
   pub back : (u : ℕ) (b : UnitPlan) → slice_get q.units.items u ≡ Some b → (a : UnitPlan) × AreAt p q u a b
@@ -65,7 +65,7 @@ pub record TellAlike (G : ℕ → Type 0) (p q : Plan) : Type 0 where
   pub needs : p.needs.items ≡ q.needs.items
   pub requests : p.requests.items ≡ q.requests.items
 
-pub flip : (G : ℕ → Type 0) (p q : Plan) → TellAlike G p q → TellAlike G q p
+pub flip : (G : ℕ → Type 0) (p q : Plan) → ReportAlike G p q → ReportAlike G q p
 flip G p q same = record {
   unit = λ name g. sym (same.unit name g);
   there = λ u b at. let found = same.back u b at in (found.0, turned q p u b found.0 found.1);
@@ -254,11 +254,11 @@ module _ (plan vehicle : Plan) (is : IsVehicleOf plan vehicle) (apart : AreDisti
   same_against u a b at name given other = elim (cases_lt (kind_of_name a.name) (kind_of_name name)) [
     | inl below ↦
         let boxed : kind_of_name b.name < kind_of_name name = omega (arith, below, kinds) in
-        less_told _ _ (kinds_ordered a.name name below) ∙ sym (less_told _ _ (kinds_ordered b.name name boxed))
+        less_reported _ _ (kinds_ordered a.name name below) ∙ sym (less_reported _ _ (kinds_ordered b.name name boxed))
     | inr least ↦ elim (cases_lt (kind_of_name name) (kind_of_name a.name)) [
       | inl above ↦
           let boxed : kind_of_name name < kind_of_name b.name = omega (arith, above, kinds) in
-          above_told _ _ (kinds_ordered name a.name above) ∙ sym (above_told _ _ (kinds_ordered name b.name boxed))
+          above_reported _ _ (kinds_ordered name a.name above) ∙ sym (above_reported _ _ (kinds_ordered name b.name boxed))
       | inr most ↦ elim (cases_Bool a.any_identity) [
         | inl any ↦
             let same : kind_of_name a.name ≡ kind_of_name name = omega (arith, least, most) in
@@ -273,8 +273,8 @@ module _ (plan vehicle : Plan) (is : IsVehicleOf plan vehicle) (apart : AreDisti
     kinds : kind_of_name a.name ≡ kind_of_name b.name
     kinds = box.name.0
 
-  pub tell_alike : TellAlike Given plan vehicle
-  tell_alike = record {
+  pub report_alike : ReportAlike Given plan vehicle
+  report_alike = record {
     unit = one_unit;
     there = box_there;
     back = box_back;

@@ -1,5 +1,5 @@
 -- What is kept of the packets of each pair, in whatever order they come.
-use Rattle.std.specs.Prelude.{◌≡◌, ℕ, suc, ◌+◌, ◌*◌, ◌<◌, ◌≤◌, ◌==◌, Bool, true, false, if◌then◌else◌, is_some, List, [], ◌++◌, length, slice_index_or, Option, Some, None}
+use Rattle.std.specs.Prelude.{◌≡◌, ◌⊎◌, ℕ, suc, ◌+◌, ◌*◌, ◌<◌, ◌≤◌, ◌==◌, Bool, true, false, if◌then◌else◌, is_some, List, [], ◌++◌, length, slice_index_or, Option, Some, None}
 use Rattle.std.specs.declared.alloc.Global.{Global}
 use Rattle.std.specs.declared.vec.Vec.{Vec}
 use Rattle.std.specs.Option.{unwrap_or}
@@ -8,20 +8,24 @@ use Rattle.std.specs.Ordering.{nat_cmp}
 use Rattle.j39_tp.specs.Carried.{chunks_to}
 use Rattle.j39_tp.specs.Chunks.{IsSize, packets_of}
 use Rattle.j39_tp.specs.declared.packet.Packet.{Packet}
-use Rattle.j39_tp.specs.declared.packet.Packet.TheVariants.{EndAck}
+use Rattle.j39_tp.specs.declared.packet.Packet.TheVariants.{Abort, EndAck}
 use Rattle.j39_follow.specs.Received.{ComesInOrder, IsAnnounced, last_chunk}
 use Rattle.j39_follow.specs.declared.pair.collected.Collected.{Collected}
 use Rattle.j39_follow.specs.declared.pair.collections.Collections.{Collections}
 
 -- the packet is the one by which a receiver says that it has a message whole
-abbrev pub tells_whole : Packet → Bool
-tells_whole (EndAck size pgn) = true
-tells_whole _ = false
+abbrev pub reports_whole : Packet → Bool
+reports_whole (EndAck size pgn) = true
+reports_whole _ = false
 
 -- the size and the PGN of the message of which it says so
 abbrev pub receipt_in : Packet → Option (ℕ × ℕ)
 receipt_in (EndAck size pgn) = Some (size, pgn)
 receipt_in _ = None
+
+-- the packet ends a message of this PGN
+abbrev pub Closes : ℕ → Packet → Type 0
+Closes pgn p = (x : ℕ) × ((p ≡ Abort x pgn) ⊎ (p ≡ EndAck x pgn))
 
 -- what is kept of a packet
 abbrev pub chunk_at : List (Option (List ℕ)) → ℕ → Option (List ℕ)

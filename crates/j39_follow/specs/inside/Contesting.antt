@@ -79,7 +79,7 @@ defender_in _ _ = None
 abbrev pub defender_at : Contests → ℕ → Option ℕ → Option Who
 defender_at contests address time = defender_in (contention_at contests.table.value address).contest time
 
--- what is left of a contest at a frame that tells of this one
+-- what is left of a contest at a frame that reports of this one
 abbrev pub remaining_of : Who → Option Contest → Option Contest
 remaining_of party None = None
 remaining_of party (Some c) = if is_same_party party c.defender then None else Some c

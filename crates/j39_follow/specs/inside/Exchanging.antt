@@ -54,7 +54,7 @@ pub record IsHeardBelow (plan : Plan) (event : Event) (old new : List Exchange) 
 
 -- ---- a frame
 
--- what the frame tells of requests was noted, behind these events
+-- what the frame reports of requests was noted, behind these events
 pub record AreNoted (plan : Plan) (log : List Timed) (f : Frame) (sorts : List Sort) (events : List Event) (kept : Exchanges) : Type 0 where
   pub more : List Event
   pub are_events : AreEventsOf plan log f sorts more

@@ -5,14 +5,13 @@ use Rattle.std.specs.declared.alloc.Global.{Global}
 use Rattle.std.specs.declared.vec.Vec.{Vec}
 use Rattle.j39_id.specs.Lines.{Line}
 use Rattle.j39_id.specs.declared.frame.Frame.{Frame}
-use Rattle.j39_id.specs.declared.ident.Ident.{Ident}
 use Rattle.j39_network.specs.declared.plan.Plan.{Plan}
 use Rattle.j39_log.specs.LogPairs.{Seen}
 use Rattle.j39_log.specs.declared.line_counts.LineCounts.{LineCounts}
-use Rattle.j39_log.specs.inside.Listening.{AreAllInRange}
+use Rattle.j39_log.specs.PairListeners.{AreAllInRange}
 use Rattle.j39_follow.specs.Contests.{IsNow, Timed, frames_of}
-use Rattle.j39_follow.specs.FollowText.{AreUnitLines, FollowedPast, FollowsLines, follow_counts_line, flow_ends, frames_seen, group_ends, lines_with}
-use Rattle.j39_follow.specs.FollowText.{nothing_followed, need_ends, request_ends}
+use Rattle.j39_follow.specs.FollowText.{AreUnitLines, FollowedPast, FollowsLines, frames_seen, lines_with}
+use Rattle.j39_follow.specs.FollowText.{nothing_followed}
 use Rattle.j39_follow.specs.declared.address.contests.Contests.{Contests}
 use Rattle.j39_follow.specs.declared.address.directory.Directory.{Directory}
 use Rattle.j39_follow.specs.declared.line.stamp.Stamp.{Stamp}
@@ -20,7 +19,7 @@ use Rattle.j39_follow.specs.declared.message.Sort.{Sort}
 use Rattle.j39_follow.specs.declared.request.event.Event.{Event}
 use Rattle.j39_follow.specs.declared.pair.heard_pairs.HeardPairs.{HeardPairs}
 use Rattle.j39_follow.specs.declared.unit_report.UnitReport.{UnitReport}
-use Rattle.j39_follow.specs.inside.Contesting.{AreContests, IsDefender}
+use Rattle.j39_follow.specs.inside.Contesting.{AreContests}
 use Rattle.j39_follow.specs.inside.Exchanging.{AreExchanges, AreNoted}
 use Rattle.j39_follow.specs.inside.FrameWriting.{IsFrameWritten, frames_with}
 use Rattle.j39_follow.specs.inside.Hearing.{HaveHeardSince}
@@ -33,7 +32,7 @@ abbrev pub interface_of : Option (Vec ℕ Global) → Option (List ℕ)
 interface_of None = None
 interface_of (Some name) = Some name.items
 
--- who holds what, what each pair heard, what was sent and what was asked is as these tell
+-- who holds what, what each pair heard, what was sent and what was asked is as these report
 pub record Remembers (plan : Plan) (report : UnitReport) (seen : List Seen) (timed : List Timed) (sent : List Sort) (events : List Event) : Type 0 where
   pub knows : Knows plan report.directory (frames_seen seen)
   pub contests : AreContests plan report.contests timed
@@ -54,7 +53,7 @@ pub record RecallsPast (plan : Plan) (report : UnitReport) (counts : LineCounts)
   pub bad_are : counts.bad ≡ past.bad
   pub elsewhere_are : counts.elsewhere ≡ past.elsewhere
 
--- which frames are told, and the interface, stayed
+-- which frames are reported, and the interface, stayed
 pub record IsSameLog (old new : UnitReport) : Type 0 where
   pub all_frames : new.all_frames ≡ old.all_frames
   pub interface : new.interface ≡ old.interface
@@ -70,11 +69,7 @@ pub record IsSameButWritten (old new : UnitReport) : Type 0 where
 abbrev pub IsKnownSoFar : Plan → Directory → Contests → Option ℕ → List Timed → Type 0
 IsKnownSoFar plan directory contests time log = Knows plan directory (frames_of log) × AreContests plan contests log × IsNow log time
 
--- who holds what is known of these lines, and none of the two addresses is contested
-abbrev pub IsCalm : Plan → Directory → Ident → List Timed → Type 0
-IsCalm plan directory i log = Knows plan directory (frames_of log) × IsDefender plan log i.sa None × IsDefender plan log i.ps None
-
--- the frame was written, what was sent was counted, and what it tells of requests was noted
+-- the frame was written, what was sent was counted, and what it reports of requests was noted
 pub record IsReported (plan : Plan) (old new : UnitReport) (past : FollowedPast) (s : Stamp) (f : Frame) (old_text new_text : List ℕ) : Type 0 where
   pub sort : Sort
   pub ended : Option Sort
@@ -82,7 +77,7 @@ pub record IsReported (plan : Plan) (old new : UnitReport) (past : FollowedPast)
   pub tally : IsTally plan new.tally.value (past.sent ++ sort ∷ option_to_list ended)
   pub noted : AreNoted plan (lines_with past f s.time.now) f (sort ∷ option_to_list ended) past.events new.exchanges
 
--- the frame was written and counted, and what it tells was noted
+-- the frame was written and counted, and what it reports was noted
 pub record IsFollowed (plan : Plan) (old new : UnitReport) (past : FollowedPast) (s : Stamp) (f : Frame) (old_text new_text : List ℕ) : Type 0 where
   pub sort : Sort
   pub ended : Option Sort
@@ -112,10 +107,3 @@ pub record HasFollowedLines (plan : Plan) (report : UnitReport) (counts : LineCo
   pub recalls : RecallsPast plan report counts past
   pub number_is : past.number ≡ length ls
   pub units_are : AreUnitLines plan (frames_seen past.seen) 0 plan.units.items units
-
--- what is written behind the reports
-abbrev pub behind_reports : Plan → FollowedPast → List ℕ → List ℕ
-behind_reports plan past units =
-    flow_ends plan past.sent 0 plan.flows.items ++ (group_ends plan past.sent 0 plan.groups.items
-    ++ (units ++ (request_ends plan past.events 0 plan.requests.items ++ (need_ends plan past.sent 0 plan.needs.items
-    ++ follow_counts_line (length past.seen) past.skipped past.bad past.elsewhere))))

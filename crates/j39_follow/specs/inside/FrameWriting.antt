@@ -4,7 +4,7 @@ use Rattle.std.specs.Option.{option_to_list}
 use Rattle.j39_id.specs.declared.frame.Frame.{Frame}
 use Rattle.j39_network.specs.declared.plan.Plan.{Plan}
 use Rattle.j39_log.specs.LogPairs.{Seen}
-use Rattle.j39_log.specs.inside.Listening.{AreAllInRange, IsInRange}
+use Rattle.j39_log.specs.PairListeners.{AreAllInRange, IsInRange}
 use Rattle.j39_tp.specs.declared.packet.Packet.{Packet}
 use Rattle.j39_follow.specs.Contests.{Timed}
 use Rattle.j39_follow.specs.FollowReports.{IsBareText, IsMessageReport, IsNotice, in_frame}
@@ -20,7 +20,7 @@ use Rattle.j39_follow.specs.inside.Hearing.{HaveHeardOneMore, HaveHeardSince}
 abbrev pub frames_with : List Seen → Frame → List Frame
 frames_with seen f = frames_seen seen ++ f ∷ []
 
--- what a frame tells, what it is, or a line of its own, and what that counts as
+-- what a frame reports, what it is, or a line of its own, and what that counts as
 pub record IsItselfWritten (plan : Plan) (all_frames : Bool) (log : List Timed) (front : List ℕ) (f : Frame) (sort : Sort) (old new : List ℕ) : Type 0 where
   pub notice : List ℕ
   pub report : List ℕ
@@ -47,7 +47,7 @@ pub record IsFrameWritten (plan : Plan) (all_frames : Bool) (pairs : HeardPairs)
   pub heard : HaveHeardOneMore plan pairs seen (record { frame = f; packet = packet })
   pub text_is : new ≡ old ++ (notice ++ (report ++ (bare ++ carried)))
 
--- by each log that is so the frame was written, and what it tells of requests was noted
+-- by each log that is so the frame was written, and what it reports of requests was noted
 pub record WritesFrame (IsSo : List Timed → Type 0) (plan : Plan) (all_frames : Bool) (front : List ℕ) (f : Frame) (sorts : Sort × Option Sort)
     (heard pairs : HeardPairs) (kept exchanges : Exchanges) (old new : List ℕ) : Type 0 where
   pub written : (seen : List Seen) (log : List Timed) → IsSo log → HaveHeardSince plan heard seen → AreAllInRange seen

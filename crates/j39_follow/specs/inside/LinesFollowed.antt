@@ -7,9 +7,9 @@ use Rattle.j39_network.specs.declared.plan.Plan.{Plan}
 use Rattle.j39_log.specs.LineCounting.{one_more_bad}
 use Rattle.j39_log.specs.ReportedLogs.{HasEnd}
 use Rattle.j39_log.specs.declared.line_counts.LineCounts.{LineCounts}
-use Rattle.j39_follow.specs.FollowText.{IsFollowedLog, FollowedPast, FollowsLine, FollowsLines, nothing_followed, one_line_more, with_bad_line}
+use Rattle.j39_follow.specs.FollowText.{IsFollowedLog, FollowedPast, FollowsLine, FollowsLines, nothing_followed, one_line_more, with_bad_line, behind_reports}
 use Rattle.j39_follow.specs.declared.unit_report.UnitReport.{UnitReport}
-use Rattle.j39_follow.specs.inside.FollowedSoFar.{HasFollowedLines, behind_reports}
+use Rattle.j39_follow.specs.inside.FollowedSoFar.{HasFollowedLines}
 
 -- one line more is followed behind others
 pub line_more : (plan : Plan) (all_frames : Bool) (ls : List Line) (line : Line) (past middle end : FollowedPast) (text piece : List ℕ)

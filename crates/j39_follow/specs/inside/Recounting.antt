@@ -14,7 +14,7 @@ use Rattle.j39_follow.specs.declared.address.holders.Holders.{Holders}
 use Rattle.j39_follow.specs.declared.address.who.Who.{Who}
 use Rattle.j39_follow.specs.declared.address.who.Who.TheVariants.{Holder}
 
--- something was told of the unit at this place
+-- something was reported of the unit at this place
 abbrev pub is_marked : Holders → ℕ → Bool
 is_marked holders u = slice_index_or holders.heard u false
 
@@ -35,7 +35,7 @@ pub record Recounts (plan : Plan) (holders : Holders) (frames : List Frame) : Ty
       → ¬ IsUnitHeard plan frames u unit
   pub since : (address name : ℕ) (h : HoldsByFrames frames name address) → claimed_at holders address ≡ length h.before
 
--- the frame tells that the NAME stands at this address, or that it could not claim one
+-- the frame reports that the NAME stands at this address, or that it could not claim one
 abbrev pub ClaimsAt : Frame → ℕ → Option ℕ → Type 0
 ClaimsAt f name (Some address) = Claims f name address
 ClaimsAt f name None = ClaimsOrCannot f name × ((other address : ℕ) → ¬ Claims f other address)
@@ -45,24 +45,24 @@ pub record IsLeft (old new : Holders) (name : ℕ) : Type 0 where
   pub left : (a n : ℕ) → HasNameAt new a n → (n ≢ name) × HasNameAt old a n
   pub stays : (a n : ℕ) → (n ≢ name) × HasNameAt old a n → HasNameAt new a n
 
--- what of a table stays where this NAME is told to stand elsewhere, and where it stands then
+-- what of a table stays where this NAME is reported to stand elsewhere, and where it stands then
 abbrev pub KeepsNameAt : Holders → Option ℕ → ℕ → ℕ → ℕ → Type 0
 KeepsNameAt old place name a n = (n ≢ name) × (place ≢ Some a) × HasNameAt old a n
 
 abbrev pub IsNew : Option ℕ → ℕ → ℕ → ℕ → Type 0
 IsNew place name a n = (place ≡ Some a) × (n ≡ name)
 
--- the unit of this NAME is marked as told of
+-- the unit of this NAME is marked as reported of
 abbrev pub IsMarked : Plan → Holders → Holders → ℕ → Type 0
 IsMarked plan old new name = (u : ℕ) (unit : UnitPlan) → slice_get plan.units.items u ≡ Some unit
     → is_marked new u ≡ (if is_name_of plan u unit name then true else is_marked old u)
 
--- the address where it is told to stand was claimed behind so many frames
+-- the address where it is reported to stand was claimed behind so many frames
 pub record IsClaimedBehind (old new : Holders) (place : Option ℕ) (count : ℕ) : Type 0 where
   pub here : (a : ℕ) → place ≡ Some a → claimed_at new a ≡ count
   pub there : (a : ℕ) → place ≢ Some a → claimed_at new a ≡ claimed_at old a
 
--- a table in which the NAME was told to stand there, behind so many frames
+-- a table in which the NAME was reported to stand there, behind so many frames
 pub record IsMoved (plan : Plan) (old new : Holders) (name : ℕ) (place : Option ℕ) (count : ℕ) : Type 0 where
   pub held : (a n : ℕ) → HasNameAt new a n → IsNew place name a n ⊎ KeepsNameAt old place name a n
   pub holds : (a n : ℕ) → IsNew place name a n ⊎ KeepsNameAt old place name a n → HasNameAt new a n
@@ -103,7 +103,7 @@ abbrev pub HasNames : Plan → List Who → Option (Vec (List ℕ) Global) → T
 HasNames plan parties None = Unit {0}
 HasNames plan parties (Some names) = ArePartyNames plan parties 256 names.items
 
--- a directory has what these frames tell
+-- a directory has what these frames report
 pub record Knows (plan : Plan) (directory : Directory) (frames : List Frame) : Type 0 where
   pub recounts : Recounts plan directory.holders.value frames
   pub parties : ArePartiesOf plan frames directory.parties.all

@@ -2,7 +2,7 @@
 use Rattle.std.specs.Prelude.{◌≡◌, ◌⊎◌, ◌-◌, ◌<◌, ◌≤◌, ℕ, true, List, drop, length, take, slice_index}
 use Rattle.j39_id.specs.FrameLine.{is_separator}
 
--- a word of this letter tells the direction
+-- a word of this letter reports the direction
 abbrev pub IsDirectionLetter : ℕ → Type 0
 IsDirectionLetter letter = (letter ≡ 82) ⊎ (letter ≡ 84)
 

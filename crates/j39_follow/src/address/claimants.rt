@@ -7,14 +7,14 @@ use j39_network::Plan;
 use std::alloc::{AllocError, Global};
 use std::collections::BTreeMap;
 
-/// Who a NAME is, and the address that it claimed, if that is what was told of it last.
+/// Who a NAME is, and the address that it claimed, if that is what was reported of it last.
 #[derive(Clone, Copy)]
 pub(crate) struct Claimant {
     pub party: Who,
     pub address: Option<u8>,
 }
 
-/// The NAMEs of which something was told, each found without a look at the others.
+/// The NAMEs of which something was reported, each found without a look at the others.
 #[derive(Drop)]
 pub(crate) struct Claimants {
     known: BTreeMap<u64, Claimant>,

@@ -29,7 +29,7 @@ pub(crate) struct Contention {
 }
 
 impl Contention {
-    /// That of an address of which nothing was told.
+    /// The state of an address of which nothing was reported.
     pub fn new() -> Self
         ensures { result ≡ nothing_contended }
     {
@@ -105,7 +105,7 @@ pub(crate) fn defender_of(kept: Option<Contest>, time: Option<u64>) -> Option<Wh
     }
 }
 
-/// What is left of a contest at a frame that tells of this one.
+/// What is left of a contest at a frame that reports of this one.
 pub(crate) fn contest_left(kept: Option<Contest>, party: Who) -> Option<Contest>
     ensures { result ≡ remaining_of party kept }
 {

@@ -28,7 +28,7 @@ pub(crate) struct Contests {
     claimants: Claimants,
 }
 
-// Ends each contest that a frame that tells of this one ends.
+// Ends each contest that a frame that reports of this one ends.
 fn leave_contests(table: &mut [Contention; ADDRESSES], party: Who)
     ensures { AreRemaining table.old table.new party }
 {
@@ -120,7 +120,7 @@ impl Contests {
         })
     }
 
-    /// Notes a frame that claims an address or tells that a NAME can't, on a line with this time: what it ends and
+    /// Notes a frame that claims an address or reports that a NAME can't, on a line with this time: what it ends and
     /// begins.
     pub fn hear(
         &mut self,

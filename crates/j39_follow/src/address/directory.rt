@@ -25,7 +25,7 @@ pub(crate) struct Directory {
     parties: Parties,
 }
 
-// Who stands behind each address, as the holders tell.
+// Who stands behind each address, as the holders report.
 fn parties_of(plan: &Plan, holders: &Holders) -> [Who; ADDRESSES]
     ensures { (frames : List AFrame) → Recounts plan.now holders.now frames → ArePartiesOf plan.now frames result }
 {
@@ -117,7 +117,7 @@ impl Directory {
         likely_name(plan, self.parties.party(address))
     }
 
-    /// Notes what a frame tells behind so many others.
+    /// Notes what a frame reports behind so many others.
     pub fn hear(&mut self, plan: &Plan, frame: &Frame, count: u64)
         ensures { (frames : List AFrame) → length frames ≡ count → Knows plan.now self.old frames
             → Knows plan.now self.new (frames ++ frame.now ∷ []) }

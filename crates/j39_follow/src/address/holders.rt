@@ -22,7 +22,7 @@ use j39_network::{Plan, UnitPlan};
 const ADDRESSES: usize = NULL_ADDRESS as usize;
 
 /// The NAME that holds each address, how many frames came before the claim of it, and the units of the plan of which
-/// something was told, by their places.
+/// something was reported, by their places.
 #[derive(Drop)]
 pub(crate) struct Holders {
     names: [Option<u64>; ADDRESSES],
@@ -123,7 +123,7 @@ impl Holders {
         }
     }
 
-    /// Notes what a frame tells behind so many others.
+    /// Notes what a frame reports behind so many others.
     pub fn hear(&mut self, plan: &Plan, frame: &Frame, count: u64)
         ensures { (frames : List AFrame) → length frames ≡ count → Recounts plan.now self.old frames
             → Recounts plan.now self.new (frames ++ frame.now ∷ []) }

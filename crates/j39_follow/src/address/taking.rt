@@ -1,5 +1,5 @@
 //! Who is taken to be behind the addresses of a frame.
-ghost use Rattle.std.specs.Prelude.{◌≡◌, None};
+ghost use Rattle.std.specs.Prelude.{◌≡◌, ◌⊎◌, ℕ, None};
 ghost use Rattle.j39_follow.specs.inside.Contesting.{defender_at, taken_party};
 ghost use Rattle.j39_follow.specs.inside.Recounting.{party_at};
 
@@ -38,12 +38,9 @@ pub(crate) fn taken(
     asker: u8,
     time: Option<u64>,
 ) -> Parties
-    ensures source { party_at result.all ident.sa
-        ≡ taken_party (party_at parties.now.all ident.sa) (defender_at contests.now ident.sa time) }
-    ensures receiver { party_at result.all ident.ps
-        ≡ taken_party (party_at parties.now.all ident.ps) (defender_at contests.now ident.ps time) }
-    ensures asker { party_at result.all asker
-        ≡ taken_party (party_at parties.now.all asker) (defender_at contests.now asker time) }
+    ensures taken { (address : ℕ) → (address ≡ ident.sa) ⊎ (address ≡ ident.ps) ⊎ (address ≡ asker)
+        → party_at result.all address
+        ≡ taken_party (party_at parties.now.all address) (defender_at contests.now address time) }
     ensures names { result.names ≡ None }
 {
     let mut all = parties.all;

@@ -20,7 +20,7 @@ pub enum Who {
     Holder(usize),
     /// A NAME that isn't planned, and holds it.
     Stranger(u64),
-    /// The unit that prefers the address, of which nothing was told yet, or that is likely to claim it again.
+    /// The unit that prefers the address, of which nothing was reported yet, or that is likely to claim it again.
     Likely(usize),
     /// A NAME that isn't planned, and is likely to claim the address again.
     LikelyStranger(u64),
@@ -94,7 +94,7 @@ pub(crate) fn is_of_any(plan: &Plan, unit: Option<usize>) -> bool
     }
 }
 
-// Whether nothing was told yet of the unit at a place, which prefers the address.
+// Whether nothing was reported yet of the unit at a place, which prefers the address.
 fn may_hold(plan: &Plan, holders: &Holders, address: u8, place: usize) -> bool
     requires { place < length plan.now.units.items }
     ensures may { result ≡ true → (frames : List AFrame) (unit : AUnitPlan) → Recounts plan.now holders.now frames
@@ -146,7 +146,7 @@ fn likelier(
     Some(place)
 }
 
-// The unit that would be the first to claim the address, of those of which nothing was told.
+// The unit that would be the first to claim the address, of those of which nothing was reported.
 fn likeliest(plan: &Plan, holders: &Holders, address: u8) -> Option<usize>
     ensures { (frames : List AFrame) → Recounts plan.now holders.now frames
         → IsBestOf plan.now (length plan.now.units.items) frames address result }

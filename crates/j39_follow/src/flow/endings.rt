@@ -3,7 +3,7 @@ ghost use Rattle.std.specs.Prelude.{◌≡◌, ◌<◌, ◌++◌, ℕ, List, Som
 ghost use Rattle.std.specs.List.{slice_get};
 ghost use Rattle.j39_id.specs.Limits.{unit_limit};
 ghost use Rattle.j39_id.specs.declared.frame.Frame.{Frame as AFrame};
-ghost use Rattle.j39_follow.specs.FollowText.{AreUnitLines, IsUnitLine, flow_ends, group_ends, ends_text};
+ghost use Rattle.j39_follow.specs.FollowText.{AreUnitLines, IsUnitLine, flow_ends, group_ends, route_text};
 ghost use Rattle.j39_follow.specs.FollowText.{is_first_of as comes_first, others_of_number as others, rest_line};
 ghost use Rattle.j39_follow.specs.FollowText.{flow_sent_line, to_text, unit_end_line};
 ghost use Rattle.j39_text.specs.Texts.{field};
@@ -28,14 +28,23 @@ pub fn write_to(text: &mut TextBuffer, plan: &Plan, to: To) -> Result<(), AllocE
     }
 }
 
-#[tactic(auto, unfolding(crate::specs::FollowText::ends_text))]
-fn write_ends(text: &mut TextBuffer, plan: &Plan, flow: &FlowPlan) -> Result<(), AllocError>
-    ensures { OnOk result (text.new ≡ text.old ++ ends_text plan.now flow.now) }
+/// Writes which group goes from whom to whom.
+#[tactic(auto, unfolding(crate::specs::FollowText::route_text))]
+pub(crate) fn write_route(
+    text: &mut TextBuffer,
+    plan: &Plan,
+    group: usize,
+    sender: usize,
+    to: To,
+) -> Result<(), AllocError>
+    ensures { OnOk result (text.new ≡ text.old ++ route_text plan.now group sender to) }
 {
+    text.word(" ")?;
+    text.word(group_label(plan, group))?;
     text.word(" from ")?;
-    text.word(unit_label(plan, flow.sender))?;
+    text.word(unit_label(plan, sender))?;
     text.word(" to ")?;
-    write_to(text, plan, flow.to)
+    write_to(text, plan, to)
 }
 
 #[tactic(auto, unfolding(crate::specs::FollowText::flow_sent_line))]
@@ -49,9 +58,7 @@ fn write_flow(
     ensures { OnOk result (text.new ≡ text.old ++ flow_sent_line plan.now place flow.now times) }
 {
     text.place("flow ", place)?;
-    text.word(" ")?;
-    text.word(group_label(plan, flow.group))?;
-    write_ends(text, plan, flow)?;
+    write_route(text, plan, flow.group, flow.sender, flow.to)?;
     text.field(" sent ", times)?;
     text.end_line()
 }
@@ -59,7 +66,7 @@ fn write_flow(
 // Writes how often each flow was sent.
 fn write_flows(text: &mut TextBuffer, plan: &Plan, tally: &Tally) -> Result<(), AllocError>
     ensures { OnOk result ((sent : List ASort) → IsTally plan.now tally.now sent
-        → text.new ≡ text.old ++ flow_ends plan.now sent 0 plan.now.flows.items) }
+        → text.new ≡ text.old ++ flow_ends plan.now sent) }
 {
     for place in 0..plan.flows.len() {
         write_flow(text, plan, place, &plan.flows[place], tally.of_flow(place))?;
@@ -74,7 +81,7 @@ fn is_first_of(plan: &Plan, place: usize, group: &GroupPlan) -> bool
     first_of(plan, group.pgn) == Some(place)
 }
 
-// How much else there was of the number of a group, told at the first that has it.
+// How much else there was of the number of a group, reported at the first that has it.
 fn others_of(plan: &Plan, tally: &Tally, place: usize, group: &GroupPlan) -> u64
     requires { slice_get plan.now.groups.items place ≡ Some group.now }
     ensures { (sent : List ASort) → IsTally plan.now tally.now sent → result ≡ others plan.now sent place group.now }
@@ -105,7 +112,7 @@ fn write_group(
 // Writes how often each group was sent without a flow, and what else there was of its number.
 fn write_groups(text: &mut TextBuffer, plan: &Plan, tally: &Tally) -> Result<(), AllocError>
     ensures { OnOk result ((sent : List ASort) → IsTally plan.now tally.now sent
-        → text.new ≡ text.old ++ group_ends plan.now sent 0 plan.now.groups.items) }
+        → text.new ≡ text.old ++ group_ends plan.now sent) }
 {
     for place in 0..plan.groups.len() {
         let group = &plan.groups[place];
@@ -184,8 +191,7 @@ pub(crate) fn write_endings(
     ensures { OnOk result ((sent : List ASort) (frames : List AFrame) → IsTally plan.now tally.now sent
         → Recounts plan.now holders.now frames
         → (units : List ℕ) × AreUnitLines plan.now frames 0 plan.now.units.items units
-        × (text.new ≡ text.old ++ (flow_ends plan.now sent 0 plan.now.flows.items
-        ++ (group_ends plan.now sent 0 plan.now.groups.items ++ units)))) }
+        × (text.new ≡ text.old ++ (flow_ends plan.now sent ++ (group_ends plan.now sent ++ units)))) }
 {
     write_flows(text, plan, tally)?;
     write_groups(text, plan, tally)?;

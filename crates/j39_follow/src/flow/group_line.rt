@@ -2,7 +2,7 @@
 ghost use Rattle.std.specs.Prelude.{◌≡◌, ◌++◌, ◌&&◌, ℕ, List, if◌then◌else◌, is_some, IfOk, OnOk};
 ghost use Rattle.j39_network.specs.declared.plan.Plan.{Plan as APlan};
 ghost use Rattle.j39_id.specs.Pgn.{is_pdu2};
-ghost use Rattle.j39_log.specs.inside.ReportHeads.{report_head};
+ghost use Rattle.j39_log.specs.ReportHeads.{report_head};
 ghost use Rattle.j39_follow.specs.Contests.{IsTaken, Timed};
 ghost use Rattle.j39_follow.specs.FollowReports.{IsMessageReport, IsSendingOf, IsWay, aim_at, flow_word, message_line};
 ghost use Rattle.j39_follow.specs.FollowReports.{is_to_all as goes_to_all, priority_text, sent_text};
@@ -122,7 +122,7 @@ fn write_group_line(
     write_sent(text, group, flow, message)
 }
 
-/// Writes the report of a message, if it is a group, and tells what it counts as.
+/// Writes the report of a message, if it is a group, and reports what it counts as.
 pub(crate) fn write_message(
     text: &mut TextBuffer,
     groups: &Groups<'_>,

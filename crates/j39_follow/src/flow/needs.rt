@@ -1,5 +1,5 @@
 //! How often what units need was sent.
-ghost use Rattle.std.specs.Prelude.{◌≡◌, ◌<◌, ◌^◌, ◌++◌, ℕ, List, OnOk, if◌then◌else◌};
+ghost use Rattle.std.specs.Prelude.{◌≡◌, ◌<◌, ◌++◌, List, OnOk, if◌then◌else◌};
 ghost use Rattle.j39_network.specs.Serving.{meets as brings};
 ghost use Rattle.j39_network.specs.PlanLimits.{flow_limit};
 ghost use Rattle.j39_follow.specs.FollowText.{need_ends, need_met_line, times_met as times_sent};
@@ -63,7 +63,7 @@ pub(crate) fn write_needs(
     tally: &Tally,
 ) -> Result<(), AllocError>
     ensures { OnOk result ((sent : List ASort) → IsTally plan.now tally.now sent
-        → text.new ≡ text.old ++ need_ends plan.now sent 0 plan.now.needs.items) }
+        → text.new ≡ text.old ++ need_ends plan.now sent) }
 {
     for place in 0..plan.needs.len() {
         let need = &plan.needs[place];

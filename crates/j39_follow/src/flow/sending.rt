@@ -2,7 +2,7 @@
 ghost use Rattle.std.specs.Prelude.{◌≡◌, ◌<◌, ◌↔◌, ℕ, Some, false, get_or, IsTrue, length};
 ghost use Rattle.std.specs.List.{position};
 ghost use Rattle.j39_network.specs.declared.plan.flow_plan.FlowPlan.{FlowPlan as APlannedFlow};
-ghost use Rattle.j39_log.specs.inside.Listening.{HasAllOf};
+ghost use Rattle.j39_log.specs.GroupSpans.{HasAllOf};
 ghost use Rattle.j39_follow.specs.inside.Reporting.{is_all};
 ghost use Rattle.j39_follow.specs.Fits.{IsSentGroup, MayBeGroup, fits, fits_all, fitting_flow};
 ghost use Rattle.j39_follow.specs.Fits.{is_for_all as goes_to_all, may_have_bytes, is_unit, reaches as is_reached};

@@ -51,7 +51,7 @@ pub(crate) fn first_word(line: &[u8]) -> Option<&[u8]>
     Some(&rest[..word_length(rest)])
 }
 
-// Whether a word of this letter tells whether a frame was received or transmitted.
+// Whether a word of this letter says whether a frame was received or transmitted.
 fn is_direction(letter: u8) -> bool
     ensures { IsTrue result ↔ IsDirectionLetter letter }
 {
@@ -68,7 +68,7 @@ fn is_parted(front: &[u8]) -> bool
     is_separator(front[front.len() - 1])
 }
 
-/// What stands before the last word of a line, where this tells whether the frame was received or transmitted.
+/// What stands before the last word of a line, where this says whether the frame was received or transmitted.
 pub(crate) fn before_direction(line: &[u8]) -> Option<&[u8]>
     ensures found { IfSome result (λ front. (word : List ℕ) × SplitsLast line.now front.now word × IsDirection word) }
     ensures none { IfNone result ((front : List ℕ) (word : List ℕ) → SplitsLast line.now front word
@@ -178,7 +178,7 @@ fn are_whole_time(bytes: &[u8]) -> bool
     all
 }
 
-// How many digits and points these begin with, as far as it is told without a look at each: a whole time, or none.
+// How many digits and points these begin with, as far as it is reported without a look at each: a whole time, or none.
 #[inline(always)]
 fn time_start(bytes: &[u8]) -> usize
     ensures within { result ≤ length bytes.now }

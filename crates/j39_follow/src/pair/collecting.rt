@@ -2,8 +2,8 @@
 ghost use Rattle.std.specs.Prelude.{◌≡◌, ◌<◌, ◌==◌, ◌&&◌, ◌+◌, ◌∷◌, [], ℕ, List, Some, Option, length, IfOk, if◌then◌else◌};
 ghost use Rattle.std.specs.Prelude.{option_map};
 ghost use Rattle.j39_tp.specs.declared.packet.Packet.{Packet as APacket};
-ghost use Rattle.j39_tp.specs.declared.packet.Packet.TheVariants.{Abort as AnAbort, Dt as Data, EndAck as AnEnd, Rts as AStart};
-ghost use Rattle.j39_follow.specs.inside.Collecting.{HasBytes, IsCollected, IsMoreOf, IsOpened, CollectsOn, chunk_at};
+ghost use Rattle.j39_tp.specs.declared.packet.Packet.TheVariants.{Dt as Data, Rts as AStart};
+ghost use Rattle.j39_follow.specs.inside.Collecting.{Closes, HasBytes, IsCollected, IsMoreOf, IsOpened, CollectsOn, chunk_at};
 ghost use Rattle.j39_follow.specs.Received.{IsReceivedOr};
 ghost use Rattle.j39_follow.specs.declared.pair.collected.Collected.{Collected as ACollected};
 ghost use Rattle.j39_tp.specs.Chunks.{packets_of};
@@ -116,8 +116,7 @@ fn with_data(collected: Option<Collected>, number: u8, chunk: Chunk) -> Option<C
 
 // What is kept behind a packet that ends a message of a PGN.
 fn without(collected: Option<Collected>, pgn: Pgn) -> Option<Collected>
-    ensures abort { (reason : ℕ) → CollectsOn collected result (AnAbort reason pgn ∷ []) }
-    ensures end { (size : ℕ) → CollectsOn collected result (AnEnd size pgn ∷ []) }
+    ensures { (p : APacket) → Closes pgn p → CollectsOn collected result (p ∷ []) }
 {
     let Some(collected) = collected else {
         return None;

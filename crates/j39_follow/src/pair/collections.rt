@@ -1,10 +1,10 @@
 //! The packets of messages to one unit of each pair of addresses, in whatever order they come.
 ghost use Rattle.std.specs.Prelude.{◌≡◌, ◌≢◌, ◌<◌, ◌==◌, ◌||◌, ◌∷◌, [], ℕ, List, None, OnOk, IfOk, if◌then◌else◌, option_map, Some as ASome};
 ghost use Rattle.j39_tp.specs.declared.packet.Packet.{Packet as APacket};
-ghost use Rattle.j39_log.specs.inside.Listening.{is_of_pair, is_pair};
+ghost use Rattle.j39_log.specs.PairListeners.{is_of_pair, is_pair};
 ghost use Rattle.j39_follow.specs.Received.{IsReceivedOr, way_packet};
 ghost use Rattle.j39_log.specs.LogPairs.{is_abort as aborts};
-ghost use Rattle.j39_follow.specs.inside.Collecting.{tells_whole};
+ghost use Rattle.j39_follow.specs.inside.Collecting.{reports_whole};
 ghost use Rattle.j39_follow.specs.inside.Collecting.{IsCollectedOf, CollectsOn, collected_between, collected_for, pair_key as key_of_pair};
 
 use crate::pair::collected::Collected;
@@ -30,7 +30,7 @@ fn pair_key(source: u8, destination: u8) -> u32
 
 // Whether a receiver says by a packet that it has a message whole.
 fn is_receipt(packet: &Packet) -> bool
-    ensures { result ≡ tells_whole packet.now }
+    ensures { result ≡ reports_whole packet.now }
 {
     match packet {
         Packet::EndAck { .. } => true,

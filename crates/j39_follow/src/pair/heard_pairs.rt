@@ -1,11 +1,11 @@
 //! What each pair of addresses heard, in order and in whatever order.
 ghost use Rattle.std.specs.Prelude.{◌≡◌, ◌<◌, [], ℕ, None, OnOk, IfOk, if◌then◌else◌, Some as ASome};
 ghost use Rattle.j39_log.specs.LogPairs.{is_heard_by};
-ghost use Rattle.j39_log.specs.inside.Listening.{completed_group, is_of_pair};
+ghost use Rattle.j39_log.specs.PairListeners.{completed_group, is_of_pair};
 ghost use Rattle.j39_tp.specs.Receiver.{fresh, receives};
 ghost use Rattle.j39_tp.specs.declared.receiving.manner.Manner.TheVariants.{Listening};
 ghost use Rattle.j39_follow.specs.Received.{way_packet};
-ghost use Rattle.j39_follow.specs.inside.Collecting.{CollectsOn, collected_between};
+ghost use Rattle.j39_follow.specs.inside.Collecting.{CollectsOn};
 ghost use Rattle.j39_follow.specs.inside.Hearing.{listener_between, kept_between};
 
 use crate::pair::collections::Collections;

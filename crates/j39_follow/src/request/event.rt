@@ -9,13 +9,13 @@ pub struct Reply {
     pub aim: Aim,
 }
 
-/// What a frame tells of requests.
+/// What a frame reports of requests.
 #[derive(Clone, Copy, PartialEq, Eq)]
 pub enum Event {
     /// The request at this place was asked.
     Asked(usize),
     /// A message came.
     Brought(Reply),
-    /// A unit told that a group doesn't come.
+    /// A unit reported that a group doesn't come.
     Refused(Reply),
 }

@@ -1,4 +1,4 @@
-//! What frames tell of the requests of a plan.
+//! What frames report of the requests of a plan.
 ghost use Rattle.std.specs.Prelude.{◌≡◌, ◌+◌, ◌^◌, ◌<◌, ◌∷◌, List, length, option_map};
 ghost use Rattle.std.specs.Option.{option_to_list};
 ghost use Rattle.j39_follow.specs.Contests.{Timed};
@@ -120,7 +120,7 @@ fn brought_any(plan: &Plan, sent: Sending, sort: Option<Sort>) -> Option<Event>
     }
 }
 
-/// Notes what a frame tells of requests: what it asks or refuses, what it is, and the message that it ends.
+/// Notes what a frame reports of requests: what it asks or refuses, what it is, and the message that it ends.
 #[inline(never)]
 pub(crate) fn note(
     exchanges: &mut Exchanges,

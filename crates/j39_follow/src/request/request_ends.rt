@@ -1,25 +1,15 @@
 //! How often what was asked was answered.
 ghost use Rattle.std.specs.Prelude.{◌≡◌, ◌++◌, List, OnOk};
-ghost use Rattle.j39_follow.specs.FollowText.{asked_ends_text, exchange_text, request_end_line, request_ends};
+ghost use Rattle.j39_follow.specs.FollowText.{exchange_text, request_end_line, request_ends};
 ghost use Rattle.j39_follow.specs.declared.request.event.Event.{Event as AnEvent};
 ghost use Rattle.j39_follow.specs.inside.Exchanging.{AreExchanges};
 
-use crate::flow::endings::write_to;
+use crate::flow::endings::write_route;
 use crate::request::exchange::Exchange;
 use crate::request::exchanges::Exchanges;
 use j39_network::{Plan, RequestPlan};
-use j39_text::{TextBuffer, group_label, unit_label};
+use j39_text::TextBuffer;
 use std::alloc::AllocError;
-
-#[tactic(auto, unfolding(crate::specs::FollowText::asked_ends_text))]
-fn write_ends(text: &mut TextBuffer, plan: &Plan, request: &RequestPlan) -> Result<(), AllocError>
-    ensures { OnOk result (text.new ≡ text.old ++ asked_ends_text plan.now request.now) }
-{
-    text.word(" from ")?;
-    text.word(unit_label(plan, request.sender))?;
-    text.word(" to ")?;
-    write_to(text, plan, request.to)
-}
 
 #[tactic(auto, unfolding(crate::specs::FollowText::exchange_text))]
 fn write_exchange(text: &mut TextBuffer, exchange: Exchange) -> Result<(), AllocError>
@@ -43,9 +33,7 @@ fn write_request_end(
         ++ request_end_line plan.now place request.now exchange.asked exchange.answered exchange.refused) }
 {
     text.place("request ", place)?;
-    text.word(" ")?;
-    text.word(group_label(plan, request.group))?;
-    write_ends(text, plan, request)?;
+    write_route(text, plan, request.group, request.sender, request.to)?;
     write_exchange(text, exchange)
 }
 
@@ -56,7 +44,7 @@ pub(crate) fn write_requests(
     exchanges: &Exchanges,
 ) -> Result<(), AllocError>
     ensures { OnOk result ((events : List AnEvent) → AreExchanges plan.now exchanges.now events
-        → text.new ≡ text.old ++ request_ends plan.now events 0 plan.now.requests.items) }
+        → text.new ≡ text.old ++ request_ends plan.now events) }
 {
     for place in 0..plan.requests.len() {
         let request = &plan.requests[place];

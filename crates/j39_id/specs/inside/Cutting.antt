@@ -8,8 +8,8 @@ use Rattle.j39_id.specs.declared.cutter.CutterPhase.TheVariants.{Inside, Beyond,
 
 -- the line that it is in
 abbrev pub pending_of : CutterPhase → List ℕ → Pending
-pending_of Inside bytes = record { held = bytes; told_long = false }
-pending_of Beyond bytes = record { held = bytes; told_long = true }
+pending_of Inside bytes = record { held = bytes; reported_long = false }
+pending_of Beyond bytes = record { held = bytes; reported_long = true }
 pending_of Ended bytes = at_start
 
 -- the line that it gives

@@ -1,4 +1,4 @@
--- What is told of units in some variants, one after the other.
+-- What is reported of units in some variants, one after the other.
 use Rattle.std.specs.Prelude.{ℕ, List, Bool, true, false, if◌then◌else◌, slice_index_or, Option, Some, None}
 use Rattle.std.specs.List.{slice_get}
 use Rattle.std.specs.Option.{option_and_then}
@@ -13,7 +13,7 @@ abbrev pub stays_in_variant : ProductLine → List ℕ → (UnitPlan → Bool) �
 stays_in_variant line variant stays u =
     option_and_then (λ unit. if is_unit_there line variant u then Some (stays unit) else None) (slice_get line.plan.units.items u)
 
--- what is told of it, with this variant
+-- what is reported of it, with this variant
 abbrev pub with_variant : LineStanding → Option Bool → LineStanding
 with_variant NoVariant None = NoVariant
 with_variant Stays None = Stays

@@ -5,15 +5,15 @@ use Rattle.j39_line_findings.specs.InFile.{rank_of}
 use Rattle.j39_line_findings.specs.declared.line_finding.LineFinding.{LineFinding}
 use Rattle.j39_line_findings.specs.declared.witnessed.Witnessed.{Witnessed}
 use Rattle.j39_line_witnesses.specs.declared.found.FoundByCondition.{FoundByCondition}
-use Rattle.j39_line_check.specs.LineChecks.{AreToldInOrder}
-use Rattle.j39_line_check.specs.declared.answer.ToldFinding.{ToldFinding}
+use Rattle.j39_line_check.specs.LineChecks.{AreReportedInOrder}
+use Rattle.j39_line_check.specs.declared.answer.ReportedFinding.{ReportedFinding}
 
 -- a finding, and the variant that is its witness
 abbrev pub Pair : Type 0
 Pair = LineFinding × List ℕ
 
-abbrev pub pair_told : ToldFinding → Pair
-pair_told t = (t.finding, t.variant.items)
+abbrev pub pair_reported : ReportedFinding → Pair
+pair_reported t = (t.finding, t.variant.items)
 
 abbrev pub pair_of_condition : FoundByCondition → Pair
 pair_of_condition one = (one.finding, one.witness.items)
@@ -22,8 +22,8 @@ pair_of_condition one = (one.finding, one.witness.items)
 abbrev pub pair_counted : List (List ℕ) → Witnessed → Pair
 pair_counted variants w = (w.finding, unwrap_or (slice_get variants w.variant) [])
 
--- those that are told are some of these, in order, and of each number and places of these one
-pub record AreAdded (all : List Pair) (told : List ToldFinding) : Type 0 where
-  pub in_order : AreToldInOrder told
-  pub sound : (t : ToldFinding) → Contains told t → Contains all (pair_told t)
-  pub complete : (p : Pair) → Contains all p → (t : ToldFinding) × Contains told t × (rank_of t.finding ≡ rank_of p.0)
+-- those that are reported are some of these, in order, and of each number and places of these one
+pub record AreAdded (all : List Pair) (reported : List ReportedFinding) : Type 0 where
+  pub in_order : AreReportedInOrder reported
+  pub sound : (t : ReportedFinding) → Contains reported t → Contains all (pair_reported t)
+  pub complete : (p : Pair) → Contains all p → (t : ReportedFinding) × Contains reported t × (rank_of t.finding ≡ rank_of p.0)

@@ -36,17 +36,17 @@ module _ (plan : Plan) (timing : Timing) (stays : UnitPlan → Bool) where
   abbrev pub rate_of_request : Option RequestLoad → ℕ
   rate_of_request load = option_map_or (λ (l : RequestLoad). l.bits_per_second) load 0
 
-module _ (plan : Plan) (timing : Timing) (stays : UnitPlan → Bool) (tells : DecidesWhoStays plan stays) (clean : Clean plan) (s : Schedule)
+module _ (plan : Plan) (timing : Timing) (stays : UnitPlan → Bool) (states : DecidesWhoStays plan stays) (clean : Clean plan) (s : Schedule)
     (queued_first : (p : ℕ) → p < s.count → s.queued p ≤ s.start p) (planned : ℕ → Bool) (sent : FrameSources) (held : Held)
     (keeps : KeepsToPlan plan timing s planned sent held) (from wait n : ℕ) (span : wait + 1 ≡ bits_of_ms timing (seconds n)) (agree : timing.drift ≡ 0) where
   abbrev place : ℕ → ℕ
   place p = source_place plan (sent.source p)
 
   abbrev bits : ℕ → ℕ → ℕ
-  bits = bits_at plan timing stays tells clean s queued_first planned sent held keeps from wait n span agree
+  bits = bits_at plan timing stays states clean s queued_first planned sent held keeps from wait n span agree
 
   abbrev IsCounted : ℕ → ℕ → ℕ → Type 0
-  IsCounted = Counts plan timing stays tells clean s queued_first planned sent held keeps from wait n span agree
+  IsCounted = Counts plan timing stays states clean s queued_first planned sent held keeps from wait n span agree
 
   -- ---- a flow
 
@@ -55,7 +55,7 @@ module _ (plan : Plan) (timing : Timing) (stays : UnitPlan → Bool) (tells : De
   flow_bits i = elim (cases_lt 0 (bits 0 i)) [
     | inr none ↦ omega (arith, none)
     | inl some ↦
-        let (p, in_p, x) = some_counts plan timing stays tells clean s queued_first planned sent held keeps from wait n span agree 0 i some in
+        let (p, in_p, x) = some_counts plan timing stays states clean s queued_first planned sent held keeps from wait n span agree 0 i some in
         rated p in_p x.is (sent.source p) refl x.its_kind x.its_index
   ]
     where
@@ -78,7 +78,7 @@ module _ (plan : Plan) (timing : Timing) (stays : UnitPlan → Bool) (tells : De
           → get_or (asked plan timing stays).flows i None ≡ Some load → Rated
       of_frames frames ms load there some period rate its =
           let positive_period : 0 < frames.stream.period = (let bits = some_bits timing ms some in omega (arith, bits, period)) in
-          at_rate plan timing stays tells clean s queued_first planned sent held keeps from wait n span agree 0 i i
+          at_rate plan timing stays states clean s queued_first planned sent held keeps from wait n span agree 0 i i
           (rate_of_flow plan timing stays (get_or (asked plan timing stays).flows i None)) one_place
           (subst (λ (f : FlowFrames). 0 < f.stream.period) (sym there) positive_period)
           (subst (λ (f : FlowFrames). IsRate timing (f.stream.frames * f.stream.bits) f.stream.period
@@ -90,11 +90,11 @@ module _ (plan : Plan) (timing : Timing) (stays : UnitPlan → Bool) (tells : De
       rated : (p : ℕ) → p < s.count → planned p ≡ true → (x : Source) → sent.source p ≡ x → kind x ≡ 0 → index x ≡ i → Rated
       rated p in_p is (Single f) at of_kind place =
           let one = subst (λ (g : ℕ). IsSingleFrame plan timing s held g (sent.release p) p) place
-          (frame_of plan timing stays tells clean s queued_first planned sent held keeps from wait n span agree p in_p is (Single f) at) in
+          (frame_of plan timing stays states clean s queued_first planned sent held keeps from wait n span agree p in_p is (Single f) at) in
           let asks = load plan timing stays i one.flow one.pace one.group one.its one.paced one.of in
           let frames = own plan timing stays i one.flow one.pace one.group one.its one.paced one.of in
           of_frames frames one.pace.period asks
-          (there plan timing stays tells clean s queued_first planned sent held keeps i (sent.release p) p one) one.pace.period_positive refl
+          (there plan timing stays states clean s queued_first planned sent held keeps i (sent.release p) p one) one.pace.period_positive refl
           (ap (λ (m : Messages). load_of_messages timing m one.pace.period)
           (of_one_frame plan timing stays i one.flow one.pace one.group one.its one.paced one.of one.short))
           (get_or_from_slice_get (asked plan timing stays).flows i (Some asks) None
@@ -102,7 +102,7 @@ module _ (plan : Plan) (timing : Timing) (stays : UnitPlan → Bool) (tells : De
       rated p in_p is (First f) at of_kind place = absurd (omega (arith, of_kind))
       rated p in_p is (InSession f part) at of_kind place =
           let one = subst (λ (g : ℕ). IsSessionFrame plan timing s held g part (sent.release p) p) place
-          (frame_of plan timing stays tells clean s queued_first planned sent held keeps from wait n span agree p in_p is (InSession f part) at) in
+          (frame_of plan timing stays states clean s queued_first planned sent held keeps from wait n span agree p in_p is (InSession f part) at) in
           let asks = load plan timing stays i one.flow one.pace one.group one.its one.paced one.of in
           let frames = in_session plan timing stays i one.flow one.pace one.group one.its one.paced one.of one.receiver in
           of_frames frames one.pace.period asks
@@ -126,7 +126,7 @@ module _ (plan : Plan) (timing : Timing) (stays : UnitPlan → Bool) (tells : De
   request_bits r = elim (cases_lt 0 (bits 1 r)) [
     | inr none ↦ omega (arith, none)
     | inl some ↦
-        let (p, in_p, x) = some_counts plan timing stays tells clean s queued_first planned sent held keeps from wait n span agree 1 r some in
+        let (p, in_p, x) = some_counts plan timing stays states clean s queued_first planned sent held keeps from wait n span agree 1 r some in
         rated p in_p x.is (sent.source p) refl x.its_kind x.its_index
   ]
     where
@@ -151,7 +151,7 @@ module _ (plan : Plan) (timing : Timing) (stays : UnitPlan → Bool) (tells : De
       rated p in_p is (InSession f part) at of_kind place = absurd (omega (arith, of_kind))
       rated p in_p is (Asking q) at of_kind place =
           let one = subst (λ (g : ℕ). IsRequestFrame plan s held g (sent.release p) p) place
-          (frame_of plan timing stays tells clean s queued_first planned sent held keeps from wait n span agree p in_p is (Asking q) at) in
+          (frame_of plan timing stays states clean s queued_first planned sent held keeps from wait n span agree p in_p is (Asking q) at) in
           let some : 1 ≤ one.ms = one.asked.period_positive one.ms one.paced in
           let frames = in_request plan timing stays r one.asked one.ms one.its one.paced in
           let its : get_or (asked plan timing stays).requests r None ≡ Some (request_asks plan timing stays r one.asked one.ms one.its one.paced) =
@@ -160,7 +160,7 @@ module _ (plan : Plan) (timing : Timing) (stays : UnitPlan → Bool) (tells : De
           let at_its_place : planned_at (whole plan timing stays) (request_place r) ≡ frames =
           with_damage timing (frames_asked (asked plan timing stays)) (request_place r) frames
           (request_frames_read plan timing stays r one.asked one.ms one.its one.paced) in
-          at_rate plan timing stays tells clean s queued_first planned sent held keeps from wait n span agree 1 r (request_place r) rate one_place
+          at_rate plan timing stays states clean s queued_first planned sent held keeps from wait n span agree 1 r (request_place r) rate one_place
           (subst (λ (f : FlowFrames). 0 < f.stream.period) (sym at_its_place) (some_bits timing one.ms some))
           (subst (λ (f : FlowFrames). IsRate timing (f.stream.frames * f.stream.bits) f.stream.period rate) (sym at_its_place)
           (subst (λ (x : ℕ). IsRate timing (frames.stream.frames * frames.stream.bits) frames.stream.period x)

@@ -16,7 +16,7 @@ use Rattle.j39_load.specs.Loads.{bits_of_ms, bits_per_ms}
 use Rattle.j39_load.specs.LongRuns.{counts_in_load, is_counted, is_queued_within, seconds}
 use Rattle.j39_load.specs.Clocks.{bit_time}
 use Rattle.j39_load.specs.SentFrames.{Broadcasts, FrameSources, Held, IsFrameOf, Source, Single, First, InSession, Asking, Announcing, Carrying}
-use Rattle.j39_load.proofs.AnyTraffic.{positive as positive_at}
+use Rattle.j39_load.proofs.QueueGroupFrames.{positive as positive_at}
 use Rattle.j39_load.proofs.KeepingPlan.{as_wanted, of_streams}
 use Rattle.j39_load.proofs.LongRuns.Rates.{IsRate, stream_rate}
 use Rattle.j39_load.proofs.LongRuns.Streams.{more_bits, one_stream}
@@ -75,7 +75,7 @@ module _ (plan : Plan) (timing : Timing) (stays : UnitPlan → Bool) where
   abbrev pub more_at : ℕ → ℕ
   more_at j = more_bits ((stream j).frames * (stream j).bits) (stream j).jitter (stream j).period
 
-module _ (plan : Plan) (timing : Timing) (stays : UnitPlan → Bool) (tells : DecidesWhoStays plan stays) (clean : Clean plan) (s : Schedule)
+module _ (plan : Plan) (timing : Timing) (stays : UnitPlan → Bool) (states : DecidesWhoStays plan stays) (clean : Clean plan) (s : Schedule)
     (queued_first : (p : ℕ) → p < s.count → s.queued p ≤ s.start p) (planned : ℕ → Bool) (sent : FrameSources) (held : Held)
     (keeps : KeepsToPlan plan timing s planned sent held) (from wait n : ℕ) (span : wait + 1 ≡ bits_of_ms timing (seconds n)) (agree : timing.drift ≡ 0) where
   abbrev b : Broadcasts
@@ -152,8 +152,8 @@ module _ (plan : Plan) (timing : Timing) (stays : UnitPlan → Bool) (tells : De
   -- frames at one place
   pub at_lesser : (k i j : ℕ) → ((p : ℕ) → p < s.count → Counts k i p → place p ≡ j) → bits_at k i ≤ lesser_share demands (wait + 1) (streams j)
   at_lesser k i j same = one_stream s (traffic plan timing stays).count streams demands planned (origins_of plan sent)
-      (of_streams plan timing stays tells clean s queued_first planned sent held keeps)
-      (as_wanted plan timing stays tells clean s queued_first planned sent held keeps)
+      (of_streams plan timing stays states clean s queued_first planned sent held keeps)
+      (as_wanted plan timing stays states clean s queued_first planned sent held keeps)
       positive j wait from (of_index k i) (λ p in_p counts. let x = parts k i p counts in (x.is, same p in_p x, x.inside))
 
   pub at_rate : (k i j rate : ℕ) → ((p : ℕ) → p < s.count → Counts k i p → place p ≡ j) → 0 < (streams j).period

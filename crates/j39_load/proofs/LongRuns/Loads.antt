@@ -30,9 +30,9 @@ use Rattle.j39_load.proofs.LongRuns.Flows.{rate_of_flow, rate_of_request, reques
 use Rattle.j39_load.proofs.LongRuns.Units.{rate_of_unit, unit_bits}
 use Rattle.j39_load.proofs.LongRuns.Rates.{both, sum_by-times}
 use Rattle.j39_load.proofs.LongRuns.Streams.{by_places, total-both}
-use Rattle.j39_load.proofs.KeepingPlan.{of_source}
+use Rattle.j39_load.proofs.KeepingPlan.{longest_of}
 use Rattle.j39_load.proofs.Milliseconds.{agreed_rate, some_own}
-use Rattle.j39_load.proofs.PlacedFrames.{asked, same_units, unit_told}
+use Rattle.j39_load.proofs.PlacedFrames.{asked, same_units, unit_stated}
 use Rattle.j39_timing.specs.Sums.{total}
 use Rattle.j39_timing.specs.TimedFrames.{Schedule}
 use Rattle.j39_timing.proofs.AskedFrames.{all_grouped}
@@ -53,7 +53,7 @@ summed none rate more n xs f each =
 three_times : (n a b c : ℕ) → n * (a + (b + c)) ≡ n * a + (n * b + n * c)
 three_times n a b c = both n a (b + c) ∙ ap (λ (x : ℕ). n * a + x) (both n b c)
 
-module _ (plan : Plan) (timing : Timing) (stays : UnitPlan → Bool) (tells : DecidesWhoStays plan stays) (clean : Clean plan) where
+module _ (plan : Plan) (timing : Timing) (stays : UnitPlan → Bool) (states : DecidesWhoStays plan stays) (clean : Clean plan) where
   abbrev flows : ℕ
   flows = length (asked plan timing stays).flows
 
@@ -99,13 +99,13 @@ module _ (plan : Plan) (timing : Timing) (stays : UnitPlan → Bool) (tells : De
 
     module _ (wait : ℕ) (span : wait + 1 ≡ bits_of_ms timing (seconds n)) (agree : timing.drift ≡ 0) where
       abbrev of : ℕ → ℕ → ℕ
-      of = bits_at plan timing stays tells clean s queued_first planned sent held keeps from wait n span agree
+      of = bits_at plan timing stays states clean s queued_first planned sent held keeps from wait n span agree
 
       abbrev counts : ℕ → Bool
-      counts = passes plan timing stays tells clean s queued_first planned sent held keeps from wait n span agree
+      counts = passes plan timing stays states clean s queued_first planned sent held keeps from wait n span agree
 
       abbrev kinds : ℕ → ℕ → Bool
-      kinds = of_kind plan timing stays tells clean s queued_first planned sent held keeps from wait n span agree
+      kinds = of_kind plan timing stays states clean s queued_first planned sent held keeps from wait n span agree
 
       -- a frame's place is one of its kind
       abbrev size : ℕ → ℕ
@@ -132,12 +132,12 @@ module _ (plan : Plan) (timing : Timing) (stays : UnitPlan → Bool) (tells : De
           omega (arith, below, same)
       inside p in_p is (Announcing u m) at alone =
           let one = subst (λ (y : Source). IsFrameOf plan timing s held sent.broadcasts y (sent.release p) p) at (keeps.frames p in_p is) in
-          let below = unit_told plan timing stays sent.broadcasts u m (keeps.broadcasts.messages u m one.known) in
+          let below = unit_stated plan timing stays sent.broadcasts u m (keeps.broadcasts.messages u m one.known) in
           let same = same_units plan timing stays in
           omega (arith, below, same)
       inside p in_p is (Carrying u m k) at alone =
           let one = subst (λ (y : Source). IsFrameOf plan timing s held sent.broadcasts y (sent.release p) p) at (keeps.frames p in_p is) in
-          let below = unit_told plan timing stays sent.broadcasts u m (keeps.broadcasts.messages u m one.0.known) in
+          let below = unit_stated plan timing stays sent.broadcasts u m (keeps.broadcasts.messages u m one.0.known) in
           let same = same_units plan timing stays in
           omega (arith, below, same)
 
@@ -165,11 +165,11 @@ module _ (plan : Plan) (timing : Timing) (stays : UnitPlan → Bool) (tells : De
           let third = one_kind 2 in
           let fourth = one_kind 3 in
           let of_flows = summed None (rate_of_flow plan timing stays) (more_at plan timing stays) n (asked plan timing stays).flows (of 0)
-          (λ i below. flow_bits plan timing stays tells clean s queued_first planned sent held keeps from wait n span agree i) in
+          (λ i below. flow_bits plan timing stays states clean s queued_first planned sent held keeps from wait n span agree i) in
           let of_requests = summed None (rate_of_request plan timing stays) more_of_request n (asked plan timing stays).requests (of 1)
-          (λ r below. request_bits plan timing stays tells clean s queued_first planned sent held keeps from wait n span agree r) in
+          (λ r below. request_bits plan timing stays states clean s queued_first planned sent held keeps from wait n span agree r) in
           let of_units = summed None (rate_of_unit plan timing stays) more_of_unit n (asked plan timing stays).units (λ u. of 2 u + of 3 u)
-          (λ u below. unit_bits plan timing stays tells clean s queued_first planned sent held keeps from wait n span agree u) in
+          (λ u below. unit_bits plan timing stays states clean s queued_first planned sent held keeps from wait n span agree u) in
           let together = total-both units (of 2) (of 3) in
           let times : n * all_rates ≡ n * sum_by (rate_of_flow plan timing stays) (asked plan timing stays).flows
           + (n * sum_by (rate_of_unit plan timing stays) (asked plan timing stays).units
@@ -202,29 +202,22 @@ module _ (plan : Plan) (timing : Timing) (stays : UnitPlan → Bool) (tells : De
         let all = both n (load_of_damage timing) all_rates in
         let each : bits_damaged timing (seconds n) d from ≤ 191 * attempts_in timing d (seconds n) from =
         total-times d.count (is_begun_within timing (seconds n) d from) (is_begun_within timing (seconds n) d from) (λ e. d.sent e + d.error e) 191 (λ e below is.
-        let sent_bits = attempt_few s d bus (shortest s bus.queued_first planned sent held keeps) e below in
+        let sent_bits = attempt_few s d bus (longest_of plan timing stays states clean s bus.queued_first planned sent held keeps) e below in
         let error_bits = bus.error_at_most e below in
         (is, omega (arith, sent_bits, error_bits))) in
         let damaged = damage_rate timing d rate.every rate.count
         (λ at. let own = in_true_time timing d agree rate.every at in let few = errors.seldom at in omega (arith, own, few)) 191 n from rate.every_positive in
         let load : load_of_damage timing ≡ div_ceil (1000 * (rate.count * 191)) rate.every =
-        ap (λ (x : Option ErrorRate). option_map_or (λ (r : ErrorRate). div_ceil (1000 * (r.count * 191) * longest_million timing) (r.every * million)) x 0) errors.told
+        ap (λ (x : Option ErrorRate). option_map_or (λ (r : ErrorRate). div_ceil (1000 * (r.count * 191) * longest_million timing) (r.every * million)) x 0) errors.stated
         ∙ agreed_rate (1000 * (rate.count * 191)) rate.every (longest_million timing) million million (omega (arith, agree)) refl (omega arith) rate.every_positive in
         let times : n * load_of_damage timing ≡ n * div_ceil (1000 * (rate.count * 191)) rate.every = ap (λ (x : ℕ). n * x) load in
-        let once : more_damage timing.errors ≡ rate.count * 191 = ap more_damage errors.told in
+        let once : more_damage timing.errors ≡ rate.count * 191 = ap more_damage errors.stated in
         omega (arith, most, all, each, damaged, times, once);
   }
     where
       more_damage : Option ErrorRate → ℕ
       more_damage rate = option_map_or (λ (r : ErrorRate). r.count * 191) rate 0
 
-      shortest : (s : Schedule) (queued_first : (p : ℕ) → p < s.count → s.queued p ≤ s.start p) (planned : ℕ → Bool) (sent : FrameSources) (held : Held)
-          (keeps : KeepsToPlan plan timing s planned sent held) (p : ℕ) → p < s.count → s.bits p ≤ 160
-      shortest s queued_first planned sent held keeps p in_p = elim (cases_Bool (planned p)) [
-        | inl is ↦ (of_source plan timing stays tells clean s queued_first planned sent held keeps p in_p is).at_most
-        | inr other ↦ keeps.others_length p in_p other
-      ]
-
 pub loads_in_the_long_run : (plan : Plan) (timing : Timing) (stays : UnitPlan → Bool) → Clean plan → DecidesWhoStays plan stays
     → IsLongRunLoad plan timing (total_load timing (asked_of timing plan stays))
-loads_in_the_long_run plan timing stays clean tells = long_run plan timing stays tells clean
+loads_in_the_long_run plan timing stays clean states = long_run plan timing stays states clean

@@ -66,7 +66,7 @@ module _ (timing : Timing) where
         subst (λ (p : ℕ). IsRate bits p (bits_a_second timing bits ms)) (sym (agreed_least timing ms agree))
         (subst (λ (r : ℕ). IsRate bits (bits_of_ms timing ms) r) (sym (agreed_second timing bits ms agree some)) (per_second bitrate bits ms some))
 
-    -- a stream whose load is told by its period
+    -- a stream whose load is reported by its period
     pub load_is_rate : (stream : Stream) (ms : ℕ) → 1 ≤ ms → stream.period ≡ bits_at_least timing ms
         → IsRate (stream.frames * stream.bits) stream.period (load_of timing stream ms)
     load_is_rate stream ms some period = subst (λ (p : ℕ). IsRate (stream.frames * stream.bits) p (load_of timing stream ms)) (sym period)

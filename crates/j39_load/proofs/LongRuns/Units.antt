@@ -29,8 +29,8 @@ use Rattle.j39_load.specs.Loads.{bits_at_least, bits_of_ms, has_short}
 use Rattle.j39_load.specs.LongRuns.{seconds}
 use Rattle.j39_load.specs.SentFrames.{Broadcasts, FrameSources, Held, Source, Single, First, InSession, Asking, Announcing, Carrying}
 use Rattle.j39_load.proofs.KeepingBroadcasts.{IsAnnouncement, IsCopy, IsTimed, announced_most, each_timed, message_of}
-use Rattle.j39_load.proofs.KeepingFrames.{IsPaced}
-use Rattle.j39_load.proofs.KeepingPlan.{told_stream}
+use Rattle.j39_load.proofs.KnownFrames.{IsPaced}
+use Rattle.j39_load.proofs.KeepingPlan.{stated_stream}
 use Rattle.j39_load.proofs.LongRuns.Rates.{IsRate, announcement_rate, beside_rate, both, lesser_rate, each_is_rate, first_rate, gaps_are_rate, more_of, stream_rate, sum_by-two, wants_rate}
 use Rattle.j39_load.proofs.LongRuns.Streams.{more_bits}
 use Rattle.j39_load.proofs.Milliseconds.{gaps_bits, some_bits}
@@ -82,7 +82,7 @@ module _ (plan : Plan) (timing : Timing) (stays : UnitPlan → Bool) where
   has_firsts f = option_map_or (λ (flow : FlowPlan). option_map_or has_short (slice_get plan.groups.items flow.group) false)
       (slice_get plan.flows.items f) false
 
-module _ (plan : Plan) (timing : Timing) (stays : UnitPlan → Bool) (tells : DecidesWhoStays plan stays) (clean : Clean plan) (s : Schedule)
+module _ (plan : Plan) (timing : Timing) (stays : UnitPlan → Bool) (states : DecidesWhoStays plan stays) (clean : Clean plan) (s : Schedule)
     (queued_first : (p : ℕ) → p < s.count → s.queued p ≤ s.start p) (planned : ℕ → Bool) (sent : FrameSources) (held : Held)
     (keeps : KeepsToPlan plan timing s planned sent held) (from wait n : ℕ) (span : wait + 1 ≡ bits_of_ms timing (seconds n)) (agree : timing.drift ≡ 0) where
   abbrev b : Broadcasts
@@ -95,10 +95,10 @@ module _ (plan : Plan) (timing : Timing) (stays : UnitPlan → Bool) (tells : De
   demands = demands_of (whole plan timing stays)
 
   abbrev bits : ℕ → ℕ → ℕ
-  bits = bits_at plan timing stays tells clean s queued_first planned sent held keeps from wait n span agree
+  bits = bits_at plan timing stays states clean s queued_first planned sent held keeps from wait n span agree
 
   abbrev IsCounted : ℕ → ℕ → ℕ → Type 0
-  IsCounted = Counts plan timing stays tells clean s queued_first planned sent held keeps from wait n span agree
+  IsCounted = Counts plan timing stays states clean s queued_first planned sent held keeps from wait n span agree
 
   -- ---- a unit's long messages to all
 
@@ -163,7 +163,7 @@ module _ (plan : Plan) (timing : Timing) (stays : UnitPlan → Bool) (tells : De
     packet_bits = elim (cases_lt 0 (bits 3 u)) [
       | inr none ↦ omega (arith, none)
       | inl some ↦
-          let (p, in_p, x) = some_counts plan timing stays tells clean s queued_first planned sent held keeps from wait n span agree 3 u some in
+          let (p, in_p, x) = some_counts plan timing stays states clean s queued_first planned sent held keeps from wait n span agree 3 u some in
           rated p in_p x.is (sent.source p) refl x.its_kind x.its_index
     ]
       where
@@ -184,19 +184,19 @@ module _ (plan : Plan) (timing : Timing) (stays : UnitPlan → Bool) (tells : De
         rated p in_p is (Announcing v m) at of_kind place = absurd (omega (arith, of_kind))
         rated p in_p is (Carrying v m k) at of_kind place =
             let source : sent.source p ≡ Carrying u m k = at ∙ ap (λ (w : ℕ). Carrying w m k) place in
-            let frame = frame_of plan timing stays tells clean s queued_first planned sent held keeps from wait n span agree p in_p is (Carrying u m k) source in
+            let frame = frame_of plan timing stays states clean s queued_first planned sent held keeps from wait n span agree p in_p is (Carrying u m k) source in
             let j = source_place plan (Carrying u m k) in
-            let told : streams (source_place plan (Carrying u m k)) ≡ spaced_stream timing 1 (packets_demand u) =
+            let stated : streams (source_place plan (Carrying u m k)) ≡ spaced_stream timing 1 (packets_demand u) =
             subst (λ (x : Source). IsPaced plan timing stays x (streams (source_place plan x))) source
-            (told_stream plan timing stays tells clean s queued_first planned sent held keeps p in_p is) in
+            (stated_stream plan timing stays states clean s queued_first planned sent held keeps p in_p is) in
             let most : bits 3 u ≤ lesser_share demands (wait + 1) (streams (source_place plan (Carrying u m k))) =
-            at_lesser plan timing stays tells clean s queued_first planned sent held keeps from wait n span agree 3 u (source_place plan (Carrying u m k))
+            at_lesser plan timing stays states clean s queued_first planned sent held keeps from wait n span agree 3 u (source_place plan (Carrying u m k))
             (λ q in_q y. its_place m k (sent.source q) y.its_kind y.its_index) in
             let demand = of_demand (source_place plan (Carrying u m k)) (packets_demand u) (demand_by Packets (wants_of (whole plan timing stays) u))
-            (ap (λ (x : Stream). x.wanted) told) (packets_wanted u (whole plan timing stays) (few_units m frame.0.known)) in
+            (ap (λ (x : Stream). x.wanted) stated) (packets_wanted u (whole plan timing stays) (few_units m frame.0.known)) in
             let same : lesser (wait + 1) (streams (source_place plan (Carrying u m k))) (Some (demand_by Packets (wants_of (whole plan timing stays) u)))
             ≡ lesser (wait + 1) (spaced_stream timing 1 (packets_demand u)) (Some (demand_by Packets (wants_of (whole plan timing stays) u))) =
-            ap (λ (x : Stream). lesser (wait + 1) x (Some (demand_by Packets (wants_of (whole plan timing stays) u)))) told in
+            ap (λ (x : Stream). lesser (wait + 1) x (Some (demand_by Packets (wants_of (whole plan timing stays) u)))) stated in
             let paced : share (wait + 1) (spaced plan timing stays 1) ≤ n * bits_each timing 1 timing.broadcast_gap + more_spaced plan timing stays 1 =
             subst (λ (x : ℕ). share (wait + 1) (spaced plan timing stays 1) ≤ n * bits_each timing 1 x + more_spaced plan timing stays 1) (omega arith)
             (spaced_bits 1 (omega arith)) in
@@ -218,20 +218,20 @@ module _ (plan : Plan) (timing : Timing) (stays : UnitPlan → Bool) (tells : De
     is_planned_first p = planned p && is_first p
 
     abbrev first_bits_at : ℕ
-    first_bits_at = total s.count (λ p. cond (of_index plan timing stays tells clean s queued_first planned sent held keeps from wait n span agree 2 u p
+    first_bits_at = total s.count (λ p. cond (of_index plan timing stays states clean s queued_first planned sent held keeps from wait n span agree 2 u p
         && is_first p) (s.bits p) 0)
 
     abbrev other_bits_at : ℕ
-    other_bits_at = total s.count (λ p. cond (of_index plan timing stays tells clean s queued_first planned sent held keeps from wait n span agree 2 u p && not
+    other_bits_at = total s.count (λ p. cond (of_index plan timing stays states clean s queued_first planned sent held keeps from wait n span agree 2 u p && not
         (is_first p)) (s.bits p) 0)
 
     of_both : bits 2 u ≤ first_bits_at + other_bits_at
-    of_both = total-two s.count (λ p. cond (of_index plan timing stays tells clean s queued_first planned sent held keeps from wait n span agree 2 u p)
-        (s.bits p) 0) (λ p. cond (of_index plan timing stays tells clean s queued_first planned sent held keeps from wait n span agree 2 u p && is_first p)
+    of_both = total-two s.count (λ p. cond (of_index plan timing stays states clean s queued_first planned sent held keeps from wait n span agree 2 u p)
+        (s.bits p) 0) (λ p. cond (of_index plan timing stays states clean s queued_first planned sent held keeps from wait n span agree 2 u p && is_first p)
         (s.bits p) 0)
-        (λ p. cond (of_index plan timing stays tells clean s queued_first planned sent held keeps from wait n span agree 2 u p && not (is_first p)) (s.bits p) 0)
+        (λ p. cond (of_index plan timing stays states clean s queued_first planned sent held keeps from wait n span agree 2 u p && not (is_first p)) (s.bits p) 0)
         (λ p in_p.
-        elim (of_index plan timing stays tells clean s queued_first planned sent held keeps from wait n span agree 2 u p) as
+        elim (of_index plan timing stays states clean s queued_first planned sent held keeps from wait n span agree 2 u p) as
         (λ e. cond e (s.bits p) 0 ≤ cond (e && is_first p) (s.bits p) 0 + cond (e && not (is_first p)) (s.bits p) 0) [
           | false ↦ omega arith
           | true ↦ elim (is_first p) as (λ e. s.bits p ≤ cond e (s.bits p) 0 + cond (not e) (s.bits p) 0) [
@@ -255,7 +255,7 @@ module _ (plan : Plan) (timing : Timing) (stays : UnitPlan → Bool) (tells : De
     announces p in_p is (Asking r) at of_kind place = absurd (omega (arith, of_kind))
     announces p in_p is (Announcing v m) at of_kind place =
         let source : sent.source p ≡ Announcing u m = at ∙ ap (λ (w : ℕ). Announcing w m) place in
-        let frame = frame_of plan timing stays tells clean s queued_first planned sent held keeps from wait n span agree p in_p is (Announcing u m) source in
+        let frame = frame_of plan timing stays states clean s queued_first planned sent held keeps from wait n span agree p in_p is (Announcing u m) source in
         record {
           message = m;
           source = source;
@@ -272,9 +272,9 @@ module _ (plan : Plan) (timing : Timing) (stays : UnitPlan → Bool) (tells : De
     abbrev message_at : (m : ℕ) → m < b.count u → IsMessageToAll plan timing b u m
     message_at m below = keeps.broadcasts.messages u m below
 
-    -- which its group tells
-    firsts_told : (m : ℕ) (below : m < b.count u) → has_firsts plan timing stays (b.flow u m) ≡ has_short (message_at m below).group
-    firsts_told m below =
+    -- which its group reports
+    firsts_stated : (m : ℕ) (below : m < b.count u) → has_firsts plan timing stays (b.flow u m) ≡ has_short (message_at m below).group
+    firsts_stated m below =
         let one = message_at m below in
         ap (λ (flow : Option FlowPlan). option_map_or (λ (f : FlowPlan). option_map_or has_short
         (slice_get plan.groups.items f.group) false) flow false) one.its
@@ -296,20 +296,20 @@ module _ (plan : Plan) (timing : Timing) (stays : UnitPlan → Bool) (tells : De
     behind m l below last less others =
         let far = gaps_bits timing (b.packets u m) timing.broadcast_gap (b.announced u m) (b.announced u l)
         (keeps.broadcasts.in_turn u m l less last) in
-        let few = few_announced m below (sym (firsts_told m below) ∙ isnt (has_firsts plan timing stays (b.flow u m)) others) in
+        let few = few_announced m below (sym (firsts_stated m below) ∙ isnt (has_firsts plan timing stays (b.flow u m)) others) in
         let times : least_announced bs * gap ≤ b.packets u m * gap = mul-le-mul_right gap few in
         omega (arith, far, times)
 
     -- the other ones are as many gaps apart as their messages have packets
     other_apart : (p q : ℕ) (in_p : p < s.count) (in_q : q < s.count) → p ≢ q
-        → of_index plan timing stays tells clean s queued_first planned sent held keeps from wait n span agree 2 u p && not (is_first p) ≡ true
-        → of_index plan timing stays tells clean s queued_first planned sent held keeps from wait n span agree 2 u q && not (is_first q) ≡ true
+        → of_index plan timing stays states clean s queued_first planned sent held keeps from wait n span agree 2 u p && not (is_first p) ≡ true
+        → of_index plan timing stays states clean s queued_first planned sent held keeps from wait n span agree 2 u q && not (is_first q) ≡ true
         → (s.queued p + least_announced bs * gap ≤ s.queued q) ⊎ (s.queued q + least_announced bs * gap ≤ s.queued p)
     other_apart p q in_p in_q other is_p is_q =
-        let two_p = and_parts (of_index plan timing stays tells clean s queued_first planned sent held keeps from wait n span agree 2 u p) (not (is_first p)) is_p in
-        let two_q = and_parts (of_index plan timing stays tells clean s queued_first planned sent held keeps from wait n span agree 2 u q) (not (is_first q)) is_q in
-        let x = parts plan timing stays tells clean s queued_first planned sent held keeps from wait n span agree 2 u p two_p.0 in
-        let y = parts plan timing stays tells clean s queued_first planned sent held keeps from wait n span agree 2 u q two_q.0 in
+        let two_p = and_parts (of_index plan timing stays states clean s queued_first planned sent held keeps from wait n span agree 2 u p) (not (is_first p)) is_p in
+        let two_q = and_parts (of_index plan timing stays states clean s queued_first planned sent held keeps from wait n span agree 2 u q) (not (is_first q)) is_q in
+        let x = parts plan timing stays states clean s queued_first planned sent held keeps from wait n span agree 2 u p two_p.0 in
+        let y = parts plan timing stays states clean s queued_first planned sent held keeps from wait n span agree 2 u q two_q.0 in
         let a = counted p in_p x in
         let c = counted q in_q y in
         let at_p = a.queued in
@@ -336,22 +336,22 @@ module _ (plan : Plan) (timing : Timing) (stays : UnitPlan → Bool) (tells : De
         let positive_bits = mul-le 1 1 (least_announced bs) gap some one_gap in
         let slots = div_ceil (wait + 1 + 0) (least_announced bs * gap) in
         let cover = (div_ceil_times (wait + 1 + 0) (least_announced bs * gap) (omega (arith, positive_bits))).0 in
-        let sum = windows_sum s.count (λ p. of_index plan timing stays tells clean s queued_first planned sent held keeps from wait n span agree 2 u p && not
+        let sum = windows_sum s.count (λ p. of_index plan timing stays states clean s queued_first planned sent held keeps from wait n span agree 2 u p && not
         (is_first p)) s.queued s.bits (least_announced bs * gap) 160
-        (λ p in_p is. (counted p in_p (parts plan timing stays tells clean s queued_first planned sent held keeps from wait n span agree 2 u p
-        (and_parts (of_index plan timing stays tells clean s queued_first planned sent held keeps from wait n span agree 2 u p)
+        (λ p in_p is. (counted p in_p (parts plan timing stays states clean s queued_first planned sent held keeps from wait n span agree 2 u p
+        (and_parts (of_index plan timing stays states clean s queued_first planned sent held keeps from wait n span agree 2 u p)
         (not (is_first p)) is).0)).short) other_apart
         (div_ceil (wait + 1 + 0) (least_announced bs * gap)) from (wait + 1) (omega (arith, cover)) in
-        let all : other_bits_at ≤ total s.count (λ p. cond (of_index plan timing stays tells clean s queued_first planned sent held keeps from wait n span agree 2 u p && not (is_first p) && inside from (wait + 1) (s.queued p)) (s.bits p) 0) =
-        total-le s.count (λ p. cond (of_index plan timing stays tells clean s queued_first planned sent held keeps from wait n span agree 2 u p && not
+        let all : other_bits_at ≤ total s.count (λ p. cond (of_index plan timing stays states clean s queued_first planned sent held keeps from wait n span agree 2 u p && not (is_first p) && inside from (wait + 1) (s.queued p)) (s.bits p) 0) =
+        total-le s.count (λ p. cond (of_index plan timing stays states clean s queued_first planned sent held keeps from wait n span agree 2 u p && not
         (is_first p)) (s.bits p) 0)
-        (λ p. cond (of_index plan timing stays tells clean s queued_first planned sent held keeps from wait n span agree 2 u p && not (is_first p) && inside from
+        (λ p. cond (of_index plan timing stays states clean s queued_first planned sent held keeps from wait n span agree 2 u p && not (is_first p) && inside from
         (wait + 1) (s.queued p)) (s.bits p) 0) (λ p in_p.
-        elim (cases_Bool (of_index plan timing stays tells clean s queued_first planned sent held keeps from wait n span agree 2 u p && not (is_first p))) [
+        elim (cases_Bool (of_index plan timing stays states clean s queued_first planned sent held keeps from wait n span agree 2 u p && not (is_first p))) [
           | inr fails ↦ rw (fails) (omega arith)
           | inl is ↦
-              let within = (parts plan timing stays tells clean s queued_first planned sent held keeps from wait n span agree 2 u p
-              (and_parts (of_index plan timing stays tells clean s queued_first planned sent held keeps from wait n span agree 2 u p)
+              let within = (parts plan timing stays states clean s queued_first planned sent held keeps from wait n span agree 2 u p
+              (and_parts (of_index plan timing stays states clean s queued_first planned sent held keeps from wait n span agree 2 u p)
               (not (is_first p)) is).0).inside in
               rw (is, within) (omega arith)
         ]) in
@@ -360,7 +360,7 @@ module _ (plan : Plan) (timing : Timing) (stays : UnitPlan → Bool) (tells : De
 
     -- ---- all announcements
 
-    module _ (m : ℕ) (below : m < b.count u) (told : streams (source_place plan (Announcing u m))
+    module _ (m : ℕ) (below : m < b.count u) (stated : streams (source_place plan (Announcing u m))
         ≡ spaced_stream timing (least_packets (broadcasts_by u (asked plan timing stays).flows)) (announcements_demand u)) where
       abbrev j : ℕ
       j = source_place plan (Announcing u m)
@@ -380,18 +380,18 @@ module _ (plan : Plan) (timing : Timing) (stays : UnitPlan → Bool) (tells : De
           let first = (and_parts (planned p) (is_first p) its.1).1 in
           let here : has_firsts plan timing stays (b.flow u x.message) ≡ true =
           subst (λ (z : Source). has_firsts plan timing stays (b.flow u (message_of z)) ≡ true) x.source first in
-          let has : has_short (message_at x.message x.known).group ≡ true = sym (firsts_told x.message x.known) ∙ here in
+          let has : has_short (message_at x.message x.known).group ≡ true = sym (firsts_stated x.message x.known) ∙ here in
           subst (λ (e : Bool). 1 ≤ cond e 1 0) (sym has) (omega arith)
 
       first_most : first_bits_at ≤ n * load_of_firsts timing bs + sum_by (more_of first_want) bs
       first_most =
           let few = announced_most plan timing stays s planned sent held keeps.frames keeps.broadcasts s is_planned_first of copies u m first_want
-          (λ x. refl) (λ x. refl) below (ap (λ (x : Stream). x.wanted) told) one_wanted from (wait + 1) in
+          (λ x. refl) (λ x. refl) below (ap (λ (x : Stream). x.wanted) stated) one_wanted from (wait + 1) in
           let each : first_bits_at ≤ 160 * releases_in s is_planned_first of j from (wait + 1) =
-          total-times s.count (λ p. of_index plan timing stays tells clean s queued_first planned sent held keeps from wait n span agree 2 u p && is_first p)
+          total-times s.count (λ p. of_index plan timing stays states clean s queued_first planned sent held keeps from wait n span agree 2 u p && is_first p)
           (λ p. is_planned_first p && (eqb (of.source p) j && (leb from (of.since p) && ltb (of.since p) (from + (wait + 1))))) s.bits 160 (λ p in_p is.
-          let two = and_parts (of_index plan timing stays tells clean s queued_first planned sent held keeps from wait n span agree 2 u p) (is_first p) is in
-          let x = parts plan timing stays tells clean s queued_first planned sent held keeps from wait n span agree 2 u p two.0 in
+          let two = and_parts (of_index plan timing stays states clean s queued_first planned sent held keeps from wait n span agree 2 u p) (is_first p) is in
+          let x = parts plan timing stays states clean s queued_first planned sent held keeps from wait n span agree 2 u p two.0 in
           let a = counted p in_p x in
           let there : of.source p ≡ j = ap (source_place plan) a.source in
           let (low, high) = inside_parts from (wait + 1) (s.queued p) x.inside in
@@ -412,12 +412,12 @@ module _ (plan : Plan) (timing : Timing) (stays : UnitPlan → Bool) (tells : De
           ≤ n * (load_of_firsts timing bs + sum_by (bits_of_announcements timing) bs) + sum_by (more_of (want_of Announcements)) bs
       all_wanted =
           let demand = of_demand j (announcements_demand u) (demand_by Announcements (wants_of (whole plan timing stays) u))
-          (ap (λ (x : Stream). x.wanted) told)
+          (ap (λ (x : Stream). x.wanted) stated)
           (announcements_wanted u (whole plan timing stays) (few_units m below)) in
           let same : lesser (wait + 1) (streams j) (Some (demand_by Announcements (wants_of (whole plan timing stays) u)))
           ≡ lesser (wait + 1) (spaced_stream timing (least_packets (broadcasts_by u (asked plan timing stays).flows)) (announcements_demand u))
           (Some (demand_by Announcements (wants_of (whole plan timing stays) u))) =
-          ap (λ (x : Stream). lesser (wait + 1) x (Some (demand_by Announcements (wants_of (whole plan timing stays) u)))) told in
+          ap (λ (x : Stream). lesser (wait + 1) x (Some (demand_by Announcements (wants_of (whole plan timing stays) u)))) stated in
           let wanted = wanted_bits (want_of Announcements) (λ x. bits_of_firsts timing x + bits_of_announcements timing x) (λ x. refl)
           (λ x is_timed. announcement_rate timing agree x is_timed) 0 0 refl in
           let both : n * sum_by (λ x. bits_of_firsts timing x + bits_of_announcements timing x) bs ≡ n * (load_of_firsts timing bs + sum_by (bits_of_announcements timing) bs) =
@@ -441,13 +441,13 @@ module _ (plan : Plan) (timing : Timing) (stays : UnitPlan → Bool) (tells : De
     announcement_bits = elim (cases_lt 0 (bits 2 u)) [
       | inr none ↦ omega (arith, none)
       | inl some ↦
-          let (p, in_p, x) = some_counts plan timing stays tells clean s queued_first planned sent held keeps from wait n span agree 2 u some in
+          let (p, in_p, x) = some_counts plan timing stays states clean s queued_first planned sent held keeps from wait n span agree 2 u some in
           let a = counted p in_p x in
-          let told : streams (source_place plan (Announcing u a.message))
+          let stated : streams (source_place plan (Announcing u a.message))
           ≡ spaced_stream timing (least_packets (broadcasts_by u (asked plan timing stays).flows)) (announcements_demand u) =
           subst (λ (z : Source). IsPaced plan timing stays z (streams (source_place plan z))) a.source
-          (told_stream plan timing stays tells clean s queued_first planned sent held keeps p in_p x.is) in
-          all_announced a.message a.known told (at_lesser plan timing stays tells clean s queued_first planned sent held keeps from wait n span agree 2 u
+          (stated_stream plan timing stays states clean s queued_first planned sent held keeps p in_p x.is) in
+          all_announced a.message a.known stated (at_lesser plan timing stays states clean s queued_first planned sent held keeps from wait n span agree 2 u
           (source_place plan (Announcing u a.message)) (λ q in_q y.
           ap (source_place plan) (counted q in_q y).source))
     ]
@@ -479,13 +479,13 @@ module _ (plan : Plan) (timing : Timing) (stays : UnitPlan → Bool) (tells : De
         carried p in_p is (Announcing v m) at of_kind place = absurd (omega (arith, of_kind))
         carried p in_p is (Carrying v m k) at of_kind place =
             let source : sent.source p ≡ Carrying u m k = at ∙ ap (λ (w : ℕ). Carrying w m k) place in
-            (m, (frame_of plan timing stays tells clean s queued_first planned sent held keeps from wait n span agree p in_p is (Carrying u m k) source).0.known)
+            (m, (frame_of plan timing stays states clean s queued_first planned sent held keeps from wait n span agree p in_p is (Carrying u m k) source).0.known)
 
         a_message : 0 < bits 2 u + bits 3 u → (m : ℕ) × (m < b.count u)
         a_message some = elim (cases_lt 0 (bits 2 u)) [
-          | inl first ↦ let (p, in_p, x) = some_counts plan timing stays tells clean s queued_first planned sent held keeps from wait n span agree 2 u first in let a = counted p in_p x in (a.message, a.known)
+          | inl first ↦ let (p, in_p, x) = some_counts plan timing stays states clean s queued_first planned sent held keeps from wait n span agree 2 u first in let a = counted p in_p x in (a.message, a.known)
           | inr none ↦
-              let (p, in_p, x) = some_counts plan timing stays tells clean s queued_first planned sent held keeps from wait n span agree 3 u
+              let (p, in_p, x) = some_counts plan timing stays states clean s queued_first planned sent held keeps from wait n span agree 3 u
               (omega (arith, some, none)) in
               carried p in_p x.is (sent.source p) refl x.its_kind x.its_index
         ]

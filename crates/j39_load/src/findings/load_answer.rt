@@ -1,4 +1,4 @@
-//! What is told of the load of a plan.
+//! What is reported of the load of a plan.
 ghost use Rattle.std.specs.Prelude.{◌≡◌, ◌≢◌, ◌⊎◌, [], None, Some, length, IfOk, OnErr};
 ghost use Rattle.j39_load.specs.BusTimes.{timing_of};
 ghost use Rattle.j39_load.specs.LoadAnswers.{IsLoadAnswer};
@@ -22,7 +22,7 @@ pub struct LoadAnswer {
 }
 
 impl LoadAnswer {
-    /// What is told of a plan with this timing. No memory is asked for where it has neither flows nor requests, unless
+    /// What is reported of a plan with this timing. No memory is asked for where it has neither flows nor requests, unless
     /// damaged frames alone are too many for the bus.
     pub fn new(alloc: Global, timing: Timing, plan: &Plan) -> Result<Self, AllocError>
         ensures answer { IfOk result (IsLoadAnswer plan.now timing) }

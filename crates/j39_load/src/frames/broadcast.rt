@@ -20,7 +20,7 @@ pub struct Broadcast {
     pub has_short: bool,
     /// How far apart the releases at which one is wanted are at least, in milliseconds.
     pub period: u16,
-    /// The same in bits.
+    /// The least distance of those releases in bits.
     pub apart: u32,
     /// A message is ready to be sent at most so many bits after its release.
     pub jitter: u32,

@@ -18,7 +18,7 @@ pub struct FlowFrames {
     /// No frame has a larger identifier, answers included.
     pub last_ident: u64,
     /// What only frames have in common whose identifiers are the same on every bus, where they are of a group that is
-    /// told by its data.
+    /// distinguished by its data.
     pub twin_ident: Option<u64>,
     /// Where they stand for long messages to all, none of which is a frame of the flow's own: what the flow wants of
     /// its unit's broadcasts.

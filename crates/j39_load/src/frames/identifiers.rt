@@ -64,7 +64,7 @@ fn destination_place(to: To) -> u8
     }
 }
 
-/// What tells the frames of a flow from all but its twins, where its group is told by its data: the number that their
+/// What distinguishes the frames of a flow from all but its twins, where its group is distinguished by its data: the number that their
 /// identifier would be if each unit's address was its place.
 pub(crate) fn twin_ident(group: &GroupPlan, flow: &FlowPlan) -> Option<u64>
     requires sender { flow.now.sender < unit_limit }
@@ -82,7 +82,7 @@ pub(crate) fn twin_ident(group: &GroupPlan, flow: &FlowPlan) -> Option<u64>
     }
 }
 
-/// That of the data packets of its long messages.
+/// The identifier of the data packets of a flow's long messages.
 pub(crate) fn packet_ident(bus: &PlannedBus<'_>, extreme: Extreme, flow: &FlowPlan) -> u64
     requires sender { flow.now.sender < length (units_in bus.now) }
     requires receiver { (v : ℕ) → flow.now.to ≡ One v → v < length (units_in bus.now) }
@@ -139,7 +139,7 @@ pub(crate) fn broadcast_ident(bus: &PlannedBus<'_>, pgn: Pgn, extreme: Extreme, 
     )
 }
 
-/// That of a request.
+/// The identifier of the frames of a request.
 pub(crate) fn request_ident(bus: &PlannedBus<'_>, extreme: Extreme, request: &RequestPlan) -> u64
     requires sender { request.now.sender < length (units_in bus.now) }
     requires receiver { (v : ℕ) → request.now.to ≡ One v → v < length (units_in bus.now) }

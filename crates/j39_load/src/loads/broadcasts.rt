@@ -98,7 +98,7 @@ fn bits_of_firsts(timing: Timing, broadcast: &Broadcast) -> u32
     }
 }
 
-// Those of all of these.
+// How many bits the first frames of the messages of all these broadcasts take.
 fn load_of_firsts(timing: Timing, broadcasts: &[Broadcast]) -> u64
     requires sound { AreSoundBroadcasts broadcasts.now }
     requires few { length broadcasts.now ≤ 2 ^ 16 }
@@ -125,7 +125,7 @@ fn bits_of_announcements(timing: Timing, broadcast: &Broadcast) -> u32
     }
 }
 
-// Those of all of these, if all are sent that are wanted.
+// How many bits the announcements of all these broadcasts take, if all are sent that are wanted.
 fn wanted_announcements(timing: Timing, broadcasts: &[Broadcast]) -> u64
     requires sound { AreSoundBroadcasts broadcasts.now }
     requires few { length broadcasts.now ≤ 2 ^ 16 }
@@ -151,7 +151,7 @@ fn announced_packets(broadcast: &Broadcast) -> u8
     }
 }
 
-// That of all of these.
+// The least number of packets behind the announcement of one of these broadcasts.
 fn least_announced(broadcasts: &[Broadcast]) -> u8
     requires { AreSoundBroadcasts broadcasts.now }
     ensures least { result ≡ least_announced broadcasts.now }

@@ -82,7 +82,7 @@ fn buffering_delay(
     }
 }
 
-// The same of all frames, at their places.
+// The waits of all frames in their queues, at their places.
 fn waits_of(
     alloc: Global,
     timing: Timing,
@@ -118,7 +118,7 @@ fn buffered_for(waits: &[Option<u32>], place: usize) -> u32
     }
 }
 
-// The same frames, so many bits later.
+// The frames of a flow, released so many bits later.
 fn later_frames(frames: &FlowFrames, more: u32) -> FlowFrames
     requires frames { AreSound frames.now }
     requires more { more < 2 ^ 27 }

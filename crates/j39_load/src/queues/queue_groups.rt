@@ -65,7 +65,7 @@ fn least_of(all: &[Option<FlowFrames>], unit: usize) -> Option<u64>
     least
 }
 
-/// The same of each unit.
+/// For each unit the least identifier of all its frames, where it keeps no order and has some.
 pub(crate) fn leasts_of(
     alloc: Global,
     all: &[Option<FlowFrames>],
@@ -92,7 +92,7 @@ fn is_member(leasts: &[Option<u64>], own: &FlowFrames, level: u64, unit: usize) 
     }
 }
 
-// The same of a place, where there is one.
+// Whether the unit at a place is a member of the group; where there is no place, nobody is.
 fn is_member_at(leasts: &[Option<u64>], own: &FlowFrames, level: u64, place: Option<usize>) -> bool
     ensures { result ≡ option_map_or (is_member leasts.now own.now level) place false }
 {
@@ -250,13 +250,10 @@ pub(crate) fn queue_group_wait(
     let streams = streams_with(alloc, timing, leasts, all, &with, level)?;
     let most = bits_of_ms(timing, 65_535);
     let longest = u32::from(frame_bits(8)) * (1 + u32::from(timing.unplanned));
-    match least_wait(
+    Ok(least_wait(
         demands,
         longest - u32::from(own.stream.bits),
         streams.as_slice(),
         most,
-    ) {
-        Some(wait) => Ok(Some(wait)),
-        None => Ok(None),
-    }
+    ))
 }

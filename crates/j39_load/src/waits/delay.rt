@@ -11,7 +11,7 @@ pub enum Delay {
     Beyond(u32),
     /// It isn't shown that they are within the period.
     Late,
-    /// A message to one unit takes so many frames, of which no bound is told.
+    /// A message to one unit takes so many frames, of which no bound is reported.
     Long(u16),
     /// Long messages to all.
     Whole(WholeTime),

@@ -123,10 +123,7 @@ fn wait_of(
     let demands = buffering_delays.demands.as_slice();
     let blocking = blocking(timing, frames.greatest_ident);
     let most = bits_of_ms(timing, 65_535);
-    match least_wait(demands, blocking, streams.as_slice(), most) {
-        Some(wait) => Ok(Some(wait)),
-        None => Ok(None),
-    }
+    Ok(least_wait(demands, blocking, streams.as_slice(), most))
 }
 
 /// The wait of frames at their place. Those of a unit that keeps order wait among all at the end of their buffering
@@ -211,7 +208,7 @@ fn any_delay(frames: &FlowFrames, limit: u32, wait: Option<u32>) -> Delay
     }
 }
 
-// That of a flow whose messages go in one frame each.
+// The delay of a flow whose messages go in one frame each.
 fn frame_delay(
     alloc: Global,
     timing: Timing,

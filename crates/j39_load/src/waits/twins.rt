@@ -1,4 +1,4 @@
-//! Twins: frames of one unit that have one identifier, since what they carry is told apart by their data alone.
+//! Twins: frames of one unit that have one identifier, since what they carry is distinguished by their data alone.
 ghost use Rattle.std.specs.Prelude.{◌≡◌};
 ghost use Rattle.j39_load.specs.Twins.{are_twins, is_same, may_precede};
 

@@ -9,7 +9,7 @@ use Rattle.j39_log.specs.ReadText.{IsLogText, Past, ReadsLine, ReadsLines, count
 use Rattle.j39_log.specs.ReportedLogs.{HasEnd}
 use Rattle.j39_log.specs.declared.line_counts.LineCounts.{LineCounts}
 use Rattle.j39_log.specs.declared.listeners.Listeners.{Listeners}
-use Rattle.j39_log.specs.inside.Listening.{AreAllInRange, HaveHeard}
+use Rattle.j39_log.specs.PairListeners.{AreAllInRange, HaveHeard}
 
 -- what was read so far is this
 pub record Recalls (listeners : Listeners) (counts : LineCounts) (past : Past) : Type 0 where

@@ -29,7 +29,7 @@ pub struct GroupPlan {
     /// How many bytes each record of the signals that are repeated stands behind the one before, 1 to 255. No signal is
     /// repeated without it.
     pub every: Option<u8>,
-    /// Bits by whose number messages of this group are told from those of others of its PGN.
+    /// Bits by whose number messages of this group are distinguished from those of others of its PGN.
     pub when: Option<Selector>,
     pub signals: Vec<Signal>,
     /// What is said of each signal beside that, in their order.

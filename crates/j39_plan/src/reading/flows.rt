@@ -7,6 +7,7 @@ ghost use Rattle.j39_plan.specs.Since.{since, since_faults, known_faults};
 ghost use Rattle.j39_plan.specs.declared.reading.version.Version.TheVariants.{Third};
 ghost use Rattle.j39_plan.specs.FlowTables as spec;
 
+use super::keys::FLOW_KEYS;
 use super::labels::{Labelled, place_of};
 use super::tables::only_known;
 use super::text_kind::TextKind;
@@ -19,18 +20,6 @@ use toml::Value;
 
 // The most milliseconds of a period, a deadline, a jitter and a pause.
 const MS_MOST: u32 = 65_535;
-
-const KEYS: [(Key, Version); 9] = [
-    (Key::Group, Version::First),
-    (Key::From, Version::First),
-    (Key::To, Version::First),
-    (Key::Period, Version::Third),
-    (Key::Deadline, Version::Third),
-    (Key::Jitter, Version::Fourth),
-    (Key::Pause, Version::Fourth),
-    (Key::OnRequest, Version::Fourth),
-    (Key::With, Version::Fourth),
-];
 
 /// The place of the item that a text names.
 #[tactic(auto, unfolding(crate::specs::FlowTables::place_faults))]
@@ -130,7 +119,7 @@ fn later_pace(
     })
 }
 
-// How often a flow is sent, for how long it is silent, and whether it is sent on request alone, where its table tells
+// How often a flow is sent, for how long it is silent, and whether it is sent on request alone, where its table says
 // it.
 #[derive(Clone, Copy)]
 struct Rhythm {
@@ -261,7 +250,7 @@ fn flow(
         (spec.DescribesFlow version group_labels unit_labels (table_view members.now)) }
 {
     let table = Table::Flow(index);
-    only_known(members, table, version, &KEYS)?;
+    only_known(members, table, version, &FLOW_KEYS)?;
     let group_text = required_text(members, table, Key::Group, TextKind::Any)?;
     let from_text = required_text(members, table, Key::From, TextKind::Any)?;
     let to_text = required_text(members, table, Key::To, TextKind::Any)?;

@@ -12,6 +12,7 @@ ghost use Rattle.j39_plan.specs.GroupTables.{every_of, every_rule, group_table_f
 ghost use Rattle.j39_plan.specs.GroupTables.{most_of, most_rule, private_of, private_rule, signal_rule, text_rule};
 ghost use Rattle.j39_plan.specs.GroupTables.{text_tables_of, DescribesGroup};
 
+use super::keys::GROUP_KEYS;
 use super::labels::untaken;
 use super::selectors::when;
 use super::signals::{PlannedSignal, SignalReader};
@@ -27,20 +28,6 @@ use j39_signal::Signal;
 use j39_toml::{ReadElement, given_number, read_each, table_of};
 use std::alloc::{AllocError, Global};
 use toml::Value;
-
-const KEYS: [(Key, Version); 11] = [
-    (Key::Label, Version::First),
-    (Key::Pgn, Version::First),
-    (Key::Priority, Version::First),
-    (Key::Length, Version::First),
-    (Key::Private, Version::Third),
-    (Key::Most, Version::Third),
-    (Key::Every, Version::Third),
-    (Key::When, Version::Fourth),
-    (Key::Signal, Version::First),
-    (Key::Text, Version::Third),
-    (Key::With, Version::Fourth),
-];
 
 // What stands behind the length: whether the number is a maker's own, the length of the longest messages, how far apart
 // records stand, and the table of the selector.
@@ -214,7 +201,7 @@ fn group(
         (group_table_faults version index (table_view members.now)) (DescribesGroup version (table_view members.now)) }
 {
     let table = Table::Group(index);
-    only_known(members, table, version, &KEYS)?;
+    only_known(members, table, version, &GROUP_KEYS)?;
     let label = short_text(members, table, Key::Label, TextKind::Label, None)?;
     let pgn = number(members, table, Key::Pgn, 0, 0xff_ffff, None)?;
     let priority = number(members, table, Key::Priority, 0, 7, None)?;

@@ -16,6 +16,7 @@ ghost use Rattle.j39_plan.specs.PlanFaults.{live_rule, live_of, head_faults};
 ghost use Rattle.j39_plan.specs.Described.{keep_free_of, kept_of};
 ghost use Rattle.j39_toml.specs.Outcome.{Gives};
 
+use super::keys::TOP_KEYS;
 use super::tables::only_known;
 use super::values::{flag, number};
 use super::{Cause, Key, PlanError, Table, Version};
@@ -25,24 +26,9 @@ use j39_id::addresses::{POOL_FIRST, POOL_LAST, POOL_SIZE};
 use j39_toml::{refused, value_at};
 use toml::Value;
 
-const KEYS: [(Key, Version); 12] = [
-    (Key::Version, Version::First),
-    (Key::KeepFree, Version::Second),
-    (Key::Strangers, Version::Fourth),
-    (Key::Live, Version::Fourth),
-    (Key::Timing, Version::Third),
-    (Key::Unit, Version::First),
-    (Key::Group, Version::First),
-    (Key::Flow, Version::First),
-    (Key::Need, Version::Fourth),
-    (Key::Request, Version::Fourth),
-    (Key::Choice, Version::Fourth),
-    (Key::Never, Version::Fourth),
-];
-
-/// The address that an element tells that stands behind those with the addresses seen.
+/// The address that an element reports that stands behind those with the addresses seen.
 fn address(seen: &AddressSet, value: &Value) -> Result<Address, Cause>
-    ensures told { IfOk result (λ a. (address_cause seen.now (view value.now) ≡ None)
+    ensures stated { IfOk result (λ a. (address_cause seen.now (view value.now) ≡ None)
         × (a ≡ number_in (view value.now))) }
     ensures range { IfOk result (λ a. in_pool a ≡ true) }
     ensures refused { IfErr result (λ cause. address_cause seen.now (view value.now) ≡ Some cause) }
@@ -66,9 +52,9 @@ fn address(seen: &AddressSet, value: &Value) -> Result<Address, Cause>
     }
 }
 
-/// The addresses that the elements tell, or the first cause for which one is refused.
+/// The addresses that the elements report, or the first cause for which one is refused.
 fn addresses(values: &[Value]) -> Result<AddressSet, Cause>
-    ensures told { IfOk result (λ s. (addresses_cause empty (items_view values.now) ≡ None)
+    ensures stated { IfOk result (λ s. (addresses_cause empty (items_view values.now) ≡ None)
         × (s ≡ from_list (numbers_in (items_view values.now)))) }
     ensures range { IfOk result (λ s. (a : ℕ) → contains s a ≡ true → in_pool a ≡ true) }
     ensures refused { IfErr result (λ cause. addresses_cause empty (items_view values.now) ≡ Some cause) }
@@ -119,7 +105,7 @@ fn version_numbered(number: i64) -> Version
     }
 }
 
-/// The version of a plan: the first where it tells none.
+/// The version of a plan: the first where it reports none.
 #[tactic(auto, unfolding(crate::specs::PlanFaults::version_of, j39_toml::specs::Rules::number_of))]
 pub fn version_of(members: &toml::Table) -> Version
     ensures { result ≡ version_of (table_view members.now) }
@@ -153,7 +139,7 @@ pub fn head(members: &toml::Table, version: Version) -> Result<AddressSet, PlanE
     ensures gives { Gives result (head_faults (table_view members.now)) (λ s. s ≡ keep_free_of (table_view members.now)) }
     ensures range { IfOk result (λ s. (a : ℕ) → contains s a ≡ true → in_pool a ≡ true) }
 {
-    only_known(members, Table::Top, version, &KEYS)?;
+    only_known(members, Table::Top, version, &TOP_KEYS)?;
     number(members, Table::Top, Key::Version, 1, 4, None)?;
     known_keep_free(members, version)
 }

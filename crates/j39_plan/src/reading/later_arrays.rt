@@ -18,7 +18,7 @@ pub struct LaterArrays<'a> {
     pub requests: &'a [Value],
 }
 
-/// Those of a plan: none where its version doesn't know them.
+/// The arrays of needs and requests of a plan: empty where its version doesn't know them.
 #[tactic(auto, using(j39_toml::proofs::FirstFaults::faults_after))]
 pub fn later_arrays(members: &toml::Table, version: Version) -> Result<LaterArrays<'_>, PlanError>
     ensures { Gives result (known_faults at.Top version (table_view members.now) later_array_rules)

@@ -79,7 +79,7 @@ fn label(value: &Value) -> Option<Label>
     }
 }
 
-// The raw number that a key of a table of names tells, and the name that its value is.
+// The raw number that a key of a table of names reports, and the name that its value is.
 fn value_name(limit: u64, name: &str, value: &Value) -> Option<ValueName>
     requires { limit ≤ 2 ^ 32 }
     ensures { MatchOption result ((is_number_below limit name.now && option_map_or is_label (as_str (view value.now)) false) ≡ false)
@@ -257,7 +257,7 @@ pub fn meaning_keys<'a>(
     })
 }
 
-// The names that a table tells.
+// The names that a table reports.
 fn value_names(alloc: Global, limit: u64, names: &toml::Table) -> Result<Vec<ValueName>, AllocError>
     requires limit { limit ≤ 2 ^ 32 }
     requires named { names_cause limit (table_view names.now) ≡ None }

@@ -7,22 +7,11 @@ ghost use Rattle.j39_plan.specs.UnitTables.{identity_rule, lacks_identity, name_
 ghost use Rattle.j39_toml.specs.Rules.{number_of};
 ghost use Rattle.j39_toml.specs.TableFaults.{key_faults};
 
+use super::keys::NAME_KEYS;
 use super::values::{flag, has_key, number};
 use super::{Key, PlanError, Table, Version};
 use j39_id::{Name, NameFields};
 use j39_toml::only;
-
-const NAME_KEYS: [Key; 9] = [
-    Key::Identity,
-    Key::Manufacturer,
-    Key::Ecu,
-    Key::FunctionInstance,
-    Key::Function,
-    Key::System,
-    Key::SystemInstance,
-    Key::Industry,
-    Key::Arbitrary,
-];
 
 // The identity number, which the fourth version lets be absent.
 fn identity(version: Version, members: &toml::Table, table: Table) -> Result<u32, PlanError>
@@ -78,7 +67,7 @@ fn name_fields(
     })
 }
 
-/// The NAME that a table tells, with 0 for an identity number that is left open.
+/// The NAME that a table reports, with 0 for an identity number that is left open.
 pub fn name(version: Version, index: usize, members: &toml::Table) -> Result<Name, PlanError>
     ensures gives { Gives result (name_faults version index (table_view members.now))
         (λ n. n ≡ name_number (name_fields_of version (table_view members.now))) }

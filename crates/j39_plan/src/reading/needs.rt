@@ -7,6 +7,7 @@ ghost use Rattle.j39_plan.specs.FlowTables.{place_of, place_faults};
 ghost use Rattle.j39_plan.specs.NeedTables as spec;
 
 use super::flows::place;
+use super::keys::NEED_KEYS;
 use super::labels::Labelled;
 use super::text_kind::TextKind;
 use super::{Key, PlanError, PlanFault, Table};
@@ -15,15 +16,6 @@ use j39_signal::Signal;
 use j39_toml::{ReadElement, given_number, given_text, only, required_text, table_of};
 use std::alloc::Global;
 use toml::Value;
-
-const NEED_KEYS: [Key; 6] = [
-    Key::Unit,
-    Key::Group,
-    Key::Signal,
-    Key::From,
-    Key::Within,
-    Key::With,
-];
 
 // The place of the item that a text names, where there is a text.
 #[tactic(auto, unfolding(crate::specs::FlowTables::place_faults))]

@@ -5,14 +5,13 @@ ghost use Rattle.j39_toml.specs.Outcome.{Gives};
 ghost use Rattle.j39_plan.specs.RequestTables as spec;
 
 use super::flows::{milliseconds, place, to};
+use super::keys::REQUEST_KEYS;
 use super::text_kind::TextKind;
 use super::{Key, PlanError, PlanFault, Table};
 use j39_network::{GroupPlan, RequestPlan, UnitPlan};
 use j39_toml::{ReadElement, given_number, only, required_text, table_of};
 use std::alloc::Global;
 use toml::Value;
-
-const REQUEST_KEYS: [Key; 5] = [Key::Group, Key::From, Key::To, Key::Period, Key::With];
 
 /// The reader of requests of units for groups.
 #[derive(Clone, Copy)]

@@ -5,14 +5,13 @@ ghost use Rattle.toml.specs.View.{table_view};
 ghost use Rattle.j39_toml.specs.Outcome.{Gives};
 ghost use Rattle.j39_plan.specs.SelectorTables.{DescribesSelector, DescribesWhen, selector_table_faults};
 
+use super::keys::SELECTOR_KEYS;
 use super::signals::start_of;
 use super::values::number;
 use super::{Key, PlanError, Table};
 use j39_id::limits::MESSAGE_BYTES;
 use j39_signal::Selector;
 use j39_toml::only;
-
-const KEYS: [Key; 4] = [Key::Byte, Key::Bit, Key::Bits, Key::Value];
 
 // The greatest number that so many bits hold.
 fn greatest(bits: u32) -> u32
@@ -28,7 +27,7 @@ fn selector(members: &toml::Table, group: usize) -> Result<Selector, PlanError>
     ensures { Gives result (selector_table_faults group (table_view members.now)) (DescribesSelector (table_view members.now)) }
 {
     let table = Table::GroupWhen(group);
-    only(members, table, &KEYS)?;
+    only(members, table, &SELECTOR_KEYS)?;
     let byte = number(members, table, Key::Byte, 1, MESSAGE_BYTES as u32, None)?;
     let bit = number(members, table, Key::Bit, 1, 8, Some(1))?;
     let bits = number(members, table, Key::Bits, 1, 32, None)?;

@@ -16,6 +16,7 @@ ghost use Rattle.j39_plan.specs.SignalTables.{is_code, is_dtc, kind_of, kind_rul
 ghost use Rattle.j39_plan.specs.SignalTables.{per_rule, repeated_of, repeated_rule, signal_table_faults, start_of};
 ghost use Rattle.j39_plan.specs.SignalTables.{step_rule, unit_rule, DescribesSignal};
 
+use super::keys::SIGNAL_KEYS;
 use super::labels::{Labelled, untaken};
 use super::meanings::{MeaningKeys, meaning_keys, meaning_of};
 use super::tables::only_known;
@@ -29,22 +30,6 @@ use j39_signal::{Kind, Signal};
 use j39_toml::{ReadElement, table_of};
 use std::alloc::Global;
 use toml::Value;
-
-const KEYS: [(Key, Version); 13] = [
-    (Key::Label, Version::First),
-    (Key::Byte, Version::First),
-    (Key::Bit, Version::First),
-    (Key::Bits, Version::First),
-    (Key::Kind, Version::First),
-    (Key::Step, Version::First),
-    (Key::Per, Version::Third),
-    (Key::Offset, Version::First),
-    (Key::Unit, Version::First),
-    (Key::Repeated, Version::Third),
-    (Key::Optional, Version::Fourth),
-    (Key::Spn, Version::Fourth),
-    (Key::Values, Version::Fourth),
-];
 
 fn kind_of(word: &str) -> Kind
     ensures { result ≡ kind_of word.now }
@@ -204,7 +189,7 @@ fn whole_signal(
     }
 }
 
-/// What the table of a signal tells, the names of its raw numbers as the file has them.
+/// What the table of a signal reports, the names of its raw numbers as the file has them.
 #[derive(Clone, Copy)]
 struct SignalKeys<'a> {
     signal: Signal,
@@ -263,7 +248,7 @@ fn signal<'a>(
     ensures named { IfOk result (λ k. IfSome k.meant.names (λ t. names_cause (raw_limit k.signal.bits) (table_view t.now) ≡ None)) }
 {
     let version = reader.version;
-    only_known(members, table, version, &KEYS)?;
+    only_known(members, table, version, &SIGNAL_KEYS)?;
     let label = short_text(members, table, Key::Label, TextKind::Label, None)?;
     let byte = number(members, table, Key::Byte, 1, MESSAGE_BYTES as u32, None)?;
     let bit = number(members, table, Key::Bit, 1, 8, Some(1))?;

@@ -3,6 +3,7 @@ ghost use Rattle.toml.specs.View.{table_view};
 ghost use Rattle.j39_toml.specs.Outcome.{Gives};
 ghost use Rattle.j39_plan.specs.TextTables.{text_table_faults, DescribesText};
 
+use super::keys::TEXT_KEYS;
 use super::labels::untaken_beside;
 use super::text_kind::TextKind;
 use super::values::{number, short_text};
@@ -13,8 +14,6 @@ use j39_signal::Signal;
 use j39_toml::{ReadElement, given_number, only, table_of};
 use std::alloc::Global;
 use toml::Value;
-
-const TEXT_KEYS: [Key; 3] = [Key::Label, Key::Byte, Key::Bytes];
 
 #[tactic(auto, using(j39_toml::proofs::FirstFaults::faults_after), unfolding(crate::specs::TextTables::text_table_faults))]
 fn text(table: Table, members: &toml::Table) -> Result<TextPlan, PlanError>

@@ -1,4 +1,4 @@
-//! What a plan file tells of the bus itself.
+//! What a plan file reports of the bus itself.
 ghost use Rattle.std.specs.Prelude.{◌≡◌, ◌≤◌, [], true, option_map, IfOk};
 ghost use Rattle.std.specs.Option.{option_map_or};
 ghost use Rattle.toml.specs.View.{table_view};
@@ -11,24 +11,12 @@ ghost use Rattle.j39_plan.specs.TimingTables as spec;
 ghost use Rattle.j39_plan.specs.PlanFaults.{version_of, timing_faults, timing_table};
 ghost use Rattle.j39_toml.specs.Outcome.{Gives};
 
+use super::keys::{ERROR_KEYS, TIMING_KEYS};
 use super::tables::{only_known, optional_inner};
 use super::values::{bitrate_number, number};
 use super::{Key, PlanError, Table, Version};
 use j39_network::{Bitrate, ErrorRate, Timing};
 use j39_toml::only;
-
-const KEYS: [(Key, Version); 8] = [
-    (Key::Bitrate, Version::Third),
-    (Key::Unplanned, Version::Third),
-    (Key::UnplannedPriority, Version::Fourth),
-    (Key::TransportPriority, Version::Fourth),
-    (Key::BroadcastGap, Version::Fourth),
-    (Key::BroadcastGapMost, Version::Fourth),
-    (Key::Drift, Version::Fourth),
-    (Key::Errors, Version::Fourth),
-];
-
-const ERROR_KEYS: [Key; 2] = [Key::Count, Key::Every];
 
 fn bitrate(members: &toml::Table, version: Version) -> Result<Bitrate, PlanError>
     ensures { Gives result (key_faults at.Timing (table_view members.now) (spec.bitrate_rule version))
@@ -130,7 +118,7 @@ fn bus(members: &toml::Table, version: Version) -> Result<Timing, PlanError>
     requires { is_known Third version ≡ true }
     ensures { Gives result (spec.timing_table_faults version (table_view members.now)) (spec.DescribesBus version (table_view members.now)) }
 {
-    only_known(members, Table::Timing, version, &KEYS)?;
+    only_known(members, Table::Timing, version, &TIMING_KEYS)?;
     let bitrate = bitrate(members, version)?;
     let unplanned = number(members, Table::Timing, Key::Unplanned, 0, 1000, None)?;
     let later = later_keys(members, version)?;

@@ -30,7 +30,7 @@ pub struct TopTable<'a> {
     pub later: LaterArrays<'a>,
 }
 
-/// What the top table of a plan tells.
+/// What the top table of a plan reports.
 #[tactic(auto, using(j39_toml::proofs::FirstFaults::faults_after))]
 pub fn top(members: &toml::Table) -> Result<TopTable<'_>, PlanError>
     ensures gives { Gives result (top_faults (table_view members.now)) (DescribesTop (table_view members.now)) }

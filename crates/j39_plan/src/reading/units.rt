@@ -11,6 +11,7 @@ ghost use Rattle.j39_toml.specs.Outcome.{Gives};
 ghost use Rattle.j39_plan.specs.UnitTables.{way_of, address_rule, chooser_rule, claims_of, claims_rule, queue_in};
 ghost use Rattle.j39_plan.specs.UnitTables.{queue_of, queue_rule, silent_faults, unit_table_faults, DescribesUnit};
 
+use super::keys::UNIT_KEYS;
 use super::labels::untaken;
 use super::names::{is_open, name};
 use super::tables::{inner, only_known};
@@ -22,17 +23,6 @@ use j39_network::{Queue, UnitPlan, Way};
 use j39_toml::{ReadElement, refused, table_of};
 use std::alloc::Global;
 use toml::Value;
-
-const KEYS: [(Key, Version); 8] = [
-    (Key::Label, Version::First),
-    (Key::Address, Version::First),
-    (Key::Chooser, Version::First),
-    (Key::Window, Version::First),
-    (Key::Queue, Version::Fourth),
-    (Key::Name, Version::First),
-    (Key::Claims, Version::Fourth),
-    (Key::With, Version::Fourth),
-];
 
 fn address(members: &toml::Table, table: Table) -> Result<Address, PlanError>
     ensures gives { Gives result (key_faults table (table_view members.now) address_rule)
@@ -137,7 +127,7 @@ fn unit(version: Version, index: usize, members: &toml::Table) -> Result<UnitPla
     ensures { Gives result (unit_table_faults version index (table_view members.now)) (DescribesUnit version (table_view members.now)) }
 {
     let table = Table::Unit(index);
-    only_known(members, table, version, &KEYS)?;
+    only_known(members, table, version, &UNIT_KEYS)?;
     let label = short_text(members, table, Key::Label, TextKind::UnitLabel, None)?;
     let address = address(members, table)?;
     let way = way(members, table)?;

@@ -4,8 +4,8 @@ ghost use Rattle.std.specs.List.{list_any};
 ghost use Rattle.j39_load.specs.LineLists.{lines_of_each};
 ghost use Rattle.j39_plan_text.specs.ChoiceLines.{alternative_line, choices_lines, items_lines, list_lines, lists_lines, named_line};
 
-use super::each::{WriteLines, write_each};
 use super::values::write_word;
+use crate::each::{WriteLines, write_each};
 use j39_id::Label;
 use j39_plan::{Key, Table};
 use j39_text::TextBuffer;

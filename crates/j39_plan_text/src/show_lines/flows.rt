@@ -1,10 +1,9 @@
 //! The lines of flows, needs and requests.
 ghost use Rattle.std.specs.Prelude.{◌≡◌, ◌++◌, OnOk};
-ghost use Rattle.j39_plan_text.specs.ShowText.{flow_lines, need_from_line, need_lines, need_signal_line, pace_lines};
-ghost use Rattle.j39_plan_text.specs.ShowText.{request_lines, receivers_text as to_text};
-ghost use Rattle.j39_load.specs.LineLists.{lines_of_each};
+ghost use Rattle.j39_plan_text.specs.ShowText.{need_from_line, need_signal_line, pace_lines, receivers_text as to_text};
 
 use super::values::{write_number, write_optional, write_truth, write_word};
+use crate::each::WriteLines;
 use j39_network::{FlowPlan, NeedPlan, Pace, Plan, RequestPlan, To};
 use j39_plan::{Key, Table};
 use j39_text::{TextBuffer, group_label, signal_label, unit_label};
@@ -34,33 +33,25 @@ fn write_pace(text: &mut TextBuffer, table: Table, pace: Option<Pace>) -> Result
     }
 }
 
-#[tactic(auto, unfolding(crate::specs::ShowText::flow_lines))]
-fn write_flow(
-    text: &mut TextBuffer,
-    plan: &Plan,
-    place: usize,
-    flow: &FlowPlan,
-) -> Result<(), AllocError>
-    ensures { OnOk result (text.new ≡ text.old ++ flow_lines plan.now place flow.now) }
-{
-    let table = Table::Flow(place);
-    write_word(text, table, Key::Group, group_label(plan, flow.group))?;
-    write_word(text, table, Key::From, unit_label(plan, flow.sender))?;
-    write_word(text, table, Key::To, to_word(plan, flow.to))?;
-    write_pace(text, table, flow.pace)?;
-    write_optional(text, table, Key::Pause, flow.pause)?;
-    write_truth(text, table, Key::OnRequest, flow.on_request)
-}
-
 /// Writes each flow.
-#[tactic(auto, unfolding(j39_load::specs::LineLists::lines_of_each))]
-pub(super) fn write_flows(text: &mut TextBuffer, plan: &Plan) -> Result<(), AllocError>
-    ensures { OnOk result (text.new ≡ text.old ++ lines_of_each (flow_lines plan.now) 0 plan.now.flows.items) }
-{
-    for (place, flow) in plan.flows.iter().enumerate() {
-        write_flow(text, plan, place, flow)?;
+#[derive(Drop)]
+pub(super) struct Flows<'a>(pub(super) &'a Plan);
+
+impl WriteLines<FlowPlan> for Flows<'_> {
+    ghost use Rattle.j39_plan_text.specs.ShowText.{flow_lines};
+
+    ghost lines = { λ w. flow_lines w.0.now };
+
+    #[tactic(auto, unfolding(crate::specs::ShowText::flow_lines))]
+    fn write(&self, text: &mut TextBuffer, at: usize, flow: &FlowPlan) -> Result<(), AllocError> {
+        let table = Table::Flow(at);
+        write_word(text, table, Key::Group, group_label(self.0, flow.group))?;
+        write_word(text, table, Key::From, unit_label(self.0, flow.sender))?;
+        write_word(text, table, Key::To, to_word(self.0, flow.to))?;
+        write_pace(text, table, flow.pace)?;
+        write_optional(text, table, Key::Pause, flow.pause)?;
+        write_truth(text, table, Key::OnRequest, flow.on_request)
     }
-    Ok(())
 }
 
 // The signal that a need names, if it names one.
@@ -102,57 +93,46 @@ fn write_need_from(
     }
 }
 
-#[tactic(auto, unfolding(crate::specs::ShowText::need_lines))]
-fn write_need(
-    text: &mut TextBuffer,
-    plan: &Plan,
-    place: usize,
-    need: &NeedPlan,
-) -> Result<(), AllocError>
-    ensures { OnOk result (text.new ≡ text.old ++ need_lines plan.now place need.now) }
-{
-    let table = Table::Need(place);
-    write_word(text, table, Key::Unit, unit_label(plan, need.unit))?;
-    write_word(text, table, Key::Group, group_label(plan, need.group))?;
-    write_need_signal(text, plan, table, need)?;
-    write_need_from(text, plan, table, need)?;
-    write_optional(text, table, Key::Within, need.within)
-}
-
 /// Writes each need.
-#[tactic(auto, unfolding(j39_load::specs::LineLists::lines_of_each))]
-pub(super) fn write_needs(text: &mut TextBuffer, plan: &Plan) -> Result<(), AllocError>
-    ensures { OnOk result (text.new ≡ text.old ++ lines_of_each (need_lines plan.now) 0 plan.now.needs.items) }
-{
-    for (place, need) in plan.needs.iter().enumerate() {
-        write_need(text, plan, place, need)?;
-    }
-    Ok(())
-}
+#[derive(Drop)]
+pub(super) struct Needs<'a>(pub(super) &'a Plan);
 
-#[tactic(auto, unfolding(crate::specs::ShowText::request_lines))]
-fn write_request(
-    text: &mut TextBuffer,
-    plan: &Plan,
-    place: usize,
-    request: &RequestPlan,
-) -> Result<(), AllocError>
-    ensures { OnOk result (text.new ≡ text.old ++ request_lines plan.now place request.now) }
-{
-    let table = Table::Request(place);
-    write_word(text, table, Key::Group, group_label(plan, request.group))?;
-    write_word(text, table, Key::From, unit_label(plan, request.sender))?;
-    write_word(text, table, Key::To, to_word(plan, request.to))?;
-    write_optional(text, table, Key::Period, request.period)
+impl WriteLines<NeedPlan> for Needs<'_> {
+    ghost use Rattle.j39_plan_text.specs.ShowText.{need_lines};
+
+    ghost lines = { λ w. need_lines w.0.now };
+
+    #[tactic(auto, unfolding(crate::specs::ShowText::need_lines))]
+    fn write(&self, text: &mut TextBuffer, at: usize, need: &NeedPlan) -> Result<(), AllocError> {
+        let table = Table::Need(at);
+        write_word(text, table, Key::Unit, unit_label(self.0, need.unit))?;
+        write_word(text, table, Key::Group, group_label(self.0, need.group))?;
+        write_need_signal(text, self.0, table, need)?;
+        write_need_from(text, self.0, table, need)?;
+        write_optional(text, table, Key::Within, need.within)
+    }
 }
 
 /// Writes each request.
-#[tactic(auto, unfolding(j39_load::specs::LineLists::lines_of_each))]
-pub(super) fn write_requests(text: &mut TextBuffer, plan: &Plan) -> Result<(), AllocError>
-    ensures { OnOk result (text.new ≡ text.old ++ lines_of_each (request_lines plan.now) 0 plan.now.requests.items) }
-{
-    for (place, request) in plan.requests.iter().enumerate() {
-        write_request(text, plan, place, request)?;
+#[derive(Drop)]
+pub(super) struct Requests<'a>(pub(super) &'a Plan);
+
+impl WriteLines<RequestPlan> for Requests<'_> {
+    ghost use Rattle.j39_plan_text.specs.ShowText.{request_lines};
+
+    ghost lines = { λ w. request_lines w.0.now };
+
+    #[tactic(auto, unfolding(crate::specs::ShowText::request_lines))]
+    fn write(
+        &self,
+        text: &mut TextBuffer,
+        at: usize,
+        request: &RequestPlan,
+    ) -> Result<(), AllocError> {
+        let table = Table::Request(at);
+        write_word(text, table, Key::Group, group_label(self.0, request.group))?;
+        write_word(text, table, Key::From, unit_label(self.0, request.sender))?;
+        write_word(text, table, Key::To, to_word(self.0, request.to))?;
+        write_optional(text, table, Key::Period, request.period)
     }
-    Ok(())
 }

@@ -2,17 +2,14 @@
 ghost use Rattle.std.specs.Prelude.{◌≡◌, ◌++◌, OnOk};
 ghost use Rattle.std.specs.List.{slice_get};
 ghost use Rattle.std.specs.Option.{option_copied};
-ghost use Rattle.j39_plan_text.specs.ShowText.{group_form_lines, group_head_lines, group_lines, kind_text};
-ghost use Rattle.j39_plan_text.specs.ShowText.{signal_meaning_lines as meaning_lines, name_of_value_line, signal_at_lines};
-ghost use Rattle.j39_plan_text.specs.ShowText.{signal_value_lines as signal_lines};
-ghost use Rattle.j39_plan_text.specs.ShowText.{signal_place_lines, signal_scale_lines, planned_text_lines as text_lines};
-ghost use Rattle.j39_plan_text.specs.ShowText.{when_lines};
-ghost use Rattle.j39_load.specs.LineLists.{lines_of_each};
+ghost use Rattle.j39_plan_text.specs.ShowText.{group_form_lines, group_head_lines, kind_text, signal_meaning_lines as meaning_lines};
+ghost use Rattle.j39_plan_text.specs.ShowText.{signal_place_lines, signal_scale_lines, signal_value_lines as signal_lines, when_lines};
 
 use super::values::{
     write_front, write_number, write_optional, write_text, write_truth, write_word,
 };
-use j39_network::{GroupPlan, Meaning, Plan, TextPlan, ValueName};
+use crate::each::{WriteLines, write_each};
+use j39_network::{GroupPlan, Meaning, TextPlan, ValueName};
 use j39_plan::{Key, Table};
 use j39_signal::{Kind, Selector, Signal};
 use j39_text::TextBuffer;
@@ -31,35 +28,27 @@ fn kind_word(kind: Kind) -> &'static str
     }
 }
 
-// A raw number of a signal with its name.
-#[tactic(auto, unfolding(crate::specs::ShowText::name_of_value_line, crate::specs::ShowText::value_line))]
-fn write_value_name(
-    text: &mut TextBuffer,
-    table: Table,
-    value: &ValueName,
-) -> Result<(), AllocError>
-    ensures { OnOk result (text.new ≡ text.old ++ name_of_value_line table value.now) }
-{
-    write_front(text, table, Key::Values)?;
-    text.number(value.raw)?;
-    text.word(" ")?;
-    text.word(value.name.as_str())?;
-    text.end_line()
-}
+// Writes each raw number of a signal that has a name, with it.
+#[derive(Drop)]
+struct ValueNames(Table);
 
-#[tactic(auto, unfolding(j39_load::specs::LineLists::lines_of_each))]
-fn write_value_names(
-    text: &mut TextBuffer,
-    table: Table,
-    values: &[ValueName],
-) -> Result<(), AllocError>
-    ensures { OnOk result (text.new ≡ text.old
-        ++ lines_of_each (λ _ value. name_of_value_line table value) 0 values.now) }
-{
-    for value in values {
-        write_value_name(text, table, value)?;
+impl WriteLines<ValueName> for ValueNames {
+    ghost use Rattle.j39_plan_text.specs.ShowText.{name_of_value_line};
+
+    ghost lines = { λ w _. name_of_value_line w.0 };
+
+    #[tactic(auto, unfolding(crate::specs::ShowText::name_of_value_line, crate::specs::ShowText::value_line))]
+    fn write(
+        &self,
+        text: &mut TextBuffer,
+        _at: usize,
+        value: &ValueName,
+    ) -> Result<(), AllocError> {
+        write_front(text, self.0, Key::Values)?;
+        text.number(value.raw)?;
+        text.label(value.name.as_str())?;
+        text.end_line()
     }
-    Ok(())
 }
 
 // What is said of a signal's meaning, if anything is.
@@ -75,7 +64,7 @@ fn write_meaning(
         return Ok(());
     };
     write_optional(text, table, Key::Spn, meaning.spn)?;
-    write_value_names(text, table, &meaning.values)
+    write_each(text, &ValueNames(table), &meaning.values)
 }
 
 // Where the bits of a signal are.
@@ -119,56 +108,44 @@ fn write_signal(text: &mut TextBuffer, table: Table, signal: &Signal) -> Result<
     write_signal_scale(text, table, signal)
 }
 
-// The signal of a group at a place, with its meaning.
-#[tactic(auto, unfolding(crate::specs::ShowText::signal_at_lines))]
-fn write_signal_at(
-    text: &mut TextBuffer,
-    place: usize,
-    group: &GroupPlan,
-    at: usize,
-    signal: &Signal,
-) -> Result<(), AllocError>
-    ensures { OnOk result (text.new ≡ text.old ++ signal_at_lines place group.now at signal.now) }
-{
-    let table = Table::Signal(place, at);
-    write_signal(text, table, signal)?;
-    write_meaning(text, table, group.meanings.get(at))
-}
+// Writes each signal of the group at a place, with its meaning.
+#[derive(Drop)]
+struct Signals<'a>(usize, &'a GroupPlan);
 
-#[tactic(auto, unfolding(j39_load::specs::LineLists::lines_of_each))]
-fn write_signals(text: &mut TextBuffer, place: usize, group: &GroupPlan) -> Result<(), AllocError>
-    ensures { OnOk result (text.new ≡ text.old
-        ++ lines_of_each (signal_at_lines place group.now) 0 group.now.signals.items) }
-{
-    for (at, signal) in group.signals.iter().enumerate() {
-        write_signal_at(text, place, group, at, signal)?;
+impl WriteLines<Signal> for Signals<'_> {
+    ghost use Rattle.j39_plan_text.specs.ShowText.{signal_at_lines};
+
+    ghost lines = { λ w. signal_at_lines w.0 w.1.now };
+
+    #[tactic(auto, unfolding(crate::specs::ShowText::signal_at_lines))]
+    fn write(&self, text: &mut TextBuffer, at: usize, signal: &Signal) -> Result<(), AllocError> {
+        let table = Table::Signal(self.0, at);
+        write_signal(text, table, signal)?;
+        write_meaning(text, table, self.1.meanings.get(at))
     }
-    Ok(())
 }
 
-#[tactic(auto, unfolding(crate::specs::ShowText::planned_text_lines))]
-fn write_planned_text(
-    text: &mut TextBuffer,
-    place: usize,
-    at: usize,
-    planned: &TextPlan,
-) -> Result<(), AllocError>
-    ensures { OnOk result (text.new ≡ text.old ++ text_lines place at planned.now) }
-{
-    let table = Table::Text(place, at);
-    write_word(text, table, Key::Label, planned.label.as_str())?;
-    write_number(text, table, Key::Byte, planned.byte)?;
-    write_optional(text, table, Key::Bytes, planned.bytes)
-}
+// Writes each text of the group at a place.
+#[derive(Drop)]
+struct Texts(usize);
 
-#[tactic(auto, unfolding(j39_load::specs::LineLists::lines_of_each))]
-fn write_texts(text: &mut TextBuffer, place: usize, group: &GroupPlan) -> Result<(), AllocError>
-    ensures { OnOk result (text.new ≡ text.old ++ lines_of_each (text_lines place) 0 group.now.texts.items) }
-{
-    for (at, planned) in group.texts.iter().enumerate() {
-        write_planned_text(text, place, at, planned)?;
+impl WriteLines<TextPlan> for Texts {
+    ghost use Rattle.j39_plan_text.specs.ShowText.{planned_text_lines};
+
+    ghost lines = { λ w. planned_text_lines w.0 };
+
+    #[tactic(auto, unfolding(crate::specs::ShowText::planned_text_lines))]
+    fn write(
+        &self,
+        text: &mut TextBuffer,
+        at: usize,
+        planned: &TextPlan,
+    ) -> Result<(), AllocError> {
+        let table = Table::Text(self.0, at);
+        write_word(text, table, Key::Label, planned.label.as_str())?;
+        write_number(text, table, Key::Byte, planned.byte)?;
+        write_optional(text, table, Key::Bytes, planned.bytes)
     }
-    Ok(())
 }
 
 #[tactic(auto, unfolding(crate::specs::ShowText::group_head_lines))]
@@ -198,7 +175,7 @@ fn write_group_form(
     write_optional(text, table, Key::Every, group.every)
 }
 
-// The bits that tell a group's messages, if any do.
+// The bits that report a group's messages, if any do.
 #[tactic(auto, unfolding(crate::specs::ShowText::when_lines))]
 fn write_when(text: &mut TextBuffer, table: Table, when: Option<Selector>) -> Result<(), AllocError>
     ensures { OnOk result (text.new ≡ text.old ++ when_lines table when) }
@@ -212,25 +189,21 @@ fn write_when(text: &mut TextBuffer, table: Table, when: Option<Selector>) -> Re
     write_number(text, table, Key::Value, selector.value)
 }
 
-#[tactic(auto, unfolding(crate::specs::ShowText::group_lines))]
-fn write_group(text: &mut TextBuffer, place: usize, group: &GroupPlan) -> Result<(), AllocError>
-    ensures { OnOk result (text.new ≡ text.old ++ group_lines place group.now) }
-{
-    let table = Table::Group(place);
-    write_group_head(text, table, group)?;
-    write_group_form(text, table, group)?;
-    write_when(text, Table::GroupWhen(place), group.when)?;
-    write_signals(text, place, group)?;
-    write_texts(text, place, group)
-}
-
 /// Writes each group.
-#[tactic(auto, unfolding(j39_load::specs::LineLists::lines_of_each))]
-pub(super) fn write_groups(text: &mut TextBuffer, plan: &Plan) -> Result<(), AllocError>
-    ensures { OnOk result (text.new ≡ text.old ++ lines_of_each group_lines 0 plan.now.groups.items) }
-{
-    for (place, group) in plan.groups.iter().enumerate() {
-        write_group(text, place, group)?;
+pub(super) struct GroupLines;
+
+impl WriteLines<GroupPlan> for GroupLines {
+    ghost use Rattle.j39_plan_text.specs.ShowText.{group_lines};
+
+    ghost lines = { λ _. group_lines };
+
+    #[tactic(auto, unfolding(crate::specs::ShowText::group_lines))]
+    fn write(&self, text: &mut TextBuffer, at: usize, group: &GroupPlan) -> Result<(), AllocError> {
+        let table = Table::Group(at);
+        write_group_head(text, table, group)?;
+        write_group_form(text, table, group)?;
+        write_when(text, Table::GroupWhen(at), group.when)?;
+        write_each(text, &Signals(at, group), &group.signals)?;
+        write_each(text, &Texts(at), &group.texts)
     }
-    Ok(())
 }

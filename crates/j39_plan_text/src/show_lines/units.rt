@@ -1,13 +1,13 @@
 //! The lines of units.
 ghost use Rattle.std.specs.Prelude.{◌≡◌, ◌++◌, OnOk};
 ghost use Rattle.j39_plan_text.specs.ShowText.{chooser_text, identity_lines, lower_name_lines};
-ghost use Rattle.j39_plan_text.specs.ShowText.{name_field_lines as name_lines, queue_text, unit_value_lines as unit_lines};
+ghost use Rattle.j39_plan_text.specs.ShowText.{name_field_lines as name_lines, queue_text};
 ghost use Rattle.j39_plan_text.specs.ShowText.{unit_way_lines, upper_name_lines};
-ghost use Rattle.j39_load.specs.LineLists.{lines_of_each};
 
 use super::values::{write_number, write_truth, write_word};
+use crate::each::WriteLines;
 use j39_id::NameFields;
-use j39_network::{Plan, Queue, UnitPlan, Way};
+use j39_network::{Queue, UnitPlan, Way};
 use j39_plan::{Key, Table};
 use j39_text::TextBuffer;
 use std::alloc::AllocError;
@@ -99,30 +99,26 @@ fn write_ways(text: &mut TextBuffer, table: Table, unit: &UnitPlan) -> Result<()
     write_word(text, table, Key::Queue, queue_word(unit.queue))
 }
 
-#[tactic(auto, unfolding(crate::specs::ShowText::unit_value_lines))]
-fn write_unit(text: &mut TextBuffer, place: usize, unit: &UnitPlan) -> Result<(), AllocError>
-    ensures { OnOk result (text.new ≡ text.old ++ unit_lines place unit.now) }
-{
-    let table = Table::Unit(place);
-    write_word(text, table, Key::Label, unit.label.as_str())?;
-    write_number(text, table, Key::Address, unit.address.number())?;
-    write_ways(text, table, unit)?;
-    write_name(
-        text,
-        Table::UnitName(place),
-        unit.any_identity,
-        unit.name.fields(),
-    )?;
-    write_truth(text, table, Key::Claims, unit.claims)
-}
-
 /// Writes each unit.
-#[tactic(auto, unfolding(j39_load::specs::LineLists::lines_of_each))]
-pub(super) fn write_units(text: &mut TextBuffer, plan: &Plan) -> Result<(), AllocError>
-    ensures { OnOk result (text.new ≡ text.old ++ lines_of_each unit_lines 0 plan.now.units.items) }
-{
-    for (place, unit) in plan.units.iter().enumerate() {
-        write_unit(text, place, unit)?;
+pub(super) struct UnitLines;
+
+impl WriteLines<UnitPlan> for UnitLines {
+    ghost use Rattle.j39_plan_text.specs.ShowText.{unit_value_lines};
+
+    ghost lines = { λ _. unit_value_lines };
+
+    #[tactic(auto, unfolding(crate::specs::ShowText::unit_value_lines))]
+    fn write(&self, text: &mut TextBuffer, at: usize, unit: &UnitPlan) -> Result<(), AllocError> {
+        let table = Table::Unit(at);
+        write_word(text, table, Key::Label, unit.label.as_str())?;
+        write_number(text, table, Key::Address, unit.address.number())?;
+        write_ways(text, table, unit)?;
+        write_name(
+            text,
+            Table::UnitName(at),
+            unit.any_identity,
+            unit.name.fields(),
+        )?;
+        write_truth(text, table, Key::Claims, unit.claims)
     }
-    Ok(())
 }

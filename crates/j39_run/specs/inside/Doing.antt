@@ -33,12 +33,12 @@ pub record HasShown (step : Step) (old new : BusState) (text more : List ℕ) : 
       → written ++ more ≡ sent_lines new.frames
 
 -- some first ones of these lines were done, and the next one is refused, whatever stands behind it
-pub record HasStopped (plan : Plan) (b : BusState) (IsRefused : Reading → Type 0) (place : ℕ) (text : List ℕ) (told : List Line)
+pub record HasStopped (plan : Plan) (b : BusState) (IsRefused : Reading → Type 0) (place : ℕ) (text : List ℕ) (yielded : List Line)
     (written : List ℕ) : Type 0 where
   pub ls : List Line
   pub line : Line
   pub rest : List Line
-  pub parts : told ≡ (ls ++ line ∷ []) ++ rest
+  pub parts : yielded ≡ (ls ++ line ∷ []) ++ rest
   pub done : HasDone plan b ls place written text
   pub refused : IsRefused (line_order plan line)
 
@@ -61,17 +61,17 @@ OrdersStep plan ls = (line : Line) × (ordered : Ordered) × (ls ≡ line ∷ []
 
 -- these lines of a schedule were read: all of them done, or those before the one at which the run ends
 abbrev pub HasRunTo : Plan → BusState → ℕ → List ℕ → Halt → List Line → List ℕ → Type 0
-HasRunTo plan b place text End told written = HasDone plan b told place written text
-HasRunTo plan b place text (AtStep at cause) told written = HasStopped plan b (IsRefusedStep plan b cause) at text told written
-HasRunTo plan b place text (AtLine at fault) told written = HasStopped plan b (λ reading. reading ≡ Err fault) at text told written
-HasRunTo plan b place text (Full at) told written = HasStopped plan b (IsStepTooMany b) at text told written
+HasRunTo plan b place text End yielded written = HasDone plan b yielded place written text
+HasRunTo plan b place text (AtStep at cause) yielded written = HasStopped plan b (IsRefusedStep plan b cause) at text yielded written
+HasRunTo plan b place text (AtLine at fault) yielded written = HasStopped plan b (λ reading. reading ≡ Err fault) at text yielded written
+HasRunTo plan b place text (Full at) yielded written = HasStopped plan b (IsStepTooMany b) at text yielded written
 
 abbrev pub HasRun : {X : Type 0} {P : X → Type 0} → Plan → Running X P → List Line → List ℕ → Type 0
-HasRun plan run told written = HasRunTo plan run.bus run.place run.text run.halt told written
+HasRun plan run yielded written = HasRunTo plan run.bus run.place run.text run.halt yielded written
 
 -- with these lines a run goes on
 pub record RunsOn {X : Type 0} {P : X → Type 0} (plan : Plan) (old new : Running X P) (ls : List Line) : Type 0 where
-  pub run : (told : List Line) (written : List ℕ) → HasRun plan old told written → HasRun plan new (told ++ ls) written
+  pub run : (yielded : List Line) (written : List ℕ) → HasRun plan old yielded written → HasRun plan new (yielded ++ ls) written
   pub count : new.place ≤ old.place + 1
 
 -- the text of a bus that runs the schedule, with the verdict

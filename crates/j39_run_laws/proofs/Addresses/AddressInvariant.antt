@@ -8,7 +8,7 @@ use Rattle.j39_id.specs.Addresses.{in_pool}
 use Rattle.j39_id.specs.Name.{is_arbitrary}
 use Rattle.j39_claim.specs.declared.item.Say.TheVariants.{Claim, Cannot}
 use Rattle.j39_claim.specs.declared.item.Item.{Item}
-use Rattle.j39_claim.specs.declared.item.Item.TheVariants.{Told, Request}
+use Rattle.j39_claim.specs.declared.item.Item.TheVariants.{AddressClaimed, Request}
 use Rattle.j39_claim.specs.ClaimRule.{PlannedUnit}
 use Rattle.j39_network.specs.PlannedUnits.{unit_at}
 use Rattle.j39_world.specs.World.{Stations, Undelivered}
@@ -24,8 +24,8 @@ pub record IsOwn (p : PlannedUnit) (a : ℕ) : Type 0 where
 
 -- the unit may say it, if it claims
 abbrev pub IsSaid : PlannedUnit → Item → Type 0
-IsSaid p (Told (Claim a)) = IsOwn p a
-IsSaid p (Told Cannot) = ⊥
+IsSaid p (AddressClaimed (Claim a)) = IsOwn p a
+IsSaid p (AddressClaimed Cannot) = ⊥
 IsSaid p Request = Unit {0}
 
 -- v has noted a for n: it is another unit's NAME, and that unit may hold a
@@ -48,12 +48,12 @@ pub record AddressInvariant (units : List PlannedUnit) (stations : Stations) (cl
   pub inside : (u : ℕ) → (stations u).on ≡ true → u < length units
   -- each unit that is on holds an address that it may hold
   pub holds : (u : ℕ) → (stations u).on ≡ true → IsHeld (unit_at units u) (stations u).address
-  -- two that hold one address have still to be told so
+  -- two that hold one address have still to hear so
   pub apart : (u v a : ℕ) → u ≢ v → (stations u).on ≡ true → (stations v).on ≡ true
       → (stations u).address ≡ Some a → (stations v).address ≡ Some a → IsClaimUndelivered claims u v a
   -- units claim only what they may, and none says that it cannot
   pub said : (u v : ℕ) → AllByRecursion (IsSaid (unit_at units u)) (claims u v)
-  -- no unit tells itself
+  -- no unit sends to itself
   pub itself : (u : ℕ) → claims u u ≡ []
   -- each note is of another unit, and an address that it may hold
   pub notes : (v : ℕ) → AllNoted units v (stations v).notes

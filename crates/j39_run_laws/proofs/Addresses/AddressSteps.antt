@@ -7,14 +7,14 @@ use Rattle.std.specs.List.{Contains, AllByRecursion}
 use Rattle.j39_claim.specs.declared.item.Say.{Say}
 use Rattle.j39_claim.specs.declared.item.Say.TheVariants.{Claim}
 use Rattle.j39_claim.specs.declared.item.Item.{Item}
-use Rattle.j39_claim.specs.declared.item.Item.TheVariants.{Told, Request}
+use Rattle.j39_claim.specs.declared.item.Item.TheVariants.{AddressClaimed, Request}
 use Rattle.j39_claim.specs.ClaimRule.{PlannedUnit, ClaimState, claim_of, off, started}
 use Rattle.j39_network.specs.PlannedUnits.{unit_at}
 use Rattle.j39_world.specs.World.{Stations, Undelivered, changed, changed_pair}
 use Rattle.j39_world.specs.Sound.{IsClaimUndelivered}
-use Rattle.j39_world.specs.ClaimSteps.{told_to_others, without_lists_to, answer_items}
+use Rattle.j39_world.specs.ClaimSteps.{sent_to_others, without_lists_to, answer_items}
 use Rattle.j39_run_laws.proofs.Addresses.AddressInvariant.{AddressInvariant, IsOwn, IsSaid, IsHeld, AllNoted}
-use Rattle.j39_run_laws.proofs.Addresses.Telling.{AllSaid, still, told, said_more, said_without, said_rest, not_itself}
+use Rattle.j39_run_laws.proofs.Addresses.SentToOthers.{AllSaid, still, stated, said_more, said_without, said_rest, not_itself}
 use Rattle.j39_run_laws.proofs.Addresses.Turns.{Turn}
 use Rattle.j39_run_laws.proofs.Runs.Changed.{changed_here, changed_elsewhere, changed_each}
 
@@ -60,29 +60,29 @@ swapped : (claims : Undelivered) (x y a : ℕ) → IsClaimUndelivered claims x y
 swapped claims x y a (inl p) = inr p
 swapped claims x y a (inr p) = inl p
 
-in_one : (a b : ℕ) → a ≡ b → Contains (Told (Claim a) ∷ []) (Told (Claim b))
-in_one a b same = (0, omega arith, ap (λ k. Told (Claim k)) same)
+in_one : (a b : ℕ) → a ≡ b → Contains (AddressClaimed (Claim a) ∷ []) (AddressClaimed (Claim b))
+in_one a b same = (0, omega arith, ap (λ k. AddressClaimed (Claim k)) same)
 
 in_rest : (x y : Item) (xs : List Item) → Contains (x ∷ xs) y → x ≢ y → Contains xs y
 in_rest x y xs (zero, inside, is) other = absurd (other is)
 in_rest x y xs (suc k, inside, is) other = (k, omega arith, is)
 
--- what was to be told of two is to be told still, where no list between them lost a claim
-told_still : (stations : Stations) (claims : Undelivered) (u : ℕ) (items : List Item) (x y a : ℕ)
-    → IsClaimUndelivered claims x y a → IsClaimUndelivered (told_to_others stations claims u items) x y a
-told_still stations claims u items x y a (inl p) = inl (still stations claims u items x y (Told (Claim a)) p)
-told_still stations claims u items x y a (inr p) = inr (still stations claims u items y x (Told (Claim a)) p)
+-- what was to be sent of two is to be sent still, where no list between them lost a claim
+stated_still : (stations : Stations) (claims : Undelivered) (u : ℕ) (items : List Item) (x y a : ℕ)
+    → IsClaimUndelivered claims x y a → IsClaimUndelivered (sent_to_others stations claims u items) x y a
+stated_still stations claims u items x y a (inl p) = inl (still stations claims u items x y (AddressClaimed (Claim a)) p)
+stated_still stations claims u items x y a (inr p) = inr (still stations claims u items y x (AddressClaimed (Claim a)) p)
 
 -- what was undelivered to u is gone, and nothing between two others
 without_still : (claims : Undelivered) (u x y a : ℕ) → x ≢ u → y ≢ u → IsClaimUndelivered claims x y a → IsClaimUndelivered (without_lists_to u claims) x y a
-without_still claims u x y a x_other y_other to_tell =
+without_still claims u x y a x_other y_other to_send =
     let to_x : without_lists_to u claims y x ≡ claims y x = cond-false (eqb x u) [] (claims y x) (ne_eqb x u x_other) in
     let to_y : without_lists_to u claims x y ≡ claims x y = cond-false (eqb y u) [] (claims x y) (ne_eqb y u y_other) in
-    rw (to_x, to_y) to_tell
+    rw (to_x, to_y) to_send
 
 module _ (units : List PlannedUnit) (stations : Stations) (claims : Undelivered) (inv : AddressInvariant units stations claims) where
-  clash_told : (x y a : ℕ) → IsClash stations x y a → IsClaimUndelivered claims x y a
-  clash_told x y a c = inv.apart x y a c.apart c.one.on c.other.on c.one.address c.other.address
+  clash_stated : (x y a : ℕ) → IsClash stations x y a → IsClaimUndelivered claims x y a
+  clash_stated x y a c = inv.apart x y a c.apart c.one.on c.other.on c.one.address c.other.address
 
   module _ (u : ℕ) where
     abbrev without : Undelivered
@@ -94,25 +94,25 @@ module _ (units : List PlannedUnit) (stations : Stations) (claims : Undelivered)
     without_itself : (s : ℕ) → without s s ≡ []
     without_itself s = cond_both (eqb s u) [] (claims s s) (λ xs. xs ≡ []) (λ _. refl) (λ _. inv.itself s)
 
-    -- u is switched on, and tells these to the others, of which none holds its address unless it is told so
+    -- u is switched on, and sends these to the others, of which none holds its address unless it is to hear so
     on_keeps : u < length units → IsOwn (unit_at units u) (unit_at units u).preferred → (items : List Item)
         → AllByRecursion (IsSaid (unit_at units u)) items
         → let new : Stations = changed stations u (started (unit_at units u)) in
         ((z b : ℕ) → z ≢ u → IsHolding (stations z) b → (started (unit_at units u)).address ≡ Some b
-        → IsClaimUndelivered (told_to_others new without u items) u z b)
-        → AddressInvariant units new (told_to_others new without u items)
-    on_keeps in_u own items said told_other =
+        → IsClaimUndelivered (sent_to_others new without u items) u z b)
+        → AddressInvariant units new (sent_to_others new without u items)
+    on_keeps in_u own items said stated_other =
         let p : PlannedUnit = unit_at units u in
         let now : Stations = changed stations u (started p) in
-        let after : Undelivered = told_to_others now without u items in
+        let after : Undelivered = sent_to_others now without u items in
         record {
           inside = changed_each (λ x s. s.on ≡ true → x < length units) stations u (started p) (λ _. in_u) inv.inside;
           holds = changed_each (λ x s. s.on ≡ true → IsHeld (unit_at units x) s.address) stations u (started p)
               (λ _. (p.preferred, refl, own)) inv.holds;
           apart = λ x y a other on_x on_y address_x address_y.
-              clash_cases (IsClaimUndelivered after) (swapped after) stations u (started p) told_other
+              clash_cases (IsClaimUndelivered after) (swapped after) stations u (started p) stated_other
               (λ z t b z_other t_other c.
-              told_still now without u items z t b (without_still claims u z t b z_other t_other (clash_told z t b c)))
+              stated_still now without u items z t b (without_still claims u z t b z_other t_other (clash_stated z t b c)))
               x y a (record { apart = other; one = record { on = on_x; address = address_x }; other = record { on = on_y; address = address_y } });
           said = said_more now without u items (λ k. IsSaid (unit_at units k)) without_said said;
           itself = not_itself now without u items without_itself;
@@ -122,21 +122,21 @@ module _ (units : List PlannedUnit) (stations : Stations) (claims : Undelivered)
 
     pub up_keeps : u < length units → IsOwn (unit_at units u) (unit_at units u).preferred
         → let new : Stations = changed stations u (started (unit_at units u)) in
-        AddressInvariant units new (told_to_others new without u (Told (Claim (unit_at units u).preferred) ∷ []))
+        AddressInvariant units new (sent_to_others new without u (AddressClaimed (Claim (unit_at units u).preferred) ∷ []))
     up_keeps in_u own =
         let p : PlannedUnit = unit_at units u in
-        let items : List Item = Told (Claim p.preferred) ∷ [] in
+        let items : List Item = AddressClaimed (Claim p.preferred) ∷ [] in
         let now : Stations = changed stations u (started p) in
         on_keeps in_u own items (own, tt) (λ z b z_other holding has.
         let same : p.preferred ≡ b = cc in
         let on : (now z).on ≡ true = ap (λ s. s.on) (changed_elsewhere stations u (started p) z z_other) ∙ holding.on in
-        inl (told now without u items z (Told (Claim b)) on z_other (in_one p.preferred b same)))
+        inl (stated now without u items z (AddressClaimed (Claim b)) on z_other (in_one p.preferred b same)))
 
     -- it says nothing, where no other one ever holds its address
     pub up_silently : u < length units → IsOwn (unit_at units u) (unit_at units u).preferred
         → ((z a : ℕ) → z < length units → z ≢ u → IsOwn (unit_at units z) a → a ≢ (unit_at units u).preferred)
         → let new : Stations = changed stations u (started (unit_at units u)) in
-        AddressInvariant units new (told_to_others new without u [])
+        AddressInvariant units new (sent_to_others new without u [])
     up_silently in_u own alone = on_keeps in_u own [] tt (λ z b z_other holding has.
         let (a, is, own_z) = inv.holds z holding.on in
         let e : Some a ≡ Some (unit_at units u).preferred = sym is ∙ holding.address ∙ sym has in
@@ -149,7 +149,7 @@ module _ (units : List PlannedUnit) (stations : Stations) (claims : Undelivered)
           (λ on. absurd (true≢false (sym on))) inv.holds;
       apart = λ x y a other on_x on_y address_x address_y.
           clash_cases (IsClaimUndelivered without) (swapped without) stations u off (λ z b z_other holding has. absurd (cc))
-          (λ z t b z_other t_other c. without_still claims u z t b z_other t_other (clash_told z t b c))
+          (λ z t b z_other t_other c. without_still claims u z t b z_other t_other (clash_stated z t b c))
           x y a (record { apart = other; one = record { on = on_x; address = address_x }; other = record { on = on_y; address = address_y } });
       said = without_said;
       itself = without_itself;
@@ -158,15 +158,15 @@ module _ (units : List PlannedUnit) (stations : Stations) (claims : Undelivered)
     }
 
     pub ask_keeps : (stations u).on ≡ true
-        → AddressInvariant units stations (told_to_others stations claims u (Request ∷ Told (claim_of (stations u).address) ∷ []))
+        → AddressInvariant units stations (sent_to_others stations claims u (Request ∷ AddressClaimed (claim_of (stations u).address) ∷ []))
     ask_keeps on =
-        let items : List Item = Request ∷ Told (claim_of (stations u).address) ∷ [] in
+        let items : List Item = Request ∷ AddressClaimed (claim_of (stations u).address) ∷ [] in
         let (b, has, own) = inv.holds u on in
         record {
           inside = inv.inside;
           holds = inv.holds;
           apart = λ x y a other on_x on_y address_x address_y.
-              told_still stations claims u items x y a (inv.apart x y a other on_x on_y address_x address_y);
+              stated_still stations claims u items x y a (inv.apart x y a other on_x on_y address_x address_y);
           said = said_more stations claims u items (λ k. IsSaid (unit_at units k)) inv.said (tt, (rw has own, tt));
           itself = not_itself stations claims u items inv.itself;
           notes = inv.notes;
@@ -181,20 +181,20 @@ module _ (units : List PlannedUnit) (stations : Stations) (claims : Undelivered)
     mid = changed_pair claims u v rest
 
     after : Undelivered
-    after = told_to_others now mid v (answer_items says)
+    after = sent_to_others now mid v (answer_items says)
 
     -- no other unit's lists lose anything
     other_list : (x y : ℕ) → y ≢ v → mid x y ≡ claims x y
     unfolding mid
     other_list x y y_other = cond-false (eqb x u && eqb y v) rest (claims x y) (and_right (eqb x u) (eqb y v) (ne_eqb y v y_other))
 
-    -- what another unit has still to tell v is in the list after this item
-    kept_list : (x a : ℕ) → item ≢ Told (Claim a) → Contains (claims x v) (Told (Claim a)) → Contains (mid x v) (Told (Claim a))
+    -- what v has still to hear of another unit is in the list after this item
+    kept_list : (x a : ℕ) → item ≢ AddressClaimed (Claim a) → Contains (claims x v) (AddressClaimed (Claim a)) → Contains (mid x v) (AddressClaimed (Claim a))
     unfolding mid
     kept_list x a unlike had =
-        cond_both (eqb x u && eqb v v) rest (claims x v) (λ xs. Contains xs (Told (Claim a)))
+        cond_both (eqb x u && eqb v v) rest (claims x v) (λ xs. Contains xs (AddressClaimed (Claim a)))
         (λ both. let same : x ≡ u = eqb-true x u (and_parts (eqb x u) (eqb v v) both).0 in
-        in_rest item (Told (Claim a)) rest (subst (λ xs. Contains xs (Told (Claim a))) (ap (λ k. claims k v) same ∙ list) had) unlike)
+        in_rest item (AddressClaimed (Claim a)) rest (subst (λ xs. Contains xs (AddressClaimed (Claim a))) (ap (λ k. claims k v) same ∙ list) had) unlike)
         (λ _. had)
 
     all_said : AllSaid (λ k. IsSaid (unit_at units k)) mid
@@ -216,26 +216,26 @@ module _ (units : List PlannedUnit) (stations : Stations) (claims : Undelivered)
           | inr claims ↦ rw claims.1 (claims.3, tt)
         ]
 
-    -- whoever holds what v holds now is told so, or has still to tell v
-    told_by_v : (z b : ℕ) → z ≢ v → IsHolding (stations z) b → new.address ≡ Some b → IsClaimUndelivered after v z b
+    -- whoever holds what v holds now is to hear so, or v has still to hear it
+    stated_by_v : (z b : ℕ) → z ≢ v → IsHolding (stations z) b → new.address ≡ Some b → IsClaimUndelivered after v z b
     unfolding after now
-    told_by_v z b z_other holding at_v =
+    stated_by_v z b z_other holding at_v =
         let items : List Item = answer_items says in
         elim (t.outcome) [
           | inl quiet ↦
               let was : (stations v).address ≡ Some b = sym quiet.1 ∙ at_v in
               elim (inv.apart v z b (λ e. z_other (sym e)) on_v holding.on was holding.address) [
-                | inl to_z ↦ inl (still (changed stations v new) mid v items v z (Told (Claim b)) (rw (other_list v z z_other) to_z))
-                | inr to_v ↦ inr (still (changed stations v new) mid v items z v (Told (Claim b)) (kept_list z b (quiet.2 b was) to_v))
+                | inl to_z ↦ inl (still (changed stations v new) mid v items v z (AddressClaimed (Claim b)) (rw (other_list v z z_other) to_z))
+                | inr to_v ↦ inr (still (changed stations v new) mid v items z v (AddressClaimed (Claim b)) (kept_list z b (quiet.2 b was) to_v))
               ]
           | inr claims ↦
               let same : claims.0 ≡ b = let e = sym claims.2 ∙ at_v in cc in
               let on : (changed stations v new z).on ≡ true = ap (λ s. s.on) (changed_elsewhere stations v new z z_other) ∙ holding.on in
-              inl (told (changed stations v new) mid v items z (Told (Claim b)) on z_other (rw claims.1 (in_one claims.0 b same)))
+              inl (stated (changed stations v new) mid v items z (AddressClaimed (Claim b)) on z_other (rw claims.1 (in_one claims.0 b same)))
         ]
 
     pub give_keeps : AddressInvariant units (changed stations v new)
-        (told_to_others (changed stations v new) (changed_pair claims u v rest) v (answer_items says))
+        (sent_to_others (changed stations v new) (changed_pair claims u v rest) v (answer_items says))
     unfolding now mid after
     give_keeps =
         let items : List Item = answer_items says in
@@ -247,9 +247,9 @@ module _ (units : List PlannedUnit) (stations : Stations) (claims : Undelivered)
                 | inr claims ↦ (claims.0, claims.2, claims.3)
               ]) inv.holds;
           apart = λ x y a other on_x on_y address_x address_y.
-              clash_cases (IsClaimUndelivered after) (swapped after) stations v new told_by_v
+              clash_cases (IsClaimUndelivered after) (swapped after) stations v new stated_by_v
               (λ y z b y_other z_other c.
-              told_still (changed stations v new) mid v items y z b (rw (other_list y z z_other, other_list z y y_other) (clash_told y z b c)))
+              stated_still (changed stations v new) mid v items y z b (rw (other_list y z z_other, other_list z y y_other) (clash_stated y z b c)))
               x y a (record { apart = other; one = record { on = on_x; address = address_x }; other = record { on = on_y; address = address_y } });
           said = said_more (changed stations v new) mid v items (λ k. IsSaid (unit_at units k)) all_said said_by_v;
           itself = not_itself (changed stations v new) mid v items no_list_itself;

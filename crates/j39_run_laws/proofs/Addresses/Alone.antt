@@ -4,7 +4,7 @@ use Rattle.std.proofs.lemmas.Bool.{true≢false, cases_Bool}
 use Rattle.std.specs.FinSet.{contains}
 use Rattle.std.specs.List.{Contains}
 use Rattle.j39_claim.specs.declared.item.Say.TheVariants.{Claim}
-use Rattle.j39_claim.specs.declared.item.Item.TheVariants.{Told}
+use Rattle.j39_claim.specs.declared.item.Item.TheVariants.{AddressClaimed}
 use Rattle.j39_id.specs.Name.{is_arbitrary}
 use Rattle.j39_findings.specs.Findings.{Clean}
 use Rattle.j39_network.specs.declared.plan.Plan.{Plan}
@@ -63,7 +63,7 @@ module _ (plan : Plan) (clean : Clean plan) (u : ℕ) (alone : IsAloneThere plan
       ]
 
   -- nor does any claim it
-  pub unclaimed : Always plan (λ w. EachOther (units_of plan) u (λ v. ¬ Contains (w.claims v u) (Told (Claim (unit_at (units_of plan) u).preferred))))
+  pub unclaimed : Always plan (λ w. EachOther (units_of plan) u (λ v. ¬ Contains (w.claims v u) (AddressClaimed (Claim (unit_at (units_of plan) u).preferred))))
   unclaimed steps w run v in_v other claim =
       elim (claimed plan steps w run v u (unit_at (units_of plan) u).preferred claim) [
         | inl planned ↦ alone.planned v in_v other (sym planned)

@@ -157,7 +157,7 @@ module _ (plan joined : Plan) (ss : List UnitPlan) (clean : Clean plan) (come : 
     | inl inside ↦ clean (found.SilentInPool i) (record {
       value = x.value;
       value_is = unit_here i inside x.value x.value_is;
-      meets = (x.meets.0, x.meets.1, inr come.told);
+      meets = (x.meets.0, x.meets.1, inr come.stated);
     })
     | inr past ↦
         let (in_i, is) = at i x.value x.value_is in
@@ -175,7 +175,7 @@ module _ (plan joined : Plan) (ss : List UnitPlan) (clean : Clean plan) (come : 
   alone_still u (alone, known) none_claims =
       let in_plan : u < length planned = (let inside = alone.inside in omega (arith, inside, length-map planned (planned_unit plan.keep_free))) in
       let outside : IsOutsidePool (units_of plan) u = elim known [
-        | inl none ↦ (let told = come.told in absurd (omega (arith, none, told)))
+        | inl none ↦ (let stated = come.stated in absurd (omega (arith, none, stated)))
         | inr is ↦ is
       ] in
       let count : length joined.units.items ≡ length planned + length ss = ap length come.behind ∙ length-append planned ss in

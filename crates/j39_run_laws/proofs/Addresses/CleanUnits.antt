@@ -165,8 +165,8 @@ unkept plan clean i inside arbitrary =
     ap (λ (c : PlannedUnit). contains plan.keep_free c.preferred) at ∙ free
 
 -- the pool has an address that isn't kept free for each that needs one, and for each stranger
-pub room_told : (plan : Plan) → Clean plan → count_by (needs_pool_address plan.keep_free) plan.units.items + plan.strangers ≤ free_count plan.keep_free
-room_told plan clean =
+pub room_stated : (plan : Plan) → Clean plan → count_by (needs_pool_address plan.keep_free) plan.units.items + plan.strangers ≤ free_count plan.keep_free
+room_stated plan clean =
     let needed = needed_addresses plan.keep_free plan.strangers plan.units.items in
     let planned = count_by (needs_pool_address plan.keep_free) plan.units.items in
     elim (cases_lt (free_count plan.keep_free) needed) [
@@ -197,7 +197,7 @@ clean_units plan clean = record {
   kept = λ i inside.
       let (p, is, at) = placed plan.keep_free plan.units.items i inside in
       ap (λ (c : PlannedUnit). c.kept) at;
-  room = omega (arith, count plan.keep_free plan.units.items, room_told plan clean);
+  room = omega (arith, count plan.keep_free plan.units.items, room_stated plan clean);
   unkept = λ i inside arbitrary.
       let (p, is, at) = placed plan.keep_free plan.units.items i inside in
       ap (λ (c : PlannedUnit). contains c.kept (unit_at (units_of plan) i).preferred) at ∙ unkept plan clean i inside arbitrary;

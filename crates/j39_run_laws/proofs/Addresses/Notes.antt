@@ -8,7 +8,7 @@ use Rattle.std.specs.FinMap.{FinMap, get, insert, remove, get-insert, get-remove
 use Rattle.j39_claim.specs.declared.item.Say.{Say}
 use Rattle.j39_claim.specs.declared.item.Say.TheVariants.{Claim, Cannot}
 use Rattle.j39_claim.specs.declared.item.Item.{Item}
-use Rattle.j39_claim.specs.declared.item.Item.TheVariants.{Told, Request}
+use Rattle.j39_claim.specs.declared.item.Item.TheVariants.{AddressClaimed, Request}
 use Rattle.j39_claim.specs.ClaimRule.{PlannedUnit, ClaimState, Answers, Moves, GivesUp, Reacts, holds_address}
 
 module _ (notes : FinMap nat_cmp ℕ) (n : ℕ) where
@@ -56,7 +56,7 @@ module _ (c : PlannedUnit) (s : ClaimState) (n a : ℕ) (says : Option Say) (new
 
   -- the unit holds it and loses it to a smaller NAME, or defends it, or doesn't hold it
   pub claim_cases : (R : Type 0) → (s.address ≡ Some a → n < c.name → IsLost → R) → (s.address ≡ Some a → c.name ≤ n → IsDefended → R)
-      → (s.address ≢ Some a → IsIgnored → R) → Answers c s n (Told (Claim a)) says new → R
+      → (s.address ≢ Some a → IsIgnored → R) → Answers c s n (AddressClaimed (Claim a)) says new → R
   claim_cases R loses defends ignores answers =
       elim (holds_address s.address a) as (λ e. holds_address s.address a ≡ e → MatchBool e (MatchBool (ltb n c.name) IsLost IsDefended) IsIgnored → R) [
         | true ↦ λ holds. elim (ltb n c.name) as (λ e. ltb n c.name ≡ e → MatchBool e IsLost IsDefended → R) [
@@ -69,14 +69,14 @@ module _ (c : PlannedUnit) (s : ClaimState) (n a : ℕ) (says : Option Say) (new
 -- ---- whatever a unit hears, it is on as it was
 
 answers_on : (c : PlannedUnit) (s : ClaimState) (n : ℕ) (item : Item) (says : Option Say) (new : ClaimState) → Answers c s n item says new → new.on ≡ s.on
-answers_on c s n (Told (Claim a)) says new answers = claim_cases c s n a says new (new.on ≡ s.on)
+answers_on c s n (AddressClaimed (Claim a)) says new answers = claim_cases c s n a says new (new.on ≡ s.on)
     (λ held smaller lost. elim lost [
       | inl moves ↦ ap (λ (x : ClaimState). x.on) moves.4
       | inr gives_up ↦ ap (λ (x : ClaimState). x.on) gives_up.2
     ])
     (λ held least defends. ap (λ (x : ClaimState). x.on) defends.1)
     (λ other ignores. ap (λ (x : ClaimState). x.on) ignores.1) answers
-answers_on c s n (Told Cannot) says new answers = ap (λ (x : ClaimState). x.on) answers.1
+answers_on c s n (AddressClaimed Cannot) says new answers = ap (λ (x : ClaimState). x.on) answers.1
 answers_on c s n Request says new answers = ap (λ (x : ClaimState). x.on) answers.1
 
 pub reacts_on : (c : PlannedUnit) (s : ClaimState) (n : ℕ) (item : Item) (says : Option Say) (new : ClaimState) → Reacts c s n item says new → new.on ≡ s.on

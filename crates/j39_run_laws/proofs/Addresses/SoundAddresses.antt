@@ -8,14 +8,14 @@ use Rattle.std.specs.Ordering.{nat_cmp}
 use Rattle.std.proofs.lemmas.List.Elements.{All-contains, All-from_recursion}
 use Rattle.std.specs.List.{AllByRecursion, Contains}
 use Rattle.j39_claim.specs.declared.item.Item.{Item}
-use Rattle.j39_claim.specs.declared.item.Item.TheVariants.{Told}
+use Rattle.j39_claim.specs.declared.item.Item.TheVariants.{AddressClaimed}
 use Rattle.j39_claim.specs.declared.item.Say.TheVariants.{Claim}
 use Rattle.j39_claim.specs.declared.item.Say.{Say}
 use Rattle.j39_claim.specs.ClaimRule.{PlannedUnit, ClaimState, Answers, started}
 use Rattle.j39_id.specs.Name.{is_arbitrary}
 use Rattle.j39_network.specs.declared.plan.Plan.{Plan}
 use Rattle.j39_network.specs.declared.plan.unit_plan.UnitPlan.{UnitPlan}
-use Rattle.j39_world.specs.ClaimSteps.{told_to_others, without_lists_to}
+use Rattle.j39_world.specs.ClaimSteps.{sent_to_others, without_lists_to}
 use Rattle.j39_network.specs.PlannedUnits.{planned_unit, units_of, unit_at}
 use Rattle.j39_world.specs.Sound.{AreAddressesSound, AreAddressesDifferent, AreKeptFree, IsQuiet}
 use Rattle.j39_world.specs.SoundPlan.{Always}
@@ -26,7 +26,7 @@ use Rattle.j39_run_laws.proofs.Addresses.AddressSteps.{up_keeps, up_silently, do
 use Rattle.j39_run_laws.proofs.Addresses.CleanUnits.{IsClean}
 use Rattle.j39_run_laws.proofs.Addresses.Turns.{alone_there, passes_over, turn}
 use Rattle.j39_run_laws.proofs.Runs.Always.{always}
-use Rattle.j39_run_laws.proofs.Runs.ClaimInvariants.{IsKeptByClaimSteps, stations_given, claims_given, claim_steps_keep, still, told_nothing}
+use Rattle.j39_run_laws.proofs.Runs.ClaimInvariants.{IsKeptByClaimSteps, stations_given, claims_given, claim_steps_keep, still, stated_nothing}
 use Rattle.j39_run_laws.proofs.Runs.Units.{in_units}
 
 at_first : (units : List PlannedUnit) → AddressInvariant units all_off.stations all_off.claims
@@ -60,9 +60,9 @@ passed_over units clean stations claims inv u v in_u in_v on silent item rest li
     let said : AllByRecursion (IsSaid (unit_at units u)) (item ∷ rest) = subst (AllByRecursion (IsSaid (unit_at units u))) list (inv.said u v) in
     let t = passes_over units clean u v in_u in_v other (stations v) (inv.holds v on) (inv.notes v) silent item said.0 in
     let left : Undelivered = changed_pair claims u v rest in
-    let told = give_keeps units stations claims inv u v other on item rest list None (stations v) t in
-    subst (AddressInvariant units stations) (told_nothing stations left v)
-    (subst (λ f. AddressInvariant units f (told_to_others f left v [])) (still stations v) told)
+    let stated = give_keeps units stations claims inv u v other on item rest list None (stations v) t in
+    subst (AddressInvariant units stations) (stated_nothing stations left v)
+    (subst (λ f. AddressInvariant units f (sent_to_others f left v [])) (still stations v) stated)
 
 -- a unit may hold the address that it prefers
 prefers_own : (units : List PlannedUnit) → IsClean units → (u : ℕ) → u < length units → IsOwn (unit_at units u) (unit_at units u).preferred
@@ -74,7 +74,7 @@ claim_steps plan clean = record {
       (prefers_own (units_of plan) clean u (in_units plan u unit));
   switched_on_silently = λ stations claims inv u unit silent.
       let new : Stations = changed stations u (started (unit_at (units_of plan) u)) in
-      subst (AddressInvariant (units_of plan) new) (told_nothing new (without_lists_to u claims) u)
+      subst (AddressInvariant (units_of plan) new) (stated_nothing new (without_lists_to u claims) u)
       (up_silently (units_of plan) stations claims inv u (in_units plan u unit) (prefers_own (units_of plan) clean u (in_units plan u unit))
       (λ z a in_z other. alone_there (units_of plan) clean u (in_units plan u unit) silent z a in_z other));
   switched_off = λ stations claims inv u. down_keeps (units_of plan) stations claims inv u;
@@ -124,11 +124,11 @@ kept_free plan clean steps w run u a on arbitrary is =
     ∙ (ap (contains (unit_at (units_of plan) u).kept) (sym same) ∙ own.unkept arbitrary)
 
 -- nor is any claimed
-pub kept_unclaimed : (plan : Plan) → IsClean (units_of plan) → Always plan (λ w. (u v a : ℕ) → Contains (w.claims u v) (Told (Claim a))
+pub kept_unclaimed : (plan : Plan) → IsClean (units_of plan) → Always plan (λ w. (u v a : ℕ) → Contains (w.claims u v) (AddressClaimed (Claim a))
     → is_arbitrary (unit_at (units_of plan) u).name ≡ true → contains plan.keep_free a ≡ false)
 kept_unclaimed plan clean steps w run u v a claim arbitrary =
     let own : IsOwn (unit_at (units_of plan) u) a =
-    All-contains (IsSaid (unit_at (units_of plan) u)) (w.claims u v) (Told (Claim a))
+    All-contains (IsSaid (unit_at (units_of plan) u)) (w.claims u v) (AddressClaimed (Claim a))
     (All-from_recursion (IsSaid (unit_at (units_of plan) u)) (w.claims u v) ((invariant plan clean steps w run).said u v)) claim in
     sym (ap (λ k. contains k a) (kept_at plan.keep_free plan.units.items u arbitrary)) ∙ own.unkept arbitrary
 

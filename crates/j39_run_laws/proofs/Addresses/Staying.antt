@@ -8,7 +8,7 @@ use Rattle.j39_id.specs.Name.{is_arbitrary}
 use Rattle.j39_claim.specs.declared.item.Say.{Say}
 use Rattle.j39_claim.specs.declared.item.Say.TheVariants.{Claim, Cannot}
 use Rattle.j39_claim.specs.declared.item.Item.{Item}
-use Rattle.j39_claim.specs.declared.item.Item.TheVariants.{Told, Request}
+use Rattle.j39_claim.specs.declared.item.Item.TheVariants.{AddressClaimed, Request}
 use Rattle.j39_claim.specs.ClaimRule.{PlannedUnit, ClaimState, Answers, claim_of, off, started}
 use Rattle.j39_network.specs.declared.plan.Plan.{Plan}
 use Rattle.j39_network.specs.PlannedUnits.{units_of, unit_at}
@@ -18,7 +18,7 @@ use Rattle.j39_network.specs.Staying.{EachSmaller, IsFirstThere, Stays}
 use Rattle.j39_world.specs.HeldAddresses.{HoldsPlanned, StaysByOthers}
 use Rattle.j39_world.specs.World.{Stations, Undelivered, all_off, changed}
 use Rattle.j39_run_laws.proofs.Addresses.Notes.{claim_cases}
-use Rattle.j39_run_laws.proofs.Addresses.Telling.{AllSaid, said_more, said_without, said_rest}
+use Rattle.j39_run_laws.proofs.Addresses.SentToOthers.{AllSaid, said_more, said_without, said_rest}
 use Rattle.j39_run_laws.proofs.Runs.Always.{always}
 use Rattle.j39_run_laws.proofs.Runs.Changed.{changed_each}
 use Rattle.j39_run_laws.proofs.Runs.ClaimInvariants.{IsKeptByClaimSteps, stations_given, claims_given, claim_steps_keep}
@@ -44,14 +44,14 @@ module _ (units : List PlannedUnit) where
 
   -- a unit claims its planned address; only one that doesn't stay claims another, where units move to, or can claim none
   abbrev IsSaid : ℕ → Item → Type 0
-  IsSaid u (Told (Claim a)) =
+  IsSaid u (AddressClaimed (Claim a)) =
       (a ≡ (unit_at units u).preferred) ⊎ ((in_pool a ≡ true) × (is_arbitrary (unit_at units u).name ≡ true) × ¬ Stays units u)
-  IsSaid u (Told Cannot) = ¬ Stays units u
+  IsSaid u (AddressClaimed Cannot) = ¬ Stays units u
   IsSaid u Request = Unit {0}
 
   -- a unit holds what it may say
   abbrev IsHeld : ℕ → Option ℕ → Type 0
-  IsHeld u address = IsSaid u (Told (claim_of address))
+  IsHeld u address = IsSaid u (AddressClaimed (claim_of address))
 
   planned_held : (u : ℕ) → Stays units u → (address : Option ℕ) → IsHeld u address → address ≡ Some (unit_at units u).preferred
   planned_held u stays None held = absurd (held stays)
@@ -60,7 +60,7 @@ module _ (units : List PlannedUnit) where
 
   -- the address of a unit that stays is claimed by no unit of smaller NAME
   unclaimed : (v : ℕ) → Stays units v → (u : ℕ) → u < length units → (unit_at units u).name < (unit_at units v).name
-      → ¬ IsSaid u (Told (Claim (unit_at units v).preferred))
+      → ¬ IsSaid u (AddressClaimed (Claim (unit_at units v).preferred))
   unclaimed v stays u in_u smaller (inl planned) = stays.first u in_u smaller (sym planned)
   unclaimed v stays u in_u smaller (inr (pool, arbitrary, leaves)) = elim (stays.unmoved) [
     | inl outside ↦ true≢false (sym pool ∙ outside)
@@ -76,19 +76,19 @@ module _ (units : List PlannedUnit) where
     still_held : (new : ClaimState) → new.address ≡ s.address → IsHeld v new.address
     still_held new same = subst (IsHeld v) (sym same) held
 
-    loses : (a : ℕ) → IsSaid u (Told (Claim a)) → s.address ≡ Some a → (unit_at units u).name < (unit_at units v).name → ¬ Stays units v
+    loses : (a : ℕ) → IsSaid u (AddressClaimed (Claim a)) → s.address ≡ Some a → (unit_at units u).name < (unit_at units v).name → ¬ Stays units v
     loses a said has smaller stays =
         let same : a ≡ (unit_at units v).preferred = let e : Some a ≡ Some (unit_at units v).preferred = sym has ∙ planned_held v stays s.address held in cc in
-        unclaimed v stays u in_u smaller (subst (λ k. IsSaid u (Told (Claim k))) same said)
+        unclaimed v stays u in_u smaller (subst (λ k. IsSaid u (AddressClaimed (Claim k))) same said)
 
     turn : (item : Item) → IsSaid u item → (says : Option Say) (new : ClaimState)
         → Answers (unit_at units v) s (unit_at units u).name item says new → Turn v says new
-    turn (Told (Claim a)) said says new answers =
+    turn (AddressClaimed (Claim a)) said says new answers =
         claim_cases (unit_at units v) s (unit_at units u).name a says new (Turn v says new)
         (λ has smaller lost. let leaves : ¬ Stays units v = loses a said has smaller in
         elim lost [
           | inl (b, arbitrary, free, is, e) ↦
-              let moved : IsSaid v (Told (Claim b)) = inr (free.pool, arbitrary, leaves) in
+              let moved : IsSaid v (AddressClaimed (Claim b)) = inr (free.pool, arbitrary, leaves) in
               record { held = subst (IsHeld v) (sym (ap (λ t. t.address) e)) moved; said = rw is (moved, tt) }
           | inr (none, is, e) ↦
               record { held = subst (IsHeld v) (sym (ap (λ t. t.address) e)) leaves; said = rw is (leaves, tt) }
@@ -98,7 +98,7 @@ module _ (units : List PlannedUnit) where
           said = rw is (subst (IsHeld v) has held, tt);
         })
         (λ _ (is, e). record { held = still_held new (ap (λ t. t.address) e); said = rw is tt }) answers
-    turn (Told Cannot) said says new answers = record { held = still_held new (ap (λ t. t.address) answers.1); said = rw answers.0 tt }
+    turn (AddressClaimed Cannot) said says new answers = record { held = still_held new (ap (λ t. t.address) answers.1); said = rw answers.0 tt }
     turn Request said says new answers = record {
       held = still_held new (ap (λ t. t.address) answers.1);
       said = rw answers.0 (held, tt);
@@ -134,7 +134,7 @@ claim_steps plan =
       switched_on = λ stations claims inv u unit _. record {
         held = held_each units stations u (started (unit_at units u)) (λ _. inl refl) inv.held;
         said = said_more (changed stations u (started (unit_at units u))) (without_lists_to u claims) u
-            (Told (Claim (unit_at units u).preferred) ∷ []) (IsSaid units) (said_without (IsSaid units) claims u inv.said) (inl refl, tt);
+            (AddressClaimed (Claim (unit_at units u).preferred) ∷ []) (IsSaid units) (said_without (IsSaid units) claims u inv.said) (inl refl, tt);
       };
       switched_on_silently = λ stations claims inv u unit _. record {
         held = held_each units stations u (started (unit_at units u)) (λ _. inl refl) inv.held;
@@ -146,7 +146,7 @@ claim_steps plan =
       };
       asked = λ stations claims inv u unit _ on. record {
         held = inv.held;
-        said = said_more stations claims u (Request ∷ Told (claim_of (stations u).address) ∷ []) (IsSaid units) inv.said (tt, (inv.held u on, tt));
+        said = said_more stations claims u (Request ∷ AddressClaimed (claim_of (stations u).address) ∷ []) (IsSaid units) inv.said (tt, (inv.held u on, tt));
       };
       given = λ stations claims inv u v unit_u unit_v on _. give_keeps units stations claims inv u v (in_units plan u unit_u) on;
       passed_over = λ stations claims inv u v unit_u unit_v on _ item rest list. record {
@@ -172,9 +172,9 @@ pub stand : (plan : Plan) → Always plan (λ w. (u a : ℕ) → (w.stations u).
 stand plan steps w run u a on is = subst (IsHeld (units_of plan) u) is ((invariant plan steps w run).held u on)
 
 -- and so is what it has claimed that is undelivered
-pub claimed : (plan : Plan) → Always plan (λ w. (u v a : ℕ) → Contains (w.claims u v) (Told (Claim a))
+pub claimed : (plan : Plan) → Always plan (λ w. (u v a : ℕ) → Contains (w.claims u v) (AddressClaimed (Claim a))
     → (a ≡ (unit_at (units_of plan) u).preferred)
     ⊎ ((in_pool a ≡ true) × (is_arbitrary (unit_at (units_of plan) u).name ≡ true) × ¬ Stays (units_of plan) u))
 claimed plan steps w run u v a claim =
-    All-contains (IsSaid (units_of plan) u) (w.claims u v) (Told (Claim a))
+    All-contains (IsSaid (units_of plan) u) (w.claims u v) (AddressClaimed (Claim a))
     (All-from_recursion (IsSaid (units_of plan) u) (w.claims u v) ((invariant plan steps w run).said u v)) claim

@@ -1,4 +1,4 @@
--- With strangers: a clean plan has room for so many as it tells, and a unit that may not choose stays.
+-- With strangers: a clean plan has room for so many as it has, and a unit that may not choose stays.
 use Rattle.std.proofs.Common.{◌≡◌, ◌≢◌, ℕ, zero, suc, ◌+◌, ◌<◌, ◌≤◌, Bool, true, false, cond, not, ◌&&◌, List, [], ◌∷◌, ◌++◌, length, map, get_or, All, refl}
 use Rattle.std.proofs.Common.{sym, ap, ◌∙◌, subst, inl, inr}
 use Rattle.std.proofs.Common.{arith, leb, Some, None, ◌⊎◌}
@@ -28,7 +28,7 @@ use Rattle.j39_network.specs.Staying.{Stays, StaysBeside}
 use Rattle.j39_world.specs.HeldAddresses.{HoldsPlanned}
 use Rattle.j39_world.specs.Strangers.{HasStrangers}
 use Rattle.j39_run_laws.proofs.Addresses.AddressInvariant.{AllNoted, IsOwn}
-use Rattle.j39_run_laws.proofs.Addresses.CleanUnits.{IsClean, clean_units, count, names_in_range, needs_pool, room_told, unreached}
+use Rattle.j39_run_laws.proofs.Addresses.CleanUnits.{IsClean, clean_units, count, names_in_range, needs_pool, room_stated, unreached}
 use Rattle.j39_run_laws.proofs.Addresses.Counting.{count_all, count_either, count_none, count_range}
 use Rattle.j39_run_laws.proofs.Addresses.FreeAddress.{one_left}
 use Rattle.j39_run_laws.proofs.Addresses.SoundAddresses.{addresses_sound, invariant, quiet_apart}
@@ -172,7 +172,7 @@ module _ (plan : Plan) (clean : Clean plan) where
       let both = sum_by-append (λ x. cond (needs_pool_address empty x) 1 0) plan.units.items ss in
       let split = count_either (needs_pool_address empty) (needs_pool_address kept) (is_kept_there kept) (needs_or_kept kept) plan.units.items in
       let at_kept = count_kept kept plan.units.items fixed_apart in
-      omega (arith, both, few, split, at_kept, count_free kept, all_free, room_told plan clean)
+      omega (arith, both, few, split, at_kept, count_free kept, all_free, room_stated plan clean)
 
   room_for_all : (ss : List UnitPlan) → length ss ≤ plan.strangers → count_by (needs_pool_address empty) (plan.units.items ++ ss) ≤ free_count empty
   room_for_all ss few = room_for_few ss (let others = count_by-le-length (needs_pool_address empty) ss in omega (arith, few, others))
@@ -269,7 +269,7 @@ module _ (plan joined : Plan) (ss : List UnitPlan) (come : HasStrangers plan joi
     silent_kept = λ s inside silent pool.
         let there = is_planned_silent s inside silent in
         let none = (unreached plan clean s (in_plan s there) (sym (claiming s there) ∙ silent) (ap in_pool (sym (preferring s there)) ∙ pool)).1 in
-        let some = come.told in
+        let some = come.stated in
         absurd (omega (arith, none, some));
   }
 
@@ -293,7 +293,7 @@ module _ (plan joined : Plan) (ss : List UnitPlan) (come : HasStrangers plan joi
       let both = sum_by-append (λ x. cond (needs_pool_address plan.keep_free x) 1 0) planned ss in
       let others = count_by-le-length (needs_pool_address plan.keep_free) ss in
       let few = come.few in
-      omega (arith, both, others, room_told plan clean)
+      omega (arith, both, others, room_stated plan clean)
       )
 
   -- a unit that has an address of the pool which isn't kept free needs one
@@ -340,7 +340,7 @@ module _ (plan joined : Plan) (ss : List UnitPlan) (come : HasStrangers plan joi
   -- ---- who stays
 
   pub stays_beside : (u : ℕ) → u < length planned → StaysBeside plan.strangers (units_of plan) u → Stays (units_of joined) u
-  stays_beside u inside (stays, inl none) = let some = come.told in absurd (omega arith)
+  stays_beside u inside (stays, inl none) = let some = come.stated in absurd (omega arith)
   stays_beside u inside (stays, inr fixed) =
       let in_u : u < length (units_of joined) = omega (arith, inside, count_units) in
       let fixed_u : is_arbitrary (unit_at (units_of joined) u).name ≡ false = ap is_arbitrary (named u inside) ∙ fixed in

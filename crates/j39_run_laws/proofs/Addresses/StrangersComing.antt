@@ -1,4 +1,4 @@
--- Beside the units of a plan that tells of strangers as many of them can come, up to the limit of units: with NAMEs, labels and addresses of their own.
+-- Beside the units of a plan that has strangers as many of them can come, up to the limit of units: with NAMEs, labels and addresses of their own.
 use Rattle.std.proofs.Common.{◌≡◌, ◌≢◌, ℕ, zero, suc, ◌+◌, ◌-◌, ◌*◌, ◌/◌, ◌%◌, ◌^◌, ◌<◌, ◌≤◌, Bool, true, false, not, ◌&&◌, eqb, leb, ltb, List, [], ◌∷◌, ◌++◌}
 use Rattle.std.proofs.Common.{length, map, All, AllPairs, refl, sym, ap, ◌∙◌, subst, append-nil, inl, inr, arith, None}
 use Rattle.std.proofs.lemmas.Bool.{and_from, cases_lt, eq-eqb, eqb-false, le-leb, lt-ltb, ltb-true, or_left, or_parts, true≢false}
@@ -257,14 +257,14 @@ module _ (plan : Plan) (names : AreNamesDistinct (units_of plan)) where
 pub can_come : (plan : Plan) → AreNamesDistinct (units_of plan) → (k : ℕ) → 0 < plan.strangers → k ≤ plan.strangers → length plan.units.items + k ≤ unit_limit
     → (joined : Plan) × (strangers : List UnitPlan) × (length strangers ≡ k) × HasStrangers plan joined strangers
 unfolding joined
-can_come plan names k told few room =
+can_come plan names k stated few room =
     let all : AreBeside plan names k = beside plan names k room in
     let size = all.size in (
       joined plan names k room all,
       all.strangers,
       all.size,
       record {
-        told = told;
+        stated = stated;
         few = omega (arith, size, few);
         behind = refl;
         claim = all.claim;

@@ -10,7 +10,7 @@ use Rattle.j39_id.specs.Addresses.{in_pool}
 use Rattle.j39_claim.specs.declared.item.Say.{Say}
 use Rattle.j39_claim.specs.declared.item.Say.TheVariants.{Claim, Cannot}
 use Rattle.j39_claim.specs.declared.item.Item.{Item}
-use Rattle.j39_claim.specs.declared.item.Item.TheVariants.{Told, Request}
+use Rattle.j39_claim.specs.declared.item.Item.TheVariants.{AddressClaimed, Request}
 use Rattle.j39_claim.specs.AddressSets.{is_free}
 use Rattle.j39_claim.specs.ClaimRule.{PlannedUnit, ClaimState, Answers, IsFree, claim_of}
 use Rattle.j39_network.specs.PlannedUnits.{unit_at}
@@ -22,7 +22,7 @@ use Rattle.j39_run_laws.proofs.Runs.Units.{names_differ}
 
 -- either it says nothing and holds what it held, which the item doesn't claim, or it claims what it holds now
 abbrev pub IsQuietTurn : ClaimState → Item → Option Say → ClaimState → Type 0
-IsQuietTurn s item says new = (says ≡ None) × (new.address ≡ s.address) × ((a : ℕ) → s.address ≡ Some a → item ≢ Told (Claim a))
+IsQuietTurn s item says new = (says ≡ None) × (new.address ≡ s.address) × ((a : ℕ) → s.address ≡ Some a → item ≢ AddressClaimed (Claim a))
 
 abbrev pub IsClaimTurn : PlannedUnit → Option Say → ClaimState → Type 0
 IsClaimTurn p says new = (b : ℕ) × (says ≡ Some (Claim b)) × (new.address ≡ Some b) × IsOwn p b
@@ -119,7 +119,7 @@ module _ (units : List PlannedUnit) (clean : IsClean units) (u v : ℕ) (in_u : 
   -- what it then is, where it has noted a
   turn_with : (a : ℕ) → IsOwn (unit_at units u) a → (says : Option Say) (new : ClaimState) → new.on ≡ s.on
       → new.notes ≡ insert s.notes (unit_at units u).name a
-      → IsQuietTurn s (Told (Claim a)) says new ⊎ IsClaimTurn (unit_at units v) says new → Turn units v s (Told (Claim a)) says new
+      → IsQuietTurn s (AddressClaimed (Claim a)) says new ⊎ IsClaimTurn (unit_at units v) says new → Turn units v s (AddressClaimed (Claim a)) says new
   turn_with a own says new on notes outcome = record {
     on = on;
     notes = subst (AllNoted units v) (sym notes) (noted_more units u v a s.notes in_u other own all);
@@ -137,7 +137,7 @@ module _ (units : List PlannedUnit) (clean : IsClean units) (u v : ℕ) (in_u : 
     -- to lose an address is to find another, for a unit that claims
     loses : (a : ℕ) → IsOwn (unit_at units u) a → (says : Option Say) (new : ClaimState) → s.address ≡ Some a
         → (unit_at units u).name < (unit_at units v).name → IsLost (unit_at units v) s (unit_at units u).name a says new
-        → Turn units v s (Told (Claim a)) says new
+        → Turn units v s (AddressClaimed (Claim a)) says new
     loses a own says new has below (inl (b, arbitrary, free, said, is)) =
         turn_with a own says new (ap (λ t. t.on) is) (ap (λ t. t.notes) is)
         (inr (b, said, ap (λ t. t.address) is, record { fixed = λ fixed. absurd (true≢false (sym arbitrary ∙ fixed)); unkept = λ _. free.unkept; planned = inr free.pool; silent = λ silent. absurd (true≢false (sym claims ∙ silent)) }))
@@ -153,9 +153,9 @@ module _ (units : List PlannedUnit) (clean : IsClean units) (u v : ℕ) (in_u : 
         ])
 
     claimed : (a : ℕ) → IsOwn (unit_at units u) a → (says : Option Say) (new : ClaimState)
-        → Answers (unit_at units v) s (unit_at units u).name (Told (Claim a)) says new → Turn units v s (Told (Claim a)) says new
+        → Answers (unit_at units v) s (unit_at units u).name (AddressClaimed (Claim a)) says new → Turn units v s (AddressClaimed (Claim a)) says new
     claimed a own says new =
-        claim_cases (unit_at units v) s (unit_at units u).name a says new (Turn units v s (Told (Claim a)) says new)
+        claim_cases (unit_at units v) s (unit_at units u).name a says new (Turn units v s (AddressClaimed (Claim a)) says new)
         (loses a own says new)
         (λ has _ (said, is).
         turn_with a own says new (ap (λ t. t.on) is) (ap (λ t. t.notes) is) (inr (a, said, ap (λ t. t.address) is ∙ has, own_held a has)))
@@ -165,8 +165,8 @@ module _ (units : List PlannedUnit) (clean : IsClean units) (u v : ℕ) (in_u : 
 
     pub turn : (item : Item) → IsSaid (unit_at units u) item → (says : Option Say) (new : ClaimState)
         → Answers (unit_at units v) s (unit_at units u).name item says new → Turn units v s item says new
-    turn (Told (Claim a)) own says new answers = claimed a own says new answers
-    turn (Told Cannot) never says new answers = absurd never
+    turn (AddressClaimed (Claim a)) own says new answers = claimed a own says new answers
+    turn (AddressClaimed Cannot) never says new answers = absurd never
     turn Request _ says new answers =
         let (b, holds, own_b) = held in
         record {

@@ -9,7 +9,7 @@ use Rattle.j39_id.specs.Name.{is_arbitrary}
 use Rattle.j39_claim.specs.declared.item.Say.{Say}
 use Rattle.j39_claim.specs.declared.item.Say.TheVariants.{Claim, Cannot}
 use Rattle.j39_claim.specs.declared.item.Item.{Item}
-use Rattle.j39_claim.specs.declared.item.Item.TheVariants.{Told}
+use Rattle.j39_claim.specs.declared.item.Item.TheVariants.{AddressClaimed}
 use Rattle.j39_claim.specs.ClaimRule.{PlannedUnit, ClaimState, Answers, holds_address, started}
 use Rattle.j39_network.specs.UnitAddresses.{IsFixed}
 use Rattle.j39_findings.specs.ConflictRuns.{IsConflictRun, conflict_steps}
@@ -21,7 +21,7 @@ use Rattle.j39_network.specs.declared.steps.Step.{Step}
 use Rattle.j39_network.specs.declared.steps.Step.TheVariants.{Up, Give}
 use Rattle.j39_world.specs.declared.wired.Wired.{Wired}
 use Rattle.j39_network.specs.PlannedUnits.{units_of, unit_at}
-use Rattle.j39_world.specs.ClaimSteps.{GivenFrom, switched_on, heard_and_answered, told_to_others, without_lists_to, answer_items, first_items}
+use Rattle.j39_world.specs.ClaimSteps.{GivenFrom, switched_on, heard_and_answered, sent_to_others, without_lists_to, answer_items, first_items}
 use Rattle.j39_world.specs.Conflict.{IsLeftWithoutAddress, LeavesWithoutAddress}
 use Rattle.j39_world.specs.Run.{count_of, is_a_transfer_open, is_on, is_none_sending, is_nothing_undelivered, is_no_transfer_open, refusal, Run, RunsThrough}
 use Rattle.j39_world.specs.World.{World, Stations, Undelivered, all_off, changed, changed_pair, is_other_on}
@@ -33,11 +33,11 @@ use Rattle.j39_run_laws.proofs.Runs.Changed.{IsElsewhere, changed_here, changed_
 use Rattle.j39_run_laws.proofs.Runs.Always.{follows_to_leads, leads_to_follows}
 use Rattle.j39_run_laws.proofs.Runs.Conditions.{is_unit, none_unknown, not_refused}
 
--- ---- who is told, where few are on
+-- ---- who hears, where few are on
 
 module _ (stations : Stations) (claims : Undelivered) (u : ℕ) (items : List Item) where
-  not_told : (s t : ℕ) → is_other_on stations u t ≡ false → told_to_others stations claims u items s t ≡ claims s t
-  not_told s t deaf = cond-false (eqb s u && is_other_on stations u t) (claims s t ++ items) (claims s t) (and_right (eqb s u) (is_other_on stations u t) deaf)
+  not_reported : (s t : ℕ) → is_other_on stations u t ≡ false → sent_to_others stations claims u items s t ≡ claims s t
+  not_reported s t deaf = cond-false (eqb s u && is_other_on stations u t) (claims s t ++ items) (claims s t) (and_right (eqb s u) (is_other_on stations u t) deaf)
 
   is_deaf : (t : ℕ) → (t ≢ u → (stations t).on ≡ false) → is_other_on stations u t ≡ false
   is_deaf t off = elim (cases_eq t u) [
@@ -45,23 +45,23 @@ module _ (stations : Stations) (claims : Undelivered) (u : ℕ) (items : List It
     | inr other ↦ and_left (stations t).on (not (eqb t u)) (off other)
   ]
 
-  -- where it alone is on, nobody is told
-  nobody_told : ((t : ℕ) → t ≢ u → (stations t).on ≡ false) → (s t : ℕ) → told_to_others stations claims u items s t ≡ claims s t
-  nobody_told off s t = not_told s t (is_deaf t (off t))
+  -- where it alone is on, nobody hears
+  nobody_stated : ((t : ℕ) → t ≢ u → (stations t).on ≡ false) → (s t : ℕ) → sent_to_others stations claims u items s t ≡ claims s t
+  nobody_stated off s t = not_reported s t (is_deaf t (off t))
 
   module _ (v : ℕ) (apart : v ≢ u) (off : (t : ℕ) → t ≢ u → t ≢ v → (stations t).on ≡ false) where
-    -- where one other is on, this one is told
-    one_told : (stations v).on ≡ true → told_to_others stations claims u items u v ≡ claims u v ++ items
-    one_told on =
+    -- where one other is on, this one hears
+    one_stated : (stations v).on ≡ true → sent_to_others stations claims u items u v ≡ claims u v ++ items
+    one_stated on =
         let here : (eqb u u && is_other_on stations u v) ≡ true =
         and_from (eqb u u) (is_other_on stations u v) (eq-eqb u u refl) (and_from (stations v).on (not (eqb v u)) on (ap not (ne_eqb v u apart))) in
         cond-true (eqb u u && is_other_on stations u v) (claims u v ++ items) (claims u v) here
 
-    no_other_told : (s t : ℕ) → IsElsewhere u v s t → told_to_others stations claims u items s t ≡ claims s t
-    no_other_told s t elsewhere = elim (cases_eq s u) [
+    no_other_stated : (s t : ℕ) → IsElsewhere u v s t → sent_to_others stations claims u items s t ≡ claims s t
+    no_other_stated s t elsewhere = elim (cases_eq s u) [
       | inr other ↦ cond-false (eqb s u && is_other_on stations u t) (claims s t ++ items) (claims s t)
           (and_left (eqb s u) (is_other_on stations u t) (ne_eqb s u other))
-      | inl same ↦ not_told s t (is_deaf t (λ not_u. off t not_u (elsewhere same)))
+      | inl same ↦ not_reported s t (is_deaf t (λ not_u. off t not_u (elsewhere same)))
     ]
 
 -- ---- a unit that loses its address and may not move
@@ -72,7 +72,7 @@ module _ (c : PlannedUnit) (n : ℕ) (fixed : is_arbitrary c.name ≡ false) (sm
     pub on : new.on ≡ true
     pub without : new.address ≡ None
 
-  yields : (a : ℕ) → c.preferred ≡ a → (says : Option Say) (new : ClaimState) → Answers c (started c) n (Told (Claim a)) says new → Yields says new
+  yields : (a : ℕ) → c.preferred ≡ a → (says : Option Say) (new : ClaimState) → Answers c (started c) n (AddressClaimed (Claim a)) says new → Yields says new
   yields a same says new answers =
       let held : holds_address (started c).address a ≡ true = eq-eqb c.preferred a same in
       let less : ltb n c.name ≡ true = lt-ltb n c.name smaller in
@@ -117,7 +117,7 @@ module _ (plan : Plan) (l s : ℕ) (unit_l : is_unit plan l ≡ true) (unit_s : 
     pub untaken : (x y : ℕ) → w.wire x y ≡ []
     pub one : w.stations l ≡ started loser
     pub off : (t : ℕ) → t ≢ l → (w.stations t).on ≡ false
-    pub told : (x y : ℕ) → w.claims x y ≡ []
+    pub stated : (x y : ℕ) → w.claims x y ≡ []
 
   pub record AreTwoOn (item : Item) (from to : ℕ) (w : World) : Type 0 where
     pub silent : (u : ℕ) → w.sessions u ≡ None
@@ -125,7 +125,7 @@ module _ (plan : Plan) (l s : ℕ) (unit_l : is_unit plan l ≡ true) (unit_s : 
     pub on_s : (w.stations s).on ≡ true
     pub off : (t : ℕ) → t ≢ l → t ≢ s → (w.stations t).on ≡ false
     pub list : w.claims from to ≡ item ∷ []
-    pub told : (x y : ℕ) → IsElsewhere from to x y → w.claims x y ≡ []
+    pub stated : (x y : ℕ) → IsElsewhere from to x y → w.claims x y ≡ []
 
   nothing : {X : Type 0} (b : Bool) (xs : List X) → xs ≡ [] → cond b [] xs ≡ []
   nothing true xs is = refl
@@ -150,7 +150,7 @@ module _ (plan : Plan) (l s : ℕ) (unit_l : is_unit plan l ≡ true) (unit_s : 
         untaken = λ x y. nothing (eqb y l) [] refl;
         one = changed_here all_off.stations l (started loser);
         off = off;
-        told = λ x y. nobody_told new (without_lists_to l all_off.claims) l (first_items loser) off x y
+        stated = λ x y. nobody_stated new (without_lists_to l all_off.claims) l (first_items loser) off x y
             ∙ nothing (eqb y l) [] refl;
       }
 
@@ -166,7 +166,7 @@ module _ (plan : Plan) (l s : ℕ) (unit_l : is_unit plan l ≡ true) (unit_s : 
   still_one : (w : World) → IsOneOn w → (switched_on (units_of plan) w s).stations l ≡ started loser
   still_one w is = changed_elsewhere w.stations s (started winner) l apart ∙ is.one
 
-  two_on : (w : World) → IsOneOn w → AreTwoOn (Told (Claim winner.preferred)) s l (switched_on (units_of plan) w s)
+  two_on : (w : World) → IsOneOn w → AreTwoOn (AddressClaimed (Claim winner.preferred)) s l (switched_on (units_of plan) w s)
   two_on w is =
       let new : Stations = changed w.stations s (started winner) in
       let mid : Undelivered = without_lists_to s w.claims in
@@ -181,8 +181,8 @@ module _ (plan : Plan) (l s : ℕ) (unit_l : is_unit plan l ≡ true) (unit_s : 
         on_s = ap (λ (x : ClaimState). x.on) (changed_here w.stations s (started winner));
         off = λ t not_l not_s. off t not_s not_l;
         list =
-            one_told new mid s items l apart off on_l ∙ ap (λ (xs : List Item). xs ++ items) (nothing (eqb l s) (w.claims s l) (is.told s l)) ∙ first_said winner claims_s;
-        told = λ x y elsewhere. no_other_told new mid s items l apart off x y elsewhere ∙ nothing (eqb y s) (w.claims x y) (is.told x y);
+            one_stated new mid s items l apart off on_l ∙ ap (λ (xs : List Item). xs ++ items) (nothing (eqb l s) (w.claims s l) (is.stated s l)) ∙ first_said winner claims_s;
+        stated = λ x y elsewhere. no_other_stated new mid s items l apart off x y elsewhere ∙ nothing (eqb y s) (w.claims x y) (is.stated x y);
       }
 
   gives : (w : World) (item : Item) (from to : ℕ) → AreTwoOn item from to w → is_unit plan from ≡ true → is_unit plan to ≡ true → is_on w.stations to ≡ true
@@ -194,45 +194,45 @@ module _ (plan : Plan) (l s : ℕ) (unit_l : is_unit plan l ≡ true) (unit_s : 
   -- after the oldest item was heard nothing is undelivered
   heard_all : (claims : Undelivered) (from to : ℕ) → ((x y : ℕ) → IsElsewhere from to x y → claims x y ≡ []) → (x y : ℕ)
       → changed_pair claims from to [] x y ≡ []
-  heard_all claims from to told =
+  heard_all claims from to stated =
       pair_here_or_elsewhere (λ x y. changed_pair claims from to [] x y ≡ []) from to (pair_here claims from to [])
-      (λ x y elsewhere. pair_elsewhere claims from to [] x y elsewhere ∙ told x y elsewhere)
+      (λ x y elsewhere. pair_elsewhere claims from to [] x y elsewhere ∙ stated x y elsewhere)
 
   both_none : (xs ys : List Item) → xs ≡ [] → ys ≡ [] → xs ++ ys ≡ []
   both_none xs ys a b = rw (a, b)
 
   -- the larger NAME yields
   pub record IsYielding (w : World) : Type 0 where
-    pub two : AreTwoOn (Told Cannot) l s w
+    pub two : AreTwoOn (AddressClaimed Cannot) l s w
     pub without : (w.stations l).address ≡ None
 
-  yielding : (w : World) → AreTwoOn (Told (Claim winner.preferred)) s l w → w.stations l ≡ started loser
+  yielding : (w : World) → AreTwoOn (AddressClaimed (Claim winner.preferred)) s l w → w.stations l ≡ started loser
       → (new : World) → GivenFrom (units_of plan) w s l (w.claims s l) new → IsYielding new
   yielding w is one new leads =
       let (says, st, reacts, e) = subst (λ (xs : List Item). GivenFrom (units_of plan) w s l xs new) is.list leads in
       let answers = MatchBool-at_true _ _ claims_l reacts in
-      let item : Item = Told (Claim winner.preferred) in
+      let item : Item = AddressClaimed (Claim winner.preferred) in
       let y : Yields loser winner.name fixed smaller says st =
       yields loser winner.name fixed smaller winner.preferred same says st
       (subst (λ (x : ClaimState). Answers loser x winner.name item says st) one answers) in
       let now : Stations = changed w.stations l st in
       let mid : Undelivered = changed_pair w.claims s l [] in
-      let none : (x y : ℕ) → mid x y ≡ [] = heard_all w.claims s l is.told in
+      let none : (x y : ℕ) → mid x y ≡ [] = heard_all w.claims s l is.stated in
       let not_l : s ≢ l = λ e'. apart (sym e') in
       let at_l : now l ≡ st = changed_here w.stations l st in
       let on_s : (now s).on ≡ true = ap (λ (x : ClaimState). x.on) (changed_elsewhere w.stations l st s not_l) ∙ is.on_s in
       let off : (t : ℕ) → t ≢ l → t ≢ s → (now t).on ≡ false =
       λ t other_l other_s. ap (λ (x : ClaimState). x.on) (changed_elsewhere w.stations l st t other_l) ∙ is.off t other_l other_s in
-      let told : List Item = answer_items says in
-      let says_it : told ≡ Told Cannot ∷ [] = ap answer_items y.says_so in
+      let stated : List Item = answer_items says in
+      let says_it : stated ≡ AddressClaimed Cannot ∷ [] = ap answer_items y.says_so in
       subst IsYielding (sym e) (record {
         two = record {
           silent = is.silent;
           on_l = ap (λ (x : ClaimState). x.on) at_l ∙ y.on;
           on_s = on_s;
           off = off;
-          list = one_told now mid l told s not_l off on_s ∙ ap (λ (xs : List Item). xs ++ told) (none l s) ∙ says_it;
-          told = λ x y elsewhere. no_other_told now mid l told s not_l off x y elsewhere ∙ none x y;
+          list = one_stated now mid l stated s not_l off on_s ∙ ap (λ (xs : List Item). xs ++ stated) (none l s) ∙ says_it;
+          stated = λ x y elsewhere. no_other_stated now mid l stated s not_l off x y elsewhere ∙ none x y;
         };
         without = ap (λ (x : ClaimState). x.address) at_l ∙ y.without;
       })
@@ -242,11 +242,11 @@ module _ (plan : Plan) (l s : ℕ) (unit_l : is_unit plan l ≡ true) (unit_s : 
       let (says, st, reacts, e) = subst (λ (xs : List Item). GivenFrom (units_of plan) w l s xs new) is.two.list leads in
       let answers = MatchBool-at_true _ _ claims_s reacts in
       let mid : Undelivered = changed_pair w.claims l s [] in
-      let none : (x y : ℕ) → mid x y ≡ [] = heard_all w.claims l s is.two.told in
+      let none : (x y : ℕ) → mid x y ≡ [] = heard_all w.claims l s is.two.stated in
       let silent : answer_items says ≡ [] = ap answer_items answers.0 in
       let at_l : changed w.stations s st l ≡ w.stations l = changed_elsewhere w.stations s st l apart in
       subst (IsLeftWithoutAddress l) (sym e) (record {
-        quiet = quiet_where_empty (told_to_others (changed w.stations s st) mid s (answer_items says))
+        quiet = quiet_where_empty (sent_to_others (changed w.stations s st) mid s (answer_items says))
             (λ x y. cond_both (eqb x s && is_other_on (changed w.stations s st) s y) (mid x y ++ answer_items says) (mid x y) (λ xs. xs ≡ [])
             (λ _. both_none (mid x y) (answer_items says) (none x y) silent) (λ _. none x y));
         on = ap (λ (x : ClaimState). x.on) at_l ∙ is.two.on_l;
@@ -255,24 +255,24 @@ module _ (plan : Plan) (l s : ℕ) (unit_l : is_unit plan l ≡ true) (unit_s : 
 
   -- ---- the run
 
-  give_s : (w : World) → AreTwoOn (Told (Claim winner.preferred)) s l w → refusal plan w (Give s l) ≡ None
-  give_s w is = gives w (Told (Claim winner.preferred)) s l is unit_s unit_l is.on_l
+  give_s : (w : World) → AreTwoOn (AddressClaimed (Claim winner.preferred)) s l w → refusal plan w (Give s l) ≡ None
+  give_s w is = gives w (AddressClaimed (Claim winner.preferred)) s l is unit_s unit_l is.on_l
 
   give_l : (w : World) → IsYielding w → refusal plan w (Give l s) ≡ None
-  give_l w is = gives w (Told Cannot) l s is.two unit_l unit_s is.two.on_s
+  give_l w is = gives w (AddressClaimed Cannot) l s is.two unit_l unit_s is.two.on_s
 
   possible : (w : World) × Run plan all_off (conflict_steps l s) w
   possible =
       let w1 : World = switched_on (units_of plan) all_off l in
       let w2 : World = switched_on (units_of plan) w1 s in
       let is2 = two_on w1 one_on in
-      let claim : Item = Told (Claim winner.preferred) in
+      let claim : Item = AddressClaimed (Claim winner.preferred) in
       let (says3, st3, answers3) = reacted loser (w2.stations l) winner.name claim in
       let w3 : World = heard_and_answered (units_of plan) w2 s l [] says3 st3 in
       let leads3 : GivenFrom (units_of plan) w2 s l (w2.claims s l) w3 =
       subst (λ (xs : List Item). GivenFrom (units_of plan) w2 s l xs w3) (sym is2.list) (says3, st3, answers3, refl) in
       let is3 = yielding w2 is2 (still_one w1 one_on) w3 leads3 in
-      let (says4, st4, answers4) = reacted winner (w3.stations s) loser.name (Told Cannot) in
+      let (says4, st4, answers4) = reacted winner (w3.stations s) loser.name (AddressClaimed Cannot) in
       let w4 : World = heard_and_answered (units_of plan) w3 l s [] says4 st4 in
       let leads4 : GivenFrom (units_of plan) w3 l s (w3.claims l s) w4 =
       subst (λ (xs : List Item). GivenFrom (units_of plan) w3 l s xs w4) (sym is3.two.list) (says4, st4, answers4, refl) in (
@@ -293,15 +293,15 @@ module _ (plan : Plan) (l s : ℕ) (unit_l : is_unit plan l ≡ true) (unit_s : 
       let l1 : m1 ≡ switched_on (units_of plan) all_off l = follows_to_leads plan all_off (Up l) up_l m1 f1 in
       let is1 : IsOneOn m1 = subst IsOneOn (sym l1) one_on in
       let l2 : m2 ≡ switched_on (units_of plan) m1 s = follows_to_leads plan m1 (Up s) (up_s m1 is1) m2 f2 in
-      let is2 : AreTwoOn (Told (Claim winner.preferred)) s l m2 =
-      subst (AreTwoOn (Told (Claim winner.preferred)) s l) (sym l2) (two_on m1 is1) in
+      let is2 : AreTwoOn (AddressClaimed (Claim winner.preferred)) s l m2 =
+      subst (AreTwoOn (AddressClaimed (Claim winner.preferred)) s l) (sym l2) (two_on m1 is1) in
       let one2 : m2.stations l ≡ started loser = ap (λ (x : World). x.stations l) l2 ∙ still_one m1 is1 in
       let l3 = follows_to_leads plan m2 (Give s l) (give_s m2 is2) m3 f3 in
       let is3 : IsYielding m3 = yielding m2 is2 one2 m3 l3 in
       let l4 = follows_to_leads plan m3 (Give l s) (give_l m3 is3) m4 f4 in
       ((m1, up_l, l1, (m2, up_s m1 is1, l2, (m3, give_s m2 is2, l3, (m4, give_l m3 is3, l4, e)))), subst (IsLeftWithoutAddress l) (sym e) (left m3 is3 m4 l4))
 
--- ---- the units of which a finding tells
+-- ---- the units that a finding names
 
 -- of two units that are in conflict, at these places in one order or the other
 pub record AreFixedAlike (plan : Plan) (l s : ℕ) : Type 0 where
@@ -314,38 +314,30 @@ pub record AreFixedAlike (plan : Plan) (l s : ℕ) : Type 0 where
   pub claims_one : one.claims ≡ true
   pub claims_other : other.claims ≡ true
 
+at_places : (plan : Plan) (l s i j : ℕ) (one other : UnitPlan) → i ≡ l → j ≡ s → slice_get plan.units.items i ≡ Some one
+    → slice_get plan.units.items j ≡ Some other → IsFixed one → one.address ≡ other.address → one.claims ≡ true → other.claims ≡ true → AreFixedAlike plan l s
+at_places plan l s i j one other at_l at_s one_is other_is fixed address claims_one claims_other = record {
+  one = one;
+  other = other;
+  one_is = ap (λ k. slice_get plan.units.items k) (sym at_l) ∙ one_is;
+  other_is = ap (λ k. slice_get plan.units.items k) (sym at_s) ∙ other_is;
+  fixed = fixed;
+  address = address;
+  claims_one = claims_one;
+  claims_other = claims_other;
+}
+
 alike : (plan : Plan) (finding : Finding) (steps : List Step) (c : IsConflictRun plan finding steps) → AreFixedAlike plan c.larger c.smaller
 alike plan finding steps c =
-    let (i, j, is, pair) = c.tells in
+    let (i, j, is, pair) = c.states in
+    let (fixed_i, fixed_j, address, claims_i, claims_j) = pair.related.0 in
     elim (c.both) [
       | inl turned ↦
           let e : SameFixedAddress i j ≡ SameFixedAddress c.larger c.smaller = sym is ∙ turned in
-          let at_i : i ≡ c.larger = cc in
-          let at_j : j ≡ c.smaller = cc in
-          record {
-            one = pair.first;
-            other = pair.second;
-            one_is = ap (λ k. slice_get plan.units.items k) (sym at_i) ∙ pair.first_is;
-            other_is = ap (λ k. slice_get plan.units.items k) (sym at_j) ∙ pair.second_is;
-            fixed = pair.related.0.0;
-            address = pair.related.0.2;
-            claims_one = pair.related.0.3;
-            claims_other = pair.related.0.4;
-          }
+          at_places plan c.larger c.smaller i j pair.first pair.second (cc e) (cc e) pair.first_is pair.second_is fixed_i address claims_i claims_j
       | inr turned ↦
           let e : SameFixedAddress i j ≡ SameFixedAddress c.smaller c.larger = sym is ∙ turned in
-          let at_i : i ≡ c.smaller = cc in
-          let at_j : j ≡ c.larger = cc in
-          record {
-            one = pair.second;
-            other = pair.first;
-            one_is = ap (λ k. slice_get plan.units.items k) (sym at_j) ∙ pair.second_is;
-            other_is = ap (λ k. slice_get plan.units.items k) (sym at_i) ∙ pair.first_is;
-            fixed = pair.related.0.1;
-            address = sym pair.related.0.2;
-            claims_one = pair.related.0.4;
-            claims_other = pair.related.0.3;
-          }
+          at_places plan c.larger c.smaller j i pair.second pair.first (cc e) (cc e) pair.second_is pair.first_is fixed_j (sym address) claims_j claims_i
     ]
 
 pub leaves_without_address : (plan : Plan) (finding : Finding) (steps : List Step) (c : IsConflictRun plan finding steps)

@@ -14,9 +14,9 @@ use Rattle.j39_world.specs.declared.wired.Wired.TheVariants as wired
 use Rattle.j39_world.specs.Resting.{is_of_sender, is_of_receiver}
 use Rattle.j39_world.specs.Transfers.{closed_if_complete}
 use Rattle.j39_tp.specs.HonestPackets.{AnnouncesMessage}
-use Rattle.j39_tp.proofs.Answering.{IsNoAnnouncement, TellsNothing, TellsMessage, hears_told, announcement_told, closed_told, answers_announce_nothing}
+use Rattle.j39_tp.proofs.Answering.{IsNoAnnouncement, HoldsNothing, ReportsMessage, hears_stated, announcement_stated, closed_stated, answers_announce_nothing}
 use Rattle.j39_tp.proofs.Answering.{goes_on_unannounced}
-use Rattle.j39_tp.proofs.Honest.{tells_first, tells_more, carried_is}
+use Rattle.j39_tp.proofs.Honest.{states_first, states_more, carried_is}
 use Rattle.j39_run_laws.proofs.Runs.Elements.{all_tested}
 use Rattle.j39_run_laws.proofs.Reports.Hearings.{stays_closed}
 use Rattle.j39_run_laws.proofs.Reports.Exchanges.{Pair, Message, IsAnswering, IsUnacknowledging, ComesAfter, BeginsOnce, IsIdle, IsAhead, IsUnderWay}
@@ -59,12 +59,12 @@ heard_of window pair p = (hears (Answering window) pair.receiver p).1
 
 -- nothing is complete by it
 pub record TakesOn (o : Option Message) (window : ℕ) (pair : Pair) (p : Packet) (rest : List Wired) : Type 0 where
-  pub told : TellsNothing (heard_of window pair p)
+  pub stated : HoldsNothing (heard_of window pair p)
   pub keeps : Exchange o (record pair { wire = rest; receiver = receiver_after window pair p; taken = pair.taken ++ p ∷ [] })
 
 -- the message is complete by it, and all that is carried is the message
 pub record Completes (o : Option Message) (window : ℕ) (pair : Pair) (p : Packet) (rest : List Wired) : Type 0 where
-  pub told : TellsMessage (heard_of window pair p)
+  pub stated : ReportsMessage (heard_of window pair p)
   pub message : Message
   pub is : o ≡ Some message
   pub carried : (pgn : ℕ) (bytes : List ℕ) → Carried (pair.taken ++ p ∷ []) (length pair.taken) pgn bytes → bytes ≡ message.begun.bytes
@@ -81,51 +81,51 @@ Takes o window pair p rest = TakesOn o window pair p rest ⊎ Completes o window
 
 -- a closed receiver stays closed, but for an announcement
 still_closed : (window : ℕ) (pair : Pair) (p : Packet) → is_open_at pair.receiver ≡ false → IsNoAnnouncement p
-    → TellsNothing (heard_of window pair p) × (is_open_at (receiver_after window pair p) ≡ false)
+    → HoldsNothing (heard_of window pair p) × (is_open_at (receiver_after window pair p) ≡ false)
 still_closed window pair p closed other =
-    let told = closed_told window pair.receiver p closed other in
-    (told.0, stays_closed (hears (Answering window) pair.receiver p).0 told.1)
+    let stated = closed_stated window pair.receiver p closed other in
+    (stated.0, stays_closed (hears (Answering window) pair.receiver p).0 stated.1)
 
 idle_taken : (window : ℕ) (pair : Pair) (p : Packet) (rest : List Wired) → IsIdle pair → AllByRecursion IsAnswering (wired.Packet p ∷ rest)
     → Takes None window pair p rest
 idle_taken window pair p rest e wire =
     let heard = still_closed window pair p e.closed (answers_announce_nothing p wire.0) in
-    inl (record { told = heard.0; keeps = record { wire = wire.1; closed = heard.1; back = e.back; part = e.part } })
+    inl (record { stated = heard.0; keeps = record { wire = wire.1; closed = heard.1; back = e.back; part = e.part } })
 
 ahead_taken : (m : Message) (window : ℕ) (pair : Pair) (p : Packet) (rest : List Wired) → IsAhead m pair → BeginsOnce m (wired.Packet p ∷ rest)
     → Takes (Some m) window pair p rest
 ahead_taken m window pair p rest e (inl here) =
     let opens : AnnouncesMessage m.pgn m.begun.bytes p = here.0 in
     inl (record {
-      told = subst (λ (q : Packet). TellsNothing (hears (Answering window) pair.receiver q).1) (sym opens.1)
-          (announcement_told window pair.receiver opens.0 m.pgn (length m.begun.bytes));
-      keeps = inr (inl (record { wire = here.1; gathers = tells_first pair.taken m.pgn m.begun.bytes p opens; back = e.back; unreported = e.unreported }));
+      stated = subst (λ (q : Packet). HoldsNothing (hears (Answering window) pair.receiver q).1) (sym opens.1)
+          (announcement_stated window pair.receiver opens.0 m.pgn (length m.begun.bytes));
+      keeps = inr (inl (record { wire = here.1; gathers = states_first pair.taken m.pgn m.begun.bytes p opens; back = e.back; unreported = e.unreported }));
     })
 ahead_taken m window pair p rest e (inr later) =
     let heard = still_closed window pair p e.closed (goes_on_unannounced m.begun.bytes p later.0) in
-    inl (record { told = heard.0; keeps = inl (record { wire = later.1; closed = heard.1; back = e.back; unreported = e.unreported }) })
+    inl (record { stated = heard.0; keeps = inl (record { wire = later.1; closed = heard.1; back = e.back; unreported = e.unreported }) })
 
 under_way_taken : (m : Message) (window : ℕ) (pair : Pair) (p : Packet) (rest : List Wired) → IsUnderWay m pair
     → AllByRecursion (ComesAfter m) (wired.Packet p ∷ rest) → Takes (Some m) window pair p rest
-under_way_taken m window pair p rest e wire = elim (hears_told window pair.receiver p) [
-  | inl told ↦ inl (record {
-    told = told;
+under_way_taken m window pair p rest e wire = elim (hears_stated window pair.receiver p) [
+  | inl stated ↦ inl (record {
+    stated = stated;
     keeps = inr (inl (record {
       wire = wire.1;
-      gathers = tells_more pair.taken m.pgn m.begun.bytes p wire.0 e.gathers;
+      gathers = states_more pair.taken m.pgn m.begun.bytes p wire.0 e.gathers;
       back = e.back;
       unreported = e.unreported;
     }));
   })
-  | inr told ↦ inr (record {
-    told = told.0;
+  | inr stated ↦ inr (record {
+    stated = stated.0;
     message = m;
     is = refl;
     carried = λ pgn bytes c. (carried_is pair.taken p m.pgn m.begun.bytes e.gathers wire.0 pgn bytes c).1;
     keeps =
         λ back. inr (inr (record {
           wire = wire.1;
-          closed = stays_closed (hears (Answering window) pair.receiver p).0 told.1;
+          closed = stays_closed (hears (Answering window) pair.receiver p).0 stated.1;
           back = inr (pair.reports, refl);
           part = part_with m pair.begun pair.reports e.unreported;
         }));
@@ -136,7 +136,7 @@ over_taken : (m : Message) (window : ℕ) (pair : Pair) (p : Packet) (rest : Lis
     → AllByRecursion (ComesAfter m) (wired.Packet p ∷ rest) → Takes (Some m) window pair p rest
 over_taken m window pair p rest e wire =
     let heard = still_closed window pair p e.closed (goes_on_unannounced m.begun.bytes p wire.0) in
-    inl (record { told = heard.0; keeps = inr (inr (record { wire = wire.1; closed = heard.1; back = e.back; part = e.part })) })
+    inl (record { stated = heard.0; keeps = inr (inr (record { wire = wire.1; closed = heard.1; back = e.back; part = e.part })) })
 
 pub packet_taken : (o : Option Message) (window : ℕ) (pair : Pair) (p : Packet) (rest : List Wired) → pair.wire ≡ wired.Packet p ∷ rest
     → Exchange o pair → Takes o window pair p rest

@@ -10,7 +10,7 @@ use Rattle.j39_world.specs.declared.wired.Wired.TheVariants as wired
 use Rattle.j39_world.specs.Transfers.{Outgoing, Begun, is_among}
 use Rattle.j39_world.specs.World.{World}
 use Rattle.j39_world.specs.Sound.{IsSubsequence, reported}
-use Rattle.j39_tp.specs.HonestPackets.{GoesOn, AnnouncesMessage, TellsLast}
+use Rattle.j39_tp.specs.HonestPackets.{GoesOn, AnnouncesMessage, StatesLast}
 use Rattle.j39_tp.proofs.Answering.{IsAnswer}
 
 -- all that a world has between a sender and a receiver
@@ -109,7 +109,7 @@ pub record IsAhead (m : Message) (pair : Pair) : Type 0 where
 -- its announcement was taken
 pub record IsUnderWay (m : Message) (pair : Pair) : Type 0 where
   pub wire : AllByRecursion (ComesAfter m) pair.wire
-  pub gathers : TellsLast pair.taken m.pgn m.begun.bytes
+  pub gathers : StatesLast pair.taken m.pgn m.begun.bytes
   pub back : AllByRecursion IsUnacknowledging pair.back
   pub unreported : IsUnreported m pair.begun pair.reports
 

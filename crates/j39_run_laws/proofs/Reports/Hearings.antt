@@ -15,7 +15,7 @@ use Rattle.j39_tp.specs.declared.sending.reaction.Reaction.{Reaction}
 use Rattle.j39_tp.specs.declared.sending.reaction.Reaction.TheVariants as reaction
 use Rattle.j39_tp.specs.declared.sending.stage.Stage.{Stage}
 use Rattle.j39_tp.specs.declared.sending.stage.Stage.TheVariants.{Resting}
-use Rattle.j39_tp.proofs.Answering.{IsAside, IsAnswer, TellsNothing, TellsMessage, RepliesAside, Acknowledges, IsAckedBy, sender_aside, sender_acked}
+use Rattle.j39_tp.proofs.Answering.{IsAside, IsAnswer, HoldsNothing, ReportsMessage, RepliesAside, Acknowledges, IsAckedBy, sender_aside, sender_acked}
 use Rattle.j39_network.specs.declared.plan.to.To.{To}
 use Rattle.j39_network.specs.declared.plan.to.To.TheVariants as tos
 use Rattle.j39_world.specs.Flows.{dest_of}
@@ -31,19 +31,19 @@ stays_closed (Open r) closed = closed
 stays_closed (Complete pgn) closed = refl
 
 -- what it replies
-pub replies_aside : (h : Heard) → TellsNothing h → AllByRecursion IsAside (receiver_replies h)
-replies_aside heard.Complete told = absurd told
-replies_aside (heard.CompleteReply p) told = absurd told
-replies_aside (heard.Reply p) told = (told, tt)
-replies_aside heard.Nothing told = tt
-replies_aside heard.Closed told = tt
+pub replies_aside : (h : Heard) → HoldsNothing h → AllByRecursion IsAside (receiver_replies h)
+replies_aside heard.Complete stated = absurd stated
+replies_aside (heard.CompleteReply p) stated = absurd stated
+replies_aside (heard.Reply p) stated = (stated, tt)
+replies_aside heard.Nothing stated = tt
+replies_aside heard.Closed stated = tt
 
-pub replies_answer : (h : Heard) → TellsMessage h → AllByRecursion IsAnswer (receiver_replies h)
-replies_answer heard.Complete told = tt
-replies_answer (heard.CompleteReply p) told = (told, tt)
-replies_answer (heard.Reply p) told = absurd told
-replies_answer heard.Nothing told = absurd told
-replies_answer heard.Closed told = absurd told
+pub replies_answer : (h : Heard) → ReportsMessage h → AllByRecursion IsAnswer (receiver_replies h)
+replies_answer heard.Complete stated = tt
+replies_answer (heard.CompleteReply p) stated = (stated, tt)
+replies_answer (heard.Reply p) stated = absurd stated
+replies_answer heard.Nothing stated = absurd stated
+replies_answer heard.Closed stated = absurd stated
 
 pub packets_aside : (o : Option Packet) → IfSome o IsAside → AllByRecursion IsAside (packets_in o)
 packets_aside None aside = tt

@@ -1,4 +1,4 @@
--- Units alone are on, tell and send, and, of a plan that isn't live, nothing is told while a message is sent.
+-- Units alone are on and send, and, of a plan that isn't live, no claim is sent while a message is.
 use Rattle.std.proofs.Common.{◌≡◌, ◌≢◌, ℕ, suc, arith, Bool, true, false, not, ◌&&◌, ◌==◌, ltb, List, [], ◌∷◌, length, refl, sym, subst, Option, Some, None}
 use Rattle.std.proofs.lemmas.Bool.{eqb-true, and_parts, not-false}
 use Rattle.std.specs.List.{list_all, range_with_len}
@@ -111,4 +111,4 @@ module _ (plan : Plan) (stations : Stations) (claims : Undelivered) (sessions : 
 
   -- so it is where a plan that isn't live refuses no Begin and no Send for what is undelivered
   pub delivered_at : (not plan.live && not (is_nothing_undelivered (count_of plan) claims)) ≡ false → plan.live ≡ false → (s t : ℕ) → claims s t ≡ []
-  delivered_at told quiet = all_delivered (not-false _ (unless_live plan.live (not (is_nothing_undelivered (count_of plan) claims)) quiet told))
+  delivered_at stated quiet = all_delivered (not-false _ (unless_live plan.live (not (is_nothing_undelivered (count_of plan) claims)) quiet stated))

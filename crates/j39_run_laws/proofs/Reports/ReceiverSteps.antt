@@ -22,7 +22,7 @@ use Rattle.j39_world.specs.Sound.{reported}
 use Rattle.j39_run_laws.proofs.Runs.Elements.{all-append}
 use Rattle.j39_run_laws.proofs.Reports.Hearings as hearings
 use Rattle.j39_run_laws.proofs.Reports.Hearings.{session_acked, directed_to}
-use Rattle.j39_tp.proofs.Answering.{IsAside, IsAnswer, TellsNothing, TellsMessage, Acknowledges, timed_out_aside}
+use Rattle.j39_tp.proofs.Answering.{IsAside, IsAnswer, HoldsNothing, ReportsMessage, Acknowledges, timed_out_aside}
 use Rattle.j39_run_laws.proofs.Reports.Orderly.{PlannedAt, DeliveredBefore, IsOrderly, sessions_keep}
 use Rattle.j39_run_laws.proofs.Runs.Changed.{IsElsewhere, changed_each, pair_here_or_elsewhere, pair_here, pair_elsewhere, pair_each}
 use Rattle.j39_run_laws.proofs.Reports.Exchanges.{Pair, pair_of, Message, message_for, message_to, begun_of, IsAnswering, IsUnacknowledging, EndsWith, Exchange}
@@ -126,14 +126,14 @@ module _ (plan : Plan) (w : World) (inv : TransferInvariant plan w) where
     abbrev window : ℕ
     window = window_at windows v
 
-    abbrev told : Progress × Heard
-    told = hearing windows w u v p
+    abbrev stated : Progress × Heard
+    stated = hearing windows w u v p
 
     abbrev then : Option Outgoing
     then = session_after (w.sessions v) u p
 
     abbrev sent : List Packet
-    sent = receiver_replies told.1 ++ sender_replies (reaction_of (w.sessions v) u p)
+    sent = receiver_replies stated.1 ++ sender_replies (reaction_of (w.sessions v) u p)
 
     -- the wire without the packet, and with what it is answered by
     abbrev less : Wire
@@ -146,7 +146,7 @@ module _ (plan : Plan) (w : World) (inv : TransferInvariant plan w) where
     base reports s t = record {
       wire = [];
       back = [];
-      receiver = changed_pair w.receivers v u (closed_if_complete told.0) t s;
+      receiver = changed_pair w.receivers v u (closed_if_complete stated.0) t s;
       taken = changed_pair w.taken v u (w.taken v u ++ p ∷ []) t s;
       begun = w.begun s t;
       reports = reported (w.reports ++ reports) t s;
@@ -159,16 +159,16 @@ module _ (plan : Plan) (w : World) (inv : TransferInvariant plan w) where
     same_message : (s t : ℕ) → message_to (changed w.sessions v then s) t ≡ message s t
     same_message = same_messages w.sessions v then (message_after (w.sessions v) u p)
 
-    answers : AllByRecursion IsAnswer (receiver_replies told.1) → AllByRecursion IsAnswering (map wired.Packet sent)
+    answers : AllByRecursion IsAnswer (receiver_replies stated.1) → AllByRecursion IsAnswering (map wired.Packet sent)
     answers replies =
         let reacted : List Packet = sender_replies (reaction_of (w.sessions v) u p) in
-        answers_answering sent (all-append IsAnswer (receiver_replies told.1) reacted replies
+        answers_answering sent (all-append IsAnswer (receiver_replies stated.1) reacted replies
         (asides_answer reacted (hearings.reaction_aside (w.sessions v) u p)))
 
-    asides : AllByRecursion IsAside (receiver_replies told.1) → AllByRecursion IsUnacknowledging (map wired.Packet sent)
+    asides : AllByRecursion IsAside (receiver_replies stated.1) → AllByRecursion IsUnacknowledging (map wired.Packet sent)
     asides replies =
         let reacted : List Packet = sender_replies (reaction_of (w.sessions v) u p) in
-        asides_unacknowledging sent (all-append IsAside (receiver_replies told.1) reacted replies (hearings.reaction_aside (w.sessions v) u p))
+        asides_unacknowledging sent (all-append IsAside (receiver_replies stated.1) reacted replies (hearings.reaction_aside (w.sessions v) u p))
 
     -- a pair that the packet isn't taken from, but for its lists
     apart_forth : (reports : List Reported) (s t : ℕ) → reported (w.reports ++ reports) t s ≡ reported w.reports t s → IsElsewhere u v s t
@@ -177,7 +177,7 @@ module _ (plan : Plan) (w : World) (inv : TransferInvariant plan w) where
         let e : record (base reports s t) { wire = less s t; back = w.wire t s } ≡ pair_of w s t =
         λ i. record (pair_of w s t) {
           wire = pair_elsewhere w.wire u v rest s t apart i;
-          receiver = pair_elsewhere w.receivers v u (closed_if_complete told.0) t s (elsewhere s t apart) i;
+          receiver = pair_elsewhere w.receivers v u (closed_if_complete stated.0) t s (elsewhere s t apart) i;
           taken = pair_elsewhere w.taken v u (w.taken v u ++ p ∷ []) t s (elsewhere s t apart) i;
           reports = same i;
         } in
@@ -190,10 +190,10 @@ module _ (plan : Plan) (w : World) (inv : TransferInvariant plan w) where
         let none : (s' t' : ℕ) → reported (w.reports ++ []) t' s' ≡ reported w.reports t' s' = λ s' t'. reported_none w.reports t' s' in
         let here : Exchange (message u v) (record (base [] u v) { wire = less u v; back = w.wire v u }) =
         (let e : record (base [] u v) { wire = less u v; back = w.wire v u }
-        ≡ record (pair_of w u v) { wire = rest; receiver = closed_if_complete told.0; taken = w.taken v u ++ p ∷ [] } =
+        ≡ record (pair_of w u v) { wire = rest; receiver = closed_if_complete stated.0; taken = w.taken v u ++ p ∷ [] } =
         λ i. record (pair_of w u v) {
           wire = pair_here w.wire u v rest i;
-          receiver = pair_here w.receivers v u (closed_if_complete told.0) i;
+          receiver = pair_here w.receivers v u (closed_if_complete stated.0) i;
           taken = pair_here w.taken v u (w.taken v u ++ p ∷ []) i;
           reports = none u v i;
         } in
@@ -201,8 +201,8 @@ module _ (plan : Plan) (w : World) (inv : TransferInvariant plan w) where
         let forth : ExchangesBy message (base []) Anywhere less w.wire =
         λ s' t' _. pair_here_or_elsewhere (λ x y. Exchange (message x y) (record (base [] x y) { wire = less x y; back = w.wire y x })) u v here
         (λ x y apart. apart_forth [] x y (none x y) apart) s' t' in
-        let replies : AllByRecursion IsAside (receiver_replies told.1) = hearings.replies_aside told.1 on.told in
-        answered message (base []) Anywhere less u v (map wired.Packet sent) (answers (asides_answer (receiver_replies told.1) replies)) (λ _. asides replies)
+        let replies : AllByRecursion IsAside (receiver_replies stated.1) = hearings.replies_aside stated.1 on.stated in
+        answered message (base []) Anywhere less u v (map wired.Packet sent) (answers (asides_answer (receiver_replies stated.1) replies)) (λ _. asides replies)
         (back_taken message (base []) Anywhere w.wire u v (wired.Packet p) rest is less forth) s t tt
 
     -- the message is complete
@@ -237,14 +237,14 @@ module _ (plan : Plan) (w : World) (inv : TransferInvariant plan w) where
           ≡ record (pair_of w u v) {
             wire = rest;
             back = more v u;
-            receiver = closed_if_complete told.0;
+            receiver = closed_if_complete stated.0;
             taken = w.taken v u ++ p ∷ [];
             reports = reported w.reports v u ++ c.message.begun ∷ [];
           } =
           λ i. record (pair_of w u v) {
             wire = wire_is i;
             back = more v u;
-            receiver = pair_here w.receivers v u (closed_if_complete told.0) i;
+            receiver = pair_here w.receivers v u (closed_if_complete stated.0) i;
             taken = pair_here w.taken v u (w.taken v u ++ p ∷ []) i;
             reports = one_reported i;
           } in
@@ -252,7 +252,7 @@ module _ (plan : Plan) (w : World) (inv : TransferInvariant plan w) where
 
       completes_elsewhere : (s t : ℕ) → IsElsewhere u v s t → Exchange (message s t) (record (base one s t) { wire = more s t; back = more t s })
       completes_elsewhere =
-          let replies : AllByRecursion IsAnswer (receiver_replies told.1) = hearings.replies_answer told.1 c.told in
+          let replies : AllByRecursion IsAnswer (receiver_replies stated.1) = hearings.replies_answer stated.1 c.stated in
           answered message (base one) (IsElsewhere u v) less u v (map wired.Packet sent) (answers replies) (λ apart. absurd (apart refl refl))
           (back_taken message (base one) (IsElsewhere u v) w.wire u v (wired.Packet p) rest is less
           (λ s t apart. apart_forth one s t (one_elsewhere s t apart) apart))
@@ -322,14 +322,14 @@ module _ (plan : Plan) (w : World) (inv : TransferInvariant plan w) where
       acknowledged = acknowledged;
     }
 
-    reports_none : (h : Heard) → TellsNothing h → (reports : List Reported) → Reports w u v p h reports → reports ≡ []
+    reports_none : (h : Heard) → HoldsNothing h → (reports : List Reported) → Reports w u v p h reports → reports ≡ []
     reports_none heard.Complete nothing reports r = absurd nothing
     reports_none (heard.CompleteReply q) nothing reports r = absurd nothing
     reports_none (heard.Reply q) nothing reports r = r
     reports_none heard.Nothing nothing reports r = r
     reports_none heard.Closed nothing reports r = r
 
-    reports_one : (h : Heard) → TellsMessage h → (reports : List Reported) → Reports w u v p h reports → ReportsOne w u v p reports
+    reports_one : (h : Heard) → ReportsMessage h → (reports : List Reported) → Reports w u v p h reports → ReportsOne w u v p reports
     reports_one heard.Complete message_is reports r = r
     reports_one (heard.CompleteReply q) message_is reports r = r
     reports_one (heard.Reply q) message_is reports r = absurd message_is
@@ -349,12 +349,12 @@ module _ (plan : Plan) (w : World) (inv : TransferInvariant plan w) where
         (λ s t apart. subst (λ (xs : List Begun). AckedAt (changed w.sessions v then s) t xs) (sym (one_elsewhere c bytes bytes_are s t apart))
         (acknowledged_then s t)))
 
-    packet_keeps : (reports : List Reported) → Reports w u v p told.1 reports → TransferInvariant plan (packet_taken windows w u v rest p reports)
+    packet_keeps : (reports : List Reported) → Reports w u v p stated.1 reports → TransferInvariant plan (packet_taken windows w u v rest p reports)
     packet_keeps reports r = elim (taking.packet_taken (message u v) window (pair_of w u v) p rest is (inv.exchanges u v)) [
-      | inl on ↦ subst (λ (xs : List Reported). TransferInvariant plan (packet_taken windows w u v rest p xs)) (sym (reports_none told.1 on.told reports r))
+      | inl on ↦ subst (λ (xs : List Reported). TransferInvariant plan (packet_taken windows w u v rest p xs)) (sym (reports_none stated.1 on.stated reports r))
           (takes_on_keeps on)
       | inr c ↦
-          let one_is = reports_one told.1 c.told reports r in
+          let one_is = reports_one stated.1 c.stated reports r in
           subst (λ (xs : List Reported). TransferInvariant plan (packet_taken windows w u v rest p xs)) (sym one_is.3)
           (completes_keeps c one_is.1 (c.carried one_is.0 one_is.1 one_is.2))
     ]

@@ -163,12 +163,12 @@ module _ (plan : Plan) (w : World) (inv : TransferInvariant plan w) where
   begins_keep : (f : ℕ) (flow : Flow) (bytes : List ℕ) → begin_refusal plan.live (count_of plan) w (Some flow) bytes ≡ None
       → TransferInvariant plan (begins (count_of plan) w f flow bytes)
   begins_keep f flow bytes allowed =
-      let (sendable, (on, (told, (addressed, (free, rest))))) = none_hold (begin_refusals plan.live (count_of plan) w (Some flow) bytes) allowed in
+      let (sendable, (on, (stated, (addressed, (free, rest))))) = none_hold (begin_refusals plan.live (count_of plan) w (Some flow) bytes) allowed in
       let o : Outgoing = outgoing (count_of plan) w.stations f flow bytes in
       record {
         order = sessions_keep plan w.stations w.claims w.sessions inv.order flow.sender (Some o)
             (planned_to plan w inv.order.units flow (count_of plan) flow.to (not-false _ on) (not-false _ sendable))
-            (delivered_at plan w.stations w.claims w.sessions inv.order told);
+            (delivered_at plan w.stations w.claims w.sessions inv.order stated);
         exchanges = begun_exchanges w inv.exchanges flow.sender o (first_item flow bytes) (no_session (w.sessions flow.sender) free)
             (first_begins flow bytes (message_of o) refl refl) (first_other flow bytes);
         acknowledged = changed_each (λ s (x : Option Outgoing). (t : ℕ) → AckedAt x t (reported w.reports t s)) w.sessions flow.sender (Some o)

@@ -160,7 +160,7 @@ module _ (Part : ℕ → ℕ → List Begun → List Begun → List Begun → Ty
       -- reports of messages that were begun are none of these
       same_alone : (x y : ℕ) (p : Packet) (h : Heard) (rs : List Reported) → Reports w x y p h rs → (v u : ℕ)
           → reported_alone (w.reports ++ rs) v u ≡ reported_alone w.reports v u
-      same_alone x y p h rs told v u = of_heard h told
+      same_alone x y p h rs stated v u = of_heard h stated
         where
           none : rs ≡ [] → reported_alone (w.reports ++ rs) v u ≡ reported_alone w.reports v u
           none is = ap (λ (xs : List Reported). reported_alone (w.reports ++ xs) v u) is ∙ alone_none w.reports v u
@@ -187,11 +187,11 @@ module _ (Part : ℕ → ℕ → List Begun → List Begun → List Begun → Ty
       take_parts windows x y (wired.Short bytes ∷ rest) is new e = subst AreParts (sym e)
           (as_reported (w.reports ++ report w x y bytes ∷ []) (changed_pair w.wire x y rest)
           (alone_beside w.reports x y (flow_in (w.sessions x)) bytes) (less_part x y (wired.Short bytes) rest is (λ part. part)))
-      take_parts windows x y (wired.Packet p ∷ rest) is new (rs, told, e) =
+      take_parts windows x y (wired.Packet p ∷ rest) is new (rs, stated, e) =
           let replies : List Packet = receiver_replies (hearing windows w x y p).1 ++ sender_replies (reaction_of (w.sessions y) x p) in
           let less : ℕ → ℕ → List Wired = changed_pair w.wire x y rest in
           subst AreParts (sym e)
-          (as_reported (w.reports ++ rs) (changed_pair less y x (less y x ++ map wired.Packet replies)) (same_alone x y p (hearing windows w x y p).1 rs told)
+          (as_reported (w.reports ++ rs) (changed_pair less y x (less y x ++ map wired.Packet replies)) (same_alone x y p (hearing windows w x y p).1 rs stated)
           (more_part less (less_part x y (wired.Packet p) rest is (λ part. part)) y x replies))
       take_parts windows x y (wired.Alone f bytes ∷ rest) is new e = subst AreParts (sym e) (pair_here_or_elsewhere
           (λ u v. IsPart u v (reported_alone (w.reports ++ alone_report x y f bytes ∷ []) v u) (changed_pair w.wire x y rest u v) (w.sent_alone u v)) x y

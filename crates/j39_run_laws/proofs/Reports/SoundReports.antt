@@ -11,7 +11,7 @@ use Rattle.j39_network.specs.declared.plan.Plan.{Plan}
 use Rattle.j39_network.specs.declared.steps.Step.{Step}
 use Rattle.j39_network.specs.declared.steps.Step.TheVariants.{Up, Down, Give, Ask, Begin, Send, Emit, Take, Lose, LateSender, LateReceiver, Rest}
 use Rattle.j39_network.specs.PlannedUnits.{units_of, unit_at}
-use Rattle.j39_world.specs.ClaimSteps.{switched_on, asked, asking_items, first_items, GivenFrom, told_to_others, without_lists_to, answer_items}
+use Rattle.j39_world.specs.ClaimSteps.{switched_on, asked, asking_items, first_items, GivenFrom, sent_to_others, without_lists_to, answer_items}
 use Rattle.j39_world.specs.SwitchingOff.{is_either, session_without, sessions_without, switched_off}
 use Rattle.j39_world.specs.Flows.{flows_of, windows_of}
 use Rattle.j39_world.specs.Run.{StepsTo, count_of, is_a_transfer_open, is_none_sending, is_no_transfer_open, is_nothing_undelivered, refusal}
@@ -33,7 +33,7 @@ use Rattle.j39_run_laws.proofs.Reports.TransferInvariant.{TransferInvariant}
 use Rattle.j39_run_laws.proofs.Runs.Changed.{changed_elsewhere, changed_here}
 use Rattle.j39_run_laws.proofs.Runs.SwitchedOff.{either_cases, nothing_dropped, sessions_each, stage_left, targets_less, targets_none, targets_same, unless_live}
 use Rattle.j39_run_laws.proofs.Runs.Conditions.{is_unit, none_refuses, units_known}
-use Rattle.j39_run_laws.proofs.Runs.Units.{AreUnitsOn, AreBetweenUnits, units_all, units_on, without_lists_empty, told_between}
+use Rattle.j39_run_laws.proofs.Runs.Units.{AreUnitsOn, AreBetweenUnits, units_all, units_on, without_lists_empty, stated_between}
 
 pub at_first : (plan : Plan) → TransferInvariant plan all_off
 at_first plan = record {
@@ -151,9 +151,9 @@ module _ (plan : Plan) (w : World) (inv : TransferInvariant plan w) where
       let now : Stations = changed w.stations u (started (unit_at (units_of plan) u)) in
       let on : AreUnitsOn plan now = units_on plan w.stations u (started (unit_at (units_of plan) u)) unit inv.order.units in
       let mid : Undelivered = without_lists_to u w.claims in
-      let told : List Item = first_items (unit_at (units_of plan) u) in
+      let stated : List Item = first_items (unit_at (units_of plan) u) in
       record {
-        order = orderly (none_open idle) now on (told_to_others now mid u told) (told_between plan now on mid (without_between u) u unit told);
+        order = orderly (none_open idle) now on (sent_to_others now mid u stated) (stated_between plan now on mid (without_between u) u unit stated);
         exchanges = on_exchanges u none;
         acknowledged = inv.acknowledged;
       }
@@ -177,10 +177,10 @@ module _ (plan : Plan) (w : World) (inv : TransferInvariant plan w) where
   ask_keeps : (u : ℕ) → is_unit plan u ≡ true → (not plan.live && is_a_transfer_open (count_of plan) w) ≡ false
       → TransferInvariant plan (asked (units_of plan) w u)
   ask_keeps u unit idle =
-      let told : List Item = asking_items (said_by (unit_at (units_of plan) u) (claim_of (w.stations u).address)) in
+      let stated : List Item = asking_items (said_by (unit_at (units_of plan) u) (claim_of (w.stations u).address)) in
       record {
-        order = orderly (none_open idle) w.stations inv.order.units (told_to_others w.stations w.claims u told)
-            (told_between plan w.stations inv.order.units w.claims inv.order.between u unit told);
+        order = orderly (none_open idle) w.stations inv.order.units (sent_to_others w.stations w.claims u stated)
+            (stated_between plan w.stations inv.order.units w.claims inv.order.between u unit stated);
         exchanges = inv.exchanges;
         acknowledged = inv.acknowledged;
       }
@@ -195,7 +195,7 @@ module _ (plan : Plan) (w : World) (inv : TransferInvariant plan w) where
       let less : AreBetweenUnits plan mid = less_between plan w.stations w.claims w.sessions inv.order u v rest unit_u unit_v in
       subst (TransferInvariant plan) (sym e) (record {
         order = orderly (λ quiet. none_sends_while plan w.stations w.claims w.sessions inv.order quiet u v some) now on
-            (told_to_others now mid v (answer_items says)) (told_between plan now on mid less v unit_v (answer_items says));
+            (sent_to_others now mid v (answer_items says)) (stated_between plan now on mid less v unit_v (answer_items says));
         exchanges = inv.exchanges;
         acknowledged = inv.acknowledged;
       })

@@ -6,7 +6,7 @@ use Rattle.std.specs.List.{slice_get}
 use Rattle.j39_claim.specs.declared.item.Say.{Say}
 use Rattle.j39_claim.specs.declared.item.Say.TheVariants.{Claim}
 use Rattle.j39_claim.specs.declared.item.Item.{Item}
-use Rattle.j39_claim.specs.declared.item.Item.TheVariants.{Told, Request}
+use Rattle.j39_claim.specs.declared.item.Item.TheVariants.{AddressClaimed, Request}
 use Rattle.j39_claim.specs.ClaimRule.{PlannedUnit, ClaimState, Answers, claim_of, off, said_by, started}
 use Rattle.j39_network.specs.declared.plan.Plan.{Plan}
 use Rattle.j39_network.specs.declared.steps.Step.TheVariants.{Up, Down, Give, Ask, Begin, Send, Emit, Take, Lose, LateSender, LateReceiver, Rest}
@@ -16,7 +16,7 @@ use Rattle.j39_network.specs.PlannedUnits.{units_of, unit_at}
 use Rattle.j39_world.specs.Flows.{flows_of, windows_of}
 use Rattle.j39_world.specs.declared.flow.Flow.{Flow}
 use Rattle.j39_world.specs.World.{World, Stations, Undelivered, changed, changed_pair, is_other_on}
-use Rattle.j39_world.specs.ClaimSteps.{GivenFrom, asking_items, told_to_others, without_lists_to, answer_items, first_items}
+use Rattle.j39_world.specs.ClaimSteps.{GivenFrom, asking_items, sent_to_others, without_lists_to, answer_items, first_items}
 use Rattle.j39_world.specs.TransferSteps.{BeginsAt, SendsAt, TakenFrom, LostFrom}
 use Rattle.j39_world.specs.Run.{count_of}
 use Rattle.j39_run_laws.proofs.Runs.Always.{IsPreserved}
@@ -27,12 +27,12 @@ use Rattle.j39_run_laws.proofs.Runs.Conditions.{is_unit, none_refuses, units_kno
 abbrev pub ClaimProperty : Type 1
 ClaimProperty = Stations → Undelivered → Type 0
 
--- v is then this, and has told all others its answer
+-- v is then this, and has sent all others its answer
 abbrev pub stations_given : Stations → ℕ → ClaimState → Stations
 stations_given stations v new = changed stations v new
 
 abbrev pub claims_given : Stations → Undelivered → ℕ → ℕ → List Item → Option Say → ClaimState → Undelivered
-claims_given stations claims u v rest says new = told_to_others (changed stations v new) (changed_pair claims u v rest) v (answer_items says)
+claims_given stations claims u v rest says new = sent_to_others (changed stations v new) (changed_pair claims u v rest) v (answer_items says)
 
 -- the unit claims, or doesn't
 abbrev pub claims_at : Plan → ℕ → Bool
@@ -44,14 +44,14 @@ pub record IsKeptByClaimSteps (plan : Plan) (Holds : ClaimProperty) : Type 0 whe
       → claims_at plan u ≡ true
       → let p : PlannedUnit = unit_at (units_of plan) u in
       let new : Stations = changed stations u (started p) in
-      Holds new (told_to_others new (without_lists_to u claims) u (Told (Claim p.preferred) ∷ []))
+      Holds new (sent_to_others new (without_lists_to u claims) u (AddressClaimed (Claim p.preferred) ∷ []))
   -- one that doesn't claim says nothing
   pub switched_on_silently : (stations : Stations) (claims : Undelivered) → Holds stations claims → (u : ℕ) → is_unit plan u ≡ true
       → claims_at plan u ≡ false → Holds (changed stations u (started (unit_at (units_of plan) u))) (without_lists_to u claims)
   pub switched_off : (stations : Stations) (claims : Undelivered) → Holds stations claims → (u : ℕ)
       → Holds (changed stations u off) (without_lists_to u claims)
   pub asked : (stations : Stations) (claims : Undelivered) → Holds stations claims → (u : ℕ) → is_unit plan u ≡ true → claims_at plan u ≡ true
-      → (stations u).on ≡ true → Holds stations (told_to_others stations claims u (Request ∷ Told (claim_of (stations u).address) ∷ []))
+      → (stations u).on ≡ true → Holds stations (sent_to_others stations claims u (Request ∷ AddressClaimed (claim_of (stations u).address) ∷ []))
   pub given : (stations : Stations) (claims : Undelivered) → Holds stations claims
       → (u v : ℕ) → is_unit plan u ≡ true → is_unit plan v ≡ true → (stations v).on ≡ true
       → claims_at plan v ≡ true → (item : Item) (rest : List Item) → claims u v ≡ item ∷ rest
@@ -63,10 +63,10 @@ pub record IsKeptByClaimSteps (plan : Plan) (Holds : ClaimProperty) : Type 0 whe
       → claims_at plan v ≡ false → (item : Item) (rest : List Item) → claims u v ≡ item ∷ rest
       → Holds stations (changed_pair claims u v rest)
 
--- ---- who tells nothing
+-- ---- who sends nothing
 
-pub told_nothing : (stations : Stations) (claims : Undelivered) (u : ℕ) → told_to_others stations claims u [] ≡ claims
-told_nothing stations claims u = λ i s t. same (eqb s u && is_other_on stations u t) (claims s t) i
+pub stated_nothing : (stations : Stations) (claims : Undelivered) (u : ℕ) → sent_to_others stations claims u [] ≡ claims
+stated_nothing stations claims u = λ i s t. same (eqb s u && is_other_on stations u t) (claims s t) i
   where
     same : (b : Bool) (xs : List Item) → cond b (xs ++ []) xs ≡ xs
     same true xs = append-nil xs
@@ -87,22 +87,22 @@ pub when_passed : (P : ClaimProperty) (stations : Stations) (claims : Undelivere
     → P (stations_given stations v s) (claims_given stations claims u v rest says s)
 when_passed P stations claims u v rest says s silent same here =
     let left : Undelivered = changed_pair claims u v rest in
-    let by_claims : P stations (told_to_others stations left v []) = subst (P stations) (sym (told_nothing stations left v)) here in
-    let by_stations : P (changed stations v (stations v)) (told_to_others (changed stations v (stations v)) left v []) =
-    subst (λ f. P f (told_to_others f left v [])) (sym (still stations v)) by_claims in
-    let by_state : P (changed stations v s) (told_to_others (changed stations v s) left v []) =
-    subst (λ t. P (changed stations v t) (told_to_others (changed stations v t) left v [])) (sym same) by_stations in
-    subst (λ o. P (changed stations v s) (told_to_others (changed stations v s) left v (answer_items o))) (sym silent) by_state
+    let by_claims : P stations (sent_to_others stations left v []) = subst (P stations) (sym (stated_nothing stations left v)) here in
+    let by_stations : P (changed stations v (stations v)) (sent_to_others (changed stations v (stations v)) left v []) =
+    subst (λ f. P f (sent_to_others f left v [])) (sym (still stations v)) by_claims in
+    let by_state : P (changed stations v s) (sent_to_others (changed stations v s) left v []) =
+    subst (λ t. P (changed stations v t) (sent_to_others (changed stations v t) left v [])) (sym same) by_stations in
+    subst (λ o. P (changed stations v s) (sent_to_others (changed stations v s) left v (answer_items o))) (sym silent) by_state
 
 -- what a unit says first, where it claims and where it doesn't
-pub first_said : (c : PlannedUnit) → c.claims ≡ true → first_items c ≡ Told (Claim c.preferred) ∷ []
+pub first_said : (c : PlannedUnit) → c.claims ≡ true → first_items c ≡ AddressClaimed (Claim c.preferred) ∷ []
 first_said c claims = ap (λ b. answer_items (cond b (Some (Claim c.preferred)) None)) claims
 
 pub first_silent : (c : PlannedUnit) → c.claims ≡ false → first_items c ≡ []
 first_silent c silent = ap (λ b. answer_items (cond b (Some (Claim c.preferred)) None)) silent
 
 -- what one says that asks
-pub asking_said : (c : PlannedUnit) (say : Say) → c.claims ≡ true → asking_items (said_by c say) ≡ Request ∷ Told say ∷ []
+pub asking_said : (c : PlannedUnit) (say : Say) → c.claims ≡ true → asking_items (said_by c say) ≡ Request ∷ AddressClaimed say ∷ []
 asking_said c say claims = ap (λ b. asking_items (cond b (Some say) None)) claims
 
 pub asking_silent : (c : PlannedUnit) (say : Say) → c.claims ≡ false → asking_items (said_by c say) ≡ []
@@ -129,30 +129,30 @@ module _ (plan : Plan) (Holds : ClaimProperty) (keeps : IsKeptByClaimSteps plan 
 
   up_from : (w : World) → HoldsIn w → (u : ℕ) → is_unit plan u ≡ true
       → let new : Stations = changed w.stations u (started (unit_at (units_of plan) u)) in
-      Holds new (told_to_others new (without_lists_to u w.claims) u (first_items (unit_at (units_of plan) u)))
+      Holds new (sent_to_others new (without_lists_to u w.claims) u (first_items (unit_at (units_of plan) u)))
   up_from w here u unit =
       let p : PlannedUnit = unit_at (units_of plan) u in
       let new : Stations = changed w.stations u (started p) in
-      let Told_of : List Item → Type 0 = λ items. Holds new (told_to_others new (without_lists_to u w.claims) u items) in
+      let Stated_of : List Item → Type 0 = λ items. Holds new (sent_to_others new (without_lists_to u w.claims) u items) in
       elim (cases_Bool (claims_at plan u)) [
-        | inl claims ↦ subst Told_of (sym (first_said p claims)) (keeps.switched_on w.stations w.claims here u unit claims)
+        | inl claims ↦ subst Stated_of (sym (first_said p claims)) (keeps.switched_on w.stations w.claims here u unit claims)
         | inr silent ↦
-            subst Told_of (sym (first_silent p silent)) (subst (Holds new) (sym (told_nothing new (without_lists_to u w.claims) u))
+            subst Stated_of (sym (first_silent p silent)) (subst (Holds new) (sym (stated_nothing new (without_lists_to u w.claims) u))
             (keeps.switched_on_silently w.stations w.claims here u unit silent))
       ]
 
   ask_from : (w : World) → HoldsIn w → (u : ℕ) → is_unit plan u ≡ true → (w.stations u).on ≡ true
-      → Holds w.stations (told_to_others w.stations w.claims u (asking_items (said_by (unit_at (units_of plan) u) (claim_of (w.stations u).address))))
+      → Holds w.stations (sent_to_others w.stations w.claims u (asking_items (said_by (unit_at (units_of plan) u) (claim_of (w.stations u).address))))
   ask_from w here u unit on =
       let p : PlannedUnit = unit_at (units_of plan) u in
       let say : Say = claim_of (w.stations u).address in
-      let Told_of : List Item → Type 0 = λ items. Holds w.stations (told_to_others w.stations w.claims u items) in
+      let Stated_of : List Item → Type 0 = λ items. Holds w.stations (sent_to_others w.stations w.claims u items) in
       elim (cases_Bool (claims_at plan u)) [
-        | inl claims ↦ subst Told_of (sym (asking_said p say claims)) (keeps.asked w.stations w.claims here u unit claims on)
-        | inr silent ↦ subst Told_of (sym (asking_silent p say silent)) (subst (Holds w.stations) (sym (told_nothing w.stations w.claims u)) here)
+        | inl claims ↦ subst Stated_of (sym (asking_said p say claims)) (keeps.asked w.stations w.claims here u unit claims on)
+        | inr silent ↦ subst Stated_of (sym (asking_silent p say silent)) (subst (Holds w.stations) (sym (stated_nothing w.stations w.claims u)) here)
       ]
 
-  -- ---- the steps of transfers change no state, and nothing of what claimers have told each other
+  -- ---- the steps of transfers change no state, and nothing of what claimers have sent each other
 
   begun : (w : World) → HoldsIn w → (count f : ℕ) (flow : Option Flow) (bytes : List ℕ) (new : World) → BeginsAt count w f flow bytes new → HoldsIn new
   begun w here count f None bytes new never = absurd never

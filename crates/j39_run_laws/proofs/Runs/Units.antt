@@ -8,7 +8,7 @@ use Rattle.j39_claim.specs.declared.item.Item.{Item}
 use Rattle.j39_claim.specs.ClaimRule.{PlannedUnit, ClaimState}
 use Rattle.j39_network.specs.declared.plan.Plan.{Plan}
 use Rattle.j39_network.specs.PlannedUnits.{units_of, unit_at, planned_unit}
-use Rattle.j39_world.specs.ClaimSteps.{told_to_others, without_lists_to}
+use Rattle.j39_world.specs.ClaimSteps.{sent_to_others, without_lists_to}
 use Rattle.j39_world.specs.Opening.{AreNamesDistinct}
 use Rattle.j39_world.specs.Run.{count_of, both}
 use Rattle.j39_run_laws.proofs.Runs.Conditions.{is_unit}
@@ -45,7 +45,7 @@ names_differ units distinct u v in_u in_v other same =
       | inr (inr above) ↦ distinct v u (record { below = above; inside = in_u; same = sym same })
     ]
 
--- ---- units alone are on, and tell each other
+-- ---- units alone are on, and send to each other
 
 abbrev pub AreUnitsOn : Plan → Stations → Type 0
 AreUnitsOn plan stations = (u : ℕ) → (stations u).on ≡ true → is_unit plan u ≡ true
@@ -69,10 +69,10 @@ not_both true true e f g = cc g
 not_both true false e f g = cc f
 not_both false b e f g = cc e
 
--- what a unit tells is between units
-pub told_between : (plan : Plan) (stations : Stations) → AreUnitsOn plan stations → (claims : Undelivered) → AreBetweenUnits plan claims
-    → (u : ℕ) → is_unit plan u ≡ true → (items : List Item) → AreBetweenUnits plan (told_to_others stations claims u items)
-told_between plan stations on claims between u unit items s t outside =
+-- what a unit sends is between units
+pub stated_between : (plan : Plan) (stations : Stations) → AreUnitsOn plan stations → (claims : Undelivered) → AreBetweenUnits plan claims
+    → (u : ℕ) → is_unit plan u ≡ true → (items : List Item) → AreBetweenUnits plan (sent_to_others stations claims u items)
+stated_between plan stations on claims between u unit items s t outside =
     cond_both (eqb s u && is_other_on stations u t) (claims s t ++ items) (claims s t) (λ (xs : List Item). xs ≡ [])
     (λ is. let parts = and_parts (eqb s u) (is_other_on stations u t) is in
     let hearing = and_parts (stations t).on (not (eqb t u)) parts.1 in

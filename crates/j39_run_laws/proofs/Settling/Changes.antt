@@ -3,7 +3,7 @@ use Rattle.std.proofs.Common.{◌≡◌, ◌≢◌, ℕ, ◌+◌, ◌≤◌, tru
 use Rattle.std.proofs.lemmas.Bool.{cases_eq, eq-eqb, ne_eqb}
 use Rattle.j39_claim.specs.declared.item.Say.{Say}
 use Rattle.j39_claim.specs.declared.item.Item.{Item}
-use Rattle.j39_claim.specs.declared.item.Item.TheVariants.{Told, Request}
+use Rattle.j39_claim.specs.declared.item.Item.TheVariants.{AddressClaimed, Request}
 use Rattle.j39_world.specs.Sent.{claimed_by}
 
 -- 0 where two are the same, else 1
@@ -45,28 +45,28 @@ differ-through (Some a) (Some b) (Some c) =
 -- how often neighbours differ: what was noted, what is said in turn, and what is held
 abbrev pub changes : Option ℕ → List Item → Option ℕ → ℕ
 changes noted [] held = differ noted held
-changes noted (Told say ∷ items) held = differ noted (claimed_by say) + changes (claimed_by say) items held
+changes noted (AddressClaimed say ∷ items) held = differ noted (claimed_by say) + changes (claimed_by say) items held
 changes noted (Request ∷ items) held = changes noted items held
 
 -- a move adds one change at most
 pub changes-moved : (items : List Item) (noted held new : Option ℕ) → changes noted items new ≤ changes noted items held + differ held new
 changes-moved [] noted held new = differ-through noted held new
-changes-moved (Told say ∷ items) noted held new = omega (arith, changes-moved items (claimed_by say) held new)
+changes-moved (AddressClaimed say ∷ items) noted held new = omega (arith, changes-moved items (claimed_by say) held new)
 changes-moved (Request ∷ items) noted held new = changes-moved items noted held new
 
--- also where it is told
-pub changes-told : (items : List Item) (noted held new : Option ℕ) (say : Say) → claimed_by say ≡ new
-    → changes noted (items ++ Told say ∷ []) new ≤ changes noted items held + differ held new
-changes-told [] noted held new say is =
+-- also where it hears
+pub changes-stated : (items : List Item) (noted held new : Option ℕ) (say : Say) → claimed_by say ≡ new
+    → changes noted (items ++ AddressClaimed say ∷ []) new ≤ changes noted items held + differ held new
+changes-stated [] noted held new say is =
     let none : differ (claimed_by say) new ≡ 0 = subst (λ o. differ (claimed_by say) o ≡ 0) is (differ-same (claimed_by say)) in
     let through : differ noted (claimed_by say) ≤ differ noted held + differ held new =
     subst (λ o. differ noted o ≤ differ noted held + differ held new) (sym is) (differ-through noted held new) in
     omega arith
-changes-told (Told other ∷ items) noted held new say is = omega (arith, changes-told items (claimed_by other) held new say is)
-changes-told (Request ∷ items) noted held new say is = changes-told items noted held new say is
+changes-stated (AddressClaimed other ∷ items) noted held new say is = omega (arith, changes-stated items (claimed_by other) held new say is)
+changes-stated (Request ∷ items) noted held new say is = changes-stated items noted held new say is
 
 -- what was noted of it otherwise adds one change at most
 pub changes-noted : (items : List Item) (noted other held : Option ℕ) → changes noted items held ≤ differ noted other + changes other items held
 changes-noted [] noted other held = differ-through noted other held
-changes-noted (Told say ∷ items) noted other held = omega (arith, differ-through noted other (claimed_by say))
+changes-noted (AddressClaimed say ∷ items) noted other held = omega (arith, differ-through noted other (claimed_by say))
 changes-noted (Request ∷ items) noted other held = changes-noted items noted other held

@@ -6,39 +6,39 @@ use Rattle.std.specs.Ordering.{nat_cmp}
 use Rattle.j39_claim.specs.declared.item.Say.{Say}
 use Rattle.j39_claim.specs.declared.item.Say.TheVariants.{Claim}
 use Rattle.j39_claim.specs.declared.item.Item.{Item}
-use Rattle.j39_claim.specs.declared.item.Item.TheVariants.{Told, Request}
+use Rattle.j39_claim.specs.declared.item.Item.TheVariants.{AddressClaimed, Request}
 use Rattle.j39_claim.specs.ClaimRule.{ClaimState, Answers, claim_of, off, started}
 use Rattle.j39_network.specs.declared.plan.Plan.{Plan}
 use Rattle.j39_network.specs.PlannedUnits.{units_of, unit_at}
-use Rattle.j39_world.specs.ClaimSteps.{told_to_others, without_lists_to, answer_items}
+use Rattle.j39_world.specs.ClaimSteps.{sent_to_others, without_lists_to, answer_items}
 use Rattle.j39_world.specs.Opening.{AreNamesDistinct}
 use Rattle.j39_run_laws.proofs.Runs.Conditions.{is_unit}
 use Rattle.j39_world.specs.SoundPlan.{Always}
 use Rattle.j39_world.specs.World.{Stations, Undelivered, changed, changed_pair, is_other_on}
-use Rattle.j39_run_laws.proofs.Addresses.Telling.{not_itself}
+use Rattle.j39_run_laws.proofs.Addresses.SentToOthers.{not_itself}
 use Rattle.j39_run_laws.proofs.Runs.Always.{IsPreserved, always}
 use Rattle.j39_run_laws.proofs.Runs.Changed.{changed_here, changed_elsewhere, changed_each}
-use Rattle.j39_run_laws.proofs.Runs.ClaimInvariants.{IsKeptByClaimSteps, stations_given, claims_given, claim_steps_keep, told_nothing}
-use Rattle.j39_run_laws.proofs.Runs.Units.{AreUnitsOn, AreBetweenUnits, AreEmptyStill, in_units, names_differ, units_on, without_lists_empty, told_between}
+use Rattle.j39_run_laws.proofs.Runs.ClaimInvariants.{IsKeptByClaimSteps, stations_given, claims_given, claim_steps_keep, stated_nothing}
+use Rattle.j39_run_laws.proofs.Runs.Units.{AreUnitsOn, AreBetweenUnits, AreEmptyStill, in_units, names_differ, units_on, without_lists_empty, stated_between}
 use Rattle.j39_run_laws.proofs.Settling.Responses.{IsUnclashed, Response, response}
 
 pub record AreDeliverable (plan : Plan) (stations : Stations) (claims : Undelivered) : Type 0 where
   -- no unit holds what it noted for a smaller NAME
   pub unclashed : (v : ℕ) → IsUnclashed (unit_at (units_of plan) v).name (stations v)
-  -- no unit tells itself
+  -- no unit sends to itself
   pub itself : (u : ℕ) → claims u u ≡ []
-  -- units alone are on, and tell each other
+  -- units alone are on, and send to each other
   pub units : AreUnitsOn plan stations
   pub between : AreBetweenUnits plan claims
   -- nothing is undelivered to a unit that is off
   pub heard : (s t : ℕ) → (stations t).on ≡ false → claims s t ≡ []
 
--- ---- who is told
+-- ---- who hears
 
--- a unit that is off is told nothing
-told_off : (stations : Stations) (claims : Undelivered) (u : ℕ) (items : List Item) (s t : ℕ) → (stations t).on ≡ false
-    → told_to_others stations claims u items s t ≡ claims s t
-told_off stations claims u items s t off =
+-- a unit that is off hears nothing
+stated_off : (stations : Stations) (claims : Undelivered) (u : ℕ) (items : List Item) (s t : ℕ) → (stations t).on ≡ false
+    → sent_to_others stations claims u items s t ≡ claims s t
+stated_off stations claims u items s t off =
     let deaf : is_other_on stations u t ≡ false = and_left (stations t).on (not (eqb t u)) off in
     cond-false (eqb s u && is_other_on stations u t) (claims s t ++ items) (claims s t) (and_right (eqb s u) (is_other_on stations u t) deaf)
 
@@ -52,27 +52,27 @@ still_off stations u new on t off =
 
 module _ (plan : Plan) (distinct : AreNamesDistinct (units_of plan)) (stations : Stations) (claims : Undelivered)
     (old : AreDeliverable plan stations claims) where
-  -- one unit is then this, no list is longer, and it tells all others
-  told_more : (v : ℕ) (new : ClaimState) → is_unit plan v ≡ true → new.on ≡ true → IsUnclashed (unit_at (units_of plan) v).name new
+  -- one unit is then this, no list is longer, and it sends to all others
+  reported_more : (v : ℕ) (new : ClaimState) → is_unit plan v ≡ true → new.on ≡ true → IsUnclashed (unit_at (units_of plan) v).name new
       → (mid : Undelivered) → AreEmptyStill claims mid → (items : List Item)
-      → AreDeliverable plan (changed stations v new) (told_to_others (changed stations v new) mid v items)
-  told_more v new unit on unclashed mid less items =
+      → AreDeliverable plan (changed stations v new) (sent_to_others (changed stations v new) mid v items)
+  reported_more v new unit on unclashed mid less items =
       let now : Stations = changed stations v new in
       let now_on : AreUnitsOn plan now = units_on plan stations v new unit old.units in
       record {
         unclashed = changed_each (λ x s. IsUnclashed (unit_at (units_of plan) x).name s) stations v new unclashed old.unclashed;
         itself = not_itself now mid v items (λ s. less s s (old.itself s));
         units = now_on;
-        between = told_between plan now now_on mid (λ s t outside. less s t (old.between s t outside)) v unit items;
-        heard = λ s t off. told_off now mid v items s t off ∙ less s t (old.heard s t (still_off stations v new on t off));
+        between = stated_between plan now now_on mid (λ s t outside. less s t (old.between s t outside)) v unit items;
+        heard = λ s t off. stated_off now mid v items s t off ∙ less s t (old.heard s t (still_off stations v new on t off));
       }
 
   up_keeps : (u : ℕ) → is_unit plan u ≡ true → let new : Stations = changed stations u (started (unit_at (units_of plan) u)) in
-      AreDeliverable plan new (told_to_others new (without_lists_to u claims) u (Told (Claim (unit_at (units_of plan) u).preferred) ∷ []))
+      AreDeliverable plan new (sent_to_others new (without_lists_to u claims) u (AddressClaimed (Claim (unit_at (units_of plan) u).preferred) ∷ []))
   up_keeps u unit =
-      told_more u (started (unit_at (units_of plan) u)) unit refl
+      reported_more u (started (unit_at (units_of plan) u)) unit refl
       (record { unnoted = λ m a smaller held is. absurd (let e = sym (get-empty {X = ℕ} nat_cmp m) ∙ is in cc) })
-      (without_lists_to u claims) (without_lists_empty claims u) (Told (Claim (unit_at (units_of plan) u).preferred) ∷ [])
+      (without_lists_to u claims) (without_lists_empty claims u) (AddressClaimed (Claim (unit_at (units_of plan) u).preferred) ∷ [])
 
   down_keeps : (u : ℕ) → AreDeliverable plan (changed stations u off) (without_lists_to u claims)
   down_keeps u =
@@ -88,23 +88,23 @@ module _ (plan : Plan) (distinct : AreNamesDistinct (units_of plan)) (stations :
       }
 
   ask_keeps : (u : ℕ) → is_unit plan u ≡ true → (stations u).on ≡ true
-      → AreDeliverable plan stations (told_to_others stations claims u (Request ∷ Told (claim_of (stations u).address) ∷ []))
+      → AreDeliverable plan stations (sent_to_others stations claims u (Request ∷ AddressClaimed (claim_of (stations u).address) ∷ []))
   ask_keeps u unit on =
-      let items : List Item = Request ∷ Told (claim_of (stations u).address) ∷ [] in
+      let items : List Item = Request ∷ AddressClaimed (claim_of (stations u).address) ∷ [] in
       record {
         unclashed = old.unclashed;
         itself = not_itself stations claims u items old.itself;
         units = old.units;
-        between = told_between plan stations old.units claims old.between u unit items;
-        heard = λ s t off. told_off stations claims u items s t off ∙ old.heard s t off;
+        between = stated_between plan stations old.units claims old.between u unit items;
+        heard = λ s t off. stated_off stations claims u items s t off ∙ old.heard s t off;
       }
 
   -- u is switched on, and says nothing
   on_silently : (u : ℕ) → is_unit plan u ≡ true → AreDeliverable plan (changed stations u (started (unit_at (units_of plan) u))) (without_lists_to u claims)
   on_silently u unit =
       let new : Stations = changed stations u (started (unit_at (units_of plan) u)) in
-      subst (AreDeliverable plan new) (told_nothing new (without_lists_to u claims) u)
-      (told_more u (started (unit_at (units_of plan) u)) unit refl
+      subst (AreDeliverable plan new) (stated_nothing new (without_lists_to u claims) u)
+      (reported_more u (started (unit_at (units_of plan) u)) unit refl
       (record { unnoted = λ m a smaller held is. absurd (let e = sym (get-empty {X = ℕ} nat_cmp m) ∙ is in cc) })
       (without_lists_to u claims) (without_lists_empty claims u) [])
 
@@ -137,7 +137,7 @@ module _ (plan : Plan) (distinct : AreNamesDistinct (units_of plan)) (stations :
           (names_differ (units_of plan) distinct u v (in_units plan u unit_u) (in_units plan v unit_v) apart) item says new answers
 
       give_keeps : AreDeliverable plan (stations_given stations v new) (claims_given stations claims u v rest says new)
-      give_keeps = told_more v new unit_v (responds.on ∙ on_v) responds.unclashed (changed_pair claims u v rest) less_by_one (answer_items says)
+      give_keeps = reported_more v new unit_v (responds.on ∙ on_v) responds.unclashed (changed_pair claims u v rest) less_by_one (answer_items says)
 
 pub claim_steps : (plan : Plan) → AreNamesDistinct (units_of plan) → IsKeptByClaimSteps plan (AreDeliverable plan)
 claim_steps plan distinct = record {

@@ -8,11 +8,11 @@ use Rattle.std.proofs.Common.{arith, suc}
 use Rattle.j39_claim.specs.declared.item.Say.{Say}
 use Rattle.j39_claim.specs.declared.item.Say.TheVariants.{Claim, Cannot}
 use Rattle.j39_claim.specs.declared.item.Item.{Item}
-use Rattle.j39_claim.specs.declared.item.Item.TheVariants.{Told, Request}
+use Rattle.j39_claim.specs.declared.item.Item.TheVariants.{AddressClaimed, Request}
 use Rattle.j39_claim.specs.ClaimRule.{PlannedUnit, ClaimState, Answers, claim_of, off, started}
 use Rattle.j39_network.specs.declared.plan.Plan.{Plan}
 use Rattle.j39_network.specs.PlannedUnits.{units_of, unit_at}
-use Rattle.j39_world.specs.ClaimSteps.{told_to_others, without_lists_to, answer_items}
+use Rattle.j39_world.specs.ClaimSteps.{sent_to_others, without_lists_to, answer_items}
 use Rattle.j39_world.specs.Opening.{AreNamesDistinct}
 use Rattle.j39_world.specs.Sent.{claimed_by}
 use Rattle.j39_world.specs.Sound.{AreNotesRight, IsQuiet}
@@ -25,17 +25,17 @@ use Rattle.j39_run_laws.proofs.Runs.Conditions.{is_unit}
 use Rattle.j39_run_laws.proofs.Runs.Units.{AreUnitsOn, in_units, names_differ}
 use Rattle.j39_run_laws.proofs.Settling.Deliveries.{AreDeliverable, apart, responds, claim_steps, deliverable}
 use Rattle.j39_run_laws.proofs.Settling.Responses.{Response, IsNotedOf, says_held}
-use Rattle.j39_run_laws.proofs.Settling.Silences.{AreSilent, at_first, given, passed_over, switched, told}
+use Rattle.j39_run_laws.proofs.Settling.Silences.{AreSilent, at_first, given, passed_over, switched, stated}
 
 -- the last that is said: by what is undelivered, else by what was noted
 abbrev last_said : Option ℕ → List Item → Option ℕ
 last_said noted [] = noted
-last_said noted (Told say ∷ items) = last_said (claimed_by say) items
+last_said noted (AddressClaimed say ∷ items) = last_said (claimed_by say) items
 last_said noted (Request ∷ items) = last_said noted items
 
 last_of_both : (noted : Option ℕ) (xs ys : List Item) → last_said noted (xs ++ ys) ≡ last_said (last_said noted xs) ys
 last_of_both noted [] ys = refl
-last_of_both noted (Told say ∷ xs) ys = last_of_both (claimed_by say) xs ys
+last_of_both noted (AddressClaimed say ∷ xs) ys = last_of_both (claimed_by say) xs ys
 last_of_both noted (Request ∷ xs) ys = last_of_both noted xs ys
 
 -- where y is going to know of x an address, it is the one that x holds
@@ -54,42 +54,42 @@ silent_row : (plan : Plan) (f : Stations) (c : Undelivered) → AreSilent plan f
 silent_row plan f c silent units x is_silent y apart on_x on_y a is =
     let name : ℕ = (unit_at (units_of plan) x).name in
     let none : last_said (get (f y).notes name) (c x y) ≡ None =
-    ap (last_said (get (f y).notes name)) (silent.untold x y is_silent) ∙ silent.unnoted x y (in_units plan x (units x on_x)) is_silent in
+    ap (last_said (get (f y).notes name)) (silent.unsent x y is_silent) ∙ silent.unnoted x y (in_units plan x (units x on_x)) is_silent in
     let never : None ≡ Some a = sym none ∙ is in absurd (cc)
 
 -- what is said last by what is undelivered is said last, whatever was noted
 said_anyway : (items : List Item) (a : ℕ) (noted : Option ℕ) → last_said None items ≡ Some a → last_said noted items ≡ Some a
 said_anyway [] a noted is = absurd (cc is)
-said_anyway (Told say ∷ items) a noted is = is
+said_anyway (AddressClaimed say ∷ items) a noted is = is
 said_anyway (Request ∷ items) a noted is = said_anyway items a noted is
 
--- v tells what it holds, and all others stay as they were
-told_rows : (plan : Plan) (f : Stations) (mid : Undelivered) (v : ℕ) (items : List Item)
+-- v sends what it holds, and all others stay as they were
+stated_rows : (plan : Plan) (f : Stations) (mid : Undelivered) (v : ℕ) (items : List Item)
     → ((noted : Option ℕ) → last_said noted items ≡ (f v).address)
     → ((x y : ℕ) → x ≢ v → RowAt plan f mid x y)
-    → (x y : ℕ) → RowAt plan f (told_to_others f mid v items) x y
-told_rows plan f mid v items tells rows x y apart on_x on_y a is =
+    → (x y : ℕ) → RowAt plan f (sent_to_others f mid v items) x y
+stated_rows plan f mid v items states rows x y apart on_x on_y a is =
     let noted : Option ℕ = get (f y).notes (unit_at (units_of plan) x).name in
     elim (cases_eq x v) [
       | inl same ↦
           let y_other : y ≢ v = λ e. apart (same ∙ sym e) in
           let hears : is_other_on f v y ≡ true = and_from (f y).on (not (eqb y v)) on_y (ap not (ne_eqb y v y_other)) in
-          let list : told_to_others f mid v items x y ≡ mid x y ++ items =
+          let list : sent_to_others f mid v items x y ≡ mid x y ++ items =
           cond-true (eqb x v && is_other_on f v y) (mid x y ++ items) (mid x y) (and_from (eqb x v) (is_other_on f v y) (eq-eqb x v same) hears) in
-          ap (λ k. (f k).address) same ∙ sym (tells (last_said noted (mid x y))) ∙ sym (last_of_both noted (mid x y) items)
+          ap (λ k. (f k).address) same ∙ sym (states (last_said noted (mid x y))) ∙ sym (last_of_both noted (mid x y) items)
           ∙ sym (ap (last_said noted) list) ∙ is
       | inr other ↦
-          let list : told_to_others f mid v items x y ≡ mid x y =
+          let list : sent_to_others f mid v items x y ≡ mid x y =
           cond-false (eqb x v && is_other_on f v y) (mid x y ++ items) (mid x y) (ap (λ b. b && is_other_on f v y) (ne_eqb x v other)) in
           rows x y other apart on_x on_y a (sym (ap (last_said noted) list) ∙ is)
     ]
 
--- v tells nothing
-untold_rows : (plan : Plan) (f : Stations) (mid : Undelivered) (v : ℕ) → ((x y : ℕ) → RowAt plan f mid x y)
-    → (x y : ℕ) → RowAt plan f (told_to_others f mid v []) x y
-untold_rows plan f mid v rows x y apart on_x on_y a is =
+-- v sends nothing
+unsent_rows : (plan : Plan) (f : Stations) (mid : Undelivered) (v : ℕ) → ((x y : ℕ) → RowAt plan f mid x y)
+    → (x y : ℕ) → RowAt plan f (sent_to_others f mid v []) x y
+unsent_rows plan f mid v rows x y apart on_x on_y a is =
     let noted : Option ℕ = get (f y).notes (unit_at (units_of plan) x).name in
-    let same : last_said noted (told_to_others f mid v [] x y) ≡ last_said noted (mid x y) =
+    let same : last_said noted (sent_to_others f mid v [] x y) ≡ last_said noted (mid x y) =
     cond_both (eqb x v && is_other_on f v y) (mid x y ++ []) (mid x y) (λ xs. last_said noted xs ≡ last_said noted (mid x y))
     (λ _. last_of_both noted (mid x y) []) (λ _. refl) in
     rows x y apart on_x on_y a (sym same ∙ is)
@@ -120,14 +120,14 @@ module _ (plan : Plan) (distinct : AreNamesDistinct (units_of plan)) (stations :
       ]
 
   up_keeps : (u : ℕ) → is_unit plan u ≡ true → claims_at plan u ≡ true → let new : Stations = changed stations u (started (unit_at (units_of plan) u)) in
-      AreKnown plan new (told_to_others new (without_lists_to u claims) u (Told (Claim (unit_at (units_of plan) u).preferred) ∷ []))
+      AreKnown plan new (sent_to_others new (without_lists_to u claims) u (AddressClaimed (Claim (unit_at (units_of plan) u).preferred) ∷ []))
   up_keeps u unit claiming =
       let p : PlannedUnit = unit_at (units_of plan) u in
       record {
         old = (claim_steps plan distinct).switched_on stations claims inv.old u unit claiming;
-        silent = told plan (changed stations u (started p)) (without_lists_to u claims)
-            (switched plan stations claims inv.silent u (started p) (λ n. get-empty nat_cmp n)) u (Told (Claim p.preferred) ∷ []) claiming;
-        row = told_rows plan (changed stations u (started p)) (without_lists_to u claims) u (Told (Claim p.preferred) ∷ [])
+        silent = stated plan (changed stations u (started p)) (without_lists_to u claims)
+            (switched plan stations claims inv.silent u (started p) (λ n. get-empty nat_cmp n)) u (AddressClaimed (Claim p.preferred) ∷ []) claiming;
+        row = stated_rows plan (changed stations u (started p)) (without_lists_to u claims) u (AddressClaimed (Claim p.preferred) ∷ [])
             (λ noted. sym (ap (λ (s : ClaimState). s.address) (changed_here stations u (started p))))
             (fresh_rows u (started p) no_note);
       }
@@ -161,11 +161,11 @@ module _ (plan : Plan) (distinct : AreNamesDistinct (units_of plan)) (stations :
   }
 
   ask_keeps : (u : ℕ) → is_unit plan u ≡ true → claims_at plan u ≡ true → (stations u).on ≡ true
-      → AreKnown plan stations (told_to_others stations claims u (Request ∷ Told (claim_of (stations u).address) ∷ []))
+      → AreKnown plan stations (sent_to_others stations claims u (Request ∷ AddressClaimed (claim_of (stations u).address) ∷ []))
   ask_keeps u unit claiming on = record {
     old = (claim_steps plan distinct).asked stations claims inv.old u unit claiming on;
-    silent = told plan stations claims inv.silent u (Request ∷ Told (claim_of (stations u).address) ∷ []) claiming;
-    row = told_rows plan stations claims u (Request ∷ Told (claim_of (stations u).address) ∷ [])
+    silent = stated plan stations claims inv.silent u (Request ∷ AddressClaimed (claim_of (stations u).address) ∷ []) claiming;
+    row = stated_rows plan stations claims u (Request ∷ AddressClaimed (claim_of (stations u).address) ∷ [])
         (λ noted. says_held (stations u).address) (λ x y _. inv.row x y);
   }
 
@@ -187,7 +187,7 @@ module _ (plan : Plan) (distinct : AreNamesDistinct (units_of plan)) (stations :
   }
     where
       heard_anyway : (noted : Option ℕ) (i : Item) (items : List Item) (a : ℕ) → last_said None items ≡ Some a → last_said noted (i ∷ items) ≡ Some a
-      heard_anyway noted (Told say) items a is = said_anyway items a (claimed_by say) is
+      heard_anyway noted (AddressClaimed say) items a is = said_anyway items a (claimed_by say) is
       heard_anyway noted Request items a is = said_anyway items a noted is
 
   module _ (u v : ℕ) (unit_u : is_unit plan u ≡ true) (unit_v : is_unit plan v ≡ true) (on_v : (stations v).on ≡ true) (claiming : claims_at plan v ≡ true)
@@ -198,7 +198,7 @@ module _ (plan : Plan) (distinct : AreNamesDistinct (units_of plan)) (stations :
 
     heard_last : (i : Item) → IsNotedOf (stations v).notes new.notes (unit_at (units_of plan) u).name i
         → last_said (get (stations v).notes (unit_at (units_of plan) u).name) (i ∷ rest) ≡ last_said (get new.notes (unit_at (units_of plan) u).name) rest
-    heard_last (Told say) noted = ap (λ o. last_said o rest) (sym noted)
+    heard_last (AddressClaimed say) noted = ap (λ o. last_said o rest) (sym noted)
     heard_last Request noted = ap (λ o. last_said o rest) (sym noted)
 
     -- what v is going to know of another is the same
@@ -254,12 +254,12 @@ module _ (plan : Plan) (distinct : AreNamesDistinct (units_of plan)) (stations :
           ∙ sym (ap (last_said (get (changed stations v new y).notes (unit_at (units_of plan) v).name)) lists) ∙ is))
     ]
 
-    told_say : (say : Say) → says ≡ Some say → claimed_by say ≡ new.address
-        → (x y : ℕ) → RowAt plan (changed stations v new) (told_to_others (changed stations v new) (changed_pair claims u v rest) v (answer_items says)) x y
-    told_say say said holds =
-        subst (λ o. (x y : ℕ) → RowAt plan (changed stations v new) (told_to_others (changed stations v new) (changed_pair claims u v rest) v (answer_items o)) x y)
+    stated_say : (say : Say) → says ≡ Some say → claimed_by say ≡ new.address
+        → (x y : ℕ) → RowAt plan (changed stations v new) (sent_to_others (changed stations v new) (changed_pair claims u v rest) v (answer_items says)) x y
+    stated_say say said holds =
+        subst (λ o. (x y : ℕ) → RowAt plan (changed stations v new) (sent_to_others (changed stations v new) (changed_pair claims u v rest) v (answer_items o)) x y)
         (sym said)
-        (told_rows plan (changed stations v new) (changed_pair claims u v rest) v (Told say ∷ [])
+        (stated_rows plan (changed stations v new) (changed_pair claims u v rest) v (AddressClaimed say ∷ [])
         (λ noted. holds ∙ sym (ap (λ (s : ClaimState). s.address) (changed_here stations v new))) mid_rows)
 
     give_keeps : AreKnown plan (stations_given stations v new) (claims_given stations claims u v rest says new)
@@ -268,10 +268,10 @@ module _ (plan : Plan) (distinct : AreNamesDistinct (units_of plan)) (stations :
       silent = given plan stations claims inv.silent u v item rest list distinct unit_u claiming says new r;
       row = elim (r.outcome) [
         | inl silent ↦
-            subst (λ o. (x y : ℕ) → RowAt plan (changed stations v new) (told_to_others (changed stations v new) (changed_pair claims u v rest) v (answer_items o)) x y)
-            (sym silent.0) (untold_rows plan (changed stations v new) (changed_pair claims u v rest) v (still_rows silent.1))
-        | inr (inl repeats) ↦ told_say repeats.say repeats.said repeats.holds
-        | inr (inr loses) ↦ told_say loses.say loses.said loses.holds
+            subst (λ o. (x y : ℕ) → RowAt plan (changed stations v new) (sent_to_others (changed stations v new) (changed_pair claims u v rest) v (answer_items o)) x y)
+            (sym silent.0) (unsent_rows plan (changed stations v new) (changed_pair claims u v rest) v (still_rows silent.1))
+        | inr (inl repeats) ↦ stated_say repeats.say repeats.said repeats.holds
+        | inr (inr loses) ↦ stated_say loses.say loses.said loses.holds
       ];
     }
 
@@ -295,11 +295,11 @@ known plan distinct = always plan (λ w. AreKnown plan w.stations w.claims)
     (claim_steps_keep plan (AreKnown plan) (known_steps plan distinct))
 
 -- where nothing is claimed, what was noted is said last
-quiet_last : (noted : Option ℕ) (items : List Item) → ((a : ℕ) → ¬ Contains items (Told (Claim a))) → ¬ Contains items (Told Cannot)
+quiet_last : (noted : Option ℕ) (items : List Item) → ((a : ℕ) → ¬ Contains items (AddressClaimed (Claim a))) → ¬ Contains items (AddressClaimed Cannot)
     → last_said noted items ≡ noted
 quiet_last noted [] claim cannot = refl
-quiet_last noted (Told (Claim a) ∷ items) claim cannot = absurd (claim a (0, omega arith, refl))
-quiet_last noted (Told Cannot ∷ items) claim cannot = absurd (cannot (0, omega arith, refl))
+quiet_last noted (AddressClaimed (Claim a) ∷ items) claim cannot = absurd (claim a (0, omega arith, refl))
+quiet_last noted (AddressClaimed Cannot ∷ items) claim cannot = absurd (cannot (0, omega arith, refl))
 quiet_last noted (Request ∷ items) claim cannot =
     quiet_last noted items (λ a (k, inside, is). claim a (suc k, omega arith, is)) (λ (k, inside, is). cannot (suc k, omega arith, is))
 

@@ -6,17 +6,17 @@ use Rattle.std.proofs.Math.Nat.{mul-le-mul_left}
 use Rattle.std.specs.FinMap.{get}
 use Rattle.j39_claim.specs.declared.item.Say.{Say}
 use Rattle.j39_claim.specs.declared.item.Item.{Item}
-use Rattle.j39_claim.specs.declared.item.Item.TheVariants.{Told, Request}
+use Rattle.j39_claim.specs.declared.item.Item.TheVariants.{AddressClaimed, Request}
 use Rattle.j39_claim.specs.ClaimRule.{PlannedUnit, ClaimState}
 use Rattle.j39_network.specs.PlannedUnits.{unit_at}
 use Rattle.j39_world.specs.World.{Stations, Undelivered, changed, changed_pair, is_other_on}
-use Rattle.j39_world.specs.ClaimSteps.{told_to_others, answer_items}
+use Rattle.j39_world.specs.ClaimSteps.{sent_to_others, answer_items}
 use Rattle.j39_run_laws.proofs.Settling.Totals.{total, total-rise, total-two, total-le, total-less}
 use Rattle.j39_world.specs.Sent.{claimed_by}
 use Rattle.j39_run_laws.proofs.Settling.Changes.{changes, changes-noted, differ, differ-same, differ-other, differ-most}
 use Rattle.j39_run_laws.proofs.Settling.Responses.{Response, SaysNothing, Repeats, Loses}
 use Rattle.j39_run_laws.proofs.Runs.Changed.{IsElsewhere, changed_here, changed_elsewhere, pair_here, pair_elsewhere}
-use Rattle.j39_run_laws.proofs.Settling.Measure.{heft, load, hefts, Says, relief, load_moved, load_told, load_heard, name_at, request_weight, say_weight}
+use Rattle.j39_run_laws.proofs.Settling.Measure.{heft, load, hefts, Says, relief, load_moved, load_stated, load_heard, name_at, request_weight, say_weight}
 use Rattle.j39_run_laws.proofs.Settling.Measure.{rest_weight, change_weight, load_between, measure, answers_below_request, answers_below_say, say_some}
 use Rattle.j39_run_laws.proofs.Settling.Measure.{request_some, change_below, change_above, change_none}
 
@@ -26,7 +26,7 @@ load_same : (change request say : ℕ) (noted noted' : Option ℕ) (items items'
     → load change request say noted items held ≤ load change request say noted' items' held'
 load_same change request say noted noted' items items' held held' a b c = rw (a, b, c) (omega arith)
 
--- where nothing is told to the unit itself
+-- where nothing is sent to the unit itself
 load_itself : (change request say : ℕ) (noted noted' : Option ℕ) (items items' : List Item) (held held' : Option ℕ) → change ≡ 0 → items ≡ items'
     → load change request say noted items held ≤ load change request say noted' items' held'
 load_itself change request say noted noted' items items' held held' none b = rw (none, b) (omega arith)
@@ -38,7 +38,7 @@ less_by_move n request rest say answers change is fewer = rw is (omega arith)
 
 -- whatever a list loses with an item, it is something
 relief_some : (change request say : ℕ) (noted : Option ℕ) (item : Item) → 0 < say → 0 < request → 0 < relief change request say noted item
-relief_some change request say noted (Told said) some_say some_request = omega arith
+relief_some change request say noted (AddressClaimed said) some_say some_request = omega arith
 relief_some change request say noted Request some_say some_request = some_request
 
 at_most_once : (change times most : ℕ) → times ≤ 1 → change ≤ most → change * times ≤ most
@@ -50,14 +50,14 @@ lower_by now was lost adds after before a b sum less = omega arith
 -- what a list loses with its oldest item, where this is heard and not noted
 load_passed : (change request say : ℕ) (noted : Option ℕ) (item : Item) (items : List Item) (held : Option ℕ)
     → load change request say noted items held + heft request say item ≤ load change request say noted (item ∷ items) held
-load_passed change request say noted (Told said) items held =
+load_passed change request say noted (AddressClaimed said) items held =
     let times : change * changes noted items held ≤ change * (differ noted (claimed_by said) + changes (claimed_by said) items held) =
     mul-le-mul_left change (changes-noted items noted (claimed_by said) held) in
     omega arith
 load_passed change request say noted Request items held = omega arith
 
 heft_some : (request say : ℕ) (item : Item) → 0 < say → 0 < request → 0 < heft request say item
-heft_some request say (Told said) some_say some_request = some_say
+heft_some request say (AddressClaimed said) some_say some_request = some_say
 heft_some request say Request some_say some_request = some_request
 
 -- what a unit hears that does nothing about it is gone
@@ -96,12 +96,12 @@ module _ (units : List PlannedUnit) (stations : Stations) (claims : Undelivered)
   mid : Undelivered
   mid = changed_pair claims u v rest
 
-  told : Undelivered
-  told = told_to_others (changed stations v new) (changed_pair claims u v rest) v (answer_items says)
+  stated : Undelivered
+  stated = sent_to_others (changed stations v new) (changed_pair claims u v rest) v (answer_items says)
 
-  told_other : (s t : ℕ) → s ≢ v → told s t ≡ mid s t
-  unfolding told mid
-  told_other s t other =
+  stated_other : (s t : ℕ) → s ≢ v → stated s t ≡ mid s t
+  unfolding stated mid
+  stated_other s t other =
       let e : eqb s v ≡ false = ne_eqb s v other in
       rw e refl
 
@@ -115,7 +115,7 @@ module _ (units : List PlannedUnit) (stations : Stations) (claims : Undelivered)
   between = load_between units stations claims
 
   between' : ℕ → ℕ → ℕ
-  between' = load_between units after told
+  between' = load_between units after stated
 
   address_other : (s : ℕ) → s ≢ v → (after s).address ≡ (stations s).address
   unfolding after
@@ -139,31 +139,31 @@ module _ (units : List PlannedUnit) (stations : Stations) (claims : Undelivered)
   others s t in_s other elsewhere =
       load_same (change_weight units s t) (request_weight units) (say_weight units s)
       (get (after t).notes (name_at units s)) (get (stations t).notes (name_at units s))
-      (told s t) (claims s t) (after s).address (stations s).address
-      (noted_other s t in_s elsewhere) (told_other s t other ∙ mid_other s t elsewhere) (address_other s other)
+      (stated s t) (claims s t) (after s).address (stations s).address
+      (noted_other s t in_s elsewhere) (stated_other s t other ∙ mid_other s t elsewhere) (address_other s other)
 
   lost : ℕ
   lost = relief (change_weight units u v) (request_weight units) (say_weight units u) (get (stations v).notes (name_at units u)) item
 
   -- the list to the unit that hears is relieved
   heard : between' u v + lost ≤ between u v
-  unfolding between between' lost after told mid
+  unfolding between between' lost after stated mid
   heard =
       let c : ℕ = change_weight units u v in
       let q : ℕ = request_weight units in
       let w : ℕ = say_weight units u in
       let n : ℕ = name_at units u in
-      let now = load_same c q w (get (changed stations v new v).notes n) (get new.notes n) (told u v) rest (changed stations v new u).address
+      let now = load_same c q w (get (changed stations v new v).notes n) (get new.notes n) (stated u v) rest (changed stations v new u).address
       (stations u).address
-      (ap (λ (x : ClaimState). get x.notes n) (changed_here stations v new)) (told_other u v apart ∙ pair_here claims u v rest) (address_other u apart) in
+      (ap (λ (x : ClaimState). get x.notes n) (changed_here stations v new)) (stated_other u v apart ∙ pair_here claims u v rest) (address_other u apart) in
       let less = load_heard c q w (stations v).notes new.notes n item rest (stations u).address r.noted in
       let was = load_same c q w (get (stations v).notes n) (get (stations v).notes n) (item ∷ rest) (claims u v) (stations u).address
       (stations u).address refl (sym list) refl in
       omega (arith, now, less, was)
 
-  told_itself : told v v ≡ claims v v
-  unfolding told
-  told_itself =
+  stated_itself : stated v v ≡ claims v v
+  unfolding stated
+  stated_itself =
       let e : eqb v v ≡ true = eq-eqb v v refl in
       let silent : (eqb v v && is_other_on (changed stations v new) v v) ≡ false =
       and_right (eqb v v) (is_other_on (changed stations v new) v v) (and_right (changed stations v new v).on (not (eqb v v)) (rw e refl)) in
@@ -181,11 +181,11 @@ module _ (units : List PlannedUnit) (stations : Stations) (claims : Undelivered)
           arith,
           load_itself (change_weight units v v) (request_weight units) (say_weight units v) (get (after v).notes (name_at units v))
               (get (stations v).notes (name_at units v))
-              (told v v) (claims v v) (after v).address (stations v).address (change_none units v) told_itself,
+              (stated v v) (claims v v) (after v).address (stations v).address (change_none units v) stated_itself,
         )
 
     answered_other : (t : ℕ) → t < length units → t ≢ v → between' v t ≤ between v t + (rise + answers)
-    unfolding between between' after told
+    unfolding between between' after stated
     answered_other t in_t other =
         let c : ℕ = change_weight units v t in
         let q : ℕ = request_weight units in
@@ -205,7 +205,7 @@ module _ (units : List PlannedUnit) (stations : Stations) (claims : Undelivered)
         let to = load_same c q w (get (changed stations v new t).notes n) noted (changed_pair claims u v rest v t ++ answer_items says)
         (claims v t ++ answer_items says) (changed stations v new v).address new.address
         same_note (ap (λ (xs : List Item). xs ++ answer_items says) same_list) now in
-        omega (arith, to, load_told c q w noted (claims v t) held new.address says holds))
+        omega (arith, to, load_stated c q w noted (claims v t) held new.address says holds))
         (λ _.
         let to = load_same c q w (get (changed stations v new t).notes n) noted (changed_pair claims u v rest v t) (claims v t)
         (changed stations v new v).address new.address same_note same_list now in
@@ -228,10 +228,10 @@ module _ (units : List PlannedUnit) (stations : Stations) (claims : Undelivered)
 
   -- ---- what is said weighs less than what was heard
 
-  told_measure : measure units (changed stations v new) (told_to_others (changed stations v new) (changed_pair claims u v rest) v (answer_items says))
+  stated_measure : measure units (changed stations v new) (sent_to_others (changed stations v new) (changed_pair claims u v rest) v (answer_items says))
       ≡ total (length units) (λ s. total (length units) (between' s))
-  unfolding measure between' after told
-  told_measure = refl
+  unfolding measure between' after stated
+  stated_measure = refl
 
   measure_was : measure units stations claims ≡ total (length units) (λ s. total (length units) (between s))
   unfolding measure between
@@ -239,7 +239,7 @@ module _ (units : List PlannedUnit) (stations : Stations) (claims : Undelivered)
 
   IsLowered : Type 0
   IsLowered = measure units (changed stations v new)
-      (told_to_others (changed stations v new) (changed_pair claims u v rest) v (answer_items says)) < measure units stations claims
+      (sent_to_others (changed stations v new) (changed_pair claims u v rest) v (answer_items says)) < measure units stations claims
 
   unmoved : new.address ≡ (stations v).address → (t : ℕ) → t < length units → change_weight units v t * differ (stations v).address new.address ≤ 0
   unmoved same t in_t = let d : differ (stations v).address new.address ≡ 0 = rw same (differ-same (stations v).address) in rw d (omega arith)
@@ -258,7 +258,7 @@ module _ (units : List PlannedUnit) (stations : Stations) (claims : Undelivered)
       let some : 0 < relief (change_weight units u v) (request_weight units) (say_weight units u) (get (stations v).notes (name_at units u)) item =
       relief_some (change_weight units u v) (request_weight units) (say_weight units u) (get (stations v).notes (name_at units u)) item (say_some units u)
       (request_some units) in
-      omega (arith, all_lists 0 0 (unmoved same) quiet holds, told_measure, measure_was)
+      omega (arith, all_lists 0 0 (unmoved same) quiet holds, stated_measure, measure_was)
 
   by_repeating : Repeats (unit_at units v) (stations v) (name_at units u) item says new → IsLowered
   unfolding IsLowered lost
@@ -268,13 +268,13 @@ module _ (units : List PlannedUnit) (stations : Stations) (claims : Undelivered)
       (get (stations v).notes (name_at units u)) item =
       elim (t.cause) [
         | inl request ↦ rw request (answers_below_request units v in_v)
-        | inr told_one ↦ let (smaller, heard_one, is) = told_one in rw is (omega (arith, answers_below_say units u v smaller))
+        | inr stated_one ↦ let (smaller, heard_one, is) = stated_one in rw is (omega (arith, answers_below_say units u v smaller))
       ] in
       omega (
         arith,
         all_lists 0 (say_weight units v) (unmoved t.address) (answer_weight t.say t.said)
             (says_held t.say t.said t.holds),
-        told_measure,
+        stated_measure,
         measure_was,
       )
 
@@ -293,11 +293,11 @@ module _ (units : List PlannedUnit) (stations : Stations) (claims : Undelivered)
       less_by_move n q (rest_weight units v) (say_weight units u) (say_weight units v) (change_weight units u v) (change_above units u v t.smaller)
       (answers_below_request units v in_v) in
       let sum = all_lists (q * rest_weight units v) (say_weight units v) rises (answer_weight t.say t.said) (says_held t.say t.said t.holds) in
-      lower_by (total n (λ s. total n (between' s))) (total n (λ s. total n (between s))) _ _ _ _ told_measure measure_was sum
+      lower_by (total n (λ s. total n (between' s))) (total n (λ s. total n (between s))) _ _ _ _ stated_measure measure_was sum
       (subst (λ k. n * (q * rest_weight units v + say_weight units v) < k) (sym taken) less)
 
   pub lowered : measure units (changed stations v new)
-      (told_to_others (changed stations v new) (changed_pair claims u v rest) v (answer_items says)) < measure units stations claims
+      (sent_to_others (changed stations v new) (changed_pair claims u v rest) v (answer_items says)) < measure units stations claims
   unfolding IsLowered
   lowered = elim (r.outcome) [
     | inl silent ↦ by_silence silent

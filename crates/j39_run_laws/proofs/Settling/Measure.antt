@@ -6,20 +6,20 @@ use Rattle.std.specs.FinMap.{FinMap, get}
 use Rattle.std.specs.Ordering.{nat_cmp}
 use Rattle.j39_claim.specs.declared.item.Say.{Say}
 use Rattle.j39_claim.specs.declared.item.Item.{Item}
-use Rattle.j39_claim.specs.declared.item.Item.TheVariants.{Told, Request}
+use Rattle.j39_claim.specs.declared.item.Item.TheVariants.{AddressClaimed, Request}
 use Rattle.j39_claim.specs.ClaimRule.{PlannedUnit}
 use Rattle.j39_network.specs.PlannedUnits.{unit_at}
 use Rattle.j39_world.specs.World.{Stations, Undelivered}
 use Rattle.j39_world.specs.ClaimSteps.{answer_items}
 use Rattle.j39_run_laws.proofs.Settling.Totals.{total, part-le, weight, below, weight-is, weight-le, weight-below}
 use Rattle.j39_world.specs.Sent.{claimed_by}
-use Rattle.j39_run_laws.proofs.Settling.Changes.{differ, changes, changes-moved, changes-told}
+use Rattle.j39_run_laws.proofs.Settling.Changes.{differ, changes, changes-moved, changes-stated}
 use Rattle.j39_run_laws.proofs.Settling.Responses.{IsNotedOf}
 
 -- what an item weighs, where a request weighs so much, and what its sender says of itself so much
 abbrev pub heft : ℕ → ℕ → Item → ℕ
 heft request say Request = request
-heft request say (Told _) = say
+heft request say (AddressClaimed _) = say
 
 abbrev pub hefts : ℕ → ℕ → List Item → ℕ
 hefts request say [] = 0
@@ -47,29 +47,29 @@ Says None held new = new ≡ held
 Says (Some say) held new = claimed_by say ≡ new
 
 -- and says so
-pub load_told : (change request say : ℕ) (noted : Option ℕ) (items : List Item) (held new : Option ℕ) (says : Option Say) → Says says held new
+pub load_stated : (change request say : ℕ) (noted : Option ℕ) (items : List Item) (held new : Option ℕ) (says : Option Say) → Says says held new
     → load change request say noted (items ++ answer_items says) new
     ≤ load change request say noted items held + (change * differ held new + hefts request say (answer_items says))
-load_told change request say noted items held new None is =
+load_stated change request say noted items held new None is =
     let nothing : items ++ [] ≡ items = append-nil items in
     rw nothing (omega (arith, load_moved change request say noted items held new))
-load_told change request say noted items held new (Some said) is =
-    let more : changes noted (items ++ Told said ∷ []) new ≤ changes noted items held + differ held new = changes-told items noted held new said is in
-    let times : change * changes noted (items ++ Told said ∷ []) new ≤ change * (changes noted items held + differ held new) = mul-le-mul_left change more in
-    let heavier : hefts request say (items ++ Told said ∷ []) ≡ hefts request say items + hefts request say (Told said ∷ []) =
-    hefts-append request say items (Told said ∷ []) in
+load_stated change request say noted items held new (Some said) is =
+    let more : changes noted (items ++ AddressClaimed said ∷ []) new ≤ changes noted items held + differ held new = changes-stated items noted held new said is in
+    let times : change * changes noted (items ++ AddressClaimed said ∷ []) new ≤ change * (changes noted items held + differ held new) = mul-le-mul_left change more in
+    let heavier : hefts request say (items ++ AddressClaimed said ∷ []) ≡ hefts request say items + hefts request say (AddressClaimed said ∷ []) =
+    hefts-append request say items (AddressClaimed said ∷ []) in
     omega arith
 
 -- what the list loses with its oldest item
 abbrev pub relief : ℕ → ℕ → ℕ → Option ℕ → Item → ℕ
-relief change request say noted (Told said) = change * differ noted (claimed_by said) + say
+relief change request say noted (AddressClaimed said) = change * differ noted (claimed_by said) + say
 relief change request say noted Request = request
 
 pub load_heard : (change request say : ℕ) (notes after : FinMap nat_cmp ℕ) (n : ℕ) (item : Item) (items : List Item) (held : Option ℕ)
     → IsNotedOf notes after n item
     → load change request say (get after n) items held + relief change request say (get notes n) item
     ≤ load change request say (get notes n) (item ∷ items) held
-load_heard change request say notes after n (Told said) items held is =
+load_heard change request say notes after n (AddressClaimed said) items held is =
     rw is (omega arith)
 load_heard change request say notes after n Request items held is = rw is (omega arith)
 

@@ -6,7 +6,7 @@ use Rattle.std.specs.FinMap.{FinMap, get, insert, remove}
 use Rattle.j39_claim.specs.declared.item.Say.{Say}
 use Rattle.j39_claim.specs.declared.item.Say.TheVariants.{Claim, Cannot}
 use Rattle.j39_claim.specs.declared.item.Item.{Item}
-use Rattle.j39_claim.specs.declared.item.Item.TheVariants.{Told, Request}
+use Rattle.j39_claim.specs.declared.item.Item.TheVariants.{AddressClaimed, Request}
 use Rattle.j39_claim.specs.ClaimRule.{PlannedUnit, ClaimState, Answers, claim_of}
 use Rattle.j39_world.specs.Sent.{claimed_by}
 use Rattle.j39_run_laws.proofs.Addresses.Notes.{inserted_here, inserted_elsewhere, removed_here, removed_elsewhere, noted, IsLost, claim_cases}
@@ -17,7 +17,7 @@ pub record IsUnclashed (name : ℕ) (s : ClaimState) : Type 0 where
 
 -- what was heard of n is noted
 abbrev pub IsNotedOf : FinMap nat_cmp ℕ → FinMap nat_cmp ℕ → ℕ → Item → Type 0
-IsNotedOf notes new n (Told say) = get new n ≡ claimed_by say
+IsNotedOf notes new n (AddressClaimed say) = get new n ≡ claimed_by say
 IsNotedOf notes new n Request = get new n ≡ get notes n
 
 -- it says what it holds, as before, to a request or to a larger NAME
@@ -26,7 +26,7 @@ pub record Repeats (c : PlannedUnit) (s : ClaimState) (n : ℕ) (item : Item) (s
   pub said : says ≡ Some say
   pub holds : claimed_by say ≡ new.address
   pub address : new.address ≡ s.address
-  pub cause : (item ≡ Request) ⊎ ((c.name < n) × (heard : Say) × (item ≡ Told heard))
+  pub cause : (item ≡ Request) ⊎ ((c.name < n) × (heard : Say) × (item ≡ AddressClaimed heard))
 
 -- it loses its address to a smaller NAME, of which it had not noted that address, and says what it then holds
 pub record Loses (c : PlannedUnit) (s : ClaimState) (n : ℕ) (item : Item) (says : Option Say) (new : ClaimState) : Type 0 where
@@ -35,7 +35,7 @@ pub record Loses (c : PlannedUnit) (s : ClaimState) (n : ℕ) (item : Item) (say
   pub holds : claimed_by say ≡ new.address
   pub smaller : n < c.name
   pub lost : ℕ
-  pub cause : item ≡ Told (Claim lost)
+  pub cause : item ≡ AddressClaimed (Claim lost)
   pub unnoted : get s.notes n ≢ Some lost
 
 abbrev pub SaysNothing : ClaimState → Option Say → ClaimState → Type 0
@@ -76,8 +76,8 @@ module _ (c : PlannedUnit) (s : ClaimState) (unclashed : IsUnclashed c.name s) (
 
   -- what it then is, where it has noted a
   response_with : (a : ℕ) (says : Option Say) (new is : ClaimState) → new ≡ is → is.on ≡ s.on → is.notes ≡ insert s.notes n a → IsUnclashed c.name is
-      → SaysNothing s says is ⊎ (Repeats c s n (Told (Claim a)) says is ⊎ Loses c s n (Told (Claim a)) says is) → Response c s n (Told (Claim a)) says new
-  response_with a says new is same on notes clear outcome = subst (Response c s n (Told (Claim a)) says) (sym same) (record {
+      → SaysNothing s says is ⊎ (Repeats c s n (AddressClaimed (Claim a)) says is ⊎ Loses c s n (AddressClaimed (Claim a)) says is) → Response c s n (AddressClaimed (Claim a)) says new
+  response_with a says new is same on notes clear outcome = subst (Response c s n (AddressClaimed (Claim a)) says) (sym same) (record {
     on = on;
     unclashed = clear;
     noted = ap (λ x. get x n) notes ∙ inserted_here s.notes n a;
@@ -87,11 +87,11 @@ module _ (c : PlannedUnit) (s : ClaimState) (unclashed : IsUnclashed c.name s) (
 
   -- it says what it then holds
   lost_to : (a : ℕ) (says : Option Say) (new : ClaimState) (say : Say) → s.address ≡ Some a → n < c.name → says ≡ Some say → claimed_by say ≡ new.address
-      → Loses c s n (Told (Claim a)) says new
+      → Loses c s n (AddressClaimed (Claim a)) says new
   lost_to a says new say held smaller said holds =
       record { say = say; said = said; holds = holds; smaller = smaller; lost = a; cause = refl; unnoted = unclashed.unnoted n a smaller held }
 
-  loses : (a : ℕ) (says : Option Say) (new : ClaimState) → s.address ≡ Some a → n < c.name → IsLost c s n a says new → Response c s n (Told (Claim a)) says new
+  loses : (a : ℕ) (says : Option Say) (new : ClaimState) → s.address ≡ Some a → n < c.name → IsLost c s n a says new → Response c s n (AddressClaimed (Claim a)) says new
   loses a says new held smaller (inl (b, arbitrary, free, said, is)) =
       response_with a says new (record (noted s n a) { address = Some b }) is refl refl
       (record { unnoted = λ m x below holds found. free.unnoted m (found ∙ sym holds) })
@@ -101,9 +101,9 @@ module _ (c : PlannedUnit) (s : ClaimState) (unclashed : IsUnclashed c.name s) (
       (record { unnoted = λ m x below holds found. absurd (cc) })
       (inr (inr (lost_to a says (record (noted s n a) { address = None }) Cannot held smaller said refl)))
 
-  claimed : (a : ℕ) (says : Option Say) (new : ClaimState) → Answers c s n (Told (Claim a)) says new → Response c s n (Told (Claim a)) says new
+  claimed : (a : ℕ) (says : Option Say) (new : ClaimState) → Answers c s n (AddressClaimed (Claim a)) says new → Response c s n (AddressClaimed (Claim a)) says new
   claimed a says new =
-      claim_cases c s n a says new (Response c s n (Told (Claim a)) says new)
+      claim_cases c s n a says new (Response c s n (AddressClaimed (Claim a)) says new)
       (loses a says new)
       (λ held least (said, is).
       let larger : c.name < n = omega arith in
@@ -112,8 +112,8 @@ module _ (c : PlannedUnit) (s : ClaimState) (unclashed : IsUnclashed c.name s) (
       (λ not_held (said, is). response_with a says new (noted s n a) is refl refl (unclashed_after a not_held) (inl (said, refl)))
 
   pub response : (item : Item) (says : Option Say) (new : ClaimState) → Answers c s n item says new → Response c s n item says new
-  response (Told (Claim a)) says new answers = claimed a says new answers
-  response (Told Cannot) says new answers = subst (Response c s n (Told Cannot) says) (sym answers.1) (record {
+  response (AddressClaimed (Claim a)) says new answers = claimed a says new answers
+  response (AddressClaimed Cannot) says new answers = subst (Response c s n (AddressClaimed Cannot) says) (sym answers.1) (record {
     on = refl;
     unclashed = record {
       unnoted = λ m b smaller held is. elim (cases_eq m n) [

@@ -8,7 +8,7 @@ use Rattle.std.specs.Option.{unwrap_or}
 use Rattle.j39_claim.specs.AddressSets.{lowest_free}
 use Rattle.j39_claim.specs.declared.item.Say.{Say}
 use Rattle.j39_claim.specs.declared.item.Item.{Item}
-use Rattle.j39_claim.specs.declared.item.Item.TheVariants.{Told, Request}
+use Rattle.j39_claim.specs.declared.item.Item.TheVariants.{AddressClaimed, Request}
 use Rattle.j39_claim.specs.ClaimRule.{PlannedUnit, ClaimState, Answers, Reacts, claim_of}
 use Rattle.j39_claim.specs.ExactAnswer.{Pick, IsLawful, said_after, state_after}
 use Rattle.j39_claim.proofs.FreeAddresses.{lowest_free_in}
@@ -40,7 +40,7 @@ unfolding least
 least_lawful name lost taken some = lowest_free_in taken some
 
 pub answered : (c : PlannedUnit) (s : ClaimState) (n : ℕ) (item : Item) → (says : Option Say) × (new : ClaimState) × Answers c s n item says new
-answered c s n (Told say) = (said_after least c s n say, state_after least c s n say, lawful_follows least least_lawful c s n say)
+answered c s n (AddressClaimed say) = (said_after least c s n say, state_after least c s n say, lawful_follows least least_lawful c s n say)
 answered c s n Request = (Some (claim_of s.address), s, (refl, refl))
 
 -- and each unit does something about it, one that doesn't claim nothing

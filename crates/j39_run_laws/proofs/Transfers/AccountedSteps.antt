@@ -1,10 +1,10 @@
 -- In every world of every run what is undelivered of messages is of one that is still sent, and who sends and receives it is on.
-use Rattle.std.proofs.Common.{◌≡◌, ℕ, inl, inr, Bool, true, false, not, ◌&&◌, eqb, ltb, List, [], ◌∷◌, ◌++◌, length, refl, sym, ap, ◌∙◌, subst, Option, Some}
+use Rattle.std.proofs.Common.{◌≡◌, ℕ, inl, inr, Bool, true, false, not, ◌&&◌, eqb, ltb, List, [], ◌∷◌, ◌++◌, length, refl, sym, ◌∙◌, subst, Option, Some}
 use Rattle.std.proofs.Common.{None}
 use Rattle.std.specs.Prelude.{map, slice_get}
 use Rattle.std.specs.List.{AllByRecursion, list_all, range_with_len}
 use Rattle.std.specs.Option.{is_some}
-use Rattle.std.proofs.lemmas.Bool.{and_parts, cases_Bool, cond_both, eqb-true, not-false, not-true, true≢false}
+use Rattle.std.proofs.lemmas.Bool.{and_parts, cases_Bool, cond_both, not-false, not-true, true≢false}
 use Rattle.std.proofs.lemmas.List.{map-append}
 use Rattle.j39_tp.specs.Receiver as receiver
 use Rattle.j39_tp.specs.Receiver.{is_open_at}
@@ -32,7 +32,7 @@ use Rattle.j39_world.specs.Resting.{is_of_sender, is_of_receiver, is_over_with, 
 use Rattle.j39_world.specs.Run.{count_of, is_on, at_ends, begin_refusal, begin_refusals, send_refusal, send_refusals, refusal, StepsTo}
 use Rattle.j39_world.specs.Run.{is_a_transfer_open, is_none_sending, is_no_transfer_open, is_nothing_undelivered}
 use Rattle.j39_world.specs.SoundPlan.{Always}
-use Rattle.j39_world.specs.Transfers.{Outgoing, Reported, Sessions, Wire, is_among, added, outcome_in}
+use Rattle.j39_world.specs.Transfers.{Outgoing, Reported, Sessions, is_among, added, outcome_in}
 use Rattle.j39_world.specs.TransferSteps.{targets_of, outgoing, first_item, begins, BeginsAt, SendsAt, sends_alone, sent_to_receivers, session_after}
 use Rattle.j39_world.specs.TransferSteps.{reaction_of}
 use Rattle.j39_world.specs.TransferSteps.{receiver_replies}
@@ -46,11 +46,12 @@ use Rattle.j39_run_laws.proofs.Reports.SenderSteps.{among_filtered, among_one, n
 use Rattle.j39_run_laws.proofs.Reports.SoundReports.{AreUntaken, at_first, steps_keep}
 use Rattle.j39_run_laws.proofs.Reports.TransferInvariant.{TransferInvariant}
 use Rattle.j39_run_laws.proofs.Runs.Always.{IsPreserved, always}
-use Rattle.j39_run_laws.proofs.Runs.Changed.{changed_here, changed_each, pair_each}
+use Rattle.j39_run_laws.proofs.Runs.Changed.{changed_here, changed_each}
 use Rattle.j39_run_laws.proofs.Runs.Conditions.{is_unit, none_refuses}
 use Rattle.j39_run_laws.proofs.Runs.Elements.{all-append, all_tested, all_weaker}
 use Rattle.j39_run_laws.proofs.Runs.SwitchedOff.{lists_left, nothing_dropped, sessions_each, unless_live}
 use Rattle.j39_run_laws.proofs.Runs.Units.{units_all}
+use Rattle.j39_run_laws.proofs.Runs.WiredItems.{AreAll, all_added, all_dropped, all_less, all_more}
 use Rattle.j39_run_laws.proofs.Addresses.Notes.{reacts_on}
 use Rattle.j39_run_laws.proofs.Transfers.Accounted.{AreOnStill, IsSettledFor, AreSettledFor, accounted_left, ends_left, ends_still, on_still, settled_left}
 use Rattle.j39_run_laws.proofs.Transfers.Accounted.{SendsTo, IsAccounted, AreAccounted, AreEndsOn, AllAccounted, SendMore, send_more, still_accounted, after_sends}
@@ -97,54 +98,25 @@ ends_after stations v u p (Some s) on = on
 module _ (plan : Plan) (w : World) (inv : TransferInvariant plan w) (old : AllAccounted plan w) where
   -- ---- lists that change
 
-  dropped : (u : ℕ) → AreAccounted w.sessions (without_lists_to u w.wire)
-  dropped u s t = cond_both (eqb t u) [] (w.wire s t) (AllByRecursion (IsAccounted w.sessions s t)) (λ _. tt) (λ _. old.wire s t)
-
   less : (u v : ℕ) (item : Wired) (rest : List Wired) → w.wire u v ≡ item ∷ rest → AreAccounted w.sessions (changed_pair w.wire u v rest)
-  less u v item rest is = pair_each (λ s t (xs : List Wired). AllByRecursion (IsAccounted w.sessions s t) xs) w.wire u v rest
-      (subst (AllByRecursion (IsAccounted w.sessions u v)) is (old.wire u v)).1 old.wire
-
-  more : (sessions : Sessions) (wire : Wire) → AreAccounted sessions wire → (v u : ℕ) (items : List Wired) → AllByRecursion (IsAccounted sessions v u) items
-      → AreAccounted sessions (changed_pair wire v u (wire v u ++ items))
-  more sessions wire here v u items all = pair_each (λ s t (xs : List Wired). AllByRecursion (IsAccounted sessions s t) xs) wire v u (wire v u ++ items)
-      (all-append (IsAccounted sessions v u) (wire v u) items (here v u) all) here
+  less = all_less (IsAccounted w.sessions) w.wire old.wire
 
   -- u sends an item to those that its message goes to
   sent : (u : ℕ) (o : Outgoing) (item : Wired) → ((y : ℕ) → SendsTo (w.sessions u) y → SendsTo (Some o) y) → is_of_sender item ≡ true
       → AreAccounted (changed w.sessions u (Some o)) (added w.wire u o.targets item)
-  sent u o item sends of s t =
+  sent u o item sends of =
       let now : Sessions = changed w.sessions u (Some o) in
-      let before : AllByRecursion (IsAccounted now s t) (w.wire s t) =
-      still_accounted w.sessions now (send_more w.sessions u (Some o) sends) s t (w.wire s t) (old.wire s t) in
-      cond_both (eqb s u && is_among o.targets t) (w.wire s t ++ item ∷ []) (w.wire s t) (AllByRecursion (IsAccounted now s t))
-      (λ both. let parts = and_parts (eqb s u) (is_among o.targets t) both in
-      let session : now s ≡ Some o = ap now (eqb-true s u parts.0) ∙ changed_here w.sessions u (Some o) in
-      let among : SendsTo (now s) t = subst (λ (x : Option Outgoing). SendsTo x t) (sym session) parts.1 in
-      all-append (IsAccounted now s t) (w.wire s t) (item ∷ []) before (inl (of, among), tt))
-      (λ _. before)
+      all_added (IsAccounted now) w.wire
+      (λ s t. still_accounted w.sessions now (send_more w.sessions u (Some o) sends) s t (w.wire s t) (old.wire s t)) u o.targets item
+      (λ t among. inl (of, subst (λ (x : Option Outgoing). SendsTo x t) (sym (changed_here w.sessions u (Some o))) among))
 
   -- ---- lists that change, and what lies there that was sent alone
 
-  abbrev HereSettled : Wire → Type 0
-  HereSettled wire = AreSettledFor plan.live w.stations w.claims wire
+  abbrev HereSettled : ℕ → ℕ → Wired → Type 0
+  HereSettled = IsSettledFor plan.live w.stations w.claims
 
-  less_settled : (u v : ℕ) (item : Wired) (rest : List Wired) → w.wire u v ≡ item ∷ rest → HereSettled (changed_pair w.wire u v rest)
-  less_settled u v item rest is = pair_each (λ s t (xs : List Wired). AllByRecursion (IsSettledFor plan.live w.stations w.claims s t) xs) w.wire u v rest
-      (subst (AllByRecursion (IsSettledFor plan.live w.stations w.claims u v)) is (old.alone u v)).1 old.alone
-
-  more_settled : (wire : Wire) → HereSettled wire → (v u : ℕ) (ps : List Packet) → HereSettled (changed_pair wire v u (wire v u ++ map wired.Packet ps))
-  more_settled wire here v u ps =
-      pair_each (λ s t (xs : List Wired). AllByRecursion (IsSettledFor plan.live w.stations w.claims s t) xs) wire v u (wire v u ++ map wired.Packet ps)
-      (all-append (IsSettledFor plan.live w.stations w.claims v u) (wire v u) (map wired.Packet ps) (here v u) (packets_settled plan.live w.stations w.claims v u ps)) here
-
-  sent_settled : (u : ℕ) (targets : List ℕ) (item : Wired) → ((t : ℕ) → is_among targets t ≡ true → IsSettledFor plan.live w.stations w.claims u t item)
-      → HereSettled (added w.wire u targets item)
-  sent_settled u targets item settled s t =
-      cond_both (eqb s u && is_among targets t) (w.wire s t ++ item ∷ []) (w.wire s t) (AllByRecursion (IsSettledFor plan.live w.stations w.claims s t))
-      (λ both. let parts = and_parts (eqb s u) (is_among targets t) both in
-      all-append (IsSettledFor plan.live w.stations w.claims s t) (w.wire s t) (item ∷ []) (old.alone s t)
-      (subst (λ k. IsSettledFor plan.live w.stations w.claims k t item) (sym (eqb-true s u parts.0)) (settled t parts.1), tt))
-      (λ _. old.alone s t)
+  less_settled : (u v : ℕ) (item : Wired) (rest : List Wired) → w.wire u v ≡ item ∷ rest → AreAll HereSettled (changed_pair w.wire u v rest)
+  less_settled = all_less HereSettled w.wire old.alone
 
   -- ---- between whom something lies
 
@@ -179,7 +151,7 @@ module _ (plan : Plan) (w : World) (inv : TransferInvariant plan w) (old : AllAc
   wire_same x off_is =
       let same : w.wire ≡ without_lists_to x w.wire = λ i s t. nothing_dropped w.wire x (λ y. untaken y x off_is) s t i in sym same
 
-  -- ---- units that are switched on, tell or hear of addresses
+  -- ---- units that are switched on, send or hear claims
 
   none_open : (not plan.live && is_a_transfer_open (count_of plan) w) ≡ false → plan.live ≡ false → is_no_transfer_open (count_of plan) w ≡ true
   none_open idle quiet = not-false _ (unless_live plan.live (is_a_transfer_open (count_of plan) w) quiet idle)
@@ -235,11 +207,6 @@ module _ (plan : Plan) (w : World) (inv : TransferInvariant plan w) (old : AllAc
     ends_then : (u : ℕ) → AreEndsOn stations u (w.sessions u)
     ends_then u = ends_still w.stations stations still u (w.sessions u) (old.ends u)
 
-  dropped_settled : (u : ℕ) (stations : Stations) (claims : Undelivered) → AreSettledFor plan.live stations claims w.wire
-      → AreSettledFor plan.live stations claims (without_lists_to u w.wire)
-  dropped_settled u stations claims here s t =
-      cond_both (eqb t u) [] (w.wire s t) (AllByRecursion (IsSettledFor plan.live stations claims s t)) (λ _. tt) (λ _. here s t)
-
   give_accounted : (u v : ℕ) → ltb 0 (length (w.claims u v)) ≡ true → (list : List Item) (new : World) → GivenFrom (units_of plan) w u v list new
       → AllAccounted plan new
   give_accounted u v some [] new never = absurd never
@@ -259,13 +226,14 @@ module _ (plan : Plan) (w : World) (inv : TransferInvariant plan w) (old : AllAc
       → BeginsAt (count_of plan) w f o bytes new → AllAccounted plan new
   begin_accounted f None bytes allowed new never = absurd never
   begin_accounted f (Some flow) bytes allowed new e =
-      let (sendable, (on, (told, (addressed, (free, rest))))) = none_hold (begin_refusals plan.live (count_of plan) w (Some flow) bytes) allowed in
+      let (sendable, (on, (stated, (addressed, (free, rest))))) = none_hold (begin_refusals plan.live (count_of plan) w (Some flow) bytes) allowed in
       let o : Outgoing = outgoing (count_of plan) w.stations f flow bytes in
       let idle : w.sessions flow.sender ≡ None = no_session (w.sessions flow.sender) free in
       subst (AllAccounted plan) (sym e) (record {
         wire = sent flow.sender o (first_item flow bytes) (λ y sends. absurd (subst (λ (x : Option Outgoing). SendsTo x y) idle sends))
             (first_item_of_sender flow bytes);
-        alone = sent_settled flow.sender o.targets (first_item flow bytes) (λ t _. first_item_settled plan.live w.stations w.claims flow.sender t flow bytes);
+        alone = all_added HereSettled w.wire old.alone flow.sender o.targets (first_item flow bytes)
+            (λ t _. first_item_settled plan.live w.stations w.claims flow.sender t flow bytes);
         ends = changed_each (AreEndsOn w.stations) w.sessions flow.sender (Some o)
             (begin_ends w.stations (count_of plan) flow.sender flow.to (not-false _ on)) old.ends;
       })
@@ -275,15 +243,14 @@ module _ (plan : Plan) (w : World) (inv : TransferInvariant plan w) (old : AllAc
       → SendsAt (count_of plan) w f o bytes new → AllAccounted plan new
   send_accounted f None bytes allowed new never = absurd never
   send_accounted f (Some flow) bytes allowed new e =
-      let (sendable, (on, (told, (addressed, (free, rest))))) = none_hold (send_refusals plan.live (count_of plan) w (Some flow) bytes) allowed in
+      let (sendable, (on, (stated, (addressed, (free, rest))))) = none_hold (send_refusals plan.live (count_of plan) w (Some flow) bytes) allowed in
       let targets : List ℕ = targets_of (count_of plan) w.stations flow.sender flow.to in
       let item : Wired = wired.Alone f bytes in
       let ends = begin_ends w.stations (count_of plan) flow.sender flow.to (not-false _ on) in
-      let delivered = delivered_at plan w.stations w.claims w.sessions inv.order told in
+      let delivered = delivered_at plan w.stations w.claims w.sessions inv.order stated in
       subst (AllAccounted plan) (sym e) (record {
-        wire = λ s t. cond_both (eqb s flow.sender && is_among targets t) (w.wire s t ++ item ∷ []) (w.wire s t) (AllByRecursion (IsAccounted w.sessions s t))
-            (λ _. all-append (IsAccounted w.sessions s t) (w.wire s t) (item ∷ []) (old.wire s t) (inr (inr refl), tt)) (λ _. old.wire s t);
-        alone = sent_settled flow.sender targets item (λ t among. (ends.0, ends.1 t among, delivered));
+        wire = all_added (IsAccounted w.sessions) w.wire old.wire flow.sender targets item (λ t _. inr (inr refl));
+        alone = all_added HereSettled w.wire old.alone flow.sender targets item (λ t among. (ends.0, ends.1 t among, delivered));
         ends = old.ends;
       })
 
@@ -291,7 +258,7 @@ module _ (plan : Plan) (w : World) (inv : TransferInvariant plan w) (old : AllAc
       → AllAccounted plan (record (sent_to_receivers w u s p) { sessions = changed w.sessions u (Some (record s { stage = stage })) })
   sends_accounted u s stage p is of = record {
     wire = sent u (record s { stage = stage }) (wired.Packet p) (λ y sends. subst (λ (x : Option Outgoing). SendsTo x y) is sends) of;
-    alone = sent_settled u s.targets (wired.Packet p) (λ t _. tt);
+    alone = all_added HereSettled w.wire old.alone u s.targets (wired.Packet p) (λ t _. tt);
     ends = changed_each (AreEndsOn w.stations) w.sessions u (Some (record s { stage = stage })) (subst (AreEndsOn w.stations u) is (old.ends u)) old.ends;
   }
 
@@ -320,10 +287,11 @@ module _ (plan : Plan) (w : World) (inv : TransferInvariant plan w) (old : AllAc
       let all : AllByRecursion (IsAccounted now v u) (map wired.Packet (replies ++ reacted)) =
       subst (AllByRecursion (IsAccounted now v u)) (sym (map-append wired.Packet replies reacted)) (all-append (IsAccounted now v u) (map wired.Packet replies) _ answered also) in
       record {
-        wire = more now (changed_pair w.wire u v rest)
+        wire = all_more (IsAccounted now) (changed_pair w.wire u v rest)
             (λ s t. still_accounted w.sessions now keeps s t (changed_pair w.wire u v rest s t) (less u v (wired.Packet p) rest is s t)) v u
             (map wired.Packet (replies ++ reacted)) all;
-        alone = more_settled (changed_pair w.wire u v rest) (less_settled u v (wired.Packet p) rest is) v u (replies ++ reacted);
+        alone = all_more HereSettled (changed_pair w.wire u v rest) (less_settled u v (wired.Packet p) rest is) v u (map wired.Packet (replies ++ reacted))
+            (packets_settled plan.live w.stations w.claims v u (replies ++ reacted));
         ends = changed_each (AreEndsOn w.stations) w.sessions v then (ends_after w.stations v u p (w.sessions v) (old.ends v)) old.ends;
       }
 
@@ -347,8 +315,9 @@ module _ (plan : Plan) (w : World) (inv : TransferInvariant plan w) (old : AllAc
       asides_answer sends (packets_aside (receiver.timed_out (Answering (window_at windows v)) (w.receivers v u)).1
       (timed_out_aside (window_at windows v) (w.receivers v u))) in
       record {
-        wire = more w.sessions w.wire old.wire v u (map wired.Packet sends) (answers_accounted w.sessions v u (sent_where_open u v is) sends answers);
-        alone = more_settled w.wire old.alone v u sends;
+        wire = all_more (IsAccounted w.sessions) w.wire old.wire v u (map wired.Packet sends)
+            (answers_accounted w.sessions v u (sent_where_open u v is) sends answers);
+        alone = all_more HereSettled w.wire old.alone v u (map wired.Packet sends) (packets_settled plan.live w.stations w.claims v u sends);
         ends = old.ends;
       }
 
@@ -392,8 +361,8 @@ module _ (plan : Plan) (w : World) (inv : TransferInvariant plan w) (old : AllAc
       let stations : Stations = changed w.stations u (started (unit_at (units_of plan) u)) in
       let still : AreOnStill w.stations stations = on_still w.stations u (started (unit_at (units_of plan) u)) (λ _. refl) in
       subst (AllAccounted plan) (sym e) (record {
-        wire = dropped u;
-        alone = dropped_settled u stations _ (idle_settled stations still _ idle);
+        wire = all_dropped (IsAccounted w.sessions) w.wire old.wire u;
+        alone = all_dropped (IsSettledFor plan.live stations _) w.wire (idle_settled stations still _ idle) u;
         ends = ends_then stations still w.claims;
       })
   accounted_keeps (Down u) allowed new e =
@@ -460,7 +429,7 @@ send_kept plan w kept f flow bytes allowed = record {
 
 -- ---- while a message is sent
 
--- a unit is switched, or tells or hears of addresses
+-- a unit is switched, or sends or hears claims
 abbrev pub IsOfClaims : Step → Type 0
 IsOfClaims (Up u) = Unit {0}
 IsOfClaims (Down u) = Unit {0}

@@ -2,7 +2,7 @@
 use Rattle.std.proofs.Common.{◌≡◌, ◌≢◌, ℕ, inl, inr, true, false, ◌&&◌, eqb, List, [], ◌∷◌, ◌++◌, refl, sym, ap, ◌∙◌, subst, append-nil, Option, Some, None}
 use Rattle.std.specs.Prelude.{map}
 use Rattle.std.specs.List.{AllByRecursion}
-use Rattle.std.proofs.lemmas.Bool.{and_from, and_parts, cases_eq, cond_both, cond-true, cond-false, eq-eqb, eqb-true, ne_eqb, or_from, true≢false}
+use Rattle.std.proofs.lemmas.Bool.{and_from, and_parts, cases_eq, cond_both, cond-true, cond-false, eq-eqb, eqb-true, ne_eqb, or_from}
 use Rattle.j39_tp.specs.Receiver as receiver
 use Rattle.j39_tp.specs.Sender as sender
 use Rattle.j39_tp.specs.declared.packet.Packet.{Packet}
@@ -38,7 +38,7 @@ use Rattle.j39_run_laws.proofs.Reports.TransferInvariant.{TransferInvariant}
 use Rattle.j39_run_laws.proofs.Runs.Changed.{IsElsewhere, changed_here, changed_elsewhere, changed_each, pair_here, pair_elsewhere, pair_each}
 use Rattle.j39_run_laws.proofs.Runs.Changed.{pair_here_or_elsewhere}
 use Rattle.j39_run_laws.proofs.Runs.Elements.{all_map}
-use Rattle.j39_run_laws.proofs.Transfers.Beside.{IsBesideForth, IsBesideBack, Holds, holds_beside, holds_own}
+use Rattle.j39_run_laws.proofs.Transfers.Beside.{IsBesideForth, IsBesideBack, Holds, holds_beside, holds_less, holds_own}
 use Rattle.j39_run_laws.proofs.Transfers.Between.{IsAt, emitted, coming_sent, answering_received}
 use Rattle.j39_run_laws.proofs.Transfers.Coming.{added_elsewhere}
 use Rattle.j39_run_laws.proofs.Transfers.Named.{IsKeptNamed}
@@ -157,9 +157,9 @@ module _ (plan : Plan) (u v : ℕ) (o : Outgoing) (before : List Begun) (apart :
 
     -- ---- nothing of messages is changed, or another unit goes off
 
-    pub told_keeps : (new : World) → new.sessions ≡ w.sessions → new.wire ≡ w.wire → new.receivers ≡ w.receivers → new.reports ≡ w.reports
+    pub stated_keeps : (new : World) → new.sessions ≡ w.sessions → new.wire ≡ w.wire → new.receivers ≡ w.receivers → new.reports ≡ w.reports
         → IsAnswering new
-    told_keeps new sessions wire receivers reports = record {
+    stated_keeps new sessions wire receivers reports = record {
       stage = now.stage;
       session = ap (λ (f : Sessions). f u) sessions ∙ now.session;
       other = subst (λ (f : Sessions). SendsOther (f v) u o.pgn) (sym sessions) now.other;
@@ -231,7 +231,7 @@ module _ (plan : Plan) (u v : ℕ) (o : Outgoing) (before : List Begun) (apart :
         → BeginsAt (count_of plan) w f flow bytes new → IsAnswering new
     begin_keeps_on f None bytes allowed spares new never = absurd never
     begin_keeps_on f (Some flow) bytes allowed spares new e =
-        let (sendable, (on, (told, (addressed, (free, rest))))) = none_hold (begin_refusals plan.live (count_of plan) w (Some flow) bytes) allowed in
+        let (sendable, (on, (stated, (addressed, (free, rest))))) = none_hold (begin_refusals plan.live (count_of plan) w (Some flow) bytes) allowed in
         let idle : w.sessions flow.sender ≡ None = no_session (w.sessions flow.sender) free in
         let other : flow.sender ≢ u =
         λ same. (let session = now.session in let at_u : w.sessions u ≡ None = ap w.sessions (sym same) ∙ idle in cc (session, at_u)) in
@@ -352,32 +352,21 @@ module _ (plan : Plan) (u v : ℕ) (o : Outgoing) (before : List Begun) (apart :
         → IsAnswering (lost u v item rest is)
     lost_forth item rest is passes =
         let way = now.way in
-        let then : World = lost u v item rest is in
-        let back : then.wire v u ≡ w.wire v u = pair_elsewhere w.wire u v rest v u (λ a b. apart b) in
-        let holds : Holds (IsBesideForth o.pgn) rest way.coming =
-        elim (subst (λ (zs : List Wired). Holds (IsBesideForth o.pgn) zs way.coming) is way.wire) [
-          | inl beside ↦ beside.1
-          | inr own ↦ absurd (true≢false (sym (subst (λ (zs : List Wired). oldest_passes is_of_receiver zs ≡ true) is passes)
-              ∙ coming_sent o before item now.stage own.0 way.answering (w.receivers v u) (reported w.reports v u)
-              (subst (λ (zs : List Wired). IsAt o before now.stage zs way.answering (w.receivers v u) (reported w.reports v u)) own.1 way.at)))
-        ] in
+        let holds = holds_less (IsBesideForth o.pgn) is_of_receiver (w.wire u v) rest way.coming item is passes
+        (λ later own. coming_sent o before item now.stage later way.answering (w.receivers v u) (reported w.reports v u)
+        (subst (λ (zs : List Wired). IsAt o before now.stage zs way.answering (w.receivers v u) (reported w.reports v u)) own way.at)) way.wire in
         lost_beside u v item rest is (subst (λ (zs : List Wired). Holds (IsBesideForth o.pgn) zs way.coming) (sym (pair_here w.wire u v rest)) holds)
-        (subst (λ (zs : List Wired). Holds (IsBesideBack o.pgn) zs way.answering) (sym back) way.answers)
+        (subst (λ (zs : List Wired). Holds (IsBesideBack o.pgn) zs way.answering) (sym (pair_elsewhere w.wire u v rest v u (λ a b. apart b))) way.answers)
 
     lost_back : (item : Wired) (rest : List Wired) (is : w.wire v u ≡ item ∷ rest) → oldest_passes is_of_sender (w.wire v u) ≡ true
         → IsAnswering (lost v u item rest is)
     lost_back item rest is passes =
         let way = now.way in
-        let then : World = lost v u item rest is in
-        let forth : then.wire u v ≡ w.wire u v = pair_elsewhere w.wire v u rest u v (λ a b. apart a) in
-        let holds : Holds (IsBesideBack o.pgn) rest way.answering =
-        elim (subst (λ (zs : List Wired). Holds (IsBesideBack o.pgn) zs way.answering) is way.answers) [
-          | inl beside ↦ beside.1
-          | inr own ↦ absurd (true≢false (sym (subst (λ (zs : List Wired). oldest_passes is_of_sender zs ≡ true) is passes)
-              ∙ answering_received o before item now.stage way.coming own.0 (w.receivers v u) (reported w.reports v u)
-              (subst (λ (zs : List Wired). IsAt o before now.stage way.coming zs (w.receivers v u) (reported w.reports v u)) own.1 way.at)))
-        ] in
-        lost_beside v u item rest is (subst (λ (zs : List Wired). Holds (IsBesideForth o.pgn) zs way.coming) (sym forth) way.wire)
+        let holds = holds_less (IsBesideBack o.pgn) is_of_sender (w.wire v u) rest way.answering item is passes
+        (λ later own. answering_received o before item now.stage way.coming later (w.receivers v u) (reported w.reports v u)
+        (subst (λ (zs : List Wired). IsAt o before now.stage way.coming zs (w.receivers v u) (reported w.reports v u)) own way.at)) way.answers in
+        lost_beside v u item rest is
+        (subst (λ (zs : List Wired). Holds (IsBesideForth o.pgn) zs way.coming) (sym (pair_elsewhere w.wire v u rest u v (λ a b. apart a))) way.wire)
         (subst (λ (zs : List Wired). Holds (IsBesideBack o.pgn) zs way.answering) (sym (pair_here w.wire v u rest)) holds)
 
     abbrev KeepsLost : ℕ → ℕ → Type 0

@@ -14,7 +14,7 @@ use Rattle.j39_tp.specs.declared.sending.dest.Dest.TheVariants as dests
 use Rattle.j39_tp.specs.declared.sending.reaction.Reaction.{Reaction}
 use Rattle.j39_tp.specs.declared.sending.reaction.Reaction.TheVariants as reactions
 use Rattle.j39_tp.specs.declared.sending.stage.Stage.{Stage}
-use Rattle.j39_tp.proofs.Answering.{TellsNothing}
+use Rattle.j39_tp.proofs.Answering.{HoldsNothing}
 use Rattle.j39_network.specs.declared.plan.Plan.{Plan}
 use Rattle.j39_network.specs.declared.plan.to.To.TheVariants as tos
 use Rattle.j39_world.specs.declared.wired.Wired.{Wired}
@@ -104,7 +104,7 @@ module _ (plan : Plan) (u v : ℕ) (o : Outgoing) (before : List Begun) (apart :
 
     -- ---- a packet is taken, elsewhere
 
-    module _ (windows : List ℕ) (x y : ℕ) (p : Packet) (rest : List Wired) (rs : List Reported) (told : Reports w x y p (hearing windows w x y p).1 rs)
+    module _ (windows : List ℕ) (x y : ℕ) (p : Packet) (rest : List Wired) (rs : List Reported) (stated : Reports w x y p (hearing windows w x y p).1 rs)
         (elsewhere : IsElsewhere u v x y) (elsewhere_back : IsElsewhere v u x y) where
       abbrev then : World
       then = packet_taken windows w x y rest p rs
@@ -144,13 +144,13 @@ module _ (plan : Plan) (u v : ℕ) (o : Outgoing) (before : List Begun) (apart :
             way = answered.grown_in plan u v o before apart one alone w kept now then (not_grown (IsBesideForth o.pgn) (w.wire u v) (then.wire u v) forth)
                 (not_grown (IsBesideBack o.pgn) (w.wire v u) (then.wire v u) back)
                 (pair_elsewhere w.receivers y x _ v u (λ a b. elsewhere (sym b) (sym a)))
-                (reports_apart w x y p rs (hearing windows w x y p).1 u v away told);
+                (reports_apart w x y p rs (hearing windows w x y p).1 u v away stated);
           }
 
     -- ---- v takes a packet of u
 
     module _ (windows : List ℕ) (some : 0 < window_at windows v) (long : 0 < packet_count o) (p : Packet) (rest : List Wired)
-        (is : w.wire u v ≡ wired.Packet p ∷ rest) (rs : List Reported) (told : Reports w u v p (hearing windows w u v p).1 rs) where
+        (is : w.wire u v ≡ wired.Packet p ∷ rest) (rs : List Reported) (stated : Reports w u v p (hearing windows w u v p).1 rs) where
       abbrev heard : Progress × Heard
       heard = hearing windows w u v p
 
@@ -167,15 +167,15 @@ module _ (plan : Plan) (u v : ℕ) (o : Outgoing) (before : List Begun) (apart :
       abbrev WayHeard : Progress × Heard → List Begun → Type 0
       WayHeard x reports = IsOnItsWay now.stage rest (w.wire v u ++ map wired.Packet (receiver_replies x.1)) (closed_if_complete x.0) reports
 
-      same_reports : TellsNothing heard.1 → reported (w.reports ++ rs) v u ≡ reported w.reports v u
-      same_reports nothing = none_apart w u v p rs u v (reports_nothing w u v p rs heard.1 nothing told)
+      same_reports : HoldsNothing heard.1 → reported (w.reports ++ rs) v u ≡ reported w.reports v u
+      same_reports nothing = none_apart w u v p rs u v (reports_nothing w u v p rs heard.1 nothing stated)
 
       heard_beside : IsBesideForth o.pgn (wired.Packet p) → Holds (IsBesideForth o.pgn) rest now.way.coming → WayHeard heard (reported (w.reports ++ rs) v u)
       heard_beside beside holds =
           let way = now.way in
           let passed : heard ≡ (w.receivers v u, heards.Nothing) =
           beside_heard o before (window_at windows v) now.stage way.coming way.answering (w.receivers v u) (reported w.reports v u) way.at p beside in
-          subst (λ (xs : List Begun). WayHeard heard xs) (sym (same_reports (subst (λ (x : Progress × Heard). TellsNothing x.1) (sym passed) tt)))
+          subst (λ (xs : List Begun). WayHeard heard xs) (sym (same_reports (subst (λ (x : Progress × Heard). HoldsNothing x.1) (sym passed) tt)))
           (subst (λ (x : Progress × Heard). WayHeard x (reported w.reports v u)) (sym passed) (record {
             coming = way.coming;
             answering = way.answering;
@@ -202,7 +202,7 @@ module _ (plan : Plan) (u v : ℕ) (o : Outgoing) (before : List Begun) (apart :
           elim (own_heard o before (window_at windows v) some long now.stage p coming way.answering (w.receivers v u) (reported w.reports v u) at) [
             | inl (nothing, at_then) ↦ subst (λ (xs : List Begun). WayHeard heard xs) (sym (same_reports nothing)) (then (reported w.reports v u) at_then)
             | inr (message, at_then) ↦ then (reported (w.reports ++ rs) v u) (at_then (reported (w.reports ++ rs) v u)
-                (message_reported plan w kept.kept.transfers u v (session_at now.stage) now.session among_here windows p rest is rs told message))
+                (message_reported plan w kept.kept.transfers u v (session_at now.stage) now.session among_here windows p rest is rs stated message))
           ]
 
       way_heard : WayHeard heard (reported (w.reports ++ rs) v u)
@@ -241,7 +241,7 @@ module _ (plan : Plan) (u v : ℕ) (o : Outgoing) (before : List Begun) (apart :
     -- ---- u takes a packet of v
 
     module _ (windows : List ℕ) (p : Packet) (rest : List Wired) (is : w.wire v u ≡ wired.Packet p ∷ rest) (rs : List Reported)
-        (told : Reports w v u p (hearing windows w v u p).1 rs) where
+        (stated : Reports w v u p (hearing windows w v u p).1 rs) where
       abbrev answer : Stage × Reaction
       answer = sender.stage_hears dests.One o.pgn (length o.bytes) now.stage p
 
@@ -300,7 +300,7 @@ module _ (plan : Plan) (u v : ℕ) (o : Outgoing) (before : List Begun) (apart :
           let receives : back_then.receivers v u ≡ w.receivers v u =
           pair_elsewhere w.receivers u v (closed_if_complete (hearing windows w v u p).0) v u (λ a b. apart b) in
           let reports : reported (w.reports ++ rs) v u ≡ reported w.reports v u =
-          reports_apart w v u p rs (hearing windows w v u p).1 u v (λ a b. apart a) told in
+          reports_apart w v u p rs (hearing windows w v u p).1 u v (λ a b. apart a) stated in
           record {
             stage = answer.0;
             session = changed_here w.sessions u session ∙ session_is;
@@ -320,16 +320,16 @@ module _ (plan : Plan) (u v : ℕ) (o : Outgoing) (before : List Begun) (apart :
 
     packet_keeps : (windows : List ℕ) → 0 < window_at windows v → 0 < packet_count o → (x y : ℕ) → KeepsTaken windows x y
     packet_keeps windows some long =
-        pair_here_or_elsewhere (KeepsTaken windows) u v (λ p rest is rs told. taken_keeps windows some long p rest is rs told)
+        pair_here_or_elsewhere (KeepsTaken windows) u v (λ p rest is rs stated. taken_keeps windows some long p rest is rs stated)
         (λ x y elsewhere. pair_here_or_elsewhere (λ s t. IsElsewhere u v s t → KeepsTaken windows s t) v u
-        (λ _ p rest is rs told. back_keeps windows p rest is rs told)
-        (λ s t elsewhere_back away p rest is rs told. elsewhere_keeps windows s t p rest rs told away elsewhere_back) x y elsewhere)
+        (λ _ p rest is rs stated. back_keeps windows p rest is rs stated)
+        (λ s t elsewhere_back away p rest is rs stated. elsewhere_keeps windows s t p rest rs stated away elsewhere_back) x y elsewhere)
 
     pub take_keeps : (windows : List ℕ) → 0 < window_at windows v → 0 < packet_count o → (x y : ℕ) (list : List Wired) → w.wire x y ≡ list
         → (new : World) → TakenFrom windows w x y list new → IsAnswering new
     take_keeps windows some long x y [] is new never = absurd never
     take_keeps windows some long x y (wired.Short bytes ∷ rest) is new e = subst IsAnswering (sym e) (short_keeps x y bytes rest is)
-    take_keeps windows some long x y (wired.Packet p ∷ rest) is new (rs, told, e) = subst IsAnswering (sym e) (packet_keeps windows some long x y p rest is rs told)
+    take_keeps windows some long x y (wired.Packet p ∷ rest) is new (rs, stated, e) = subst IsAnswering (sym e) (packet_keeps windows some long x y p rest is rs stated)
     take_keeps windows some long x y (wired.Alone f bytes ∷ rest) is new e =
         let less : World = record w { wire = changed_pair w.wire x y rest } in
         let passes : (test : Wired → Bool) (s t : ℕ) → x ≡ s → y ≡ t → oldest_passes test (w.wire s t) ≡ true =

@@ -49,15 +49,15 @@ module _ (plan : Plan) (u : ℕ) (o : Outgoing) (meant : List ℕ) (before : ℕ
   -- ---- steps that spare it
 
   module _ (w : World) (kept : IsKept plan w) (c : Coming w) where
-    -- a unit is switched on, or hears what another one told
+    -- a unit is switched on, or hears what another one sent
     up_keeps : (x : ℕ) → (w.stations x).on ≡ false → Coming (switched_on (units_of plan) w x)
-    up_keeps x off_is = coming.told_keeps plan u o meant before unanswered w kept.transfers kept.accounted c (switched_on (units_of plan) w x) refl
+    up_keeps x off_is = coming.stated_keeps plan u o meant before unanswered w kept.transfers kept.accounted c (switched_on (units_of plan) w x) refl
         (wire_same plan w kept.transfers kept.accounted x off_is) refl refl
 
     give_keeps : (x y : ℕ) (list : List Item) (new : World) → GivenFrom (units_of plan) w x y list new → Coming new
     give_keeps x y [] new never = absurd never
     give_keeps x y (item ∷ rest) new (says, s, reacts, e) = subst Coming (sym e)
-        (coming.told_keeps plan u o meant before unanswered w kept.transfers kept.accounted c (heard_and_answered (units_of plan) w x y rest says s)
+        (coming.stated_keeps plan u o meant before unanswered w kept.transfers kept.accounted c (heard_and_answered (units_of plan) w x y rest says s)
         refl refl refl refl)
 
     step_keeps : (step : Step) → Spares plan w u meant step → refusal plan w step ≡ None → (new : World) → StepsTo plan w step new → Coming new
@@ -69,7 +69,7 @@ module _ (plan : Plan) (u : ℕ) (o : Outgoing) (meant : List ℕ) (before : ℕ
         subst Coming (sym e) (coming.off_keeps plan u o meant before unanswered w kept.transfers kept.accounted c v apart.0 apart.1)
     step_keeps (Ask v) spares allowed new e =
         subst Coming (sym e)
-        (coming.told_keeps plan u o meant before unanswered w kept.transfers kept.accounted c (asked (units_of plan) w v) refl refl refl refl)
+        (coming.stated_keeps plan u o meant before unanswered w kept.transfers kept.accounted c (asked (units_of plan) w v) refl refl refl refl)
     step_keeps (Give x y) spares allowed new leads = give_keeps x y (w.claims x y) new leads
     step_keeps (Begin f bytes) spares allowed new leads =
         coming.begin_keeps plan u o meant before unanswered w kept.transfers kept.accounted c f (slice_get (flows_of plan) f) bytes.items allowed new leads
@@ -141,7 +141,7 @@ module _ (plan : Plan) (w : World) (kept : IsKept plan w) (f : ℕ) (flow : Flow
 
   idle : w.sessions flow.sender ≡ None
   idle =
-      let (sendable, (on, (told, (addressed, (free, rest))))) = none_hold (begin_refusals plan.live (count_of plan) w (Some flow) bytes) allowed in
+      let (sendable, (on, (stated, (addressed, (free, rest))))) = none_hold (begin_refusals plan.live (count_of plan) w (Some flow) bytes) allowed in
       no_session (w.sessions flow.sender) free
 
   to_all : is_whole message ≡ false → flow.to ≡ tos.All

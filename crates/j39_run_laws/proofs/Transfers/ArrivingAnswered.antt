@@ -116,13 +116,13 @@ module _ (plan : Plan) (u v : ℕ) (o : Outgoing) (before : List Begun) (apart :
     session_now = at_stage plan u v o before apart one alone now.stage
 
     up_keeps : (x : ℕ) → (w.stations x).on ≡ false → OnWay (switched_on (units_of plan) w x)
-    up_keeps x off_is = answered.told_keeps plan u v o before apart one alone w kept now (switched_on (units_of plan) w x) refl
+    up_keeps x off_is = answered.stated_keeps plan u v o before apart one alone w kept now (switched_on (units_of plan) w x) refl
         (wire_same plan w kept.kept.transfers kept.kept.accounted x off_is) refl refl
 
     give_keeps : (x y : ℕ) (list : List Item) (new : World) → GivenFrom (units_of plan) w x y list new → OnWay new
     give_keeps x y [] new never = absurd never
     give_keeps x y (item ∷ rest) new (says, s, reacts, e) = subst OnWay (sym e)
-        (answered.told_keeps plan u v o before apart one alone w kept now (heard_and_answered (units_of plan) w x y rest says s) refl refl refl refl)
+        (answered.stated_keeps plan u v o before apart one alone w kept now (heard_and_answered (units_of plan) w x y rest says s) refl refl refl refl)
 
     step_keeps : (step : Step) → SparesBetween plan w u v step → BeginsOther plan v u o.pgn step → refusal plan w step ≡ None → (new : World)
         → StepsTo plan w step new → OnWay new
@@ -133,7 +133,7 @@ module _ (plan : Plan) (u v : ℕ) (o : Outgoing) (before : List Begun) (apart :
         let away = spares allowed in
         subst OnWay (sym e) (answered.off_keeps plan u v o before apart one alone w kept now x away.0 away.1)
     step_keeps (Ask x) spares begins_other allowed new e =
-        subst OnWay (sym e) (answered.told_keeps plan u v o before apart one alone w kept now (asked (units_of plan) w x) refl refl refl refl)
+        subst OnWay (sym e) (answered.stated_keeps plan u v o before apart one alone w kept now (asked (units_of plan) w x) refl refl refl refl)
     step_keeps (Give x y) spares begins_other allowed new leads = give_keeps x y (w.claims x y) new leads
     step_keeps (Begin f bytes) spares begins_other allowed new leads =
         answered.begin_keeps_on plan u v o before apart one alone w kept now f (slice_get (flows_of plan) f) bytes.items allowed begins_other new leads
@@ -211,7 +211,7 @@ module _ (plan : Plan) (w : World) (kept : IsKeptNamed plan w) (m : Answered pla
 
   idle : w.sessions u ≡ None
   idle =
-      let (sendable, (on, (told, (addressed, (free, rest))))) = none_hold (begin_refusals plan.live (count_of plan) w (Some m.flow) m.bytes) m.allowed in
+      let (sendable, (on, (stated, (addressed, (free, rest))))) = none_hold (begin_refusals plan.live (count_of plan) w (Some m.flow) m.bytes) m.allowed in
       no_session (w.sessions u) free
 
   long : 0 < packet_count message

@@ -1,10 +1,13 @@
 -- Items of a message on the wire, in order, between what may be beside it.
-use Rattle.std.proofs.Common.{◌≡◌, ◌≢◌, ℕ, zero, suc, ◌+◌, ◌⊎◌, inl, inr, List, [], ◌∷◌, ◌++◌, refl, sym, ap, subst, arith}
+use Rattle.std.proofs.Common.{◌≡◌, ◌≢◌, ℕ, zero, suc, ◌+◌, ◌⊎◌, ◌||◌, inl, inr, Bool, true, false, List, [], ◌∷◌, ◌++◌, refl, sym, ap, ◌∙◌, subst, arith}
+use Rattle.std.proofs.lemmas.Bool.{true≢false}
 use Rattle.std.specs.List.{AllByRecursion}
 use Rattle.j39_tp.specs.Chunks.{chunk}
 use Rattle.j39_tp.specs.declared.packet.Packet.TheVariants.{Rts, Cts, EndAck, Abort, Dt}
 use Rattle.j39_world.specs.declared.wired.Wired.{Wired}
 use Rattle.j39_world.specs.declared.wired.Wired.TheVariants as wired
+use Rattle.j39_world.specs.Arriving.{oldest_passes}
+use Rattle.j39_world.specs.Resting.{is_alone}
 
 -- beside the message, from its sender: answers to messages of the other direction, of which no Abort names this group, and what was sent alone
 abbrev pub IsBesideForth : ℕ → Wired → Type 0
@@ -45,6 +48,14 @@ module _ (Beside : Wired → Type 0) where
   holds_own [] own more is = subst (λ (zs : List Wired). Holds Beside more (zs ++ more)) (sym is) (holds_all more)
   holds_own (x ∷ xs) own more (inl here) = inl (here.0, holds_own xs own more here.1)
   holds_own (x ∷ xs) own more (inr here) = inr (here.0 ++ more, ap (λ (zs : List Wired). zs ++ more) here.1, holds_own xs here.0 more here.2)
+
+  -- the oldest, if it passes and none of these does, is gone
+  pub holds_less : (passes : Wired → Bool) (xs rest own : List Wired) (item : Wired) → xs ≡ item ∷ rest → oldest_passes passes xs ≡ true
+      → ((later : List Wired) → own ≡ item ∷ later → (is_alone item || passes item) ≡ false) → Holds Beside xs own → Holds Beside rest own
+  holds_less passes xs rest own item is passing none holds = elim (subst (λ (zs : List Wired). Holds Beside zs own) is holds) [
+    | inl beside ↦ beside.1
+    | inr one ↦ absurd (true≢false (sym (subst (λ (zs : List Wired). oldest_passes passes zs ≡ true) is passing) ∙ none one.0 one.1))
+  ]
 
 -- so many data packets from one on
 abbrev pub packets_from : List ℕ → ℕ → ℕ → List Wired

@@ -23,7 +23,7 @@ use Rattle.j39_tp.specs.declared.sending.reaction.Reaction.{Reaction}
 use Rattle.j39_tp.specs.declared.sending.reaction.Reaction.TheVariants as reactions
 use Rattle.j39_tp.specs.declared.sending.stage.Stage.{Stage}
 use Rattle.j39_tp.specs.declared.sending.stage.Stage.TheVariants.{Sending, Waiting, Resting}
-use Rattle.j39_tp.proofs.Answering.{TellsNothing, TellsMessage}
+use Rattle.j39_tp.proofs.Answering.{HoldsNothing, ReportsMessage}
 use Rattle.j39_world.specs.declared.wired.Wired.{Wired}
 use Rattle.j39_world.specs.declared.wired.Wired.TheVariants as wired
 use Rattle.j39_world.specs.Transfers.{Outgoing, Begun, closed_if_complete}
@@ -56,11 +56,11 @@ module _ (o : Outgoing) (before : List Begun) where
     most = (let count : packets_of r.size ≡ packet_count o = ap packets_of size in let most = grant_most window r less in omega (arith, most, count));
   }
 
-  -- what it is then, and what is to be taken of its answers: nothing is told, or the message is
+  -- what it is then, and what is to be taken of its answers: nothing is reported, or the message is
   abbrev pub HearsOwn : Stage → List Wired → List Wired → Progress × Heard → List Begun → Type 0
   HearsOwn stage coming answering x reports =
-      (TellsNothing x.1 × IsAt o before stage coming (answering ++ map wired.Packet (receiver_replies x.1)) (closed_if_complete x.0) reports)
-      ⊎ (TellsMessage x.1
+      (HoldsNothing x.1 × IsAt o before stage coming (answering ++ map wired.Packet (receiver_replies x.1)) (closed_if_complete x.0) reports)
+      ⊎ (ReportsMessage x.1
       × ((more : List Begun) → more ≡ reports ++ begun_of o ∷ []
       → IsAt o before stage coming (answering ++ map wired.Packet (receiver_replies x.1)) (closed_if_complete x.0) more))
 

@@ -20,7 +20,7 @@ use Rattle.j39_tp.specs.declared.sending.outcome.Outcome.TheVariants.{Sent}
 use Rattle.j39_tp.specs.declared.sending.reaction.Reaction.{Reaction}
 use Rattle.j39_tp.specs.declared.sending.stage.Stage.{Stage}
 use Rattle.j39_tp.specs.declared.sending.stage.Stage.TheVariants.{Sending, Waiting, Resting}
-use Rattle.j39_tp.proofs.Answering.{TellsNothing, TellsMessage}
+use Rattle.j39_tp.proofs.Answering.{HoldsNothing, ReportsMessage}
 use Rattle.j39_network.specs.declared.plan.Plan.{Plan}
 use Rattle.j39_network.specs.declared.plan.to.To.{To}
 use Rattle.j39_network.specs.declared.plan.to.To.TheVariants as tos
@@ -58,21 +58,21 @@ answers_grow wire v u items all =
 -- ---- reports
 
 module _ (w : World) (x y : ℕ) (p : Packet) (rs : List Reported) where
-  pub reports_nothing : (h : Heard) → TellsNothing h → Reports w x y p h rs → rs ≡ []
+  pub reports_nothing : (h : Heard) → HoldsNothing h → Reports w x y p h rs → rs ≡ []
   reports_nothing heards.Complete nothing r = absurd nothing
   reports_nothing (heards.CompleteReply q) nothing r = absurd nothing
   reports_nothing (heards.Reply q) nothing r = r
   reports_nothing heards.Nothing nothing r = r
   reports_nothing heards.Closed nothing r = r
 
-  pub reports_message : (h : Heard) → TellsMessage h → Reports w x y p h rs → ReportsOne w x y p rs
+  pub reports_message : (h : Heard) → ReportsMessage h → Reports w x y p h rs → ReportsOne w x y p rs
   reports_message heards.Complete message r = r
   reports_message (heards.CompleteReply q) message r = r
   reports_message (heards.Reply q) message r = absurd message
   reports_message heards.Nothing message r = absurd message
   reports_message heards.Closed message r = absurd message
 
-  pub not_both : (h : Heard) → TellsNothing h → TellsMessage h → ⊥
+  pub not_both : (h : Heard) → HoldsNothing h → ReportsMessage h → ⊥
   not_both heards.Complete nothing message = nothing
   not_both (heards.CompleteReply q) nothing message = nothing
   not_both (heards.Reply q) nothing message = message
@@ -97,16 +97,16 @@ module _ (w : World) (x y : ℕ) (p : Packet) (rs : List Reported) where
 -- what is complete is the message that is sent
 pub message_reported : (plan : Plan) (w : World) → TransferInvariant plan w → (x y : ℕ) (s : Outgoing) → w.sessions x ≡ Some s → is_among s.targets y ≡ true
     → (windows : List ℕ) (p : Packet) (rest : List Wired) → w.wire x y ≡ wired.Packet p ∷ rest → (rs : List Reported)
-    → Reports w x y p (hearing windows w x y p).1 rs → TellsMessage (hearing windows w x y p).1
+    → Reports w x y p (hearing windows w x y p).1 rs → ReportsMessage (hearing windows w x y p).1
     → reported (w.reports ++ rs) y x ≡ reported w.reports y x ++ begun_of s ∷ []
-message_reported plan w inv x y s session among windows p rest is rs told message =
+message_reported plan w inv x y s session among windows p rest is rs stated message =
     let heard : Heard = (hearing windows w x y p).1 in
-    let (pgn, bytes, carried, one) = reports_message w x y p rs heard message told in
+    let (pgn, bytes, carried, one) = reports_message w x y p rs heard message stated in
     let sends : message_to (w.sessions x) y ≡ Some (record { pgn = s.pgn; begun = begun_of s }) =
     ap (λ (z : Option Outgoing). message_to z y) session ∙ ap (λ b. message_for b s) among in
     let bytes_are : bytes ≡ s.bytes =
     elim (taking.packet_taken (message_to (w.sessions x) y) (window_at windows y) (pair_of w x y) p rest is (inv.exchanges x y)) [
-      | inl on ↦ absurd (not_both w x y p rs heard on.told message)
+      | inl on ↦ absurd (not_both w x y p rs heard on.stated message)
       | inr c ↦
           let is_one = c.is in
           let same_message : c.message ≡ record { pgn = s.pgn; begun = begun_of s } = cc (is_one, sends) in
@@ -222,8 +222,8 @@ module _ (plan : Plan) (u : ℕ) (o : Outgoing) (meant : List ℕ) (before : ℕ
     }
 
     -- nothing of messages is changed
-    pub told_keeps : (new : World) → new.sessions ≡ w.sessions → new.wire ≡ w.wire → new.receivers ≡ w.receivers → new.reports ≡ w.reports → IsComing new
-    told_keeps new sessions wire receivers reports = record {
+    pub stated_keeps : (new : World) → new.sessions ≡ w.sessions → new.wire ≡ w.wire → new.receivers ≡ w.receivers → new.reports ≡ w.reports → IsComing new
+    stated_keeps new sessions wire receivers reports = record {
       targets = coming.targets;
       stage = coming.stage;
       sent = coming.sent;
@@ -268,7 +268,7 @@ module _ (plan : Plan) (u : ℕ) (o : Outgoing) (meant : List ℕ) (before : ℕ
         → BeginsAt (count_of plan) w f flow bytes new → IsComing new
     begin_keeps f None bytes allowed new never = absurd never
     begin_keeps f (Some flow) bytes allowed new e =
-        let (sendable, (on, (told, (addressed, (free, rest))))) = none_hold (begin_refusals plan.live (count_of plan) w (Some flow) bytes) allowed in
+        let (sendable, (on, (stated, (addressed, (free, rest))))) = none_hold (begin_refusals plan.live (count_of plan) w (Some flow) bytes) allowed in
         let idle : w.sessions flow.sender ≡ None = no_session (w.sessions flow.sender) free in
         let other : flow.sender ≢ u = λ same. (let session : w.sessions flow.sender ≡ Some (at_stage coming.targets coming.stage) =
         ap w.sessions same ∙ coming.session in cc (idle, session)) in

@@ -9,7 +9,7 @@ use Rattle.j39_tp.specs.declared.receiving.heard.Heard.{Heard}
 use Rattle.j39_tp.specs.declared.receiving.manner.Manner.TheVariants.{Answering}
 use Rattle.j39_tp.specs.declared.receiving.progress.Progress.{Progress}
 use Rattle.j39_tp.specs.declared.sending.stage.Stage.{Stage}
-use Rattle.j39_tp.proofs.Answering.{IsAnswer, TellsMessage, timed_out_aside}
+use Rattle.j39_tp.proofs.Answering.{IsAnswer, ReportsMessage, timed_out_aside}
 use Rattle.j39_network.specs.declared.plan.Plan.{Plan}
 use Rattle.j39_network.specs.declared.plan.to.To.TheVariants as tos
 use Rattle.j39_world.specs.declared.wired.Wired.{Wired}
@@ -152,7 +152,7 @@ module _ (plan : Plan) (u : ℕ) (o : Outgoing) (meant : List ℕ) (before : ℕ
     -- ---- a packet is taken
 
     module _ (windows : List ℕ) (x y : ℕ) (p : Packet) (rest : List Wired) (is : w.wire x y ≡ wired.Packet p ∷ rest) (rs : List Reported)
-        (told : Reports w x y p (hearing windows w x y p).1 rs) where
+        (stated : Reports w x y p (hearing windows w x y p).1 rs) where
       abbrev heard : Progress × Heard
       heard = hearing windows w x y p
 
@@ -175,9 +175,9 @@ module _ (plan : Plan) (u : ℕ) (o : Outgoing) (meant : List ℕ) (before : ℕ
           (answers_grow less y x (map wired.Packet (receiver_replies heard.1 ++ sender_replies (reaction_of (w.sessions y) x p))) answers s t)
 
       -- what is complete is the message
-      one_report : x ≡ u → is_among meant y ≡ true → TellsMessage heard.1 → reported (w.reports ++ rs) y x ≡ reported w.reports y x ++ begun_of o ∷ []
+      one_report : x ≡ u → is_among meant y ≡ true → ReportsMessage heard.1 → reported (w.reports ++ rs) y x ≡ reported w.reports y x ++ begun_of o ∷ []
       one_report same among = message_reported plan w inv x y (at_stage plan u o meant before unanswered coming.targets coming.stage) (session_at x same)
-          (coming.still y among) windows p rest is rs told
+          (coming.still y among) windows p rest is rs stated
 
       packet_here : x ≡ u → is_among meant y ≡ true → WayAt coming.sent then x y
       packet_here same among =
@@ -186,9 +186,9 @@ module _ (plan : Plan) (u : ℕ) (o : Outgoing) (meant : List ℕ) (before : ℕ
           packet_heard (window_at windows y) o p rest way.taken coming.sent (w.receivers y x) (reported w.reports y x) (before y)
           (sent_most o coming.stage coming.sent coming.sends) (subst (λ (xs : List Wired). InFlight o xs way.taken coming.sent) is way.flight) way.receiver in
           let has : HasTaken o (closed_if_complete heard.0) hears.taken (reported (w.reports ++ rs) y x) (before y) =
-          elim (hears.told) [
+          elim (hears.stated) [
             | inl (nothing, has) ↦ subst (λ (xs : List Begun). HasTaken o (closed_if_complete heard.0) hears.taken xs (before y))
-                (sym (none_apart w x y p rs x y (reports_nothing w x y p rs heard.1 nothing told))) has
+                (sym (none_apart w x y p rs x y (reports_nothing w x y p rs heard.1 nothing stated))) has
             | inr (message, has) ↦ has (reported (w.reports ++ rs) y x) (one_report same among message)
           ] in
           way_then x y (subst (λ (xs : List Wired). IsUnderWay o coming.sent xs (changed_pair w.receivers y x (closed_if_complete heard.0) y x) (reported (w.reports ++ rs) y x) (before y))
@@ -201,7 +201,7 @@ module _ (plan : Plan) (u : ℕ) (o : Outgoing) (meant : List ℕ) (before : ℕ
           let mid : World = record w { wire = less; receivers = changed_pair w.receivers y x (closed_if_complete heard.0); reports = w.reports ++ rs } in
           way_then s t (same_way mid s t (pair_elsewhere w.wire x y rest s t apart)
           (pair_elsewhere w.receivers y x (closed_if_complete heard.0) t s (λ to_y to_x. apart to_x to_y))
-          (reports_apart w x y p rs heard.1 s t apart told) same among)
+          (reports_apart w x y p rs heard.1 s t apart stated) same among)
 
       session_then : changed w.sessions y (session_after (w.sessions y) x p) u ≡ Some (at_stage plan u o meant before unanswered coming.targets coming.stage)
       session_then = elim (cases_eq u y) [
@@ -221,7 +221,7 @@ module _ (plan : Plan) (u : ℕ) (o : Outgoing) (meant : List ℕ) (before : ℕ
     pub take_keeps : (windows : List ℕ) (x y : ℕ) (list : List Wired) → w.wire x y ≡ list → (new : World) → TakenFrom windows w x y list new → Coming new
     take_keeps windows x y [] is new never = absurd never
     take_keeps windows x y (wired.Short bytes ∷ rest) is new e = subst Coming (sym e) (short_keeps x y bytes rest is)
-    take_keeps windows x y (wired.Packet p ∷ rest) is new (rs, told, e) = subst Coming (sym e) (packet_keeps windows x y p rest is rs told)
+    take_keeps windows x y (wired.Packet p ∷ rest) is new (rs, stated, e) = subst Coming (sym e) (packet_keeps windows x y p rest is rs stated)
     take_keeps windows x y (wired.Alone f bytes ∷ rest) is new e =
         let less : World = record w { wire = changed_pair w.wire x y rest } in
         let passes : x ≡ u → is_among meant y ≡ true → oldest_passes is_of_receiver (w.wire u y) ≡ true =

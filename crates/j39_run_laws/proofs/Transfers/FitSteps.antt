@@ -1,6 +1,6 @@
 -- In every world of every run what is on the wire fits, no message is longer than one can be, and each receiver has gathered what
 -- it took.
-use Rattle.std.proofs.Common.{◌≡◌, ℕ, zero, suc, ◌≤◌, ◌&&◌, eqb, nat_le, List, [], ◌∷◌, ◌++◌, length, refl, sym, subst, subst₂, arith, inl, inr, Option, Some}
+use Rattle.std.proofs.Common.{◌≡◌, ℕ, zero, suc, ◌≤◌, nat_le, List, [], ◌∷◌, ◌++◌, length, refl, sym, subst, subst₂, arith, inl, inr, Option, Some}
 use Rattle.std.proofs.Common.{None}
 use Rattle.std.specs.Prelude.{map, slice_get}
 use Rattle.std.specs.List.{AllByRecursion}
@@ -15,7 +15,7 @@ use Rattle.j39_tp.specs.declared.receiving.manner.Manner.TheVariants.{Answering}
 use Rattle.j39_tp.specs.declared.receiving.progress.Progress.{Progress}
 use Rattle.j39_tp.specs.declared.receiving.progress.Progress.TheVariants.{Closed}
 use Rattle.j39_tp.specs.declared.sending.stage.Stage.{Stage}
-use Rattle.j39_tp.proofs.Answering.{IsAnswer, hears_told, timed_out_aside}
+use Rattle.j39_tp.proofs.Answering.{IsAnswer, hears_stated, timed_out_aside}
 use Rattle.j39_network.specs.declared.plan.Plan.{Plan}
 use Rattle.j39_network.specs.declared.plan.flow_plan.FlowPlan.{FlowPlan}
 use Rattle.j39_network.specs.declared.plan.group_plan.GroupPlan.{GroupPlan}
@@ -30,7 +30,7 @@ use Rattle.j39_world.specs.Flows.{flows_of, flow_of, windows_of, window_at, dest
 use Rattle.j39_network.specs.PlannedUnits.{units_of}
 use Rattle.j39_world.specs.Run.{count_of, begin_refusal, begin_refusals}
 use Rattle.j39_world.specs.SoundPlan.{Always}
-use Rattle.j39_world.specs.Transfers.{Outgoing, Reported, Sessions, Wire, Receivers, is_among, added, closed_if_complete}
+use Rattle.j39_world.specs.Transfers.{Outgoing, Reported, Sessions, Wire, Receivers, added, closed_if_complete}
 use Rattle.j39_world.specs.TransferSteps.{targets_of, outgoing, first_item, BeginsAt, SendsAt, session_after, reaction_of, receiver_replies, sender_replies}
 use Rattle.j39_world.specs.TransferSteps.{hearing}
 use Rattle.j39_world.specs.TransferSteps.{packet_taken, TakenFrom, LostFrom, packets_in, receiver_timed_out, sent_to_receivers}
@@ -40,6 +40,7 @@ use Rattle.j39_run_laws.proofs.Runs.Always.{IsPreserved, always}
 use Rattle.j39_run_laws.proofs.Runs.Changed.{changed_each, pair_here, pair_elsewhere, pair_here_or_elsewhere, pair_each}
 use Rattle.j39_run_laws.proofs.Runs.Elements.{all-append, all_map}
 use Rattle.j39_run_laws.proofs.Runs.SwitchedOff.{lists_left, sessions_each}
+use Rattle.j39_run_laws.proofs.Runs.WiredItems.{all_added, all_dropped, all_less, all_more}
 use Rattle.j39_run_laws.proofs.Reports.ExchangeSteps.{asides_answer}
 use Rattle.j39_run_laws.proofs.Reports.Hearings.{replies_aside, replies_answer, packets_aside, reaction_aside}
 use Rattle.j39_run_laws.proofs.Transfers.Fitting.{IsFit, answer_fit, announcement_fit, data_fit, timeout_fit, IsWithin, hears_within, timed_out_within}
@@ -88,9 +89,9 @@ packets_fit = all_map wired.Packet IsAnswer IsItemFit answer_fit
 pub receiver_answers : (window : ℕ) (pr : Progress) (p : Packet) → AllByRecursion IsAnswer (receiver_replies (receiver.hears (Answering window) pr p).1)
 receiver_answers window pr p =
     let h : Heard = (receiver.hears (Answering window) pr p).1 in
-    elim (hears_told window pr p) [
-      | inl told ↦ asides_answer (receiver_replies h) (replies_aside h told)
-      | inr told ↦ replies_answer h told.0
+    elim (hears_stated window pr p) [
+      | inl stated ↦ asides_answer (receiver_replies h) (replies_aside h stated)
+      | inr stated ↦ replies_answer h stated.0
     ]
 
 first_fits : (flow : Flow) (bytes : List ℕ) → length bytes ≤ message_bytes → IsItemFit (first_item flow bytes)
@@ -102,29 +103,22 @@ first_fits flow bytes most =
 -- ---- each step
 
 module _ (plan : Plan) (w : World) (inv : IsWorldFit w) where
-  dropped : (u : ℕ) (wire : Wire) → IsWireFit wire → IsWireFit (without_lists_to u wire)
-  dropped u wire fit s t = cond_both (eqb t u) [] (wire s t) (AllByRecursion IsItemFit) (λ _. tt) (λ _. fit s t)
-
   sent_fits : (u : ℕ) (targets : List ℕ) (item : Wired) → IsItemFit item → IsWireFit (added w.wire u targets item)
-  sent_fits u targets item fit s t =
-      cond_both (eqb s u && is_among targets t) (w.wire s t ++ item ∷ []) (w.wire s t) (AllByRecursion IsItemFit)
-      (λ _. all-append IsItemFit (w.wire s t) (item ∷ []) (inv.wire s t) (fit, tt)) (λ _. inv.wire s t)
+  sent_fits u targets item fit = all_added (λ _ _. IsItemFit) w.wire inv.wire u targets item (λ _ _. fit)
 
   replied_fits : (wire : Wire) → IsWireFit wire → (v u : ℕ) (ps : List Packet) → AllByRecursion IsAnswer ps
       → IsWireFit (changed_pair wire v u (wire v u ++ map wired.Packet ps))
-  replied_fits wire fit v u ps answers =
-      pair_each (λ s t (xs : List Wired). AllByRecursion IsItemFit xs) wire v u (wire v u ++ map wired.Packet ps)
-      (all-append IsItemFit (wire v u) (map wired.Packet ps) (fit v u) (packets_fit ps answers)) fit
+  replied_fits wire fit v u ps answers = all_more (λ _ _. IsItemFit) wire fit v u (map wired.Packet ps) (packets_fit ps answers)
 
   less_fits : (u v : ℕ) (item : Wired) (rest : List Wired) → w.wire u v ≡ item ∷ rest → IsWireFit (changed_pair w.wire u v rest)
-  less_fits u v item rest is = pair_each (λ s t (xs : List Wired). AllByRecursion IsItemFit xs) w.wire u v rest (subst (AllByRecursion IsItemFit) is (inv.wire u v)).1 inv.wire
+  less_fits = all_less (λ _ _. IsItemFit) w.wire inv.wire
 
   pub begin_fits : (f : ℕ) (bytes : List ℕ) (o : Option Flow) → slice_get (flows_of plan) f ≡ o → begin_refusal plan.live (count_of plan) w o bytes ≡ None
       → (new : World)
       → BeginsAt (count_of plan) w f o bytes new → IsWorldFit new
   begin_fits f bytes None is allowed new never = absurd never
   begin_fits f bytes (Some flow) is allowed new e =
-      let (sendable, (on, (told, (addressed, (free, (long, rest)))))) = none_hold (begin_refusals plan.live (count_of plan) w (Some flow) bytes) allowed in
+      let (sendable, (on, (stated, (addressed, (free, (long, rest)))))) = none_hold (begin_refusals plan.live (count_of plan) w (Some flow) bytes) allowed in
       let same : length bytes ≤ flow.most = leb-true (length bytes) flow.most (and_parts (nat_le flow.length (length bytes)) _ (not-false _ long)).1 in
       let within : flow.most ≤ message_bytes = flow_fits plan.groups.items plan.flows.items f flow is in
       let most : length bytes ≤ message_bytes = omega arith in
@@ -223,7 +217,7 @@ module _ (plan : Plan) (w : World) (inv : IsWorldFit w) where
   switched_fits : (u : ℕ) (new : World) → new.wire ≡ without_lists_to u w.wire → new.sessions ≡ w.sessions → new.receivers ≡ w.receivers → new.taken ≡ w.taken
       → IsWorldFit new
   switched_fits u new wire sessions receivers taken = record {
-    wire = subst IsWireFit (sym wire) (dropped u w.wire inv.wire);
+    wire = subst IsWireFit (sym wire) (all_dropped (λ _ _. IsItemFit) w.wire inv.wire u);
     messages = subst (λ (x : Sessions). (y : ℕ) → IsMessageFit (x y)) (sym sessions) inv.messages;
     within = subst (λ (x : Receivers). (y z : ℕ) → IsWithin (x y z)) (sym receivers) inv.within;
     gathered = λ v x. subst₂ (λ (h : ℕ → ℕ → List Packet) (r : Receivers). HasGathered (h v x) (r v x)) (sym taken) (sym receivers) (inv.gathered v x);
@@ -242,8 +236,8 @@ module _ (plan : Plan) (w : World) (inv : IsWorldFit w) where
   }
 
   -- nothing of transfers is changed
-  told_fits : (new : World) → new.wire ≡ w.wire → new.sessions ≡ w.sessions → new.receivers ≡ w.receivers → new.taken ≡ w.taken → IsWorldFit new
-  told_fits new wire sessions receivers taken = record {
+  stated_fits : (new : World) → new.wire ≡ w.wire → new.sessions ≡ w.sessions → new.receivers ≡ w.receivers → new.taken ≡ w.taken → IsWorldFit new
+  stated_fits new wire sessions receivers taken = record {
     wire = subst IsWireFit (sym wire) inv.wire;
     messages = subst (λ (x : Sessions). (y : ℕ) → IsMessageFit (x y)) (sym sessions) inv.messages;
     within = subst (λ (x : Receivers). (y z : ℕ) → IsWithin (x y z)) (sym receivers) inv.within;
@@ -252,13 +246,13 @@ module _ (plan : Plan) (w : World) (inv : IsWorldFit w) where
 
   give_fits : (u v : ℕ) (list : List Item) (new : World) → GivenFrom (units_of plan) w u v list new → IsWorldFit new
   give_fits u v [] new never = absurd never
-  give_fits u v (item ∷ rest) new (says, s, answers, e) = subst IsWorldFit (sym e) (told_fits (heard_and_answered (units_of plan) w u v rest says s) refl refl refl refl)
+  give_fits u v (item ∷ rest) new (says, s, answers, e) = subst IsWorldFit (sym e) (stated_fits (heard_and_answered (units_of plan) w u v rest says s) refl refl refl refl)
 
 pub steps_fit : (plan : Plan) → IsPreserved plan IsWorldFit
 steps_fit plan w inv (Up u) allowed new e = subst IsWorldFit (sym e) (switched_fits plan w inv u (switched_on (units_of plan) w u) refl refl refl refl)
 steps_fit plan w inv (Down u) allowed new e = subst IsWorldFit (sym e) (off_fits plan w inv u)
 steps_fit plan w inv (Give u v) allowed new leads = give_fits plan w inv u v (w.claims u v) new leads
-steps_fit plan w inv (Ask u) allowed new e = subst IsWorldFit (sym e) (told_fits plan w inv (asked (units_of plan) w u) refl refl refl refl)
+steps_fit plan w inv (Ask u) allowed new e = subst IsWorldFit (sym e) (stated_fits plan w inv (asked (units_of plan) w u) refl refl refl refl)
 steps_fit plan w inv (Begin f bytes) allowed new leads = begin_fits plan w inv f bytes.items (slice_get (flows_of plan) f) refl allowed new leads
 steps_fit plan w inv (Send f bytes) allowed new leads = send_fits plan w inv f bytes.items (slice_get (flows_of plan) f) new leads
 steps_fit plan w inv (Emit u) allowed new (s, p, session, next, e) =

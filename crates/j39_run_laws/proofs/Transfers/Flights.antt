@@ -19,7 +19,7 @@ use Rattle.j39_tp.specs.declared.receiving.reception.Reception.{Reception}
 use Rattle.j39_tp.specs.declared.sending.outcome.Outcome.TheVariants.{Sent}
 use Rattle.j39_tp.specs.declared.sending.stage.Stage.{Stage}
 use Rattle.j39_tp.specs.declared.sending.stage.Stage.TheVariants.{Sending, Waiting, Resting}
-use Rattle.j39_tp.proofs.Answering.{TellsNothing, TellsMessage, answers_announce_nothing, closed_told}
+use Rattle.j39_tp.proofs.Answering.{HoldsNothing, ReportsMessage, answers_announce_nothing, closed_stated}
 use Rattle.j39_world.specs.declared.wired.Wired.{Wired}
 use Rattle.j39_world.specs.declared.wired.Wired.TheVariants as wired
 use Rattle.j39_world.specs.Flows.{is_short}
@@ -144,18 +144,18 @@ all_reported o stage sent pr reports before sends rests (inr (inl partly)) =
 -- an answer changes nothing
 pub answer_heard : (window : ℕ) (o : Outgoing) (pr : Progress) (taken : ℕ) (reports before : List Begun) (p : Packet) → IsAnswering (wired.Packet p)
     → HasTaken o pr taken reports before
-    → TellsNothing (receiver.hears (Answering window) pr p).1
+    → HoldsNothing (receiver.hears (Answering window) pr p).1
     × HasTaken o (closed_if_complete (receiver.hears (Answering window) pr p).0) taken reports before
 answer_heard window o pr taken reports before p answers (inl untaken) =
-    let told = closed_told window pr p untaken.closed (answers_announce_nothing p answers) in
-    (told.0, inl (record { none = untaken.none; closed = stays_closed (receiver.hears (Answering window) pr p).0 told.1; same = untaken.same }))
+    let stated = closed_stated window pr p untaken.closed (answers_announce_nothing p answers) in
+    (stated.0, inl (record { none = untaken.none; closed = stays_closed (receiver.hears (Answering window) pr p).0 stated.1; same = untaken.same }))
 answer_heard window o pr taken reports before p answers (inr (inr whole)) =
-    let told = closed_told window pr p whole.closed (answers_announce_nothing p answers) in
-    (told.0, inr (inr (record { all = whole.all; closed = stays_closed (receiver.hears (Answering window) pr p).0 told.1; one = whole.one })))
+    let stated = closed_stated window pr p whole.closed (answers_announce_nothing p answers) in
+    (stated.0, inr (inr (record { all = whole.all; closed = stays_closed (receiver.hears (Answering window) pr p).0 stated.1; one = whole.one })))
 answer_heard window o pr taken reports before p answers (inr (inl partly)) =
     let heard : receiver.hears (Answering window) pr p ≡ (Open partly.reception, heards.Nothing) =
     ap (λ (x : Progress). receiver.hears (Answering window) x p) partly.open_is ∙ passed partly.reception p partly.kind answers in
-    subst (λ (x : Progress × Heard). TellsNothing x.1 × HasTaken o (closed_if_complete x.0) taken reports before) (sym heard) (
+    subst (λ (x : Progress × Heard). HoldsNothing x.1 × HasTaken o (closed_if_complete x.0) taken reports before) (sym heard) (
       tt,
       inr (inl (record {
         reception = partly.reception;
@@ -227,12 +227,12 @@ short_heard o bytes rest zero sent pr reports before more (inr (inl whole, fligh
 short_heard o bytes rest zero sent pr reports before more (inr (inl whole, flight)) (inr (inr all)) one =
     let count : item_count o ≡ 1 = cond-true (is_whole o) 1 (suc (packet_count o)) whole.0 in absurd (omega (arith, all.all, count))
 
--- what a receiver is once it heard a packet: nothing is told, or the message is
+-- what a receiver is once it heard a packet: nothing is reported, or the message is
 pub record HearsOn (o : Outgoing) (sent : ℕ) (rest : List Wired) (x : Progress × Heard) (reports before : List Begun) : Type 0 where
   pub taken : ℕ
   pub flight : InFlight o rest taken sent
-  pub told : (TellsNothing x.1 × HasTaken o (closed_if_complete x.0) taken reports before)
-      ⊎ (TellsMessage x.1 × ((more : List Begun) → more ≡ reports ++ begun_of o ∷ [] → HasTaken o (closed_if_complete x.0) taken more before))
+  pub stated : (HoldsNothing x.1 × HasTaken o (closed_if_complete x.0) taken reports before)
+      ⊎ (ReportsMessage x.1 × ((more : List Begun) → more ≡ reports ++ begun_of o ∷ [] → HasTaken o (closed_if_complete x.0) taken more before))
 
 -- its announcement
 announced_heard : (window : ℕ) (o : Outgoing) (rest : List Wired) (sent : ℕ) (pr : Progress) (reports before : List Begun) → is_whole o ≡ false
@@ -241,7 +241,7 @@ announced_heard : (window : ℕ) (o : Outgoing) (rest : List Wired) (sent : ℕ)
 announced_heard window o rest sent pr reports before long flight (inl untaken) = record {
   taken = 1;
   flight = flight;
-  told = inl (
+  stated = inl (
     tt,
     inr (inl (record {
       reception = receiver.opened Broadcast o.pgn (length o.bytes) 255;
@@ -275,7 +275,7 @@ data_heard window o rest k sent seven pr reports before most flight (inr (inl pa
       | inl (held, more) ↦ subst (λ (x : Progress × Heard). HearsOn o sent rest x reports before) (sym (opens ∙ held)) (record {
         taken = suc (suc k);
         flight = flight;
-        told = inl (
+        stated = inl (
           tt,
           inr (inl (record {
             reception = receiver.one_more_held r;
@@ -292,7 +292,7 @@ data_heard window o rest k sent seven pr reports before most flight (inr (inl pa
       | inr (done, last) ↦ subst (λ (x : Progress × Heard). HearsOn o sent rest x reports before) (sym (opens ∙ done)) (record {
         taken = suc (suc k);
         flight = flight;
-        told = inr (
+        stated = inr (
           tt,
           λ all one. inr (inr (record {
             all = (let e = partly.some in
@@ -309,7 +309,7 @@ pub packet_heard : (window : ℕ) (o : Outgoing) (p : Packet) (rest : List Wired
     → sent ≤ item_count o → InFlight o (wired.Packet p ∷ rest) taken sent → HasTaken o pr taken reports before
     → HearsOn o sent rest (receiver.hears (Answering window) pr p) reports before
 packet_heard window o p rest taken sent pr reports before most (inl beside) has =
-    record { taken = taken; flight = beside.1; told = inl (answer_heard window o pr taken reports before p beside.0 has) }
+    record { taken = taken; flight = beside.1; stated = inl (answer_heard window o pr taken reports before p beside.0 has) }
 packet_heard window o p rest zero sent pr reports before most (inr (inl whole, flight)) has = absurd (let e = whole.1 in cc e)
 packet_heard window o p rest zero sent pr reports before most (inr (inr long, flight)) has =
     let same : p ≡ Bam (length o.bytes) o.pgn = (let e = long.1 in cc e) in

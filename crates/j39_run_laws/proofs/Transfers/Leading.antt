@@ -81,14 +81,14 @@ module _ (plan : Plan) (w : World) (inv : IsWorldFit w) where
   module _ (windows : List ℕ) (u v : ℕ) where
     carried : (p : Packet) → is_complete (hearing windows w u v p).1 ≡ true
         → (pgn : ℕ) × (bytes : List ℕ) × Carried (w.taken v u ++ p ∷ []) (length (w.taken v u)) pgn bytes
-    carried p told =
+    carried p stated =
         let g : HasGathered (w.taken v u) (w.receivers v u) = inv.gathered v u in
         let holds = completes_carried (w.taken v u)
-        (record { manner = Answering (window_at windows v); progress = w.receivers v u; bytes = g.0 }) p g.1 told in
+        (record { manner = Answering (window_at windows v); progress = w.receivers v u; bytes = g.0 }) p g.1 stated in
         (holds.pgn, _, holds.carried)
 
     reports_one : (p : Packet) → is_complete (hearing windows w u v p).1 ≡ true → (reports : List Reported) × ReportsOne w u v p reports
-    reports_one p told = let (pgn, bytes, is) = carried p told in (report w u v bytes ∷ [], (pgn, bytes, is, refl))
+    reports_one p stated = let (pgn, bytes, is) = carried p stated in (report w u v bytes ∷ [], (pgn, bytes, is, refl))
 
     reported : (p : Packet) (h : Heard) → (hearing windows w u v p).1 ≡ h → (reports : List Reported) × Reports w u v p h reports
     reported p heards.Complete is = reports_one p (subst (λ (x : Heard). is_complete x ≡ true) (sym is) refl)

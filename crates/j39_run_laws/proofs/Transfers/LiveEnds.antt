@@ -7,7 +7,7 @@ use Rattle.std.proofs.lemmas.Option.{same_Some}
 use Rattle.std.specs.List.{AllByRecursion, Contains, slice_get}
 use Rattle.j39_claim.specs.declared.item.Say.TheVariants.{Claim}
 use Rattle.j39_claim.specs.declared.item.Item.{Item}
-use Rattle.j39_claim.specs.declared.item.Item.TheVariants.{Told}
+use Rattle.j39_claim.specs.declared.item.Item.TheVariants.{AddressClaimed}
 use Rattle.j39_findings.specs.Findings.{Clean}
 use Rattle.j39_network.specs.declared.plan.Plan.{Plan}
 use Rattle.j39_network.specs.declared.plan.to.To.TheVariants.{One}
@@ -44,7 +44,7 @@ module _ (plan : Plan) (clean : Clean plan) (steps : List Step) (w : World) (run
   -- a unit that is alone at its planned address
   module _ (u : ℕ) (alone : IsAloneThere plan.keep_free (units_of plan) u) where
     abbrev its_claim : Item
-    its_claim = Told (Claim (unit_at (units_of plan) u).preferred)
+    its_claim = AddressClaimed (Claim (unit_at (units_of plan) u).preferred)
 
     none_claims : (v : ℕ) → Contains (w.claims v u) its_claim → ⊥
     none_claims v claim = elim (cases_Bool (both (is_unit plan) v u)) [

@@ -1,10 +1,10 @@
 -- In every world of every run each RTS and each Abort that is undelivered names the group of a message that is still sent to one unit,
 -- between the two, and so does each receiver that is open for such a message.
-use Rattle.std.proofs.Common.{◌≡◌, ◌≢◌, ℕ, ◌⊎◌, inl, inr, true, false, not, ◌&&◌, eqb, List, [], ◌∷◌, ◌++◌, length, refl, sym, ap, ◌∙◌, subst, Option, Some}
+use Rattle.std.proofs.Common.{◌≡◌, ◌≢◌, ℕ, ◌⊎◌, inl, inr, true, false, not, eqb, List, [], ◌∷◌, ◌++◌, length, refl, sym, ap, ◌∙◌, subst, Option, Some}
 use Rattle.std.proofs.Common.{None}
 use Rattle.std.specs.Prelude.{map, nat_lt, slice_get}
 use Rattle.std.specs.List.{AllByRecursion}
-use Rattle.std.proofs.lemmas.Bool.{and_parts, cases_eq, cond_both, eqb-false, eqb-true, not-false, or_parts, true≢false}
+use Rattle.std.proofs.lemmas.Bool.{cases_eq, cond_both, eqb-false, not-false, or_parts, true≢false}
 use Rattle.std.proofs.lemmas.List.{map-append}
 use Rattle.j39_tp.specs.Receiver as receiver
 use Rattle.j39_tp.specs.Receiver.{is_open_at}
@@ -29,7 +29,7 @@ use Rattle.j39_world.proofs.Refusals.{none_hold}
 use Rattle.j39_world.specs.declared.flow.Flow.{Flow}
 use Rattle.j39_world.specs.declared.wired.Wired.{Wired}
 use Rattle.j39_world.specs.declared.wired.Wired.TheVariants as wired
-use Rattle.j39_world.specs.ClaimSteps.{GivenFrom, without_lists_to}
+use Rattle.j39_world.specs.ClaimSteps.{GivenFrom}
 use Rattle.j39_world.specs.Flows.{flows_of, windows_of, window_at, dest_of, is_short}
 use Rattle.j39_network.specs.PlannedUnits.{units_of}
 use Rattle.j39_world.specs.Resting.{is_of_sender, is_of_receiver, can_rest}
@@ -48,6 +48,7 @@ use Rattle.j39_run_laws.proofs.Runs.Changed.{changed_here, changed_elsewhere, ch
 use Rattle.j39_run_laws.proofs.Runs.Conditions.{none_refuses}
 use Rattle.j39_run_laws.proofs.Runs.Elements.{all-append, all_map, all_weaker}
 use Rattle.j39_run_laws.proofs.Runs.SwitchedOff.{lists_left, sessions_each, stage_left, targets_same}
+use Rattle.j39_run_laws.proofs.Runs.WiredItems.{all_added, all_dropped, all_less, all_more}
 use Rattle.j39_run_laws.proofs.Transfers.Accounted.{SendsTo}
 use Rattle.j39_run_laws.proofs.Transfers.EndedWithout.{begun_ended, ended_left, going_ended, heard_ended}
 use Rattle.j39_run_laws.proofs.Transfers.AccountedSteps.{IsKept, keeps, all_kept, over_with}
@@ -237,31 +238,16 @@ waits_left u (Some s) was = λ waits. elim (stage_left u s.to s.stage) [
 -- ---- each step
 
 module _ (plan : Plan) (w : World) (kept : IsKept plan w) (old : AllNamed w) where
-  dropped : (u : ℕ) → AreNamed w.sessions (without_lists_to u w.wire)
-  dropped u s t = cond_both (eqb t u) [] (w.wire s t) (AllByRecursion (IsNamed w.sessions s t)) (λ _. tt) (λ _. old.wire s t)
-
   less : (u v : ℕ) (item : Wired) (rest : List Wired) → w.wire u v ≡ item ∷ rest → AreNamed w.sessions (changed_pair w.wire u v rest)
-  less u v item rest is = pair_each (λ s t (xs : List Wired). AllByRecursion (IsNamed w.sessions s t) xs) w.wire u v rest
-      (subst (AllByRecursion (IsNamed w.sessions u v)) is (old.wire u v)).1 old.wire
-
-  more : (sessions : Sessions) (wire : Wire) → AreNamed sessions wire → (v u : ℕ) (items : List Wired) → AllByRecursion (IsNamed sessions v u) items
-      → AreNamed sessions (changed_pair wire v u (wire v u ++ items))
-  more sessions wire here v u items all = pair_each (λ s t (xs : List Wired). AllByRecursion (IsNamed sessions s t) xs) wire v u (wire v u ++ items)
-      (all-append (IsNamed sessions v u) (wire v u) items (here v u) all) here
+  less = all_less (IsNamed w.sessions) w.wire old.wire
 
   -- u sends an item to those that its message goes to
   sent : (u : ℕ) (o : Outgoing) (item : Wired) → KeepsTo (w.sessions u) (Some o) → ((t : ℕ) → is_among o.targets t ≡ true → SaysTo (Some o) t item)
       → AreNamed (changed w.sessions u (Some o)) (added w.wire u o.targets item)
-  sent u o item keep says s t =
+  sent u o item keep says =
       let then : Sessions = changed w.sessions u (Some o) in
-      let before : AllByRecursion (IsNamed then s t) (w.wire s t) =
-      still_named w.sessions then (keep_to w.sessions u (Some o) keep) s t (w.wire s t) (old.wire s t) in
-      cond_both (eqb s u && is_among o.targets t) (w.wire s t ++ item ∷ []) (w.wire s t) (AllByRecursion (IsNamed then s t))
-      (λ both. let parts = and_parts (eqb s u) (is_among o.targets t) both in
-      let session : then s ≡ Some o = ap then (eqb-true s u parts.0) ∙ changed_here w.sessions u (Some o) in
-      all-append (IsNamed then s t) (w.wire s t) (item ∷ []) before
-      (says_named then s t item (subst (λ (x : Option Outgoing). SaysTo x t item) (sym session) (says t parts.1)), tt))
-      (λ _. before)
+      all_added (IsNamed then) w.wire (λ s t. still_named w.sessions then (keep_to w.sessions u (Some o) keep) s t (w.wire s t) (old.wire s t)) u o.targets item
+      (λ t among. says_named then u t item (subst (λ (x : Option Outgoing). SaysTo x t item) (sym (changed_here w.sessions u (Some o))) (says t among)))
 
   -- u sends, and is at another stage then
   sends_named : (u : ℕ) (s : Outgoing) (stage : Stage) (p : Packet) → w.sessions u ≡ Some s
@@ -299,7 +285,7 @@ module _ (plan : Plan) (w : World) (kept : IsKept plan w) (old : AllNamed w) whe
       → BeginsAt (count_of plan) w f o bytes new → AllNamed new
   begin_named f None bytes allowed new never = absurd never
   begin_named f (Some flow) bytes allowed new e =
-      let (sendable, (on, (told, (addressed, (free, rest))))) = none_hold (begin_refusals plan.live (count_of plan) w (Some flow) bytes) allowed in
+      let (sendable, (on, (stated, (addressed, (free, rest))))) = none_hold (begin_refusals plan.live (count_of plan) w (Some flow) bytes) allowed in
       let o : Outgoing = outgoing (count_of plan) w.stations f flow bytes in
       let idle : w.sessions flow.sender ≡ None = no_session (w.sessions flow.sender) free in
       let keep : KeepsTo (w.sessions flow.sender) (Some o) = λ t pgn to. absurd (subst (λ (x : Option Outgoing). IsTo x t pgn) idle to) in
@@ -354,7 +340,7 @@ module _ (plan : Plan) (w : World) (kept : IsKept plan w) (old : AllNamed w) whe
         | inr rts ↦ rts_named u v p head pgn rts
       ] in
       record {
-        wire = more sessions (changed_pair w.wire u v rest)
+        wire = all_more (IsNamed sessions) (changed_pair w.wire u v rest)
             (λ s t. still_named w.sessions sessions keep s t (changed_pair w.wire u v rest s t) (less u v (wired.Packet p) rest is s t)) v u
             (map wired.Packet (replies ++ reacted)) all;
         receivers = pair_each (λ t s (x : Progress). (pgn : ℕ) → IsOpenFor x pgn → IsTo (sessions s) t pgn) w.receivers v u
@@ -380,7 +366,7 @@ module _ (plan : Plan) (w : World) (kept : IsKept plan w) (old : AllNamed w) whe
       let answered : AllByRecursion (IsNamed w.sessions v u) (map wired.Packet sends) =
       all_map wired.Packet (AnswersAt pr) (IsNamed w.sessions v u) (answers_named w.sessions v u pr (old.receivers v u)) sends (late_answers window pr) in
       record {
-        wire = more w.sessions w.wire old.wire v u (map wired.Packet sends) answered;
+        wire = all_more (IsNamed w.sessions) w.wire old.wire v u (map wired.Packet sends) answered;
         receivers = pair_each (λ t s (x : Progress). (pgn : ℕ) → IsOpenFor x pgn → IsTo (w.sessions s) t pgn) w.receivers v u
             (closed_if_complete (receiver.timed_out (Answering window) pr).0)
             (λ pgn at. old.receivers v u pgn (late_open window pr pgn (closed_open (receiver.timed_out (Answering window) pr).0 pgn at))) old.receivers;
@@ -415,15 +401,19 @@ module _ (plan : Plan) (w : World) (kept : IsKept plan w) (old : AllNamed w) whe
       let targets : List ℕ = targets_of (count_of plan) w.stations flow.sender flow.to in
       let item : Wired = wired.Alone f bytes in
       subst AllNamed (sym e) (record {
-        wire = λ s t. cond_both (eqb s flow.sender && is_among targets t) (w.wire s t ++ item ∷ []) (w.wire s t) (AllByRecursion (IsNamed w.sessions s t))
-            (λ _. all-append (IsNamed w.sessions s t) (w.wire s t) (item ∷ []) (old.wire s t) (tt, tt)) (λ _. old.wire s t);
+        wire = all_added (IsNamed w.sessions) w.wire old.wire flow.sender targets item (λ t _. tt);
         receivers = old.receivers;
         waits = old.waits;
         ended = old.ended;
       })
 
   named_keeps : (step : Step) → refusal plan w step ≡ None → (new : World) → StepsTo plan w step new → AllNamed new
-  named_keeps (Up u) allowed new e = subst AllNamed (sym e) (record { wire = dropped u; receivers = old.receivers; waits = old.waits; ended = old.ended })
+  named_keeps (Up u) allowed new e = subst AllNamed (sym e) (record {
+    wire = all_dropped (IsNamed w.sessions) w.wire old.wire u;
+    receivers = old.receivers;
+    waits = old.waits;
+    ended = old.ended;
+  })
   named_keeps (Down u) allowed new e = subst AllNamed (sym e) (record {
     wire = lists_left u (IsNamed (sessions_without u w.sessions)) w.wire
         (λ s t other_s other_t. all_weaker (IsNamed w.sessions s t) (IsNamed (sessions_without u w.sessions) s t)

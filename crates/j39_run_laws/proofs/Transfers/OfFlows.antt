@@ -1,9 +1,9 @@
 -- In every world of every run each message is of a flow that goes from its sender to whom it is for, and so is each frame that lies and was
 -- sent alone.
-use Rattle.std.proofs.Common.{◌≡◌, ℕ, true, ◌&&◌, eqb, List, [], ◌∷◌, ◌++◌, length, refl, sym, ◌∙◌, subst, Option, Some, None}
+use Rattle.std.proofs.Common.{◌≡◌, ℕ, true, List, [], ◌∷◌, ◌++◌, length, refl, sym, ◌∙◌, subst, Option, Some, None}
 use Rattle.std.specs.Prelude.{map, slice_get}
 use Rattle.std.specs.List.{AllByRecursion}
-use Rattle.std.proofs.lemmas.Bool.{and_parts, cond_both, eqb-true}
+use Rattle.std.proofs.lemmas.Bool.{cond_both}
 use Rattle.j39_tp.specs.Receiver as receiver
 use Rattle.j39_tp.specs.Sender as sender
 use Rattle.j39_tp.specs.declared.packet.Packet.{Packet}
@@ -16,7 +16,7 @@ use Rattle.j39_network.specs.declared.steps.Step.TheVariants.{Up, Down, Give, As
 use Rattle.j39_world.specs.declared.flow.Flow.{Flow}
 use Rattle.j39_world.specs.declared.wired.Wired.{Wired}
 use Rattle.j39_world.specs.declared.wired.Wired.TheVariants as wired
-use Rattle.j39_world.specs.ClaimSteps.{GivenFrom, without_lists_to}
+use Rattle.j39_world.specs.ClaimSteps.{GivenFrom}
 use Rattle.j39_world.specs.Flows.{FlowGoes, flows_of, windows_of, window_at, dest_of, is_short}
 use Rattle.j39_network.specs.PlannedUnits.{units_of}
 use Rattle.j39_world.specs.Run.{count_of}
@@ -28,9 +28,9 @@ use Rattle.j39_world.specs.TransferSteps.{hearing, TakenFrom, LostFrom, packets_
 use Rattle.j39_world.specs.World.{World, Stations, changed_pair}
 use Rattle.j39_run_laws.proofs.Reports.SenderSteps.{among_one}
 use Rattle.j39_run_laws.proofs.Runs.Always.{IsPreserved, always}
-use Rattle.j39_run_laws.proofs.Runs.Changed.{changed_each, pair_each}
-use Rattle.j39_run_laws.proofs.Runs.Elements.{all-append}
+use Rattle.j39_run_laws.proofs.Runs.Changed.{changed_each}
 use Rattle.j39_run_laws.proofs.Runs.SwitchedOff.{lists_left, sessions_each}
+use Rattle.j39_run_laws.proofs.Runs.WiredItems.{AreAll, all_added, all_dropped, all_less, all_more}
 
 abbrev pub IsOfFlow : Plan → ℕ → Option Outgoing → Type 0
 IsOfFlow plan u None = Unit {0}
@@ -52,31 +52,20 @@ reaches_one count stations u t All among x e = absurd (cc e)
 reaches_one count stations u t (One y) among x e = let same : y ≡ x = cc e in sym same ∙ sym (among_one y t among)
 
 module _ (plan : Plan) (w : World) (old : AreOfFlows plan w) where
-  abbrev Each : Wire → Type 0
-  Each wire = (s t : ℕ) → AllByRecursion (IsSentBy plan s t) (wire s t)
-
-  dropped : (u : ℕ) → Each (without_lists_to u w.wire)
-  dropped u s t = cond_both (eqb t u) [] (w.wire s t) (AllByRecursion (IsSentBy plan s t)) (λ _. tt) (λ _. old.wire s t)
-
-  less : (u v : ℕ) (item : Wired) (rest : List Wired) → w.wire u v ≡ item ∷ rest → Each (changed_pair w.wire u v rest)
-  less u v item rest is = pair_each (λ s t (xs : List Wired). AllByRecursion (IsSentBy plan s t) xs) w.wire u v rest
-      (subst (AllByRecursion (IsSentBy plan u v)) is (old.wire u v)).1 old.wire
+  less : (u v : ℕ) (item : Wired) (rest : List Wired) → w.wire u v ≡ item ∷ rest → AreAll (IsSentBy plan) (changed_pair w.wire u v rest)
+  less = all_less (IsSentBy plan) w.wire old.wire
 
   packets : (s t : ℕ) (ps : List Packet) → AllByRecursion (IsSentBy plan s t) (map wired.Packet ps)
   packets s t [] = tt
   packets s t (p ∷ ps) = (tt, packets s t ps)
 
-  more : (wire : Wire) → Each wire → (v u : ℕ) (ps : List Packet) → Each (changed_pair wire v u (wire v u ++ map wired.Packet ps))
-  more wire here v u ps = pair_each (λ s t (xs : List Wired). AllByRecursion (IsSentBy plan s t) xs) wire v u (wire v u ++ map wired.Packet ps)
-      (all-append (IsSentBy plan v u) (wire v u) (map wired.Packet ps) (here v u) (packets v u ps)) here
+  more : (wire : Wire) → AreAll (IsSentBy plan) wire → (v u : ℕ) (ps : List Packet)
+      → AreAll (IsSentBy plan) (changed_pair wire v u (wire v u ++ map wired.Packet ps))
+  more wire here v u ps = all_more (IsSentBy plan) wire here v u (map wired.Packet ps) (packets v u ps)
 
-  sent : (u : ℕ) (targets : List ℕ) (item : Wired) → ((t : ℕ) → is_among targets t ≡ true → IsSentBy plan u t item) → Each (added w.wire u targets item)
-  sent u targets item is s t =
-      cond_both (eqb s u && is_among targets t) (w.wire s t ++ item ∷ []) (w.wire s t) (AllByRecursion (IsSentBy plan s t))
-      (λ both. let parts = and_parts (eqb s u) (is_among targets t) both in
-      all-append (IsSentBy plan s t) (w.wire s t) (item ∷ []) (old.wire s t)
-      (subst (λ k. IsSentBy plan k t item) (sym (eqb-true s u parts.0)) (is t parts.1), tt))
-      (λ _. old.wire s t)
+  sent : (u : ℕ) (targets : List ℕ) (item : Wired) → ((t : ℕ) → is_among targets t ≡ true → IsSentBy plan u t item)
+      → AreAll (IsSentBy plan) (added w.wire u targets item)
+  sent = all_added (IsSentBy plan) w.wire old.wire
 
   first : (flow : Flow) (bytes : List ℕ) (s t : ℕ) → IsSentBy plan s t (first_item flow bytes)
   first flow bytes s t =
@@ -136,7 +125,10 @@ module _ (plan : Plan) (w : World) (old : AreOfFlows plan w) where
   given u v (item ∷ rest) new (says, s, reacts, e) = subst (AreOfFlows plan) (sym e) (record { sessions = old.sessions; wire = old.wire })
 
 steps_keep : (plan : Plan) → IsPreserved plan (AreOfFlows plan)
-steps_keep plan w old (Up u) allowed new e = subst (AreOfFlows plan) (sym e) (record { sessions = old.sessions; wire = dropped plan w old u })
+steps_keep plan w old (Up u) allowed new e = subst (AreOfFlows plan) (sym e) (record {
+  sessions = old.sessions;
+  wire = all_dropped (IsSentBy plan) w.wire old.wire u;
+})
 steps_keep plan w old (Down u) allowed new e = subst (AreOfFlows plan) (sym e) (record {
   sessions = sessions_each u (IsOfFlow plan) w.sessions tt (λ x _. left plan w old u x (w.sessions x) (old.sessions x));
   wire = lists_left u (IsSentBy plan) w.wire (λ s t _ _. old.wire s t);

@@ -1,5 +1,5 @@
 -- Where no message is open a unit that is switched off only stops.
-use Rattle.std.proofs.Common.{◌≡◌, ℕ, Bool, true, false, cond, not, ◌&&◌, eqb, List, [], ◌∷◌, refl, sym, ap, ◌∙◌, subst, Option, Some, None}
+use Rattle.std.proofs.Common.{◌≡◌, ℕ, Bool, true, false, cond, not, ◌&&◌, eqb, List, [], ◌∷◌, refl, sym, ap, ◌∙◌, subst, Option, None}
 use Rattle.std.proofs.lemmas.Bool.{cond_both}
 use Rattle.std.specs.Prelude.{slice_get}
 use Rattle.j39_claim.specs.declared.item.Item.{Item}
@@ -16,10 +16,9 @@ use Rattle.j39_network.specs.PlannedUnits.{units_of}
 use Rattle.j39_world.specs.Run.{StepsTo, count_of, is_a_transfer_open, refusal, Run}
 use Rattle.j39_world.specs.SoundPlan.{Always}
 use Rattle.j39_world.specs.SwitchingOff.{is_either, session_without, sessions_without, stopped, switched_off, without_lists_of, without_receivers_of}
-use Rattle.j39_world.specs.TransferSteps.{BeginsAt, SendsAt, LostFrom, TakenFrom, hearing}
+use Rattle.j39_world.specs.TransferSteps.{TakenFrom, hearing}
 use Rattle.j39_world.specs.Transfers.{Outgoing, Receivers, closed_if_complete}
 use Rattle.j39_world.specs.World.{World, all_off, changed_pair}
-use Rattle.j39_world.specs.declared.flow.Flow.{Flow}
 use Rattle.j39_world.specs.declared.wired.Wired.{Wired}
 use Rattle.j39_world.specs.declared.wired.Wired.TheVariants as wired
 use Rattle.j39_run_laws.proofs.Reports.Exchanges.{Exchange, Message, message_to, pair_of}
@@ -27,6 +26,7 @@ use Rattle.j39_run_laws.proofs.Reports.SoundReports.{none_open}
 use Rattle.j39_run_laws.proofs.Runs.Always.{always}
 use Rattle.j39_run_laws.proofs.Runs.Changed.{pair_each}
 use Rattle.j39_run_laws.proofs.Runs.Conditions.{none_refuses}
+use Rattle.j39_run_laws.proofs.Runs.LeavingSteps.{begin_leaves, lose_leaves, send_leaves}
 use Rattle.j39_run_laws.proofs.Transfers.AccountedSteps.{IsKept, all_kept, none_lies}
 
 -- ---- no receiver stays with a whole message
@@ -55,23 +55,11 @@ module _ (plan : Plan) (w : World) (old : AreLeft w) where
   given u v [] new never = absurd never
   given u v (item ∷ rest) new (says, s, reacts, e) = same new (ap (λ (x : World). x.receivers) e)
 
-  begun : (f : ℕ) (flow : Option Flow) (bytes : List ℕ) (new : World) → BeginsAt (count_of plan) w f flow bytes new → AreLeft new
-  begun f None bytes new never = absurd never
-  begun f (Some flow) bytes new e = same new (ap (λ (x : World). x.receivers) e)
-
-  sent : (f : ℕ) (flow : Option Flow) (bytes : List ℕ) (new : World) → SendsAt (count_of plan) w f flow bytes new → AreLeft new
-  sent f None bytes new never = absurd never
-  sent f (Some flow) bytes new e = same new (ap (λ (x : World). x.receivers) e)
-
   taken : (u v : ℕ) (items : List Wired) (new : World) → TakenFrom (windows_of plan) w u v items new → AreLeft new
   taken u v [] new never = absurd never
   taken u v (wired.Short bytes ∷ rest) new e = same new (ap (λ (x : World). x.receivers) e)
-  taken u v (wired.Packet p ∷ rest) new (reports, told, e) = subst AreLeft (sym e) (one v u (hearing (windows_of plan) w u v p).0)
+  taken u v (wired.Packet p ∷ rest) new (reports, stated, e) = subst AreLeft (sym e) (one v u (hearing (windows_of plan) w u v p).0)
   taken u v (wired.Alone f bytes ∷ rest) new e = same new (ap (λ (x : World). x.receivers) e)
-
-  lost : (u v : ℕ) (items : List Wired) (new : World) → LostFrom w u v items new → AreLeft new
-  lost u v [] new never = absurd never
-  lost u v (item ∷ rest) new e = same new (ap (λ (x : World). x.receivers) e)
 
   left_by : (step : Step) (new : World) → StepsTo plan w step new → AreLeft new
   left_by (Up u) new e = same new (ap (λ (x : World). x.receivers) e)
@@ -79,11 +67,13 @@ module _ (plan : Plan) (w : World) (old : AreLeft w) where
       subst AreLeft (sym e) (λ v s. cond_both (is_either u v s) Closed (w.receivers v s) IsLeft (λ _. refl) (λ _. old v s))
   left_by (Give u v) new leads = given u v (w.claims u v) new leads
   left_by (Ask u) new e = same new (ap (λ (x : World). x.receivers) e)
-  left_by (Begin f bytes) new leads = begun f (slice_get (flows_of plan) f) bytes.items new leads
-  left_by (Send f bytes) new leads = sent f (slice_get (flows_of plan) f) bytes.items new leads
+  left_by (Begin f bytes) new leads =
+      same new (begin_leaves (λ x. x.receivers) w new (count_of plan) f (slice_get (flows_of plan) f) bytes.items (λ _. refl) leads)
+  left_by (Send f bytes) new leads =
+      same new (send_leaves (λ x. x.receivers) w new (count_of plan) f (slice_get (flows_of plan) f) bytes.items (λ _. refl) leads)
   left_by (Emit u) new (s, p, session, packet, e) = same new (ap (λ (x : World). x.receivers) e)
   left_by (Take u v) new leads = taken u v (w.wire u v) new leads
-  left_by (Lose u v) new leads = lost u v (w.wire u v) new leads
+  left_by (Lose u v) new leads = same new (lose_leaves (λ x. x.receivers) w new u v (w.wire u v) (λ _. refl) leads)
   left_by (LateSender u) new (s, p, session, packet, e) = same new (ap (λ (x : World). x.receivers) e)
   left_by (LateReceiver u v) new e =
       subst AreLeft (sym e) (one v u (timed_out (Answering (window_at (windows_of plan) v)) (w.receivers v u)).0)

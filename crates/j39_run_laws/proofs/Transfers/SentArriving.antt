@@ -32,29 +32,29 @@ use Rattle.j39_run_laws.proofs.Transfers.Lowering.{left_of}
 -- ---- where one frame is
 
 -- what was reported, what lay there and what was sent before this frame was sent
-module _ (told lay passed : List Begun) (one : Begun) where
+module _ (stated lay passed : List Begun) (one : Begun) where
   -- it lies behind some of those that lay there, and before all that were sent since
   record Lies (reports lying sent : List Begun) : Type 0 where
     pub earlier : List Begun
     pub ahead : List Begun
     pub since : List Begun
     pub sent_so : sent ≡ passed ++ one ∷ since
-    pub reported_so : reports ≡ told ++ earlier
+    pub reported_so : reports ≡ stated ++ earlier
     pub lies_so : lying ≡ ahead ++ one ∷ since
     pub before_it : IsSubsequence (earlier ++ ahead) lay
 
   -- it was reported behind some of those that lay there, and before some of those that were sent since
-  record IsTold (reports lying sent : List Begun) : Type 0 where
+  record IsStated (reports lying sent : List Begun) : Type 0 where
     pub earlier : List Begun
     pub later : List Begun
     pub since : List Begun
     pub sent_so : sent ≡ passed ++ one ∷ since
-    pub reported_so : reports ≡ (told ++ earlier) ++ one ∷ later
+    pub reported_so : reports ≡ (stated ++ earlier) ++ one ∷ later
     pub before_it : IsSubsequence earlier lay
     pub behind_it : IsSubsequence (later ++ lying) since
 
   abbrev IsThere : List Begun → List Begun → List Begun → Type 0
-  IsThere reports lying sent = Lies reports lying sent ⊎ IsTold reports lying sent
+  IsThere reports lying sent = Lies reports lying sent ⊎ IsStated reports lying sent
 
   more_sent : (sent since : List Begun) (x : Begun) → sent ≡ passed ++ one ∷ since → sent ++ x ∷ [] ≡ passed ++ one ∷ (since ++ x ∷ [])
   more_sent sent since x is = ap (λ (ys : List Begun). ys ++ x ∷ []) is ∙ append_assoc passed (one ∷ since) (x ∷ [])
@@ -92,7 +92,7 @@ module _ (told lay passed : List Begun) (one : Begun) where
         later = [];
         since = l.since;
         sent_so = l.sent_so;
-        reported_so = ap (λ (ys : List Begun). ys ++ x ∷ []) l.reported_so ∙ ap (λ (y : Begun). (told ++ l.earlier) ++ y ∷ []) first;
+        reported_so = ap (λ (ys : List Begun). ys ++ x ∷ []) l.reported_so ∙ ap (λ (y : Begun). (stated ++ l.earlier) ++ y ∷ []) first;
         before_it = subsequence_front l.earlier l.ahead lay l.before_it;
         behind_it = subst (λ (ys : List Begun). IsSubsequence ys l.since) (sym rest) (subsequence_same l.since);
       })
@@ -105,7 +105,7 @@ module _ (told lay passed : List Begun) (one : Begun) where
         ahead = ahead;
         since = l.since;
         sent_so = l.sent_so;
-        reported_so = ap (λ (ys : List Begun). ys ++ x ∷ []) l.reported_so ∙ append_assoc told l.earlier (x ∷ []);
+        reported_so = ap (λ (ys : List Begun). ys ++ x ∷ []) l.reported_so ∙ append_assoc stated l.earlier (x ∷ []);
         lies_so = rest;
         before_it = subst (λ (ys : List Begun). IsSubsequence ys lay)
             (ap (λ (ys : List Begun). l.earlier ++ ys) (is ∙ ap (λ (z : Begun). z ∷ ahead) (sym first))
@@ -119,7 +119,7 @@ module _ (told lay passed : List Begun) (one : Begun) where
     later = t.later ++ x ∷ [];
     since = t.since;
     sent_so = t.sent_so;
-    reported_so = ap (λ (ys : List Begun). ys ++ x ∷ []) t.reported_so ∙ append_assoc (told ++ t.earlier) (one ∷ t.later) (x ∷ []);
+    reported_so = ap (λ (ys : List Begun). ys ++ x ∷ []) t.reported_so ∙ append_assoc (stated ++ t.earlier) (one ∷ t.later) (x ∷ []);
     before_it = t.before_it;
     behind_it = subst (λ (ys : List Begun). IsSubsequence ys t.since) (sym (append_assoc t.later (x ∷ []) lying)) t.behind_it;
   })
@@ -158,7 +158,7 @@ module _ (told lay passed : List Begun) (one : Begun) where
   })
 
   -- where none lies it was reported
-  none_there : (reports sent : List Begun) → IsThere reports [] sent → IsTold reports [] sent
+  none_there : (reports sent : List Begun) → IsThere reports [] sent → IsStated reports [] sent
   none_there reports sent (inr t) = t
   none_there reports sent (inl l) =
       let e : 0 ≡ length l.ahead + length (one ∷ l.since) = ap length l.lies_so ∙ length-append l.ahead (one ∷ l.since) in
@@ -166,28 +166,28 @@ module _ (told lay passed : List Begun) (one : Begun) where
 
 -- ---- a run
 
-module _ (plan : Plan) (u v : ℕ) (told lay passed : List Begun) (one : Begun) where
+module _ (plan : Plan) (u v : ℕ) (stated lay passed : List Begun) (one : Begun) where
   -- it is so of what v has of u
   abbrev IsFollowed : ℕ → ℕ → List Begun → List Begun → List Begun → Type 0
-  IsFollowed s t reports lying sent = s ≡ u → t ≡ v → IsThere told lay passed one reports lying sent
+  IsFollowed s t reports lying sent = s ≡ u → t ≡ v → IsThere stated lay passed one reports lying sent
 
   followed_sent : (s t : ℕ) (reports lying sent : List Begun) (x : Begun) → IsFollowed s t reports lying sent
       → IsFollowed s t reports (lying ++ x ∷ []) (sent ++ x ∷ [])
-  followed_sent s t reports lying sent x part is_u is_v = there_sent told lay passed one reports lying sent x (part is_u is_v)
+  followed_sent s t reports lying sent x part is_u is_v = there_sent stated lay passed one reports lying sent x (part is_u is_v)
 
   followed_reported : (s t : ℕ) (reports lying sent : List Begun) (x : Begun) → IsFollowed s t reports (x ∷ lying) sent
       → IsFollowed s t (reports ++ x ∷ []) lying sent
-  followed_reported s t reports lying sent x part is_u is_v = there_reported told lay passed one reports lying sent x (part is_u is_v)
+  followed_reported s t reports lying sent x part is_u is_v = there_reported stated lay passed one reports lying sent x (part is_u is_v)
 
   abbrev AllFollowed : World → Type 0
   AllFollowed = AreParts IsFollowed followed_sent followed_reported
 
   -- an item is lost that isn't the frame
   followed_lost : (w : World) → ¬ IsNextAlone w u v (length passed) → (item : Wired) (rest : List Wired) → w.wire u v ≡ item ∷ rest → (reports : List Begun)
-      → IsThere told lay passed one reports (lying_alone (item ∷ rest)) (w.sent_alone u v)
-      → IsThere told lay passed one reports (lying_alone rest) (w.sent_alone u v)
+      → IsThere stated lay passed one reports (lying_alone (item ∷ rest)) (w.sent_alone u v)
+      → IsThere stated lay passed one reports (lying_alone rest) (w.sent_alone u v)
   followed_lost w other (wired.Alone f bytes) rest is reports part =
-      there_lost told lay passed one reports (lying_alone rest) (w.sent_alone u v) (record { flow = f; bytes = bytes })
+      there_lost stated lay passed one reports (lying_alone rest) (w.sent_alone u v) (record { flow = f; bytes = bytes })
       (λ (all : length (w.sent_alone u v) ≡ length passed + length (lying_alone (wired.Alone f bytes ∷ rest))). other (record {
         alone = ap is_oldest_alone is;
         behind = all ∙ ap (λ (list : List Wired). length passed + length (lying_alone list)) (sym is);
@@ -214,9 +214,9 @@ module _ (plan : Plan) (u v : ℕ) (told lay passed : List Begun) (one : Begun) 
         let same : w.wire u v ≡ item ∷ rest = sym (ap (λ (k : ℕ). w.wire k y) is_u ∙ ap (w.wire u) is_v) ∙ is in
         let sent_same : w.sent_alone x y ≡ w.sent_alone u v = ap (λ (k : ℕ). w.sent_alone k y) is_u ∙ ap (w.sent_alone u) is_v in
         let reports : List Begun = reported_alone w.reports y x in
-        subst (λ (sent : List Begun). IsThere told lay passed one reports (lying_alone rest) sent) (sym sent_same)
+        subst (λ (sent : List Begun). IsThere stated lay passed one reports (lying_alone rest) sent) (sym sent_same)
         (followed_lost w (spares is_u is_v) item rest same reports
-        (subst (λ (sent : List Begun). IsThere told lay passed one reports (lying_alone (item ∷ rest)) sent) sent_same (part is_u is_v)))
+        (subst (λ (sent : List Begun). IsThere stated lay passed one reports (lying_alone (item ∷ rest)) sent) sent_same (part is_u is_v)))
     dropped (Give x y) spares allowed = tt
     dropped (Ask x) spares allowed = tt
     dropped (Begin f bytes) spares allowed = tt
@@ -263,8 +263,8 @@ module _ (plan : Plan) (w : World) (kept : IsKept plan w) (s : SentAlone plan w)
   abbrev begun : World
   begun = sends_alone (count_of plan) w s.place s.flow s.bytes
 
-  abbrev told : List Begun
-  told = reported_alone w.reports s.receiver s.flow.sender
+  abbrev stated : List Begun
+  stated = reported_alone w.reports s.receiver s.flow.sender
 
   abbrev lay : List Begun
   lay = lying_alone (w.wire s.flow.sender s.receiver)
@@ -285,32 +285,32 @@ module _ (plan : Plan) (w : World) (kept : IsKept plan w) (s : SentAlone plan w)
       (passed ++ one ∷ []) passed here
 
   -- it lies behind what lay there
-  at_first : IsThere told lay passed one (reported_alone begun.reports s.receiver s.flow.sender) (lying_alone (begun.wire s.flow.sender s.receiver))
+  at_first : IsThere stated lay passed one (reported_alone begun.reports s.receiver s.flow.sender) (lying_alone (begun.wire s.flow.sender s.receiver))
       (begun.sent_alone s.flow.sender s.receiver)
   at_first = inl (record {
     earlier = [];
     ahead = lay;
     since = [];
     sent_so = sent_now;
-    reported_so = sym (append-nil told);
+    reported_so = sym (append-nil stated);
     lies_so = ap lying_alone wire_now ∙ lying_more (w.wire s.flow.sender s.receiver) (wired.Alone s.place s.bytes ∷ []);
     before_it = subsequence_same lay;
   })
 
-  all_first : AllFollowed plan s.flow.sender s.receiver told lay passed one begun
+  all_first : AllFollowed plan s.flow.sender s.receiver stated lay passed one begun
   all_first x y is_u is_v =
-      subst (λ (k : ℕ). IsThere told lay passed one (reported_alone begun.reports y k) (lying_alone (begun.wire k y)) (begun.sent_alone k y)) (sym is_u)
-      (subst (λ (k : ℕ). IsThere told lay passed one (reported_alone begun.reports k s.flow.sender) (lying_alone (begun.wire s.flow.sender k))
+      subst (λ (k : ℕ). IsThere stated lay passed one (reported_alone begun.reports y k) (lying_alone (begun.wire k y)) (begun.sent_alone k y)) (sym is_u)
+      (subst (λ (k : ℕ). IsThere stated lay passed one (reported_alone begun.reports k s.flow.sender) (lying_alone (begun.wire s.flow.sender k))
       (begun.sent_alone s.flow.sender k)) (sym is_v) at_first)
 
   has_arrived : HasArrivedAlone w s.after s.flow.sender s.receiver one
   has_arrived =
-      let (there, all) = run_followed plan s.flow.sender s.receiver told lay passed one s.steps begun s.after
+      let (there, all) = run_followed plan s.flow.sender s.receiver stated lay passed one s.steps begun s.after
       (send_kept plan w kept s.place s.flow s.bytes s.allowed) all_first s.runs in
       let none = nothing_lies plan s.flow.sender s.receiver s.after there s.taken (s.after.wire s.flow.sender s.receiver) refl in
-      let now : IsTold told lay passed one (reported_alone s.after.reports s.receiver s.flow.sender) [] (s.after.sent_alone s.flow.sender s.receiver) =
-      none_there told lay passed one (reported_alone s.after.reports s.receiver s.flow.sender) (s.after.sent_alone s.flow.sender s.receiver)
-      (subst (λ (list : List Begun). IsThere told lay passed one (reported_alone s.after.reports s.receiver s.flow.sender) list
+      let now : IsStated stated lay passed one (reported_alone s.after.reports s.receiver s.flow.sender) [] (s.after.sent_alone s.flow.sender s.receiver) =
+      none_there stated lay passed one (reported_alone s.after.reports s.receiver s.flow.sender) (s.after.sent_alone s.flow.sender s.receiver)
+      (subst (λ (list : List Begun). IsThere stated lay passed one (reported_alone s.after.reports s.receiver s.flow.sender) list
       (s.after.sent_alone s.flow.sender s.receiver)) none (all s.flow.sender s.receiver refl refl)) in
       record {
         earlier = now.earlier;

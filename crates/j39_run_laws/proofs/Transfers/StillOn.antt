@@ -8,7 +8,6 @@ use Rattle.j39_claim.specs.declared.item.Item.{Item}
 use Rattle.j39_network.specs.declared.plan.Plan.{Plan}
 use Rattle.j39_network.specs.declared.steps.Step.{Step}
 use Rattle.j39_network.specs.declared.steps.Step.TheVariants.{Up, Down, Give, Ask, Begin, Send, Emit, Take, Lose, LateSender, LateReceiver, Rest}
-use Rattle.j39_world.specs.declared.flow.Flow.{Flow}
 use Rattle.j39_world.specs.declared.step_error.StepError.{StepError}
 use Rattle.j39_world.specs.declared.wired.Wired.{Wired}
 use Rattle.j39_world.specs.declared.wired.Wired.TheVariants as wired
@@ -16,9 +15,10 @@ use Rattle.j39_world.specs.ClaimSteps.{GivenFrom}
 use Rattle.j39_world.specs.Flows.{flows_of, windows_of}
 use Rattle.j39_network.specs.PlannedUnits.{unit_at, units_of}
 use Rattle.j39_world.specs.Run.{Follows, StepsTo, count_of, refusal}
-use Rattle.j39_world.specs.TransferSteps.{BeginsAt, SendsAt, LostFrom, TakenFrom}
+use Rattle.j39_world.specs.TransferSteps.{TakenFrom}
 use Rattle.j39_world.specs.World.{World, Stations}
 use Rattle.j39_run_laws.proofs.Addresses.Notes.{reacts_on}
+use Rattle.j39_run_laws.proofs.Runs.LeavingSteps.{begin_leaves, lose_leaves, send_leaves}
 use Rattle.j39_run_laws.proofs.Transfers.Accounted.{on_left, on_still}
 
 module _ (plan : Plan) (w : World) (u : ℕ) (on : (w.stations u).on ≡ true) where
@@ -34,34 +34,24 @@ module _ (plan : Plan) (w : World) (u : ℕ) (on : (w.stations u).on ≡ true) w
   given x y (item ∷ rest) new (says, s, reacts, e) = subst OnIn (sym e) (on_still w.stations y s
       (λ was. reacts_on (unit_at (units_of plan) y) (w.stations y) (unit_at (units_of plan) x).name item says s reacts ∙ was) u on)
 
-  begun : (f : ℕ) (o : Option Flow) (bytes : List ℕ) (new : World) → BeginsAt (count_of plan) w f o bytes new → OnIn new
-  begun f None bytes new never = absurd never
-  begun f (Some flow) bytes new e = unswitched new (ap (λ (x : World). x.stations) e)
-
-  sent : (f : ℕ) (o : Option Flow) (bytes : List ℕ) (new : World) → SendsAt (count_of plan) w f o bytes new → OnIn new
-  sent f None bytes new never = absurd never
-  sent f (Some flow) bytes new e = unswitched new (ap (λ (x : World). x.stations) e)
-
   taken : (x y : ℕ) (list : List Wired) (new : World) → TakenFrom (windows_of plan) w x y list new → OnIn new
   taken x y [] new never = absurd never
   taken x y (wired.Short bytes ∷ rest) new e = unswitched new (ap (λ (z : World). z.stations) e)
   taken x y (wired.Packet p ∷ rest) new (reports, reported, e) = unswitched new (ap (λ (z : World). z.stations) e)
   taken x y (wired.Alone f bytes ∷ rest) new e = unswitched new (ap (λ (z : World). z.stations) e)
 
-  lost : (x y : ℕ) (list : List Wired) (new : World) → LostFrom w x y list new → OnIn new
-  lost x y [] new never = absurd never
-  lost x y (item ∷ rest) new e = unswitched new (ap (λ (z : World). z.stations) e)
-
   led_on : (step : Step) → step ≢ Down u → (new : World) → StepsTo plan w step new → OnIn new
   led_on (Up x) other new e = subst OnIn (sym e) (on_still w.stations x (started (unit_at (units_of plan) x)) (λ _. refl) u on)
   led_on (Down x) other new e = subst OnIn (sym e) (on_left w.stations x u (λ same. other (ap Down (sym same))) on)
   led_on (Give x y) other new leads = given x y (w.claims x y) new leads
   led_on (Ask x) other new e = unswitched new (ap (λ (z : World). z.stations) e)
-  led_on (Begin f bytes) other new leads = begun f (slice_get (flows_of plan) f) bytes.items new leads
-  led_on (Send f bytes) other new leads = sent f (slice_get (flows_of plan) f) bytes.items new leads
+  led_on (Begin f bytes) other new leads =
+      unswitched new (begin_leaves (λ z. z.stations) w new (count_of plan) f (slice_get (flows_of plan) f) bytes.items (λ _. refl) leads)
+  led_on (Send f bytes) other new leads =
+      unswitched new (send_leaves (λ z. z.stations) w new (count_of plan) f (slice_get (flows_of plan) f) bytes.items (λ _. refl) leads)
   led_on (Emit x) other new (s, p, session, next, e) = unswitched new (ap (λ (z : World). z.stations) e)
   led_on (Take x y) other new leads = taken x y (w.wire x y) new leads
-  led_on (Lose x y) other new leads = lost x y (w.wire x y) new leads
+  led_on (Lose x y) other new leads = unswitched new (lose_leaves (λ z. z.stations) w new x y (w.wire x y) (λ _. refl) leads)
   led_on (LateSender x) other new (s, p, session, packet, e) = unswitched new (ap (λ (z : World). z.stations) e)
   led_on (LateReceiver x y) other new e = unswitched new (ap (λ (z : World). z.stations) e)
   led_on (Rest x) other new e = unswitched new (ap (λ (z : World). z.stations) e)

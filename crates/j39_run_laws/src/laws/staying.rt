@@ -17,7 +17,7 @@ ghost use Rattle.j39_world.specs.HeldAddresses.{StaysByOthers};
 ghost use Rattle.j39_world.specs.World.{World, all_off};
 
 /// In every world of every run of each plan, with all lawful choices, a unit that stays holds its planned address while
-/// it is on. Whether it stays is told, in rising order of NAME, by those of smaller NAME; a fixed unit stays where no
+/// it is on. Whether it stays follows, in rising order of NAME, from those of smaller NAME; a fixed unit stays where no
 /// two fixed units have one address, nor two units of which one doesn't claim.
 pub fn who_stays()
     ensures held { (plan : Plans) (steps : List Steps) (w : World) → Run plan all_off steps w

@@ -15,7 +15,7 @@ ghost use Rattle.j39_network.specs.Staying.{StaysBeside};
 ghost use Rattle.j39_world.specs.HeldAddresses.{HoldsPlanned};
 ghost use Rattle.j39_world.specs.Strangers.{ComeBesideLive, HasStrangers};
 
-/// Units that stand in no plan may come beside those of a plan without findings, at most so many as it tells, each of
+/// Units that stand in no plan may come beside those of a plan without findings, at most so many as it has, each of
 /// which may choose and has a NAME of its own: in every world of every run of all of them, with all lawful choices,
 /// whatever the strangers know of what is kept free, addresses are sound. Each unit that is on holds one, a fixed unit
 /// its own, and where no claim is undelivered they are pairwise different. A planned unit that may choose always has an
@@ -42,7 +42,7 @@ pub fn who_stays_with_strangers()
         × ¬ StaysBeside plan.strangers (units_of plan) u)) }
 {}
 
-/// And they can come: beside units whose NAMEs differ, of a plan that tells of strangers, as many of them as it tells,
+/// And they can come: beside units whose NAMEs differ, of a plan that has strangers, as many of them as it has,
 /// while there are no more units in all than a plan may have.
 pub fn strangers_can_come()
     ensures { (plan : Plans) → AreNamesDistinct (units_of plan) → (k : ℕ) → 0 < plan.strangers → k ≤ plan.strangers
@@ -51,7 +51,7 @@ pub fn strangers_can_come()
         × HasStrangers plan joined strangers }
 {}
 
-/// Units may come beside those of a live plan without findings that need no more addresses of 128 to 247 than it tells
+/// Units may come beside those of a live plan without findings that need no more addresses of 128 to 247 than it has
 /// of strangers, such as a service tool: those that claim, at no address of an end of a flow or of a unit that never
 /// claims, and where they may not choose, at none of another unit that may not; and those that never claim, each at an
 /// address of its own outside 128 to 247. Then the plan of all of them, which keeps nothing free, is without findings

@@ -11,7 +11,7 @@ unfoldable pub checksum_from : ℕ → List ℕ → ℕ
 checksum_from sum [] = sum
 checksum_from sum (b ∷ bs) = checksum_from ((sum * 31 % 256 + b) % 256) bs
 
--- any function of the label would do; this one tells most labels of a plan apart
+-- any function of the label would do; this one distinguishes most labels of a plan
 abbrev pub checksum : List ℕ → ℕ
 checksum = checksum_from 0
 

@@ -75,7 +75,7 @@ impl Sender {
         self.transfer.as_mut()?.late()
     }
 
-    /// Makes a resting sender idle, and tells whether it rested.
+    /// Makes a resting sender idle, and answers whether it rested.
     pub fn rest(&mut self) -> bool
         ensures rested { result ≡ is_resting self.old }
         ensures after { self.new ≡ sender_after_rest self.old }

@@ -1,5 +1,5 @@
 //! Lists of alternatives.
-ghost use Rattle.std.specs.Prelude.{◌≡◌, map, IfOk};
+ghost use Rattle.std.specs.Prelude.{◌≡◌, ◌++◌, map, option_map, IfOk};
 ghost use Rattle.std.specs.List.{list_any};
 ghost use Rattle.std.specs.Str.{bytes_eq};
 ghost use Rattle.toml.specs.View.{items_view, table_view};
@@ -9,9 +9,10 @@ ghost use Rattle.j39_toml.specs.TableFaults.{key_faults};
 ghost use Rattle.j39_plan.specs.LabelsSeen.{is_label_among};
 ghost use Rattle.j39_plan.specs.Words.{word_of};
 ghost use Rattle.j39_variants.specs.ChoiceTables.{choice_labels};
-ghost use Rattle.j39_variants.specs.ListTables.{IsNamed, list_rule, named_faults};
+ghost use Rattle.j39_variants.specs.ListTables.{IsNamed, list_rule, misplaced_faults, named_faults};
 
 use super::labels::{label_of, named};
+use super::misplaced::is_misplaced;
 use crate::{Alternative, Choice};
 use j39_id::Label;
 use j39_plan::{Cause, Key, PlanError, PlanFault, Table};
@@ -100,16 +101,45 @@ fn named_behind(
     }
 }
 
-/// The reader of the elements of a list.
+// The same in a list of alternatives of one choice beside others, where there are these.
+#[tactic(auto, using(j39_toml::proofs::FirstFaults::faults_after, crate::proofs::NamedChoices::misplaced_named))]
+fn named_beside(
+    choices: &[Choice],
+    table: Table,
+    key: Key,
+    others: Option<&[NamedAlternative]>,
+    seen: &[NamedAlternative],
+    text: &str,
+) -> Result<NamedAlternative, PlanError>
+    ensures { let labels = map choice_labels choices.now in let behind = map (λ n. n.label.bytes) seen.now in
+        Gives result (named_faults table key labels behind text.now
+        ++ misplaced_faults table key labels (option_map (λ o. map (λ n. n.at.choice) o.now) others.entry) behind text.now) (IsNamed labels text.now) }
+{
+    let found = named_behind(choices, table, key, seen, text)?;
+    match others {
+        None => Ok(found),
+        Some(others) => {
+            if is_misplaced(choices, others, seen, found.at.choice) {
+                Err(refused(Cause::Range, table, key))
+            } else {
+                Ok(found)
+            }
+        }
+    }
+}
+
+/// The reader of the elements of a list: of alternatives of one choice beside others, where there are these, and else
+/// of alternatives of any.
 #[derive(Clone, Copy)]
-pub struct ElementReader<'a> {
+pub struct ElementReader<'a, 'b> {
     pub choices: &'a [Choice],
     pub table: Table,
     pub key: Key,
+    pub others: Option<&'b [NamedAlternative]>,
 }
 
-impl ReadElement<NamedAlternative, PlanFault> for ElementReader<'_> {
-    ghost use Rattle.std.specs.Prelude.{ℕ, List};
+impl ReadElement<NamedAlternative, PlanFault> for ElementReader<'_, '_> {
+    ghost use Rattle.std.specs.Prelude.{ℕ, List, option_map};
     ghost use Rattle.j39_variants.specs.ListTables.{IsNamedBy, element_faults, label_text_in};
 
     ghost Label = { List ℕ };
@@ -118,7 +148,7 @@ impl ReadElement<NamedAlternative, PlanFault> for ElementReader<'_> {
 
     ghost data_label = { label_text_in };
 
-    ghost faults = { λ r. element_faults r.table r.key (map choice_labels r.choices.now) };
+    ghost faults = { λ r. element_faults r.table r.key (map choice_labels r.choices.now) (option_map (λ o. map (λ n. n.at.choice) o.now) r.others) };
 
     ghost Grows = { λ _ _ _ _. Unit {0} };
 
@@ -134,7 +164,7 @@ impl ReadElement<NamedAlternative, PlanFault> for ElementReader<'_> {
     ) -> Result<NamedAlternative, PlanError> {
         match value.as_str() {
             None => Err(refused(Cause::WrongType, self.table, self.key)),
-            Some(text) => named_behind(self.choices, self.table, self.key, seen, text),
+            Some(text) => named_beside(self.choices, self.table, self.key, self.others, seen, text),
         }
     }
 }

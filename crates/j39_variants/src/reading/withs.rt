@@ -1,5 +1,5 @@
 //! What is there with which alternatives.
-ghost use Rattle.std.specs.Prelude.{◌≡◌, map};
+ghost use Rattle.std.specs.Prelude.{◌≡◌, map, None};
 ghost use Rattle.toml.specs.View.{items_view, table_view};
 ghost use Rattle.j39_toml.specs.Outcome.{GivesGrowing};
 ghost use Rattle.j39_variants.specs.ChoiceTables.{choice_labels};
@@ -21,7 +21,7 @@ fn list(
     table: Table,
     members: &toml::Table,
 ) -> Result<Vec<Alternative>, PlanError>
-    ensures { GivesGrowing (Unit {0}) result (list_faults table with_rule (map choice_labels choices.now) (table_view members.now))
+    ensures { GivesGrowing (Unit {0}) result (list_faults table with_rule (map choice_labels choices.now) None (table_view members.now))
         (λ v. IsList Key.With (map choice_labels choices.now) (table_view members.now) v.items) }
 {
     let values = listed(members, table, Key::With, 1, false)?;
@@ -29,6 +29,7 @@ fn list(
         choices,
         table,
         key: Key::With,
+        others: None,
     };
     let named = read_each(alloc, &reader, values)?;
     Ok(alternatives(alloc, &named)?)

@@ -20,8 +20,8 @@ fn meanings(alloc: Global, meanings: &[Meaning]) -> Result<Vec<Meaning>, AllocEr
     ensures { IfOk result (λ v. AllZip IsCopyOfMeaning meanings.now v.items) }
 {
     let mut copies = Vec::new(alloc);
-    for told in meanings {
-        copies.push(meaning(alloc, told)?)?;
+    for stated in meanings {
+        copies.push(meaning(alloc, stated)?)?;
     }
     Ok(copies)
 }
@@ -44,7 +44,7 @@ fn group(alloc: Global, group: &GroupPlan) -> Result<GroupPlan, AllocError>
     })
 }
 
-/// Those groups whose flag is true, again.
+/// Copies of the groups whose flag is true, in order.
 pub(super) fn copies(
     alloc: Global,
     flags: &[bool],

@@ -22,7 +22,7 @@ fn gateway_of<'a>(gateways: &'a [GatewayTable], label: &str) -> Option<&'a Gatew
     }
 }
 
-// Its units: none where there is none.
+// The units of the gateway of a label: none where no gateway has it.
 #[tactic(auto, using(crate::proofs::UnitsOf::units_found))]
 fn units_of<'a>(gateways: &'a [GatewayTable], label: &str) -> &'a [NameOnBus]
     ensures { map (λ n. string_bytes n.text) result.now

@@ -128,7 +128,7 @@ fn keys(members: &toml::Table, table: Table) -> Result<ForwardKeys<'_>, VehicleE
     })
 }
 
-// The signals that an array tells, where there is one.
+// The signals that an array reports, where there is one.
 #[tactic(auto, unfolding(j39_toml::specs::InOrder::each_faults))]
 fn signals(
     alloc: Global,
@@ -149,13 +149,13 @@ fn signals(
 }
 
 // The forward of these keys, with texts of its own.
-fn told(
+fn stated(
     alloc: Global,
     keys: &ForwardKeys<'_>,
     signals: Option<Vec<SignalTable>>,
 ) -> Result<ForwardTable, VehicleError>
     requires { IfSome signals (λ v. length v.items ≤ signal_limit) }
-    ensures told { IfOk result (λ f. (string_bytes f.gateway ≡ keys.now.gateway.now)
+    ensures stated { IfOk result (λ f. (string_bytes f.gateway ≡ keys.now.gateway.now)
         × (string_bytes f.input.text ≡ keys.now.input.now)
         × (option_map string_bytes f.from ≡ option_map (λ t. t.now) keys.now.from)
         × (option_map string_bytes f.at ≡ option_map (λ t. t.now) keys.now.at)
@@ -202,7 +202,7 @@ fn forward(
         keys.sent.output,
         keys.sent.by,
     )?;
-    told(alloc, &keys, signals)
+    stated(alloc, &keys, signals)
 }
 
 /// The reader of forwards.

@@ -59,8 +59,8 @@ fn keys(members: &toml::Table, table: Table) -> Result<NeedKeys<'_>, VehicleErro
 }
 
 // The need of these keys, with texts of its own.
-fn told(alloc: Global, keys: &NeedKeys<'_>) -> Result<NeedTable, VehicleError>
-    ensures told { IfOk result (λ d. (string_bytes d.unit.text ≡ keys.now.unit.now)
+fn stated(alloc: Global, keys: &NeedKeys<'_>) -> Result<NeedTable, VehicleError>
+    ensures stated { IfOk result (λ d. (string_bytes d.unit.text ≡ keys.now.unit.now)
         × (string_bytes d.group ≡ keys.now.group.now)
         × (option_map string_bytes d.signal ≡ option_map (λ t. t.now) keys.now.signal)
         × (string_bytes d.from.text ≡ keys.now.from.now) × (d.within ≡ keys.now.within)) }
@@ -96,7 +96,7 @@ fn need(
     let keys = keys(members, table)?;
     known(is_on_bus(buses, keys.unit), table, Key::Unit)?;
     known(is_on_bus(buses, keys.from), table, Key::From)?;
-    told(alloc, &keys)
+    stated(alloc, &keys)
 }
 
 /// The reader of needs.

@@ -6,14 +6,13 @@ ghost use Rattle.j39_vehicle.specs.LabelsFound as found;
 ghost use Rattle.j39_vehicle.specs.Resolved as spec;
 
 use super::each::{Resolve, resolve_each};
-use super::found::group_named;
-use super::own::{gateway_labelled, given_receivers, given_unit, own_unit, units_by};
+use super::found::{group_named, receivers_on, unit_place};
+use super::own::{gateway_labelled, given, needed, own_unit, units_by};
 use super::signals::SignalResolver;
 use crate::file::{ForwardTable, GatewayTable, NameOnBus, SignalTable};
 use crate::reading::{Key, Table, VehicleError};
 use crate::vehicle::{BusPlan, Forward, ForwardedSignal, GroupAt};
 use j39_network::To;
-use j39_toml::{Cause, refused};
 use std::alloc::Global;
 
 // The group that is heard, the unit that has to send it, and the gateway's that hears it.
@@ -45,19 +44,23 @@ fn hearing(
         × (found.own_unit buses.now units.now table.now.input h.group.bus table.now.at ≡ Some h.hearer)) }
 {
     let place = Table::Forward(index);
-    let group = match group_named(buses, table.input.text.as_str()) {
-        Some(group) => group,
-        None => return Err(refused(Cause::UnknownLabel, place, Key::Group)),
-    };
-    let from = given_unit(buses, group.bus, &table.from, place, Key::From)?;
-    match own_unit(buses, units, &table.input, group.bus, &table.at) {
-        Some(hearer) => Ok(HeardGroup {
-            group,
-            from,
-            hearer,
-        }),
-        None => Err(refused(Cause::UnknownLabel, place, Key::At)),
-    }
+    let group = needed(
+        group_named(buses, table.input.text.as_str()),
+        place,
+        Key::Group,
+    )?;
+    let from = table
+        .from
+        .as_ref()
+        .and_then(|label| unit_place(buses, group.bus, label.as_str()));
+    let from = given(&table.from, from, place, Key::From)?;
+    let hearer = own_unit(buses, units, &table.input, group.bus, &table.at);
+    let hearer = needed(hearer, place, Key::At)?;
+    Ok(HeardGroup {
+        group,
+        from,
+        hearer,
+    })
 }
 
 #[tactic(auto, using(j39_toml::proofs::FirstFaults::faults_after), unfolding(crate::specs::Resolved::sent_found, crate::specs::LabelsSeen::label_faults))]
@@ -73,15 +76,18 @@ fn sending(
         × (s.to ≡ option_and_then (found.receivers_on buses.now s.group.bus) (option_map string_bytes table.now.to))) }
 {
     let place = Table::Forward(index);
-    let group = match group_named(buses, table.output.text.as_str()) {
-        Some(group) => group,
-        None => return Err(refused(Cause::UnknownLabel, place, Key::As)),
-    };
-    let sender = match own_unit(buses, units, &table.output, group.bus, &table.by) {
-        Some(sender) => sender,
-        None => return Err(refused(Cause::UnknownLabel, place, Key::By)),
-    };
-    let to = given_receivers(buses, group.bus, &table.to, place, Key::To)?;
+    let group = needed(
+        group_named(buses, table.output.text.as_str()),
+        place,
+        Key::As,
+    )?;
+    let sender = own_unit(buses, units, &table.output, group.bus, &table.by);
+    let sender = needed(sender, place, Key::By)?;
+    let to = table
+        .to
+        .as_ref()
+        .and_then(|word| receivers_on(buses, group.bus, word.as_str()));
+    let to = given(&table.to, to, place, Key::To)?;
     Ok(SentGroup { group, sender, to })
 }
 
@@ -127,10 +133,8 @@ impl Resolve<ForwardTable, Forward> for ForwardResolver<'_> {
         table: &ForwardTable,
     ) -> Result<Forward, VehicleError> {
         let place = Table::Forward(index);
-        let gateway = match gateway_labelled(self.gateways, table.gateway.as_str()) {
-            Some(gateway) => gateway,
-            None => return Err(refused(Cause::UnknownLabel, place, Key::Gateway)),
-        };
+        let gateway = gateway_labelled(self.gateways, table.gateway.as_str());
+        let gateway = needed(gateway, place, Key::Gateway)?;
         let units = units_by(self.gateways, table.gateway.as_str());
         let heard = hearing(self.buses, units, index, table)?;
         let sent = sending(self.buses, units, index, table)?;

@@ -3,10 +3,10 @@ ghost use Rattle.j39_vehicle.specs.Resolved as spec;
 
 use super::each::{Resolve, resolve_each};
 use super::found::unit_named;
+use super::own::needed;
 use crate::file::{GatewayTable, NameOnBus};
 use crate::reading::{Key, Table, VehicleError};
 use crate::vehicle::{BusPlan, Gateway, UnitAt};
-use j39_toml::{Cause, refused};
 use std::alloc::Global;
 
 /// What the names of the units of the gateway at a place stand for.
@@ -30,10 +30,8 @@ impl Resolve<NameOnBus, UnitAt> for UnitResolver<'_> {
         _index: usize,
         name: &NameOnBus,
     ) -> Result<UnitAt, VehicleError> {
-        match unit_named(self.buses, name.text.as_str()) {
-            Some(unit) => Ok(unit),
-            None => Err(refused(Cause::UnknownLabel, Table::Gateway(self.gateway), Key::Unit)),
-        }
+        let unit = unit_named(self.buses, name.text.as_str());
+        needed(unit, Table::Gateway(self.gateway), Key::Unit)
     }
 }
 

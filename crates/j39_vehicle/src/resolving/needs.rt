@@ -2,12 +2,11 @@
 ghost use Rattle.j39_vehicle.specs.Resolved as spec;
 
 use super::each::Resolve;
-use super::found::{group_place, unit_named};
-use super::own::given_signal;
+use super::found::{group_place, signal_place, unit_named};
+use super::own::{given, needed};
 use crate::file::NeedTable;
 use crate::reading::{Key, Table, VehicleError};
 use crate::vehicle::{BusPlan, GroupAt, VehicleNeed};
-use j39_toml::{Cause, refused};
 use std::alloc::Global;
 
 /// What the tables of needs stand for.
@@ -31,23 +30,27 @@ impl Resolve<NeedTable, VehicleNeed> for NeedResolver<'_> {
         table: &NeedTable,
     ) -> Result<VehicleNeed, VehicleError> {
         let place = Table::Need(index);
-        let unit = match unit_named(self.buses, table.unit.text.as_str()) {
-            Some(unit) => unit,
-            None => return Err(refused(Cause::UnknownLabel, place, Key::Unit)),
-        };
-        let group = match group_place(self.buses, unit.bus, table.group.as_str()) {
-            Some(group) => group,
-            None => return Err(refused(Cause::UnknownLabel, place, Key::Group)),
-        };
+        let unit = needed(
+            unit_named(self.buses, table.unit.text.as_str()),
+            place,
+            Key::Unit,
+        )?;
+        let group = group_place(self.buses, unit.bus, table.group.as_str());
+        let group = needed(group, place, Key::Group)?;
         let whole = GroupAt {
             bus: unit.bus,
             group,
         };
-        let signal = given_signal(self.buses, whole, &table.signal, place, Key::Signal)?;
-        let from = match unit_named(self.buses, table.from.text.as_str()) {
-            Some(from) => from,
-            None => return Err(refused(Cause::UnknownLabel, place, Key::From)),
-        };
+        let signal = table
+            .signal
+            .as_ref()
+            .and_then(|label| signal_place(self.buses, whole, label.as_str()));
+        let signal = given(&table.signal, signal, place, Key::Signal)?;
+        let from = needed(
+            unit_named(self.buses, table.from.text.as_str()),
+            place,
+            Key::From,
+        )?;
         Ok(VehicleNeed {
             unit,
             group,

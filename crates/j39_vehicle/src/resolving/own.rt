@@ -1,16 +1,15 @@
 //! A gateway's units, and what a table may give or leave out.
-ghost use Rattle.std.specs.Prelude.{◌≡◌, option_and_then, option_map, position, string_bytes};
+ghost use Rattle.std.specs.Prelude.{◌≡◌, ◌||◌, not, is_some, Some, option_map, position, string_bytes};
 ghost use Rattle.std.specs.Str.{bytes_eq};
 ghost use Rattle.j39_vehicle.specs.TextKinds.{name_of};
 ghost use Rattle.j39_vehicle.specs.LabelsSeen.{label_faults};
 ghost use Rattle.j39_toml.specs.Outcome.{Gives};
 ghost use Rattle.j39_vehicle.specs.LabelsFound as spec;
 
-use super::found::{receivers_on, signal_place, unit_place};
+use super::found::unit_place;
 use crate::file::{GatewayTable, NameOnBus};
 use crate::reading::{Key, Table, VehicleError};
-use crate::vehicle::{BusPlan, GroupAt};
-use j39_network::To;
+use crate::vehicle::BusPlan;
 use j39_toml::{Cause, refused};
 
 /// The place of the gateway of a label.
@@ -70,68 +69,35 @@ pub fn own_unit(
     }
 }
 
-/// The unit on the bus at a place that is given, or none where none is.
+/// What has to be found, or the fault that it isn't.
 #[tactic(auto, unfolding(crate::specs::LabelsSeen::label_faults))]
-pub fn given_unit(
-    buses: &[BusPlan],
-    bus: usize,
-    given: &Option<String>,
-    table: Table,
-    key: Key,
-) -> Result<Option<usize>, VehicleError>
-    ensures { let label = option_map string_bytes given.now in
-        Gives result (label_faults table key (spec.is_given_found (spec.unit_place buses.now bus) label))
-        (λ found. found ≡ option_and_then (spec.unit_place buses.now bus) label) }
+pub fn needed<T>(found: Option<T>, table: Table, key: Key) -> Result<T, VehicleError>
+    ensures { Gives result (label_faults table key (is_some found)) (λ x. found ≡ Some x) }
 {
-    match given {
-        None => Ok(None),
-        Some(label) => match unit_place(buses, bus, label.as_str()) {
-            Some(unit) => Ok(Some(unit)),
-            None => Err(refused(Cause::UnknownLabel, table, key)),
-        },
+    match found {
+        Some(found) => Ok(found),
+        None => Err(refused(Cause::UnknownLabel, table, key)),
     }
 }
 
-/// The receivers on the bus at a place that are given, or none where none are.
+/// What has to be found where a label or a word is given, and nothing where none is.
 #[tactic(auto, unfolding(crate::specs::LabelsSeen::label_faults))]
-pub fn given_receivers(
-    buses: &[BusPlan],
-    bus: usize,
+pub fn given<T>(
     given: &Option<String>,
+    found: Option<T>,
     table: Table,
     key: Key,
-) -> Result<Option<To>, VehicleError>
-    ensures { let word = option_map string_bytes given.now in
-        Gives result (label_faults table key (spec.is_given_found (spec.receivers_on buses.now bus) word))
-        (λ found. found ≡ option_and_then (spec.receivers_on buses.now bus) word) }
+) -> Result<Option<T>, VehicleError>
+    ensures { Gives result (label_faults table key (is_some found || not (is_some given.now))) (λ x. x ≡ found) }
 {
-    match given {
-        None => Ok(None),
-        Some(word) => match receivers_on(buses, bus, word.as_str()) {
-            Some(to) => Ok(Some(to)),
-            None => Err(refused(Cause::UnknownLabel, table, key)),
-        },
-    }
-}
-
-/// The signal of a group that is given, or none where none is.
-#[tactic(auto, unfolding(crate::specs::LabelsSeen::label_faults))]
-pub fn given_signal(
-    buses: &[BusPlan],
-    group: GroupAt,
-    given: &Option<String>,
-    table: Table,
-    key: Key,
-) -> Result<Option<usize>, VehicleError>
-    ensures { let label = option_map string_bytes given.now in
-        Gives result (label_faults table key (spec.is_given_found (spec.signal_place buses.now group) label))
-        (λ found. found ≡ option_and_then (spec.signal_place buses.now group) label) }
-{
-    match given {
-        None => Ok(None),
-        Some(label) => match signal_place(buses, group, label.as_str()) {
-            Some(signal) => Ok(Some(signal)),
-            None => Err(refused(Cause::UnknownLabel, table, key)),
-        },
+    match found {
+        Some(found) => Ok(Some(found)),
+        None => {
+            if given.is_some() {
+                Err(refused(Cause::UnknownLabel, table, key))
+            } else {
+                Ok(None)
+            }
+        }
     }
 }

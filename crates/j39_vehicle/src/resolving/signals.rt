@@ -3,10 +3,10 @@ ghost use Rattle.j39_vehicle.specs.Resolved as spec;
 
 use super::each::{Resolve, resolve_each};
 use super::found::signal_place;
+use super::own::needed;
 use crate::file::SignalTable;
 use crate::reading::{Key, Table, VehicleError};
 use crate::vehicle::{BusPlan, ForwardedSignal, GroupAt};
-use j39_toml::{Cause, refused};
 use std::alloc::Global;
 
 /// What the signals of the forward at a place stand for, between the groups that are heard and sent.
@@ -25,7 +25,7 @@ impl Resolve<SignalTable, ForwardedSignal> for SignalResolver<'_> {
 
     ghost StandsFor = { λ r. spec.StandsForSignal r.buses.now r.heard r.sent };
 
-    #[tactic(auto, unfolding(crate::specs::Resolved::signal_found))]
+    #[tactic(auto, unfolding(crate::specs::Resolved::signal_found, crate::specs::LabelsSeen::label_faults))]
     fn resolve(
         &self,
         _alloc: Global,
@@ -33,14 +33,10 @@ impl Resolve<SignalTable, ForwardedSignal> for SignalResolver<'_> {
         table: &SignalTable,
     ) -> Result<ForwardedSignal, VehicleError> {
         let place = Table::Signal(self.forward, index);
-        let read = match signal_place(self.buses, self.heard, table.read.as_str()) {
-            Some(read) => read,
-            None => return Err(refused(Cause::UnknownLabel, place, Key::Label)),
-        };
-        let written = match signal_place(self.buses, self.sent, table.written.as_str()) {
-            Some(written) => written,
-            None => return Err(refused(Cause::UnknownLabel, place, Key::As)),
-        };
+        let read = signal_place(self.buses, self.heard, table.read.as_str());
+        let read = needed(read, place, Key::Label)?;
+        let written = signal_place(self.buses, self.sent, table.written.as_str());
+        let written = needed(written, place, Key::As)?;
         Ok(ForwardedSignal {
             read,
             written,

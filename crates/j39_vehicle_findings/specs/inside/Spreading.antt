@@ -42,7 +42,7 @@ pub record Spreads (places : List ℕ) (old : List Bool) (waiting : List ℕ) (n
   pub all : (m : ℕ) → Contains places m → IsReached new m
   pub more : List ℕ
   pub waits : waiting_then ≡ waiting ++ more
-  pub told : (m : ℕ) → IsReached new m → IsReached old m ⊎ Contains more m
+  pub stated : (m : ℕ) → IsReached new m → IsReached old m ⊎ Contains more m
   pub those : (m : ℕ) → Contains more m → IsReached new m
   pub left : count_by not new + length more ≡ count_by not old
 

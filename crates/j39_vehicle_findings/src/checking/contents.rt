@@ -3,11 +3,11 @@ ghost use Rattle.std.specs.Prelude.{◌≡◌};
 ghost use Rattle.j39_search.specs.Adding.{Adds};
 ghost use Rattle.j39_vehicle_findings.specs.FoundPaths.{content_findings};
 
-use crate::checking::layouts::LayoutDiffers;
+use crate::checking::forward_faults::{ForwardFault, find_faulty};
 use crate::checking::odds::TwoForwards;
 use crate::checking::signals::Differences;
 use crate::finding::VehicleFinding;
-use j39_search::{find_each, find_pairs, find_tested};
+use j39_search::{find_each, find_pairs};
 use j39_vehicle::Vehicle;
 use std::alloc::AllocError;
 
@@ -19,7 +19,7 @@ pub fn find_in_contents(
 ) -> Result<(), AllocError>
     ensures { Adds result findings.old.items findings.new.items (content_findings vehicle.now) }
 {
-    find_tested(findings, &LayoutDiffers { vehicle }, &vehicle.forwards)?;
+    find_faulty(findings, vehicle, ForwardFault::LayoutDiffers)?;
     find_each(findings, &Differences { vehicle }, &vehicle.forwards)?;
     find_pairs(findings, &TwoForwards { vehicle }, &vehicle.forwards)
 }

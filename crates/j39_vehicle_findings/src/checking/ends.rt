@@ -7,9 +7,9 @@ ghost use Rattle.j39_vehicle_findings.specs.ForwardEnds.{input_flows, output_flo
 ghost use Rattle.j39_vehicle_findings.specs.FoundPaths.{end_findings, has_many_inputs, has_many_outputs, has_no_input};
 ghost use Rattle.j39_vehicle_findings.specs.FoundPaths.{has_no_output};
 
+use crate::checking::forward_faults::{ForwardFault, find_faulty};
 use crate::finding::VehicleFinding;
 use crate::forwards::{input_flows, is_input, is_output, output_flows};
-use j39_search::{TestRule, find_tested};
 use j39_vehicle::{Forward, Vehicle};
 use std::alloc::AllocError;
 
@@ -21,13 +21,15 @@ fn has_input(vehicle: &Vehicle, forward: &Forward) -> bool
         .any(|flow| is_input(vehicle, forward, flow))
 }
 
-fn has_no_input(vehicle: &Vehicle, forward: &Forward) -> bool
+/// Whether no flow is an input of the forward.
+pub fn has_no_input(vehicle: &Vehicle, forward: &Forward) -> bool
     ensures { result ≡ has_no_input vehicle.now forward.now }
 {
     !has_input(vehicle, forward)
 }
 
-fn has_many_inputs(vehicle: &Vehicle, forward: &Forward) -> bool
+/// Whether several flows are inputs of the forward.
+pub fn has_many_inputs(vehicle: &Vehicle, forward: &Forward) -> bool
     ensures { result ≡ has_many_inputs vehicle.now forward.now }
 {
     let inputs = input_flows(vehicle, forward)
@@ -45,13 +47,15 @@ fn has_output(vehicle: &Vehicle, forward: &Forward) -> bool
         .any(|flow| is_output(forward, flow))
 }
 
-fn has_no_output(vehicle: &Vehicle, forward: &Forward) -> bool
+/// Whether no flow is an output of the forward.
+pub fn has_no_output(vehicle: &Vehicle, forward: &Forward) -> bool
     ensures { result ≡ has_no_output vehicle.now forward.now }
 {
     !has_output(vehicle, forward)
 }
 
-fn has_many_outputs(vehicle: &Vehicle, forward: &Forward) -> bool
+/// Whether several flows are outputs of the forward.
+pub fn has_many_outputs(vehicle: &Vehicle, forward: &Forward) -> bool
     ensures { result ≡ has_many_outputs vehicle.now forward.now }
 {
     let outputs = output_flows(vehicle, forward)
@@ -61,96 +65,12 @@ fn has_many_outputs(vehicle: &Vehicle, forward: &Forward) -> bool
     1 < outputs
 }
 
-#[derive(Clone, Copy)]
-struct NoInput<'a> {
-    vehicle: &'a Vehicle,
-}
-
-impl TestRule<Forward, VehicleFinding> for NoInput<'_> {
-    ghost use Rattle.j39_vehicle_findings.specs.declared.finding.VehicleFinding.TheVariants.{NoInput as NoInputs};
-
-    ghost test = { λ rule. has_no_input rule.vehicle.now };
-
-    ghost make = { λ _ n. NoInputs n };
-
-    fn holds(&self, forward: &Forward) -> bool {
-        has_no_input(self.vehicle, forward)
-    }
-
-    fn finding(&self, place: usize) -> VehicleFinding {
-        VehicleFinding::NoInput(place)
-    }
-}
-
-#[derive(Clone, Copy)]
-struct ManyInputs<'a> {
-    vehicle: &'a Vehicle,
-}
-
-impl TestRule<Forward, VehicleFinding> for ManyInputs<'_> {
-    ghost use Rattle.j39_vehicle_findings.specs.declared.finding.VehicleFinding.TheVariants.{ManyInputs as SeveralInputs};
-
-    ghost test = { λ rule. has_many_inputs rule.vehicle.now };
-
-    ghost make = { λ _ n. SeveralInputs n };
-
-    fn holds(&self, forward: &Forward) -> bool {
-        has_many_inputs(self.vehicle, forward)
-    }
-
-    fn finding(&self, place: usize) -> VehicleFinding {
-        VehicleFinding::ManyInputs(place)
-    }
-}
-
-#[derive(Clone, Copy)]
-struct NoOutput<'a> {
-    vehicle: &'a Vehicle,
-}
-
-impl TestRule<Forward, VehicleFinding> for NoOutput<'_> {
-    ghost use Rattle.j39_vehicle_findings.specs.declared.finding.VehicleFinding.TheVariants.{NoOutput as NoOutputs};
-
-    ghost test = { λ rule. has_no_output rule.vehicle.now };
-
-    ghost make = { λ _ n. NoOutputs n };
-
-    fn holds(&self, forward: &Forward) -> bool {
-        has_no_output(self.vehicle, forward)
-    }
-
-    fn finding(&self, place: usize) -> VehicleFinding {
-        VehicleFinding::NoOutput(place)
-    }
-}
-
-#[derive(Clone, Copy)]
-struct ManyOutputs<'a> {
-    vehicle: &'a Vehicle,
-}
-
-impl TestRule<Forward, VehicleFinding> for ManyOutputs<'_> {
-    ghost use Rattle.j39_vehicle_findings.specs.declared.finding.VehicleFinding.TheVariants.{ManyOutputs as SeveralOutputs};
-
-    ghost test = { λ rule. has_many_outputs rule.vehicle.now };
-
-    ghost make = { λ _ n. SeveralOutputs n };
-
-    fn holds(&self, forward: &Forward) -> bool {
-        has_many_outputs(self.vehicle, forward)
-    }
-
-    fn finding(&self, place: usize) -> VehicleFinding {
-        VehicleFinding::ManyOutputs(place)
-    }
-}
-
 /// Adds the forwards that have no input or several, and no output or several.
 pub fn find_in_ends(findings: &mut Vec<VehicleFinding>, vehicle: &Vehicle) -> Result<(), AllocError>
     ensures { Adds result findings.old.items findings.new.items (end_findings vehicle.now) }
 {
-    find_tested(findings, &NoInput { vehicle }, &vehicle.forwards)?;
-    find_tested(findings, &ManyInputs { vehicle }, &vehicle.forwards)?;
-    find_tested(findings, &NoOutput { vehicle }, &vehicle.forwards)?;
-    find_tested(findings, &ManyOutputs { vehicle }, &vehicle.forwards)
+    find_faulty(findings, vehicle, ForwardFault::NoInput)?;
+    find_faulty(findings, vehicle, ForwardFault::ManyInputs)?;
+    find_faulty(findings, vehicle, ForwardFault::NoOutput)?;
+    find_faulty(findings, vehicle, ForwardFault::ManyOutputs)
 }

@@ -1,18 +1,14 @@
 //! Which copies go into other layouts.
 ghost use Rattle.std.specs.Prelude.{◌≡◌};
 ghost use Rattle.std.specs.List.{list_any};
-ghost use Rattle.j39_search.specs.Adding.{Adds};
 ghost use Rattle.j39_vehicle_findings.specs.FoundPaths.{copies_other_layout, has_other_records, has_other_selector};
 ghost use Rattle.j39_vehicle_findings.specs.FoundPaths.{have_other_layouts, is_selector, same_byte};
 
 use crate::buses::group_at;
-use crate::finding::VehicleFinding;
 use crate::forwards::copies;
 use j39_network::GroupPlan;
-use j39_search::TestRule;
 use j39_signal::Selector;
 use j39_vehicle::{Forward, Vehicle};
-use std::alloc::AllocError;
 
 fn same_byte(one: Option<u8>, other: Option<u8>) -> bool
     ensures { result ≡ same_byte one other }
@@ -71,8 +67,8 @@ fn have_other_layouts(heard: &GroupPlan, sent: &GroupPlan) -> bool
         || has_other_records(heard, sent)
 }
 
-// Whether the forward copies, and a message of the one group needn't be one of the other.
-fn copies_other_layout(vehicle: &Vehicle, forward: &Forward) -> bool
+/// Whether the forward copies, and a message of the one group needn't be one of the other.
+pub fn copies_other_layout(vehicle: &Vehicle, forward: &Forward) -> bool
     ensures { result ≡ copies_other_layout vehicle.now forward.now }
 {
     if !copies(forward) {
@@ -84,27 +80,5 @@ fn copies_other_layout(vehicle: &Vehicle, forward: &Forward) -> bool
     match group_at(&vehicle.buses, forward.output) {
         Some(sent) => have_other_layouts(heard, sent),
         None => false,
-    }
-}
-
-/// Finds the forwards that copy into another layout.
-#[derive(Clone, Copy)]
-pub struct LayoutDiffers<'a> {
-    pub vehicle: &'a Vehicle,
-}
-
-impl TestRule<Forward, VehicleFinding> for LayoutDiffers<'_> {
-    ghost use Rattle.j39_vehicle_findings.specs.declared.finding.VehicleFinding.TheVariants.{LayoutDiffers as LayoutsDiffer};
-
-    ghost test = { λ rule. copies_other_layout rule.vehicle.now };
-
-    ghost make = { λ _ n. LayoutsDiffer n };
-
-    fn holds(&self, forward: &Forward) -> bool {
-        copies_other_layout(self.vehicle, forward)
-    }
-
-    fn finding(&self, place: usize) -> VehicleFinding {
-        VehicleFinding::LayoutDiffers(place)
     }
 }

@@ -35,7 +35,7 @@ impl Rule<Forward, VehicleFinding> for ForwardLoop<'_> {
     }
 }
 
-/// Adds the forwards that come after themselves, as it is told of each.
+/// Adds the forwards that come after themselves, as it is reported of each.
 #[tactic(auto, unfolding(crate::specs::FoundPaths::loop_findings))]
 pub fn find_loops(
     findings: &mut Vec<VehicleFinding>,

@@ -12,19 +12,20 @@ returns-in-Frame-clause-ends g c =
     rw c.in-Frame.is (put_ends (λ text verdict is. (verdict, is)) c.frame_text.result (rw c.as_bytes.ensures.value at c.frame_text.ensures.puts))
 
 pub returns-in-Show-clause-ends : goal.returns-in-Show-clause-ends
-returns-in-Show-clause-ends g c = rw c.in-Show.is (rw c.deref.ensures at c.show_file.ensures)
+returns-in-Show-clause-ends g c = rw c.in-Show.is (rw c.deref.ensures at c.of_plan_file.ensures)
 
 pub returns-in-Variant-clause-ends : goal.returns-in-Variant-clause-ends
-returns-in-Variant-clause-ends g c = rw c.in-Variant.is (rw (c.deref-in-Variant.ensures, c.deref-in-Variant-2.ensures.value) at c.variant_file.ensures)
+returns-in-Variant-clause-ends g c =
+    rw c.in-Variant.is (rw (c.deref-in-Variant.ensures.value, c.deref-in-Variant-2.ensures) at c.of_plan_file-in-Variant.ensures)
 
 pub returns-in-Check-clause-ends : goal.returns-in-Check-clause-ends
-returns-in-Check-clause-ends g c = rw c.in-Check.is (rw c.deref-in-Check.ensures at c.check_file.ensures)
+returns-in-Check-clause-ends g c = rw c.in-Check.is (rw c.deref-in-Check.ensures at c.of_plan_file-in-Check.ensures)
 
 pub returns-in-Addresses-clause-ends : goal.returns-in-Addresses-clause-ends
-returns-in-Addresses-clause-ends g c = rw c.in-Addresses.is (rw c.deref-in-Addresses.ensures at c.addresses_file.ensures)
+returns-in-Addresses-clause-ends g c = rw c.in-Addresses.is (rw c.deref-in-Addresses.ensures at c.of_plan_file-in-Addresses.ensures)
 
 pub returns-in-Load-clause-ends : goal.returns-in-Load-clause-ends
-returns-in-Load-clause-ends g c = rw c.in-Load.is (rw c.deref-in-Load.ensures at c.load_file.ensures)
+returns-in-Load-clause-ends g c = rw c.in-Load.is (rw c.deref-in-Load.ensures at c.of_plan_file-in-Load.ensures)
 
 pub returns-in-Run-clause-ends : goal.returns-in-Run-clause-ends
 returns-in-Run-clause-ends g c = rw c.in-Run.is (rw (c.deref-in-Run.ensures, c.deref-in-Run-2.ensures) at c.by_two.ensures)

@@ -3,7 +3,7 @@ use Rattle.std.proofs.lemmas.List.{drop_all}
 use Rattle.std.proofs.lemmas.Slice.Zip.{AllZip-long}
 use Rattle.j39_app.specs.VehicleAnswers.{IsPlanOfBus}
 use Rattle.j39_app.proofs.BusesRead.{all_read, next_left, none_read, one_more, plan_read, some_bus}
-use Rattle.j39_app.proofs.VehicleEnds.{answers_too, continues, fails_too, says_nothing, wants_memory}
+use Rattle.j39_app.proofs.Ending.{answers_too, continues, fails_too, says_nothing, wants_memory}
 use Rattle.j39_app.proofs.answering_vehicles.buses_of.Goals as goal
 
 pub loop-table-init : goal.loop-table-init
@@ -27,7 +27,7 @@ returns-in_err-plan-clause-ends g c =
     let table = c.table-item.result in
     let so = next_left IsOf _ _ c.loop-table.table-index table c.table-item.is c.loop-table-test.true c.loop-table.invariant.read in
     continues c.loop-table.invariant.same (fails_too _ c.plan_of_bus.result _ c.in_err-plan.was (search rules) (λ text. some_bus _ _ table _ _ _ so)
-    (some_bus _ _ table _ _ _ so) (some_bus _ _ table _ _ _ so) c.plan_of_bus.ensures.ends)
+    (λ now. now) (some_bus _ _ table _ _ _ so) (some_bus _ _ table _ _ _ so) c.plan_of_bus.ensures.ends)
 
 pub returns-in_err-add_bus-in-Some-clause-ends : goal.returns-in_err-add_bus-in-Some-clause-ends
 returns-in_err-add_bus-in-Some-clause-ends g c =

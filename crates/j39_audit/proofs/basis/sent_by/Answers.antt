@@ -18,14 +18,14 @@ loop-place-preserved c =
     let flow : FlowPlan = c.index.result.now in
     let unit = c.args.unit in
     let before = c.loop-place.invariant in
-    let told = c.note_sent.ensures in
+    let reported = c.note_sent.ensures in
     let count = c.len-place-end.ensures in
     let test = c.loop-place-test.true in
     let is_of : ℕ → FlowPlan → Bool = λ g f. f.group == g && f.sender == unit in
     record {
-      size = told.size ∙ before.size;
+      size = reported.size ∙ before.size;
       each = λ g. sent_more (λ n. slice_index_or c.loop-place.row.items n false) (λ n. slice_index_or c.note_sent.new.row.items n false) flow unit
-          told.others told.other told.here g
+          reported.others reported.other reported.here g
           ∙ ap (λ (was : Bool). was || (flow.group == g && flow.sender == unit)) (before.each g)
           ∙ ap (λ (f : FlowPlan). list_any (is_of g) (take c.loop-place.place flows) || is_of g f) c.index.ensures
           ∙ sym (list_any_more (is_of g) flows c.loop-place.place flow (omega (arith, count, test)));

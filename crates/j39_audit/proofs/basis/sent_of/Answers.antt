@@ -9,8 +9,8 @@ use Rattle.j39_audit.specs.inside.Sending.{is_sender_of, sent_in}
 use Rattle.j39_audit.proofs.Sending.{no_unit}
 use Rattle.j39_audit.proofs.basis.sent_of.Goals as goal
 
-abbrev told_at : ℕ → Option (Vec Bool Global) → Bool
-told_at g o = option_map_or (λ (row : Vec Bool Global). slice_index_or row.items g false) o false
+abbrev reported_at : ℕ → Option (Vec Bool Global) → Bool
+reported_at g o = option_map_or (λ (row : Vec Bool Global). slice_index_or row.items g false) o false
 
 pub loop-unit-preserved : goal.loop-unit-preserved
 loop-unit-preserved c =
@@ -27,14 +27,14 @@ loop-unit-preserved c =
           ∙ elim (cases_lt u c.loop-unit.unit) [
             | inl below ↦
                 let inside : u < length old = omega (arith, below, size) in
-                ap (told_at g)
+                ap (reported_at g)
                 (slice_get-get_or (old ++ row ∷ []) u row (omega (arith, inside, more))
                 ∙ ap Some (get_or_append_left old (row ∷ []) row u inside) ∙ sym (slice_get-get_or old u row inside))
                 ∙ before.each u below g
             | inr above ↦
                 let same : u ≡ c.loop-unit.unit = omega (arith, less, above) in
                 let last : u ≡ length old = omega (arith, same, size) in
-                ap (told_at g) (slice_get-get_or (old ++ row ∷ []) u row (omega (arith, last, more)) ∙ ap Some (get_or_push old row row u (sym last)))
+                ap (reported_at g) (slice_get-get_or (old ++ row ∷ []) u row (omega (arith, last, more)) ∙ ap Some (get_or_push old row row u (sym last)))
                 ∙ c.in_ok-row.ensures g ∙ ap (λ (v : ℕ). is_sender_of c.args.plan.now v g) (sym same)
           ];
     }
@@ -48,6 +48,6 @@ returns c = λ u g.
     elim (cases_lt u c.loop-unit.unit) [
       | inl below ↦ before.each u below g
       | inr above ↦
-          ap (told_at g) (slice_get_past c.loop-unit.rows.items u (omega (arith, size, above)))
+          ap (reported_at g) (slice_get_past c.loop-unit.rows.items u (omega (arith, size, above)))
           ∙ sym (no_unit c.args.plan.now u g (omega (arith, above, count, test)))
     ]

@@ -1,30 +1,20 @@
-use Rattle.std.proofs.Common.{rules, ◌≡◌, ◌<◌, ◌+◌, ◌++◌, [], ℕ, List, length, take, refl, sym, ap, subst, ◌∙◌, arith}
+use Rattle.std.proofs.Common.{rules, ◌<◌, ◌+◌, ◌++◌, [], ℕ, List, length, take, refl, sym, ap, subst, ◌∙◌, arith}
 use Rattle.std.proofs.lemmas.List.{length-append}
-use Rattle.j39_id.specs.Lines.{Line, Pending, at_start, behind_all, lines, told}
-use Rattle.j39_id.proofs.CutLines.{behind_all-append, told-append}
+use Rattle.j39_id.specs.Lines.{Line, at_start, lines, yielded}
 use Rattle.j39_stream.specs.Intakes.{Counts}
 use Rattle.j39_stream.specs.Streams.{log_limits}
 use Rattle.j39_stream.specs.declared.limits.Limits.{Limits}
-use Rattle.j39_stream.proofs.Parts.{none_read}
+use Rattle.j39_stream.proofs.PieceSteps.{nothing_counted, pending_behind, yielded_behind}
 use Rattle.j39_audit.specs.inside.Auditing.{HasAudited, IsWithinLines}
-use Rattle.j39_audit.proofs.Hearing.{all_lines_told}
+use Rattle.j39_audit.proofs.Hearing.{all_lines_reported}
 use Rattle.j39_audit.proofs.reading.read_log.Goals as goal
 
 pub loop-count-init : goal.loop-count-init
 loop-count-init g c =
-    let bytes = ap (λ (counts : Counts). counts.bytes) c.new-intake.ensures in
     let calls = ap (λ (counts : Counts). counts.calls) c.new-intake.ensures in
-    let limits = ap (λ (counts : Counts). counts.limits) c.new-intake.ensures in
     record {
       seen = [];
-      read = record {
-        limits_are = limits;
-        consumed = none_read (g.S.Source.state c.args.source.now).left;
-        bytes_are = bytes;
-        within = omega arith;
-        calls_gave = omega (arith, calls);
-        pulls_are = omega (arith, calls);
-      };
+      read = nothing_counted log_limits (g.S.Source.state c.args.source.now) c.new-intake.result c.new-intake.ensures;
       calls = omega (arith, calls);
       pending = c.new-cutter.ensures.pending;
       audited = λ s audited. audited;
@@ -46,7 +36,7 @@ pub returns-then-count-eq0-clause-read : goal.returns-then-count-eq0-clause-read
 returns-then-count-eq0-clause-read g c = λ s audited.
     let before = c.loop-count.invariant in
     let last = c.in_ok-count.ensures.last log_limits (g.S.Source.state c.args.source.now) before.seen before.read c.if-count-eq0.true in
-    let all = all_lines_told before.seen c.end-cut.result c.loop-count.cutter.pending c.line.result.now before.pending c.end-cut.ensures.answer
+    let all = all_lines_reported before.seen c.end-cut.result c.loop-count.cutter.pending c.line.result.now before.pending c.end-cut.ensures.answer
     (c.line.ensures ∙ c.end-cut.ensures.line) in
     record {
       input = before.seen;
@@ -54,7 +44,7 @@ returns-then-count-eq0-clause-read g c = λ s audited.
       end = c.in_ok-count.ensures.end c.if-count-eq0.true;
       ended = c.in_ok-end.ensures s (lines before.seen)
           (subst (λ (ls : List Line). HasAudited s c.read.new.self ls) all
-          (c.in_ok-read.ensures.lines s (told at_start before.seen) (before.audited s audited)));
+          (c.in_ok-read.ensures.lines s (yielded at_start before.seen) (before.audited s audited)));
     }
 
 pub returns-then-count-eq0-clause-limits : goal.returns-then-count-eq0-clause-limits
@@ -83,15 +73,14 @@ loop-count-preserved g c =
     let len = length-append seen part in
     let calls = ap (λ (l : Limits). l.calls) next.limits_are in
     let most = c.in_ok-count.ensures.fewer.1 in
-    let whole : told at_start seen ++ told c.loop-count.cutter.pending part ≡ told at_start (seen ++ part) =
-    ap (λ (r : Pending). told at_start seen ++ told r part) before.pending ∙ sym (told-append at_start seen part) in
+    let whole = yielded_behind at_start c.loop-count.cutter.pending seen part before.pending in
     record {
       seen = seen ++ part;
       read = next;
       calls = omega (arith, calls, most);
-      pending = c.in_ok-read_piece.ensures.pending ∙ ap (λ p. behind_all p part) before.pending ∙ sym (behind_all-append at_start seen part);
+      pending = pending_behind at_start _ _ seen part before.pending c.in_ok-read_piece.ensures.pending;
       audited = λ s audited. subst (λ (ls : List Line). HasAudited s c.read_piece.new.log ls) whole
-          (c.in_ok-read_piece.ensures.lines s (told at_start seen) (before.audited s audited));
+          (c.in_ok-read_piece.ensures.lines s (yielded at_start seen) (before.audited s audited));
       count = subst (IsWithinLines c.read_piece.new.log) (sym len) (c.in_ok-read_piece.ensures.count (length seen) before.count);
       calm = c.in_ok-count.ensures.calm (λ e. cc e) ∙ before.calm;
     }

@@ -1,5 +1,5 @@
 use Rattle.j39_audit_laws.proofs.Listed.{found_listed}
-use Rattle.j39_audit_laws.proofs.Told.{lines_are_of_log}
+use Rattle.j39_audit_laws.proofs.Occurrences.{lines_are_of_log}
 use Rattle.j39_audit_laws.proofs.laws.lines_are_of_the_log.Goals as goal
 
 pub returns-clause-exact : goal.returns-clause-exact

@@ -23,13 +23,13 @@ returns-in-Ok-clause-refused c = λ bad.
 pub returns-in-Err-clause-helped : goal.returns-in-Err-clause-helped
 returns-in-Err-clause-helped c =
     let words : List Text = map string_bytes c.args.words.now in
-    let told = has_fault _ words c.in-Err.error c.in_ok-commands.ensures
+    let stated = has_fault _ words c.in-Err.error c.in_ok-commands.ensures
     (c.in-Err.ensures.kinds (ap is_simple_and_free c.in_ok-commands.ensures ∙ is_simple_and_free_commands)) in
-    IfOk-weaker c.unmet.result _ _ (λ o is. λ help. asks words (kind_of c.in-Err.error) told is) c.unmet.ensures.request
+    IfOk-weaker c.unmet.result _ _ (λ o is. λ help. asks words (kind_of c.in-Err.error) stated is) c.unmet.ensures.request
 
 pub returns-in-Err-clause-refused : goal.returns-in-Err-clause-refused
 returns-in-Err-clause-refused c = λ bad.
     let words : List Text = map string_bytes c.args.words.now in
-    let told = has_fault _ words c.in-Err.error c.in_ok-commands.ensures
+    let stated = has_fault _ words c.in-Err.error c.in_ok-commands.ensures
     (c.in-Err.ensures.kinds (ap is_simple_and_free c.in_ok-commands.ensures ∙ is_simple_and_free_commands)) in
-    refuses words (kind_of c.in-Err.error) told (c.unmet.ensures.fault bad) (λ memory. c.unmet.ensures.memory memory bad)
+    refuses words (kind_of c.in-Err.error) stated (c.unmet.ensures.fault bad) (λ memory. c.unmet.ensures.memory memory bad)

@@ -21,13 +21,17 @@ returns c =
     let with_addresses : App = with_subcommand with_checks (one_value (codes "addresses") (codes "PLAN")).top in
     let loads_is = known c.with_one-addresses.result c.with_one-loads.result with_addresses (one_value (codes "load") (codes "PLAN")) addresses_is c.with_one-loads.ensures in
     let with_loads : App = with_subcommand with_addresses (one_value (codes "load") (codes "PLAN")).top in
-    let runs_is = known c.with_one-loads.result c.with_two-runs.result with_loads (two_values (codes "run") (codes "PLAN") (codes "SCHEDULE")) loads_is c.with_two-runs.ensures in
-    let with_runs : App = with_subcommand with_loads (two_values (codes "run") (codes "PLAN") (codes "SCHEDULE")).top in
-    let reads_is = known c.with_two-runs.result c.with_two-reads.result with_runs (two_values (codes "read") (codes "PLAN") (codes "LOG")) runs_is c.with_two-reads.ensures in
-    let with_reads : App = with_subcommand with_runs (two_values (codes "read") (codes "PLAN") (codes "LOG")).top in
+    let runs : App = two_values (codes "run") (codes "PLAN") (codes "SCHEDULE") in
+    let runs_is = known c.with_one-loads.result c.with-runs.result with_loads runs loads_is
+    (added c.with_one-loads.result c.with-runs.result c.two_values.result runs c.two_values.ensures.app c.with-runs.ensures) in
+    let with_runs : App = with_subcommand with_loads runs.top in
+    let reads : App = two_values (codes "read") (codes "PLAN") (codes "LOG") in
+    let reads_is = known c.with-runs.result c.with-reads.result with_runs reads runs_is
+    (added c.with-runs.result c.with-reads.result c.two_values-2.result reads c.two_values-2.ensures.app c.with-reads.ensures) in
+    let with_reads : App = with_subcommand with_runs reads.top in
     let follows : App = two_values_and_flag (codes "follow") (codes "PLAN") (codes "LOG") (codes "all") in
-    let follows_is = known c.with_two-reads.result c.with-follows.result with_reads follows reads_is
-    (added c.with_two-reads.result c.with-follows.result c.follow.result follows c.follow.ensures.app c.with-follows.ensures) in
+    let follows_is = known c.with-reads.result c.with-follows.result with_reads follows reads_is
+    (added c.with-reads.result c.with-follows.result c.follow.result follows c.follow.ensures.app c.with-follows.ensures) in
     let with_follows : App = with_subcommand with_reads follows.top in
     let audits_is = known c.with-follows.result c.with-audits.result with_follows audit_command follows_is
     (added c.with-follows.result c.with-audits.result c.audit.result audit_command c.audit.ensures.app c.with-audits.ensures) in

@@ -25,7 +25,7 @@ returns-clause-received c = λ seen log shows have.
     let pgn : ℕ = c.args.pgn in
     let one = have i.ps i.sa i.ps_range i.sa_range in
     let h = way_packets i.ps i.sa one.is.since in
-    let told = subst (λ (m : Option (Vec ℕ Global)). IsReceivedOr h c.args.size pgn (option_map (λ (b : Vec ℕ Global). b.items) m)) c.in-Some.is
+    let stated = subst (λ (m : Option (Vec ℕ Global)). IsReceivedOr h c.args.size pgn (option_map (λ (b : Vec ℕ Global). b.items) m)) c.in-Some.is
     (c.in_ok-received.ensures h one.kept) in
     let there = subst (ShowsParties plan c.args.parties.now log) (sym c.turned.ensures) (shows_turned plan c.args.parties.now log i shows) in
     let written = c.in_ok-sort.ensures log there in
@@ -36,7 +36,7 @@ returns-clause-received c = λ seen log shows have.
     (subst (λ (b : List ℕ). IsMessageReport plan log (front_of c.args.stamp)
     (record { pgn = c.number.result; bytes = b; ident = c.turned.result; framed = None }) c.in_ok-sort.sort written.0) c.as_slice.ensures.value written.1)) in (
       written.0,
-      (one.packets, one.is, inl (c.in-Some.bytes.items, c.in_ok-sort.sort, told, report, refl)),
+      (one.packets, one.is, inl (c.in-Some.bytes.items, c.in_ok-sort.sort, stated, report, refl)),
       written.2,
     )
 
@@ -50,9 +50,9 @@ returns-in_default-clause-received c = λ seen log shows have.
     let i = c.args.frame.now.ident in
     let one = have i.ps i.sa i.ps_range i.sa_range in
     let h = way_packets i.ps i.sa one.is.since in
-    let told = subst (λ (m : Option (Vec ℕ Global)). IsReceivedOr h c.args.size c.args.pgn (option_map (λ (b : Vec ℕ Global). b.items) m)) c.in_default.is
+    let stated = subst (λ (m : Option (Vec ℕ Global)). IsReceivedOr h c.args.size c.args.pgn (option_map (λ (b : Vec ℕ Global). b.items) m)) c.in_default.is
     (c.in_ok-received.ensures h one.kept) in (
       [],
-      (one.packets, one.is, inr (told, refl, refl)),
+      (one.packets, one.is, inr (stated, refl, refl)),
       sym (append-nil c.args.text.now),
     )

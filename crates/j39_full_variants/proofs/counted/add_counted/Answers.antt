@@ -6,12 +6,12 @@ use Rattle.j39_line_findings.specs.declared.line_finding.LineFinding.{LineFindin
 use Rattle.j39_line_findings.specs.declared.line_finding.LineFinding.TheVariants.{OfPlan}
 use Rattle.j39_line_findings.specs.declared.witnessed.Witnessed.{Witnessed}
 use Rattle.j39_full_variants.specs.CountedFindings.{counted_of, is_looked_for}
-use Rattle.j39_full_variants.proofs.CountedTold.{counted_next, counted_past}
+use Rattle.j39_full_variants.proofs.CountedReported.{counted_next, counted_past}
 use Rattle.j39_full_variants.proofs.counted.add_counted.Goals.{then-is_looked_for+in_ok-add, else-is_looked_for}
 use Rattle.j39_full_variants.proofs.counted.add_counted.Goals as goal
 
 pub loop-finding-init : goal.loop-finding-init
-loop-finding-init c all best = subst (λ ws. AreBest ws c.args.told.now.items) (sym (append-nil all)) best
+loop-finding-init c all best = subst (λ ws. AreBest ws c.args.reported.now.items) (sym (append-nil all)) best
 
 pub loop-finding-preserved : goal.loop-finding-preserved
 loop-finding-preserved c all best =
@@ -23,20 +23,20 @@ loop-finding-preserved c all best =
       | then-is_looked_for+in_ok-add w ↦
           let here : is_looked_for c.args.line.now c.args.full.now c.args.variant.now (get_or c.args.findings.now i first) ≡ true =
           sym c.is_looked_for.ensures ∙ w.if-is_looked_for.true in
-          subst (λ told. AreBest (all ++ of (take (i + 1) c.args.findings.now)) told.items) (sym w.told-is)
-          (subst (λ ws. AreBest ws w.add.new.told.items)
+          subst (λ reported. AreBest (all ++ of (take (i + 1) c.args.findings.now)) reported.items) (sym w.reported-is)
+          (subst (λ ws. AreBest ws w.add.new.reported.items)
           (counted_next c.args.line.now c.args.full.now all c.args.place c.args.variant.now c.args.findings.now i first c.loop-finding-test.true here)
           (w.in_ok-add.ensures before (c.loop-finding.invariant all best)))
       | else-is_looked_for w ↦
           let none : is_looked_for c.args.line.now c.args.full.now c.args.variant.now (get_or c.args.findings.now i first) ≡ false =
           sym c.is_looked_for.ensures ∙ w.if-is_looked_for.false in
-          subst (λ told. AreBest (all ++ of (take (i + 1) c.args.findings.now)) told.items) (sym w.told-is)
-          (subst (λ ws. AreBest ws c.loop-finding.told.items)
+          subst (λ reported. AreBest (all ++ of (take (i + 1) c.args.findings.now)) reported.items) (sym w.reported-is)
+          (subst (λ ws. AreBest ws c.loop-finding.reported.items)
           (counted_past c.args.line.now c.args.full.now all c.args.place c.args.variant.now c.args.findings.now i first c.loop-finding-test.true none)
           (c.loop-finding.invariant all best))
     ]
 
 pub returns : goal.returns
 returns c all best =
-    subst (λ fs. AreBest (all ++ counted_of c.args.line.now c.args.full.now c.args.place c.args.variant.now fs) c.loop-finding.told.items)
+    subst (λ fs. AreBest (all ++ counted_of c.args.line.now c.args.full.now c.args.place c.args.variant.now fs) c.loop-finding.reported.items)
     (take_all c.loop-finding.finding-index c.args.findings.now c.loop-finding-test.false) (c.loop-finding.invariant all best)

@@ -5,5 +5,5 @@ use Rattle.j39_full_variants.specs.CountedFindings.{counted_of}
 use Rattle.j39_full_variants.proofs.counted.add_counted.Given as goal
 
 abbrev pub invariant-loop-finding : goal.invariant-loop-finding
-invariant-loop-finding l = (all : List Witnessed) → AreBest all l.initial.told.items
-    → AreBest (all ++ counted_of l.line l.full l.place l.variant (take l.finding-index l.findings)) l.told.items
+invariant-loop-finding l = (all : List Witnessed) → AreBest all l.initial.reported.items
+    → AreBest (all ++ counted_of l.line l.full l.place l.variant (take l.finding-index l.findings)) l.reported.items

@@ -7,6 +7,6 @@ pub returns : goal.returns
 returns c all best = (
   c.in_ok-findings.findings.items,
   c.in_ok-findings.ensures,
-  subst (λ fs. AreBest (all ++ counted_of c.args.line.now c.args.full.now c.args.place c.args.variant.now fs) c.add_counted.new.told.items)
+  subst (λ fs. AreBest (all ++ counted_of c.args.line.now c.args.full.now c.args.place c.args.variant.now fs) c.add_counted.new.reported.items)
       c.deref.ensures.value (c.in_ok-add_counted.ensures all best),
 )

@@ -38,7 +38,7 @@ returns c =
       are_full = c.in_ok-full.ensures;
       are_looked_at = c.in_ok-variants.ensures c.in_ok-full.full widest;
       are_found =
-          subst (λ vs. AreCountedFindings line c.in_ok-full.full (map (λ v. v.items) vs) c.in_ok-told.told.items) c.deref-4.ensures.value
-          c.in_ok-told.ensures;
+          subst (λ vs. AreCountedFindings line c.in_ok-full.full (map (λ v. v.items) vs) c.in_ok-reported.reported.items) c.deref-4.ensures.value
+          c.in_ok-reported.ensures;
       few = (n, is_number, omega (arith, count, few));
     }

@@ -11,21 +11,21 @@ none_left (x ∷ xs) is = absurd (omega (arith, is))
 pub returns-then-is_empty : goal.returns-then-is_empty
 returns-then-is_empty c many =
     let found : AreFullVariants c.args.line.now LeftOut c.in-Few.found = subst (IsLookingWith c.args.line.now LeftOut) c.in-Few.is c.in_ok-found.ensures in
-    let told = c.in-Few.found.told in
-    let none = eqb-true told.len 0 (sym c.is_empty.ensures ∙ c.if-is_empty.true) in
+    let reported = c.in-Few.found.reported in
+    let none = eqb-true reported.len 0 (sym c.is_empty.ensures ∙ c.if-is_empty.true) in
     let good : has_bad_number c.args.line.now.plan ≡ false = sym c.in_ok-bad.ensures ∙ c.if-bad.false in
-    inr ((many.0, many.1), found, none_left told.items (sym told.ok.0 ∙ none), good)
+    inr ((many.0, many.1), found, none_left reported.items (sym reported.ok.0 ∙ none), good)
 
 pub returns-else-is_empty : goal.returns-else-is_empty
 returns-else-is_empty c many =
     let found : AreFullVariants c.args.line.now LeftOut c.in-Few.found = subst (IsLookingWith c.args.line.now LeftOut) c.in-Few.is c.in_ok-found.ensures in
-    let told = c.in-Few.found.told in (
+    let reported = c.in-Few.found.reported in (
       many,
       inr (inr (
         c.in-Few.found,
         found,
         λ none.
-            let empty : told.len ≡ 0 = told.ok.0 ∙ ap length none in
-            absurd (true≢false (sym (eq-eqb told.len 0 empty) ∙ sym c.is_empty.ensures ∙ c.if-is_empty.false)),
+            let empty : reported.len ≡ 0 = reported.ok.0 ∙ ap length none in
+            absurd (true≢false (sym (eq-eqb reported.len 0 empty) ∙ sym c.is_empty.ensures ∙ c.if-is_empty.false)),
       )),
     )

@@ -6,5 +6,5 @@ use Rattle.j39_line_findings.proofs.witnessed.place_of.Goals as goal
 
 pub loop-place-preserved : goal.loop-place-preserved
 loop-place-preserved c =
-    one_more_before c.args.told.now c.loop-place.place (record { finding = OfPlan (SameName 0 0); variant = 0; counted = false }) c.args.rank
+    one_more_before c.args.reported.now c.loop-place.place (record { finding = OfPlan (SameName 0 0); variant = 0; counted = false }) c.args.rank
     c.loop-place-test.true c.loop-place.invariant (sym c.comes_before.ensures ∙ c.if-not-comes_before.false)

@@ -5,4 +5,4 @@ use Rattle.j39_line_findings.specs.declared.witnessed.Witnessed.{Witnessed}
 use Rattle.j39_line_findings.proofs.witnessed.place_of.Given as goal
 
 abbrev pub invariant-loop-place : goal.invariant-loop-place
-invariant-loop-place l = (w : Witnessed) → IsWitnessAmong (take l.place l.told) w → is_below (rank_in w) l.rank ≡ true
+invariant-loop-place l = (w : Witnessed) → IsWitnessAmong (take l.place l.reported) w → is_below (rank_in w) l.rank ≡ true

@@ -9,20 +9,20 @@ use Rattle.j39_line_text.proofs.addresses.found_addresses.Goals as goal
 
 pub returns : goal.returns
 returns c found =
-    let none : is_hidden Addresses (many_of c.args.looked.now) c.args.told.now ≡ false =
-    ap (λ m. is_hidden Addresses m c.args.told.now) (sym c.many-many.ensures) ∙ sym c.is_hidden.ensures ∙ c.if-is_hidden.false in
-    let told = c.in_ok-text-2.ensures in
+    let none : is_hidden Addresses (many_of c.args.looked.now) c.args.reported.now ≡ false =
+    ap (λ m. is_hidden Addresses m c.args.reported.now) (sym c.many-many.ensures) ∙ sym c.is_hidden.ensures ∙ c.if-is_hidden.false in
+    let reported = c.in_ok-text-2.ensures in
     record {
       looked = c.args.looked.now;
-      told = c.args.told.now;
-      shown = is_shown Addresses c.args.line.now c.args.looked.now c.args.told.now none found;
+      reported = c.args.reported.now;
+      shown = is_shown Addresses c.args.line.now c.args.looked.now c.args.reported.now none found;
       holds = λ v plan possible is. record {
         planned = λ u stays steps w run. c.who_stays.ensures.held plan steps w run u stays.0;
         with_strangers = λ u below stays. c.who_stays_with_strangers.ensures.held plan u below stays;
       };
-      standings = told.0;
-      are_standings = subst (λ vs. AreStandingsAmong (IsOneOf vs) c.args.line.now told.0) c.variants_at.ensures told.1;
-      possible = told.2.0;
-      are_possible = told.2.1;
-      text_is = told.2.2;
+      standings = reported.0;
+      are_standings = subst (λ vs. AreStandingsAmong (IsOneOf vs) c.args.line.now reported.0) c.variants_at.ensures reported.1;
+      possible = reported.2.0;
+      are_possible = reported.2.1;
+      text_is = reported.2.2;
     }

@@ -13,12 +13,12 @@ use Rattle.j39_line_text.proofs.CertifiedVariants.{none_made, none_of_both, none
 use Rattle.j39_line_text.proofs.certificate.variants_without_findings_are_certified.Goals as goal
 
 pub returns : goal.returns
-returns c line told v possible there plan load is_there is_plan are_load =
+returns c line reported v possible there plan load is_there is_plan are_load =
     let listed = map (λ finding. OfPlan (finding_in_file there finding)) (found plan) in
     let of_load = map (λ finding. OfLoad (load_finding_in_file there finding)) load in
     let missed = map (λ d. OfPlan (NeedUnmet d)) (missed_needs line v) in
     let none : findings_in_file there (found plan) load (missed_needs line v) ≡ [] =
-    c.nothing_told_is_nothing_found.ensures line told v possible (findings_in_file there (found plan) load (missed_needs line v))
+    c.nothing_reported_is_nothing_found.ensures line reported v possible (findings_in_file there (found plan) load (missed_needs line v))
     (record { there = there; is_there = is_there; plan = plan; is_plan = is_plan; others = load; are_others = are_load; are_all = refl }) in
     let first = none_of_both listed _ none in
     let others = none_of_both of_load missed first.1 in

@@ -7,6 +7,6 @@ use Rattle.j39_line_text.proofs.load.found_load.Goals as goal
 
 pub returns : goal.returns
 returns c timed found =
-    let none : is_hidden Times (many_of c.args.looked.now) c.args.told.now ≡ false =
-    ap (λ m. is_hidden Times m c.args.told.now) (sym c.many-many.ensures) ∙ sym c.is_hidden.ensures ∙ c.if-is_hidden.false in
-    inl (c.in_ok-report.ensures timed (is_shown Times c.args.line.now c.args.looked.now c.args.told.now none found))
+    let none : is_hidden Times (many_of c.args.looked.now) c.args.reported.now ≡ false =
+    ap (λ m. is_hidden Times m c.args.reported.now) (sym c.many-many.ensures) ∙ sym c.is_hidden.ensures ∙ c.if-is_hidden.false in
+    inl (c.in_ok-report.ensures timed (is_shown Times c.args.line.now c.args.looked.now c.args.reported.now none found))

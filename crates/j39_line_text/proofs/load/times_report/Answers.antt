@@ -11,13 +11,13 @@ returns c timed shown =
     (c.in_ok-times.ensures (λ none. none-some c.args.timing (sym none ∙ timed))) in
     record {
       looked = c.args.looked.now;
-      told = c.args.told.now;
+      reported = c.args.reported.now;
       shown = shown;
       times = c.in_ok-times.times;
       are_times = are;
       bounds = c.times_bound_these.ensures c.args.line.now (variants_at c.args.looked.now) c.in_ok-times.times are;
       shown_times = c.in_ok-shown.shown;
       are_shown = c.in_ok-shown.ensures;
-      text_is = rw (c.in_ok-write_times.ensures, c.new-text.ensures) at c.in_ok-write_untold.ensures;
+      text_is = rw (c.in_ok-write_times.ensures, c.new-text.ensures) at c.in_ok-write_unshown.ensures;
       verdict_is = c.verdict_of.ensures;
     }

@@ -14,6 +14,6 @@ pub loop-never-preserved : goal.loop-never-preserved
 loop-never-preserved c =
     let old = c.loop-never.holes.items in
     one_further (λ box. box_flags box.items) (λ n never. never_hole c.args.line.now never.items) c.loop-never.never-index c.args.line.now.nevers.items
-    c.never-item.result [] old c.add_never.new.holes.items (rw c.deref-never-items.ensures.value at c.loop-never-test.true) c.loop-never.invariant
-    (c.in_ok-add_never.ensures ∙ ap (λ (xs : List Alternative). boxes_flags old ++ never_hole c.args.line.now xs)
+    c.never-item.result [] old c.add_hole.new.holes.items (rw c.deref-never-items.ensures.value at c.loop-never-test.true) c.loop-never.invariant
+    (c.in_ok-add_hole.ensures ∙ ap (λ (xs : List Alternative). boxes_flags old ++ never_hole c.args.line.now xs)
     (c.deref.ensures.value ∙ ap (λ never. never.items) (rw c.deref-never-items.ensures.value at c.never-item.is)))

@@ -6,13 +6,13 @@ use Rattle.j39_line_witnesses.specs.WitnessedFindings.{AreWitnessed}
 use Rattle.j39_line_witnesses.proofs.found.found_of.Goals as goal
 
 pub loop-finding-init : goal.loop-finding-init
-loop-finding-init c = record { kept = c.in_ok-holes.ensures; told = c.new-told.ensures.items }
+loop-finding-init c = record { kept = c.in_ok-holes.ensures; reported = c.new-reported.ensures.items }
 
 pub loop-finding-preserved : goal.loop-finding-preserved
 loop-finding-preserved c = record {
   kept = c.in_ok-add_found.ensures.kept ∙ c.loop-finding.invariant.kept;
-  told =
-      subst (λ findings. AreWitnessed c.args.line.now findings c.add_found.new.told.items)
+  reported =
+      subst (λ findings. AreWitnessed c.args.line.now findings c.add_found.new.reported.items)
       (sym (take_more c.args.findings.now c.loop-finding.finding-index (OfPlan (SameName 0 0)) c.loop-finding-test.true))
-      (c.in_ok-add_found.ensures.added _ c.loop-finding.invariant.told);
+      (c.in_ok-add_found.ensures.added _ c.loop-finding.invariant.reported);
 }

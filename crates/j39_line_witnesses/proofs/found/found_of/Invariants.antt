@@ -7,5 +7,5 @@ use Rattle.j39_line_witnesses.proofs.found.found_of.Given as goal
 abbrev pub invariant-loop-finding : goal.invariant-loop-finding
 invariant-loop-finding l = record {
   kept : boxes_flags l.holes.items ≡ never_holes l.line l.line.nevers.items;
-  told : AreWitnessed l.line (take l.finding-index l.findings) l.told.items;
+  reported : AreWitnessed l.line (take l.finding-index l.findings) l.reported.items;
 }

@@ -1,5 +1,5 @@
-use Rattle.j39_line_witnesses.proofs.Told.{told_exactly}
+use Rattle.j39_line_witnesses.proofs.Reported.{reported_exactly}
 use Rattle.j39_line_witnesses.proofs.laws.witnessed_are_exact.Goals as goal
 
 pub returns : goal.returns
-returns c = told_exactly
+returns c = reported_exactly

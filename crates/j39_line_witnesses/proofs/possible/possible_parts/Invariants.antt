@@ -7,5 +7,5 @@ use Rattle.j39_line_witnesses.proofs.possible.possible_parts.Given as goal
 abbrev pub invariant-loop-part : goal.invariant-loop-part
 invariant-loop-part l = record {
   kept : boxes_flags l.holes.items ≡ never_holes l.line l.line.nevers.items;
-  told : ArePartsPossible l.line (take l.part-index l.parts) l.flags.items;
+  reported : ArePartsPossible l.line (take l.part-index l.parts) l.flags.items;
 }

@@ -37,14 +37,14 @@ returns-in-Some-transport_packet c =
     c.as_slice-bytes.ensures.value c.place.ensures in
     both_ok c.write_packet.result _ _ _ c.write_packet.ensures.heard c.write_packet.ensures.message
     (λ heard written. λ seen have ranges.
-    let told = written seen have ranges in (
+    let stated = written seen have ranges in (
       Some c.in-Some-transport_packet.packet,
-      told.0,
+      stated.0,
       (sym group ∙ c.in_default.is, c.in-Some-transport_packet.ensures.found.0),
       c.in-Some-transport_packet.ensures.found.1,
-      told.1,
+      stated.1,
       heard seen have,
-      told.2,
+      stated.2,
     ))
 
 pub returns-in-None : goal.returns-in-None

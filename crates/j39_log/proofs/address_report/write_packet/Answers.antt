@@ -5,7 +5,7 @@ use Rattle.j39_tp.specs.Receiver.{Receiving, message_of}
 use Rattle.j39_tp.specs.declared.packet.Packet.{Packet}
 use Rattle.j39_tp.specs.declared.receiving.progress.Progress.{Progress}
 use Rattle.j39_tp.specs.declared.receiving.progress.Progress.TheVariants.{Complete}
-use Rattle.j39_log.specs.inside.Listening.{listener_of_pair}
+use Rattle.j39_log.specs.PairListeners.{listener_of_pair}
 use Rattle.j39_log.specs.ReadText.{heard_before}
 use Rattle.j39_log.proofs.Completing.{carried_there, completed_there, uncarried_there, uncompleted}
 use Rattle.j39_log.proofs.PairLists.{heard_in_range, heard_itself, turned}
@@ -54,11 +54,11 @@ returns-in-None-clause-message c = λ seen have ranges.
     let i = c.args.frame.now.ident in
     let p : Packet = c.args.packet.now in
     let old = listener_of_pair c.args.listeners.now.rows.items i.sa i.ps in
-    let untold = uncompleted old p (sym c.in_ok-pgn.ensures.group ∙ c.in-None.is) in (
+    let unstated = uncompleted old p (sym c.in_ok-pgn.ensures.group ∙ c.in-None.is) in (
       [],
       inr (
         uncarried_there c.listener_completes_what_is_carried.ensures.carried (heard_before seen i) p old
-            (have i.sa i.ps i.sa_range i.ps_range) untold,
+            (have i.sa i.ps i.sa_range i.ps_range) unstated,
         refl,
       ),
       sym (append-nil c.args.text.now),

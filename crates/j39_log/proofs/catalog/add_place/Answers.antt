@@ -1,7 +1,7 @@
 use Rattle.std.proofs.Common.{◌≡◌, Some, cond, nat_eq, Option, ap, ◌∙◌}
 use Rattle.std.specs.HashMap.{get}
 use Rattle.j39_log.specs.declared.catalog.Span.{Span}
-use Rattle.j39_log.specs.inside.Listening.{extended}
+use Rattle.j39_log.specs.inside.Catalogs.{extended}
 use Rattle.j39_log.proofs.Indexes.{put_in}
 use Rattle.j39_log.proofs.catalog.add_place.Goals as goal
 

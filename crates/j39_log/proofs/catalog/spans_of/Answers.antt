@@ -1,7 +1,7 @@
 use Rattle.std.proofs.Common.{◌≡◌, ◌+◌, ◌++◌, ◌∷◌, [], List, take, sym, ap, subst, ◌∙◌, arith}
 use Rattle.std.proofs.lemmas.List.{length-take-le, take_all, take_more}
 use Rattle.j39_network.specs.declared.plan.group_plan.GroupPlan.{GroupPlan}
-use Rattle.j39_log.specs.inside.Listening.{IsIndex}
+use Rattle.j39_log.specs.inside.Catalogs.{IsIndex}
 use Rattle.j39_log.proofs.catalog.spans_of.Goals as goal
 
 pub loop-place-preserved : goal.loop-place-preserved

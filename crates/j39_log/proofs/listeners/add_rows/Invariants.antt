@@ -1,5 +1,5 @@
 use Rattle.std.proofs.Common.{◌≡◌, ℕ, ◌+◌, ◌-◌, vec_len}
-use Rattle.j39_log.specs.inside.Listening.{slots_at}
+use Rattle.j39_log.specs.PairListeners.{slots_at}
 use Rattle.j39_log.proofs.listeners.add_rows.Given as goal
 
 abbrev pub invariant-loop-alloc : goal.invariant-loop-alloc

@@ -1,5 +1,5 @@
 use Rattle.std.proofs.Common.{◌≡◌, ℕ, ◌+◌, ◌-◌, vec_len}
-use Rattle.j39_log.specs.inside.Listening.{listener_at}
+use Rattle.j39_log.specs.PairListeners.{listener_at}
 use Rattle.j39_log.proofs.listeners.lengthen.Given as goal
 
 abbrev pub invariant-loop-row : goal.invariant-loop-row

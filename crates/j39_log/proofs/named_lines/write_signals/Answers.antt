@@ -1,9 +1,9 @@
-use Rattle.std.proofs.Common.{List, arith}
-use Rattle.std.proofs.lemmas.List.{append-nil, drop_all}
+use Rattle.std.proofs.Common.{arith}
+use Rattle.std.proofs.lemmas.List.{append-nil}
 use Rattle.j39_signal.specs.Parts.{SignalParts}
-use Rattle.j39_log.specs.NamedReports.{NamedSignal, named_signal_lines}
+use Rattle.j39_log.specs.NamedReports.{named_signal_lines}
 use Rattle.j39_log.specs.inside.NameTables.{named_by, names_in}
-use Rattle.j39_log.proofs.NamedLists.{named_at, named_count, one_more_line}
+use Rattle.j39_log.proofs.NamedLists.{all_named, named_at, named_count, one_more_line}
 use Rattle.j39_log.proofs.named_lines.write_signals.Goals as goal
 
 pub loop-place-preserved : goal.loop-place-preserved
@@ -22,7 +22,4 @@ loop-place-preserved c =
 pub returns : goal.returns
 unfolding named_signal_lines
 returns c =
-    let named : List NamedSignal = named_by c.args.values.now c.args.signals.now in
-    let count = named_count c.args.values.now c.args.signals.now c.requires.names in
-    let done = drop_all c.loop-place.place named (omega (arith, count, c.loop-place-test.false)) in
-    rw (done, append-nil) at c.loop-place.invariant
+    rw (all_named c.args.values.now c.args.signals.now c.loop-place.place c.requires.names c.loop-place-test.false, append-nil) at c.loop-place.invariant

@@ -1,5 +1,5 @@
 use Rattle.std.proofs.Common.{◌≡◌, map, take}
-use Rattle.j39_log.specs.inside.ReportHeads.{report_head}
+use Rattle.j39_log.specs.ReportHeads.{report_head}
 use Rattle.j39_log.proofs.report_head.report_heads.Given as goal
 
 abbrev pub invariant-loop-group : goal.invariant-loop-group

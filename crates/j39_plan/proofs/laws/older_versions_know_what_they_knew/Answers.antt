@@ -21,10 +21,10 @@ pub returns-clause-groups : goal.returns-clause-groups
 returns-clause-groups c = groups
 
 lengths : OlderLengths
-lengths First ms g older told = (told.has_most ∙ sym told.has_length, told.has_every)
-lengths Second ms g older told = (told.has_most ∙ sym told.has_length, told.has_every)
-lengths Third ms g older told = cc
-lengths Fourth ms g older told = cc
+lengths First ms g older stated = (stated.has_most ∙ sym stated.has_length, stated.has_every)
+lengths Second ms g older stated = (stated.has_most ∙ sym stated.has_length, stated.has_every)
+lengths Third ms g older stated = cc
+lengths Fourth ms g older stated = cc
 
 pub returns-clause-lengths : goal.returns-clause-lengths
 returns-clause-lengths c = lengths

@@ -1,5 +1,4 @@
-use Rattle.j39_plan.proofs.FourthReads.{fourth_reads}
-use Rattle.j39_plan.proofs.ThirdReads.{third_reads}
+use Rattle.j39_plan.proofs.OlderPlans.{fourth_reads, third_reads}
 use Rattle.j39_plan.proofs.laws.plans_without_later_keys.Goals as goal
 
 pub returns-clause-fourth : goal.returns-clause-fourth

@@ -11,22 +11,22 @@ use Rattle.j39_plan_text.proofs.certificate.clean_plans_are_certified.Goals as g
 
 -- what is found of the load, where something is known of the bus
 found : (plan : Plan) (timing : Timing) → AreLoadFindings plan (timing_of plan) [] → timing_of plan ≡ Some timing → AreLoadFindings plan (Some timing) []
-found plan timing none told = subst (λ (t : Option Timing). AreLoadFindings plan t []) told none
+found plan timing none stated = subst (λ (t : Option Timing). AreLoadFindings plan t []) stated none
 
 pub returns : goal.returns
 returns c = λ checked clean calm.
     let each : (plan : Plan) → Clean plan → AreLoadFindings plan (timing_of plan) [] → IsSound plan → IsSoundInTime plan = λ plan clean none sound.
     record {
       sound = sound;
-      in_time = λ timing told. c.delays_are_bounds.ensures.checked plan timing (found plan timing none told);
-      fresh = λ timing told. c.needs_stay_fresh.ensures plan timing clean (found plan timing none told);
-      read = λ timing told. c.needed_values_are_read_in_time.ensures plan timing clean (found plan timing none told);
-      kept = λ timing told. c.kept_plans_are_in_time.ensures.sound plan timing clean (found plan timing none told);
-      damaged = λ timing told. c.kept_plans_are_in_time.ensures.with_errors plan timing clean (found plan timing none told);
-      damaged_in_any_order = λ timing told. c.kept_plans_are_in_time.ensures.damaged_in_any_order plan timing clean (found plan timing none told);
-      broadcasts = λ timing told. c.kept_plans_meet_deadlines.ensures plan timing clean (found plan timing none told);
-      receivers = λ timing told. c.kept_plans_lose_no_receiver.ensures plan timing clean (found plan timing none told);
-      values = λ timing told. c.kept_plans_bring_values_in_time.ensures plan timing clean (found plan timing none told);
+      in_time = λ timing stated. c.delays_are_bounds.ensures.checked plan timing (found plan timing none stated);
+      fresh = λ timing stated. c.needs_stay_fresh.ensures plan timing clean (found plan timing none stated);
+      read = λ timing stated. c.needed_values_are_read_in_time.ensures plan timing clean (found plan timing none stated);
+      kept = λ timing stated. c.kept_plans_are_in_time.ensures.sound plan timing clean (found plan timing none stated);
+      damaged = λ timing stated. c.kept_plans_are_in_time.ensures.with_errors plan timing clean (found plan timing none stated);
+      damaged_in_any_order = λ timing stated. c.kept_plans_are_in_time.ensures.damaged_in_any_order plan timing clean (found plan timing none stated);
+      broadcasts = λ timing stated. c.kept_plans_meet_deadlines.ensures plan timing clean (found plan timing none stated);
+      receivers = λ timing stated. c.kept_plans_lose_no_receiver.ensures plan timing clean (found plan timing none stated);
+      values = λ timing stated. c.kept_plans_bring_values_in_time.ensures plan timing clean (found plan timing none stated);
     } in
     record {
       plan_holds = each checked clean calm (c.clean_plans_are_sound.ensures.sound checked clean);

@@ -2,30 +2,21 @@ use Rattle.std.proofs.Common.{rules, ◌≡◌, ◌<◌, ◌≤◌, min, ℕ, Li
 use Rattle.std.specs.Io.KnownBytes.{Consumes}
 use Rattle.std.proofs.KnownBytes.{Appends-trans}
 use Rattle.std.proofs.lemmas.List.{append-nil, length-append, length-take}
-use Rattle.j39_id.specs.Lines.{at_start, behind_all, told}
-use Rattle.j39_id.proofs.CutLines.{behind_all-append}
+use Rattle.j39_id.specs.Lines.{at_start, yielded}
 use Rattle.j39_stream.specs.Intakes.{Counts, piece_bytes}
 use Rattle.j39_stream.specs.declared.limits.Limits.{Limits}
 use Rattle.j39_stream.proofs.Parts.{none_read, none_taken}
+use Rattle.j39_stream.proofs.PieceSteps.{nothing_counted, pending_behind}
 use Rattle.j39_stream.proofs.LineReading.{cut_short, more_seen, one_piece, read_to_end, read_to_stop}
 use Rattle.j39_stream.proofs.line_reading.read_all.Goals as goal
 
 pub loop-cutter-init : goal.loop-cutter-init
 loop-cutter-init g c =
-    let bytes = ap (λ (counts : Counts). counts.bytes) c.new-intake.ensures in
     let calls = ap (λ (counts : Counts). counts.calls) c.new-intake.ensures in
-    let limits = ap (λ (counts : Counts). counts.limits) c.new-intake.ensures in
     record {
       seen = [];
       written = [];
-      read = record {
-        limits_are = limits;
-        consumed = none_read (g.S.Source.state c.args.source.now).left;
-        bytes_are = bytes;
-        within = omega arith;
-        calls_gave = omega (arith, calls);
-        pulls_are = omega (arith, calls);
-      };
+      read = nothing_counted c.args.limits (g.S.Source.state c.args.source.now) c.new-intake.result c.new-intake.ensures;
       calls = omega (arith, calls);
       pending = c.new-cutter.ensures.pending;
       so_far = c.requires.begins;
@@ -64,7 +55,7 @@ returns-then-count-eq0-clause-read g c =
     let last = c.in_ok-count.ensures.last c.args.limits (g.S.Source.state c.args.source.now) before.seen before.read c.if-count-eq0.true in
     read_to_end before.seen before.written c.end-cut.result c.loop-cutter.cutter.pending c.line.result.now before.pending c.end-cut.ensures.answer
     (c.line.ensures ∙ c.end-cut.ensures.line)
-    (c.in_ok-read.ensures.lines (told at_start before.seen) before.written before.so_far.read) last.0
+    (c.in_ok-read.ensures.lines (yielded at_start before.seen) before.written before.so_far.read) last.0
     (c.in_ok-count.ensures.end c.if-count-eq0.true) last.1 before.taken (c.in_ok-count.ensures.calm (λ e. cc e) ∙ before.source, before.sink)
 
 pub read_piece-requires : goal.read_piece-requires
@@ -105,7 +96,7 @@ loop-cutter-preserved g c =
     let some : 0 < c.in_ok-count.count = search rules in
     let next = c.in_ok-count.ensures.more c.args.limits (g.S.Source.state c.args.source.now) before.seen before.read some in
     let so = more_seen before.seen part c.loop-cutter.cutter.pending before.written before.pending
-    (c.in_ok-read_piece.ensures.lines (told at_start before.seen) before.written before.so_far) in
+    (c.in_ok-read_piece.ensures.lines (yielded at_start before.seen) before.written before.so_far) in
     let len = length-append before.seen part in
     let calls = ap (λ (l : Limits). l.calls) next.limits_are in
     let most = c.in_ok-count.ensures.fewer.1 in
@@ -118,8 +109,8 @@ loop-cutter-preserved g c =
       written = before.written ++ text;
       read = next;
       calls = omega (arith, calls, most);
-      pending = c.in_ok-read_piece.ensures.pending ∙ ap (λ p. behind_all p part) before.pending ∙ sym (behind_all-append at_start before.seen part);
-      so_far = c.in_ok-put.ensures.lines (told at_start (before.seen ++ part)) before.written so.read;
+      pending = pending_behind at_start _ _ before.seen part before.pending c.in_ok-read_piece.ensures.pending;
+      so_far = c.in_ok-put.ensures.lines (yielded at_start (before.seen ++ part)) before.written so.read;
       texts = λ input t verdict is.
           before.texts input t verdict (c.in_ok-read_piece.ensures.texts input t verdict (c.in_ok-put.ensures.texts input t verdict is));
       count = c.in_ok-put.ensures.count (length (before.seen ++ part))
@@ -138,7 +129,7 @@ returns-in_err-put-clause-cut g c =
     let some : 0 < c.in_ok-count.count = search rules in
     let next = c.in_ok-count.ensures.more c.args.limits (g.S.Source.state c.args.source.now) before.seen before.read some in
     let so = more_seen before.seen part c.loop-cutter.cutter.pending before.written before.pending
-    (c.in_ok-read_piece.ensures.lines (told at_start before.seen) before.written before.so_far) in
+    (c.in_ok-read_piece.ensures.lines (yielded at_start before.seen) before.written before.so_far) in
     let text : List ℕ = g.R.LineReader.text c.read_piece.new.reader in
     let read = subst (Consumes (g.S.Source.state c.args.source.now).left (g.S.Source.state c.pull.new.source).left) (sym (append-nil (before.seen ++ part))) next.consumed in
     cut_short c.args.limits _ _ _ _

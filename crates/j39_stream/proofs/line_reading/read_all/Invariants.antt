@@ -1,6 +1,6 @@
 use Rattle.std.proofs.Common.{◌≡◌, ◌-◌, ◌≤◌, ℕ, List, length}
 use Rattle.std.specs.Io.KnownBytes.{Appends}
-use Rattle.j39_id.specs.Lines.{at_start, behind_all, told}
+use Rattle.j39_id.specs.Lines.{at_start, behind_all, yielded}
 use Rattle.j39_stream.specs.Intakes.{EndsWithItsPiece, HasRead}
 use Rattle.j39_stream.specs.LineReading.{AreTextsOf, IsSoFar}
 use Rattle.j39_stream.proofs.line_reading.read_all.Given as goal
@@ -14,7 +14,7 @@ invariant-loop-cutter g l =
       read : HasRead l.fn.limits (g.S.Source.state l.fn.source) (g.S.Source.state l.source) l.intake seen;
       calls : l.intake.calls ≤ l.fn.limits.calls;
       pending : l.cutter.pending ≡ behind_all at_start seen;
-      so_far : IsSoFar (r.has_read l.reader) (r.is_text l.reader) (r.goes l.reader) (r.text l.reader) (told at_start seen) written;
+      so_far : IsSoFar (r.has_read l.reader) (r.is_text l.reader) (r.goes l.reader) (r.text l.reader) (yielded at_start seen) written;
       texts : AreTextsOf (r.is_text l.reader) (r.is_text l.fn.reader);
       count : r.within l.reader (length seen);
       pieces : EndsWithItsPiece (r.is_text l.fn.reader) (g.S.Source.state l.fn.source).left (g.S.Source.state l.source).left;

@@ -1,16 +1,9 @@
-use Rattle.std.proofs.Common.{rules, ◌≡◌, ◌+◌, ◌-◌, ◌<◌, ◌++◌, [], ℕ, List, Bor, Option, Some, None}
-use Rattle.std.proofs.Common.{length, take, drop, refl, sym, ap, ◌∙◌, subst, arith, append_assoc}
-use Rattle.std.specs.Prelude.{unwrap_or}
-use Rattle.std.specs.Option.{option_copied}
-use Rattle.std.proofs.lemmas.List.{append-nil, length-append, length-drop, length-take-le, take-append-drop, take_rest}
-use Rattle.j39_id.specs.Lines.{behind_all, tells}
-use Rattle.j39_id.proofs.CutLines.{behind_all-append}
+use Rattle.std.proofs.Common.{rules, ◌≡◌, ◌+◌, ◌<◌, ◌++◌, [], ℕ, List, length, take, refl, ap, ◌∙◌, subst, arith}
+use Rattle.std.proofs.lemmas.List.{append-nil, length-append}
+use Rattle.j39_id.specs.Lines.{yields}
 use Rattle.j39_stream.proofs.LineReading.{read_part}
+use Rattle.j39_stream.proofs.PieceSteps.{length_left, length_used, line_read, parts_of_piece, pending_behind}
 use Rattle.j39_stream.proofs.line_reading.read_piece.Goals as goal
-
-cut_line : (whole : Option (Bor (List ℕ))) (line : Bor (List ℕ)) → (unwrap_or whole line).now ≡ unwrap_or (option_copied whole) line.now
-cut_line None line = refl
-cut_line (Some w) line = refl
 
 pub loop-rest-init : goal.loop-rest-init
 loop-rest-init g c = record {
@@ -34,7 +27,7 @@ pub loop-rest-smaller : goal.loop-rest-smaller
 loop-rest-smaller g c =
     let rest : List ℕ = c.loop-rest.rest.now in
     let n : ℕ = c.advance-step.result.used in
-    let left : length (take (length rest - n) (drop n rest)) ≡ length rest - n = ap length (take_rest rest n) ∙ length-drop n rest in
+    let left = length_left rest n in
     let some : 0 < length rest = search rules in
     let used : 0 < n = c.advance-step.ensures.some some in
     omega (arith, left, some, used)
@@ -47,24 +40,19 @@ loop-rest-preserved g c =
     let n : ℕ = c.advance-step.result.used in
     let part : List ℕ = take n rest in
     let line = c.unwrap_or-line.result.now in
-    let is : unwrap_or (option_copied c.advance-step.result.whole) c.advance-step.new.self.line ≡ line =
-    ap (λ (l : List ℕ). unwrap_or (option_copied c.advance-step.result.whole) l) (sym c.line.ensures) ∙ sym (cut_line c.advance-step.result.whole c.line.result)
-    ∙ sym (ap (λ (l : Bor (List ℕ)). l.now) c.unwrap_or-line.ensures) in
+    let is = line_read c.advance-step.result.whole c.line.result c.unwrap_or-line.result _ c.line.ensures c.unwrap_or-line.ensures in
     let rest_some : 0 < length rest = search rules in
     let some : 0 < n = c.advance-step.ensures.some rest_some in
-    let part_len : length part ≡ n = length-take-le n rest c.advance-step.ensures.within in
-    let len : length (used ++ part) ≡ length used + length part = length-append used part in
-    let row : c.args.piece.now ≡ (used ++ part) ++ drop n rest =
-    before.parts ∙ ap (λ (t : List ℕ). used ++ t) (sym (take-append-drop n rest)) ∙ sym (append_assoc used part (drop n rest)) in
+    let len = length_used used rest n c.advance-step.ensures.within in
     record {
       used = used ++ part;
-      parts = row ∙ ap (λ (t : List ℕ). (used ++ part) ++ t) (sym (take_rest rest n));
-      pending = c.advance-step.ensures.pending ∙ ap (λ p. behind_all p part) before.pending ∙ sym (behind_all-append c.args.cutter.now.pending used part);
+      parts = parts_of_piece c.args.piece.now used rest n before.parts;
+      pending = pending_behind c.args.cutter.now.pending _ _ used part before.pending c.advance-step.ensures.pending;
       lines = read_part c.args.cutter.now.pending c.loop-rest.cutter.pending used part c.advance-step.result.cut line before.pending
-          (c.advance-step.ensures.told ∙ ap (λ (l : List ℕ). tells c.advance-step.result.cut l) is) before.lines c.in_ok-read.ensures.lines;
+          (c.advance-step.ensures.yielded ∙ ap (λ (l : List ℕ). yields c.advance-step.result.cut l) is) before.lines c.in_ok-read.ensures.lines;
       texts = λ input text verdict is. before.texts input text verdict (c.in_ok-read.ensures.texts input text verdict is);
       count = λ most within.
-          c.in_ok-read.ensures.count (most + length used) (most + length (used ++ part)) (before.count most within) (omega (arith, len, part_len, some));
+          c.in_ok-read.ensures.count (most + length used) (most + length (used ++ part)) (before.count most within) (omega (arith, len, some));
     }
 
 pub returns-clause-count : goal.returns-clause-count

@@ -1,5 +1,5 @@
 use Rattle.std.proofs.Common.{◌≡◌, ◌+◌, ◌++◌, ℕ, List, length}
-use Rattle.j39_id.specs.Lines.{Line, behind_all, told}
+use Rattle.j39_id.specs.Lines.{Line, behind_all, yielded}
 use Rattle.j39_stream.specs.LineReading.{AreTextsOf, IsSoFar}
 use Rattle.j39_stream.proofs.line_reading.read_piece.Given as goal
 
@@ -12,7 +12,7 @@ invariant-loop-rest g l =
       pending : l.cutter.pending ≡ behind_all l.fn.cutter.pending used;
       lines : (before : List Line) (written : List ℕ)
           → IsSoFar (r.has_read l.fn.reader) (r.is_text l.fn.reader) (r.goes l.fn.reader) (r.text l.fn.reader) before written
-          → IsSoFar (r.has_read l.reader) (r.is_text l.reader) (r.goes l.reader) (r.text l.reader) (before ++ told l.fn.cutter.pending used) written;
+          → IsSoFar (r.has_read l.reader) (r.is_text l.reader) (r.goes l.reader) (r.text l.reader) (before ++ yielded l.fn.cutter.pending used) written;
       texts : AreTextsOf (r.is_text l.reader) (r.is_text l.fn.reader);
       count : (most : ℕ) → r.within l.fn.reader most → r.within l.reader (most + length used);
     }

@@ -3,7 +3,7 @@ use Rattle.std.proofs.lemmas.Result.{err_from_is_err_and}
 use Rattle.std.proofs.lemmas.List.{drop_all}
 use Rattle.toml.proofs.Views.{items_view-drop}
 use Rattle.j39_toml.proofs.FirstFaults.{fails_on}
-use Rattle.j39_toml.proofs.EachElement.{grows_inside, goes_on, stops_at, ends, labels_told}
+use Rattle.j39_toml.proofs.EachElement.{grows_inside, goes_on, stops_at, ends, labels_stated}
 use Rattle.j39_toml.proofs.each.read_each.Goals as goal
 
 pub returns-in_err-item-clause-gives : goal.returns-in_err-item-clause-gives
@@ -32,4 +32,4 @@ returns-clause-count g c = omega arith
 pub returns-clause-labels : goal.returns-clause-labels
 returns-clause-labels g c =
     let none : drop c.loop-index.index c.args.values.now ≡ [] = drop_all c.loop-index.index c.args.values.now (omega arith) in
-    labels_told _ _ _ _ (rw none at c.loop-index.invariant)
+    labels_stated _ _ _ _ (rw none at c.loop-index.invariant)

@@ -22,7 +22,7 @@ returns-in_err-find_in_needs-clause-memory c =
 pub returns-clause-list : goal.returns-clause-list
 returns-clause-list c = (
   c.in_ok-loops.loops.items,
-  c.in_ok-loops.ensures.told,
+  c.in_ok-loops.ensures.stated,
   whole_paths c.in_ok-loops.loops.items c.args.vehicle.now _ _ _ _ _ c.new-findings.ensures.items c.in_ok-find_in_ends.ensures
       c.in_ok-find_in_contents.ensures (rw c.deref.ensures.value at c.in_ok-find_loops.ensures) c.in_ok-find_in_needs.ensures,
 )

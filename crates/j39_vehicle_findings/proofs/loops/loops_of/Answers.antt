@@ -1,6 +1,6 @@
 use Rattle.std.proofs.Common.{◌+◌, length, ap, ◌∙◌}
 use Rattle.std.proofs.lemmas.List.{length_push}
-use Rattle.j39_vehicle_findings.proofs.Following.{followers_inside, graph_tells, one_more_flag}
+use Rattle.j39_vehicle_findings.proofs.Following.{followers_inside, graph_states, one_more_flag}
 use Rattle.j39_vehicle_findings.proofs.loops.loops_of.Goals as goal
 
 pub comes_back-requires : goal.comes_back-requires
@@ -10,7 +10,7 @@ comes_back-requires c =
 pub all-preserved : goal.all-preserved
 all-preserved c =
     let v = c.args.vehicle.now in
-    let decides = graph_tells v c.in_ok-rows.rows.items c.all.place c.in_ok-comes_back.field-0 c.in_ok-rows.ensures.rows
+    let decides = graph_states v c.in_ok-rows.rows.items c.all.place c.in_ok-comes_back.field-0 c.in_ok-rows.ensures.rows
     (rw c.deref.ensures.value at c.in_ok-comes_back.ensures) in
     record {
       count = ap length c.in_ok-push.ensures.items ∙ length_push c.all.loops.items c.in_ok-comes_back.field-0

@@ -1,6 +1,6 @@
 use Rattle.std.proofs.Common.{◌≡◌, length, replicate, false, ap, ◌∙◌}
 use Rattle.std.proofs.lemmas.List.{length-replicate}
-use Rattle.j39_vehicle_findings.proofs.Spreading.{first_spread, row_inside, spread_tells}
+use Rattle.j39_vehicle_findings.proofs.Spreading.{first_spread, row_inside, spread_states}
 use Rattle.j39_vehicle_findings.proofs.reaching.comes_back.Goals as goal
 
 pub reach-requires : goal.reach-requires
@@ -22,5 +22,5 @@ reach_all-requires-clause-spread c =
 
 pub returns : goal.returns
 returns c =
-    spread_tells c.args.rows.now c.args.start c.reach_all.new.reached.items c.flag_at.result
+    spread_states c.args.rows.now c.args.start c.reach_all.new.reached.items c.flag_at.result
     (rw c.deref.ensures.value at c.flag_at.ensures) c.in_ok-reach_all.ensures

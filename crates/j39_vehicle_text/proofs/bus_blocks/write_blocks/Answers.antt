@@ -22,8 +22,8 @@ loop-bus-preserved c =
     c.loop-bus.all.are_of_times c.with-all.result.are_of_times c.in_ok-found.found block (rw next at c.loop-bus.invariant) c.in_ok-found.ensures is put
     c.with-all.ensures.count c.with-all.ensures.are_of_times c.with-all.ensures.few
 
-pub returns-clause-told : goal.returns-clause-told
-returns-clause-told c =
+pub returns-clause-stated : goal.returns-clause-stated
+returns-clause-stated c =
     let done = drop_all c.loop-bus.bus-index c.args.buses.now c.loop-bus-test.false in
     all_written c.args.buses.now c.args.text.now c.loop-bus.text c.loop-bus.all.count c.loop-bus.all.are_of_times (rw done at c.loop-bus.invariant)
 

@@ -15,7 +15,7 @@ returns c =
     let paths : AreFindings v [] = subst (AreFindings v) (none_at_all v none.loops none.paths none.queues) all in
     let times : AreTimeFindings v none.delays [] =
     subst (AreTimeFindings v none.delays) none.times (c.time_findings_are_exact.ensures v none.delays) in
-    let sound : IsSoundVehicle v none.delays = record { told = none.delays_are; paths = paths; times = times } in
+    let sound : IsSoundVehicle v none.delays = record { stated = none.delays_are; paths = paths; times = times } in
     record {
       plans = λ b bus is.
           let (nothing, calm) = none.plans b bus is in

@@ -8,7 +8,7 @@ use Rattle.j39_vehicle_text.proofs.vehicle_report.vehicle_report.Goals as goal
 pub write_end-requires : goal.write_end-requires
 write_end-requires c none =
     let v = c.args.vehicle.now in
-    let (others, blocks, are, first, counts, times) = rw c.deref.ensures.value at c.in_ok-plans.ensures.told in
+    let (others, blocks, are, first, counts, times) = rw c.deref.ensures.value at c.in_ok-plans.ensures.stated in
     let (lines, is, second) = c.in_ok-found.ensures in
     let beyond = c.in_ok-found.found in
     let counted : c.in_ok-plans.plans.count + c.count.result ≡ count_of_plans v.buses.items others + count_beyond beyond =
@@ -18,7 +18,7 @@ write_end-requires c none =
 pub returns : goal.returns
 returns c =
     let v = c.args.vehicle.now in
-    let (others, blocks, are, first, counts, times) = rw c.deref.ensures.value at c.in_ok-plans.ensures.told in
+    let (others, blocks, are, first, counts, times) = rw c.deref.ensures.value at c.in_ok-plans.ensures.stated in
     let (lines, is, second) = c.in_ok-found.ensures in
     let beyond = c.in_ok-found.found in
     let counted : c.in_ok-plans.plans.count + c.count.result ≡ count_of_plans v.buses.items others + count_beyond beyond =

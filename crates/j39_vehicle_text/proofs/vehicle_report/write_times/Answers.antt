@@ -1,7 +1,7 @@
-use Rattle.j39_vehicle_text.proofs.Reporting.{ok_then, told_times}
+use Rattle.j39_vehicle_text.proofs.Reporting.{ok_then, reported_times}
 use Rattle.j39_vehicle_text.proofs.vehicle_report.write_times.Goals as goal
 
 pub returns : goal.returns
 returns c =
-    ok_then c.with_times.result c.with_times.ensures (told_times c.args.vehicle.now c.in_ok-delays.delays c.args.text.now _ _
-    c.in_ok-delays.ensures.told c.in_ok-write_forwards.ensures c.in_ok-write_needs.ensures)
+    ok_then c.with_times.result c.with_times.ensures (reported_times c.args.vehicle.now c.in_ok-delays.delays c.args.text.now _ _
+    c.in_ok-delays.ensures.stated c.in_ok-write_forwards.ensures c.in_ok-write_needs.ensures)

@@ -1,7 +1,7 @@
 use Rattle.std.proofs.Common.{sym}
 use Rattle.j39_load.specs.BusTimes.{timing_of}
 use Rattle.j39_load.specs.AskedLoads.{asked_in}
-use Rattle.j39_vehicle_times.proofs.Told.{delays_known}
+use Rattle.j39_vehicle_times.proofs.Stated.{delays_known}
 use Rattle.j39_vehicle_times.proofs.bus_delays.delays_by.Goals as goal
 
 pub returns : goal.returns

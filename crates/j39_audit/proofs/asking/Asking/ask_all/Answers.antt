@@ -21,11 +21,13 @@ returns c = λ a recalls.
     let units = recalls.size in
     record {
       size = before.size ∙ recalls.size;
-      asked = λ u. elim (cases_lt u c.loop-unit.unit) [
-        | inl less ↦ before.before u less ∙ ap (λ (o : Option ClaimRequest). option_or o (if is_asked_to_claim s k f u then Some r else None)) (recalls.asked u)
-        | inr past ↦ before.behind u past ∙ recalls.asked u
-            ∙ as_before (a.asked u) (is_asked_to_claim s k f u) r (never_asked s k f u (omega (arith, past, done, count, size, units)))
-      ];
-      closed = λ e. absurd (true≢false (sym before.opened ∙ e));
+      asked = record {
+        places = λ u. elim (cases_lt u c.loop-unit.unit) [
+          | inl less ↦ before.before u less ∙ ap (λ (o : Option ClaimRequest). option_or o (if is_asked_to_claim s k f u then Some r else None)) (recalls.asked.places u)
+          | inr past ↦ before.behind u past ∙ recalls.asked.places u
+              ∙ as_before (a.asked u) (is_asked_to_claim s k f u) r (never_asked s k f u (omega (arith, past, done, count, size, units)))
+        ];
+        closed = λ e. absurd (true≢false (sym before.opened ∙ e));
+      };
       counted = subst (λ (t : MarkTally). AreCounted t a.deaf) (sym before.deaf) recalls.counted;
     }

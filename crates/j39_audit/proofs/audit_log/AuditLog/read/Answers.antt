@@ -1,14 +1,14 @@
 use Rattle.std.proofs.Common.{◌≡◌, ◌+◌, ◌++◌, ◌∷◌, [], ℕ, List, length, refl, sym, ap, subst, ◌∙◌, arith}
 use Rattle.std.proofs.lemmas.List.{length_push}
 use Rattle.std.proofs.lemmas.Result.{IfOk-weaker}
-use Rattle.j39_id.specs.Lines.{Line, Short as ShortLine, Long, tells}
+use Rattle.j39_id.specs.Lines.{Line, Short as ShortLine, Long, yields}
 use Rattle.j39_id.specs.declared.cut.Cut.{Cut}
 use Rattle.j39_audit.specs.AuditText.{AuditPast, AuditsShort, bad_line, nothing_read, with_next_number}
 use Rattle.j39_audit.specs.Settings.{Settings}
 use Rattle.j39_audit.specs.declared.basis.Basis.{Basis}
 use Rattle.j39_audit.specs.inside.Auditing.{HasAudited, RecallsAudit}
 use Rattle.j39_audit.specs.inside.Recalling.{settings_of}
-use Rattle.j39_audit.proofs.Hearing.{line_more}
+use Rattle.j39_audit.proofs.Hearing.{line_more, next_line}
 use Rattle.j39_audit.proofs.audit_log.AuditLog.read.Goals as goal
 
 pub returns-in-Line-clause-lines : goal.returns-in-Line-clause-lines
@@ -20,23 +20,7 @@ returns-in-Line-clause-lines c =
     (λ _ took. λ s ls audited.
     let past : AuditPast = audited.past in
     let old = audited.recalls in
-    let one = took (with_next_number past) (record {
-      follows = record {
-        knows = old.follows.knows;
-        counted = old.follows.counted;
-        newest_is = old.follows.newest_is;
-        moments = old.follows.moments;
-        by_load = old.follows.by_load;
-        asking = old.follows.asking;
-        broadcasts = old.follows.broadcasts;
-      };
-      number_is = ap (λ (n : ℕ). n + 1) old.number_is;
-      interface_is = old.interface_is;
-      frames_are = old.frames_are;
-      skipped_are = old.skipped_are;
-      bad_are = old.bad_are;
-      elsewhere_are = old.elsewhere_are;
-    }) in
+    let one = took (with_next_number past) (next_line c.args.self.now past old) in
     let same : settings_of new.basis ≡ s = ap (λ (b : Basis). settings_of b) c.take_line.ensures.basis ∙ audited.settings_are in
     let next = one.number_is in
     let before = audited.number_is in
@@ -49,7 +33,7 @@ returns-in-Line-clause-lines c =
       number_is = omega (arith, next, before, more);
       settings_are = same;
     } in
-    subst (λ (k : List Line). HasAudited s new (ls ++ k)) (sym (ap (λ (k : Cut). tells k text) c.in-Line.is)) done)
+    subst (λ (k : List Line). HasAudited s new (ls ++ k)) (sym (ap (λ (k : Cut). yields k text) c.in-Line.is)) done)
     c.take_line.ensures.line
 
 pub returns-in-Long-clause-lines : goal.returns-in-Long-clause-lines
@@ -64,23 +48,7 @@ returns-in-Long-clause-lines c =
     let next = with_next_number past in
     let end : AuditPast = bad_line s next in
     let same : settings_of new.basis ≡ s = ap (λ (b : Basis). settings_of b) c.take_bad.ensures.basis ∙ audited.settings_are in
-    let one = took next (record {
-      follows = record {
-        knows = old.follows.knows;
-        counted = old.follows.counted;
-        newest_is = old.follows.newest_is;
-        moments = old.follows.moments;
-        by_load = old.follows.by_load;
-        asking = old.follows.asking;
-        broadcasts = old.follows.broadcasts;
-      };
-      number_is = ap (λ (n : ℕ). n + 1) old.number_is;
-      interface_is = old.interface_is;
-      frames_are = old.frames_are;
-      skipped_are = old.skipped_are;
-      bad_are = old.bad_are;
-      elsewhere_are = old.elsewhere_are;
-    }) in
+    let one = took next (next_line c.args.self.now past old) in
     let count : end.number ≡ length (ls ++ Long ∷ []) = omega (arith, before, more) in
     let done : HasAudited s new (ls ++ Long ∷ []) = record {
       past = end;
@@ -89,5 +57,5 @@ returns-in-Long-clause-lines c =
       number_is = count;
       settings_are = same;
     } in
-    subst (λ (k : List Line). HasAudited s new (ls ++ k)) (sym (ap (λ (k : Cut). tells k c.args.line.now) c.in-Long.is)) done)
+    subst (λ (k : List Line). HasAudited s new (ls ++ k)) (sym (ap (λ (k : Cut). yields k c.args.line.now) c.in-Long.is)) done)
     c.take_bad.ensures.fault

@@ -6,6 +6,7 @@ use Rattle.j39_log.specs.declared.line_counts.LineCounts.{LineCounts}
 use Rattle.j39_follow.specs.LogLines.{interface_behind}
 use Rattle.j39_follow.specs.inside.FollowedSoFar.{interface_of}
 use Rattle.j39_audit.specs.AuditText.{past_with_frame}
+use Rattle.j39_audit.proofs.Hearing.{follows_still}
 use Rattle.j39_audit.proofs.audit_log.AuditLog.take_frame_line.Goals as goal
 
 pub returns-clause-frame : goal.returns-clause-frame
@@ -18,15 +19,7 @@ returns-clause-frame c = λ past recalls.
       packet = took.packet;
       packet_is = took.packet_is;
       recalls = record {
-        follows = record {
-          knows = took.follows.knows;
-          counted = took.follows.counted;
-          newest_is = took.follows.newest_is;
-          moments = took.follows.moments;
-          by_load = took.follows.by_load;
-          asking = took.follows.asking;
-          broadcasts = took.follows.broadcasts;
-        };
+        follows = follows_still c.take_timed.new.self _ took.follows;
         number_is = timed.number ∙ recalls.number_is;
         interface_is = c.in_ok-keep_interface.ensures ∙ ap (λ (i : Option (List ℕ)). interface_behind i named)
             (ap (λ (i : Option (Vec ℕ Global)). interface_of i) timed.interface ∙ recalls.interface_is);

@@ -1,25 +1,23 @@
-use Rattle.std.proofs.Common.{◌++◌, ℕ, Option, Some, ap, subst, ◌∙◌}
+use Rattle.std.proofs.Common.{◌++◌, ℕ, Option, Some, subst}
 use Rattle.std.proofs.lemmas.Result.{IfOk-weaker}
-use Rattle.j39_audit.specs.BegunBroadcasts.{late_noted, next_packet}
-use Rattle.j39_audit.specs.declared.broadcasts.BegunBroadcast.{BegunBroadcast}
-use Rattle.j39_audit.specs.inside.Recalling.{AreCounted, settings_of}
-use Rattle.j39_audit.proofs.Begun.{kept_one}
+use Rattle.j39_audit.specs.BegunBroadcasts.{late_noted, with_one}
+use Rattle.j39_audit.specs.Counting.{noted_by}
+use Rattle.j39_audit.specs.declared.mark.Mark.{Mark}
+use Rattle.j39_audit.specs.inside.Recalling.{AreCounted, RecallsBroadcasts, settings_of}
 use Rattle.j39_audit.proofs.broadcasts.BegunBroadcasts.take_packet.Goals as goal
 
 pub returns : goal.returns
 returns c =
-    IfOk-weaker c.note_late.result _ _
+    IfOk-weaker c.note_by.result _ _
     (λ _ noted. λ b recalls.
-    let is = c.set.ensures in
-    let next = Some (next_packet c.args.one c.args.moment c.args.line) in
-    let with_left : ℕ → Option BegunBroadcast = λ n. Some (record { left = n; moment = c.args.moment; line = c.args.line }) in
-    let here = is.here ∙ ap with_left c.saturating_sub.ensures in
-    let one = kept_one (settings_of c.args.basis.now) c.args.unit next b c.args.self.now c.set.new.self is.open is.late is.size is.others here recalls in
+    let line = c.args.one.line in
+    let kept = subst (λ (left : ℕ). RecallsBroadcasts (settings_of c.args.basis.now) c.set.new.self
+    (with_one c.args.unit (Some (record { left = left; moment = c.args.moment; line = c.args.line })) b)) c.saturating_sub.ensures (c.set.ensures b recalls) in
     record {
-      size = one.size;
-      begun = one.begun;
-      closed = one.closed;
-      counted = subst (λ (by : Option ℕ). AreCounted c.note_late.new.late (b.late ++ late_noted c.args.unit c.args.one.line by)) c.late_by.ensures
-          (noted.counts b.late one.counted);
+      size = kept.size;
+      begun = kept.begun;
+      counted = subst (λ (by : Option ℕ). AreCounted c.note_by.new.self (b.late ++ late_noted c.args.unit line by)) c.late_by-by.ensures
+          (subst (λ (k : Mark). AreCounted c.note_by.new.self (b.late ++ noted_by k line c.late_by-by.result)) c.make_mark-mark.ensures
+          (noted.counts b.late kept.counted));
     })
-    c.note_late.ensures
+    c.note_by.ensures

@@ -1,6 +1,6 @@
-use Rattle.std.proofs.Common.{◌<◌, refl, ◌∙◌}
-use Rattle.j39_audit.specs.inside.Recalling.{far_ahead}
-use Rattle.j39_audit.proofs.Pausing.{none_is}
+use Rattle.std.proofs.Common.{refl}
+use Rattle.j39_audit.proofs.Keeping.{kept_none}
+use Rattle.j39_audit.proofs.Pausing.{near_with, none_near, recalls_with}
 use Rattle.j39_audit.proofs.moments.Moments.begin.Goals as goal
 
 pub returns-in_ok-end_all-clause-moments : goal.returns-in_ok-end_all-clause-moments
@@ -11,31 +11,17 @@ returns-in_ok-end_all-clause-moments c = λ m recalls.
       since = refl;
       earliest = λ key. c.forget.ensures key;
       counted = ended.counted;
-      pauses = record { newest = ended.pauses.newest; last = ended.pauses.last; closed = ended.pauses.closed };
+      pauses = record { newest = ended.pauses.newest; last = ended.pauses.last };
     })
 
 pub returns-then-broken-clause-near : goal.returns-then-broken-clause-near
 returns-then-broken-clause-near c =
     let near = c.requires.near in
     let forgot = c.forget-then-broken.ensures in
-    record {
-      earliest = near.earliest;
-      since = near.since;
-      pauses = record {
-        newest = λ n. none_is (λ x. x.moment < far_ahead) _ (forgot.newest n);
-        last = λ u. none_is _ _ (forgot.last u);
-        newest_size = forgot.newest_size ∙ near.pauses.newest_size;
-        last_size = forgot.last_size ∙ near.pauses.last_size;
-      };
-    }
+    near_with near
+    (none_near c.args.self.now.pauses c.forget-then-broken.new.self forgot.newest forgot.last forgot.newest_size forgot.last_size near.pauses)
 
 pub returns-then-broken-clause-moments : goal.returns-then-broken-clause-moments
 returns-then-broken-clause-moments c = λ m recalls.
     let forgot = c.forget-then-broken.ensures in
-    rw (c.if-anew.false, c.if-broken.true) (record {
-      before = recalls.before;
-      since = recalls.since;
-      earliest = recalls.earliest;
-      counted = recalls.counted;
-      pauses = record { newest = forgot.newest; last = forgot.last; closed = λ e. (λ n. refl, λ u. refl) };
-    })
+    rw (c.if-anew.false, c.if-broken.true) (recalls_with recalls recalls.counted (kept_none forgot.newest) (kept_none forgot.last))

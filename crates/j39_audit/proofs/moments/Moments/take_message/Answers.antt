@@ -40,7 +40,7 @@ returns-clause-moments c = λ m recalls.
       earliest = λ key. c.in_ok-set.ensures key
           ∙ ap (λ (e : Option ℕ). with_earliest at e (earliest_in c.args.self.now.earliest) key) kept
           ∙ ap (λ (f : Key → Option ℕ). with_earliest at (earliest_next stream.step (m.earliest at) window) f key) old;
-      counted = subst (λ (b : Option ℕ). AreCounted c.note_near.new.untimely (m.untimely ++ near_noted stream c.args.line b)) by
-          (c.in_ok-note_near.ensures.counts m.untimely recalls.counted);
-      pauses = record { newest = recalls.pauses.newest; last = recalls.pauses.last; closed = recalls.pauses.closed };
+      counted = subst (λ (b : Option ℕ). AreCounted c.note_by.new.self (m.untimely ++ near_noted stream c.args.line b)) by
+          (c.in_ok-note_by.ensures.counts m.untimely recalls.counted);
+      pauses = record { newest = recalls.pauses.newest; last = recalls.pauses.last };
     }

@@ -13,5 +13,5 @@ returns-clause-moments c = λ m recalls.
           ∙ ap (λ (i : Option ℕ). since_behind s c.args.timing c.args.broken c.args.bytes c.args.time m.before i) recalls.since;
       earliest = recalls.earliest;
       counted = recalls.counted;
-      pauses = record { newest = recalls.pauses.newest; last = recalls.pauses.last; closed = recalls.pauses.closed };
+      pauses = record { newest = recalls.pauses.newest; last = recalls.pauses.last };
     }

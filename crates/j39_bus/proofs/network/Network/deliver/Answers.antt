@@ -9,9 +9,9 @@ use Rattle.j39_bus.proofs.Delivered.{delivered, planned_units_heard}
 use Rattle.j39_bus.proofs.Room.{can_note_all, named}
 use Rattle.j39_bus.specs.declared.network.Network.{Network}
 use Rattle.j39_bus.specs.inside.KeptMessages.{IsTraffic}
-use Rattle.j39_bus.proofs.Steady.{told_traffic}
-use Rattle.j39_bus.proofs.WellFormed.{well_told, well_heard}
-use Rattle.j39_bus.proofs.Worlds.{any_default, world, told_nothing}
+use Rattle.j39_bus.proofs.Steady.{stated_traffic}
+use Rattle.j39_bus.proofs.WellFormed.{well_stated, well_heard}
+use Rattle.j39_bus.proofs.Worlds.{any_default, world, stated_nothing}
 use Rattle.j39_bus.proofs.network.Network.deliver.Goals as goal
 
 name_at : (cs : List ClaimerValue) (u : ℕ) (d : ClaimerValue) (n : ℕ) → u < length cs → d ≡ get_or cs u d → n ≡ d.planned.name
@@ -38,11 +38,11 @@ returns-in-Some-answer-clause-network g c =
     well_heard cs c.args.self.now.claims.lists c.requires.network.claims c.args.to c.requires.to c.name-name.result is_one c.in-Some.item
     (Some c.in-Some-answer.say) new rule c.pop.new.self.lists c.pop.ensures.table in
     record {
-      claims = well_told new c.pop.new.self.lists well c.tell.new.self.claimers.items c.tell.new.self.claims.lists
-          (ap (λ v. v.items) c.tell.ensures.claimers) c.tell.ensures.table;
-      traffic = told_traffic c.tell.new.self (record c.args.self.now { claimers = c.hear-answer.new.claimers; claims = c.pop.new.self }) c.tell.ensures.rest
+      claims = well_stated new c.pop.new.self.lists well c.send_to_others.new.self.claimers.items c.send_to_others.new.self.claims.lists
+          (ap (λ v. v.items) c.send_to_others.ensures.claimers) c.send_to_others.ensures.table;
+      traffic = stated_traffic c.send_to_others.new.self (record c.args.self.now { claimers = c.hear-answer.new.claimers; claims = c.pop.new.self }) c.send_to_others.ensures.rest
           (length cs)
-          (ap length (ap (λ v. v.items) c.tell.ensures.claimers) ∙ ap length rule.1
+          (ap length (ap (λ v. v.items) c.send_to_others.ensures.claimers) ∙ ap length rule.1
           ∙ length-set cs c.args.to (record (get_or cs c.args.to absent_unit) { state = rule.0 }))
           c.requires.network.traffic;
     }
@@ -50,12 +50,12 @@ returns-in-Some-answer-clause-network g c =
 pub returns-in-Some-answer-clause-plan : goal.returns-in-Some-answer-clause-plan
 returns-in-Some-answer-clause-plan g c = record {
   planned_units =
-      ap (λ v. planned_units v.items) c.tell.ensures.claimers
+      ap (λ v. planned_units v.items) c.send_to_others.ensures.claimers
       ∙ planned_units_heard c.args.self.now.claimers.items c.args.to c.name-name.result c.in-Some.item
       (Some c.in-Some-answer.say) c.hear-answer.new.claimers.items c.in-Some-answer.ensures.rule;
-  live = ap (λ (m : Network). m.live) c.tell.ensures.rest;
-  flows = ap (λ (m : Network). m.flows.items) c.tell.ensures.rest;
-  windows = ap (λ (m : Network). m.receivers.windows) c.tell.ensures.rest;
+  live = ap (λ (m : Network). m.live) c.send_to_others.ensures.rest;
+  flows = ap (λ (m : Network). m.flows.items) c.send_to_others.ensures.rest;
+  windows = ap (λ (m : Network). m.receivers.windows) c.send_to_others.ensures.rest;
 }
 
 pub returns-in-Some-answer-clause-world : goal.returns-in-Some-answer-clause-world
@@ -67,7 +67,7 @@ returns-in-Some-answer-clause-world g c = λ h.
     (map sent_of c.args.self.now.frames.items) c.args.from c.args.to c.requires.to
     c.in-Some.item c.in-Some.ensures.some c.pop.ensures.lists c.name-name.result named_is
     (Some c.in-Some-answer.say) c.hear-answer.new.claimers.items c.in-Some-answer.ensures.rule
-    _ (c.tell.ensures.world h)
+    _ (c.send_to_others.ensures.world h)
 
 pub returns-in-None-clause-network : goal.returns-in-None-clause-network
 returns-in-None-clause-network g c =
@@ -103,6 +103,6 @@ returns-in-None-clause-world g c = λ h.
     (map sent_of c.args.self.now.frames.items) c.args.from c.args.to c.requires.to
     c.in-Some.item c.in-Some.ensures.some c.pop.ensures.lists c.name-name.result named_is
     None c.hear-answer.new.claimers.items c.in-None.ensures.rule
-    _ (sym (told_nothing (planned_units c.hear-answer.new.claimers.items)
+    _ (sym (stated_nothing (planned_units c.hear-answer.new.claimers.items)
     (world (world_in h c.args.self.now) c.hear-answer.new.claimers.items (pair_in c.pop.new.self.lists) (map sent_of c.args.self.now.frames.items))
     c.args.to))

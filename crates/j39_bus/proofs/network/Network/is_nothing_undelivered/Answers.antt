@@ -1,5 +1,5 @@
 use Rattle.std.proofs.Common.{length, sym}
-use Rattle.j39_bus.proofs.BeginRefused.{settled_by}
+use Rattle.j39_bus.proofs.FlowRefused.{settled_by}
 use Rattle.j39_bus.proofs.network.Network.is_nothing_undelivered.Goals as goal
 
 pub returns : goal.returns

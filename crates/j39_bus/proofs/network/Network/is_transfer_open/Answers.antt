@@ -1,6 +1,6 @@
 use Rattle.std.proofs.Common.{ap, is_some, length, not, sym, ◌||◌, ◌∙◌}
 use Rattle.std.specs.List.{list_any}
-use Rattle.j39_bus.proofs.BeginRefused.{settled_by}
+use Rattle.j39_bus.proofs.FlowRefused.{settled_by}
 use Rattle.j39_bus.proofs.Rested.{open_by}
 use Rattle.j39_bus.proofs.network.Network.is_transfer_open.Goals as goal
 

@@ -1,18 +1,15 @@
-use Rattle.std.proofs.Common.{subst, List, ℕ, Result, Ok, Err, OnOk}
+use Rattle.std.proofs.Common.{subst, List, ℕ}
+use Rattle.std.proofs.lemmas.Result.{on_ok_weaker}
 use Rattle.j39_queues.specs.Queued.{pair_in}
 use Rattle.j39_bus.specs.inside.Network.{TakesOldest, world_in}
 use Rattle.j39_world.specs.TransferSteps.{TakenFrom}
 use Rattle.j39_bus.proofs.network.Network.take.Goals as goal
 
-on_map : {X E : Type 0} (r : Result X E) (P Q : Type 0) → (P → Q) → OnOk r P → OnOk r Q
-on_map (Ok x) P Q f h = f h
-on_map (Err e) P Q f h = tt
-
 pub returns-clause-steps : goal.returns-clause-steps
 returns-clause-steps c =
     let net = c.args.self.now in
     let list = pair_in net.wire.lists c.args.from c.args.to in
-    on_map c.take_item.result (TakesOldest net c.args.from c.args.to c.take_item.new.self) _
+    on_ok_weaker {P = TakesOldest net c.args.from c.args.to c.take_item.new.self} c.take_item.result
     (λ takes. record {
       of_plan = λ plan planned h held.
           let (after, taken, has) = takes h held in

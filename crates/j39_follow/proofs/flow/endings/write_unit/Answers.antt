@@ -11,35 +11,23 @@ within holders size b n named = subst (λ (k : ℕ). b < k) size (slice_get_with
 
 pub returns-in-Some : goal.returns-in-Some
 returns-in-Some c =
-    let plan = c.args.plan.now in
-    let holders = c.args.holders.now in
-    let place = c.args.place in
-    let unit = c.args.unit.now in
-    let size : length holders.names ≡ 254 = search rules in
+    let stands = subst (IsLatestBelow c.args.plan.now c.args.holders.now c.args.place c.args.unit.now 254) c.in-Some.is c.address.ensures in
     IfOk-weaker c.write_standing.result _ _
     (λ _ written. λ frames of. (
       _,
-      line_there plan holders place unit frames of 254 c.in-Some.address (within holders size)
-          (subst (IsLatestBelow plan holders place unit 254) c.in-Some.is c.address.ensures),
+      line_there c.args.plan.now c.args.holders.now c.args.place c.args.unit.now frames of 254 c.in-Some.address (within c.args.holders.now (search rules)) stands,
       written,
     ))
     c.write_standing.ensures
 
 pub returns-then-was_heard : goal.returns-then-was_heard
 returns-then-was_heard c =
-    let plan = c.args.plan.now in
     let holders = c.args.holders.now in
-    let place = c.args.place in
-    let unit = c.args.unit.now in
-    let size : length holders.names ≡ 254 = search rules in
+    let none = subst (IsLatestBelow c.args.plan.now holders c.args.place c.args.unit.now 254) c.in_default.is c.address.ensures in
+    let heard = sym c.was_heard.ensures ∙ c.if-was_heard.true in
     IfOk-weaker c.write_nowhere.result _ _
-    (λ _ written. λ frames of. (
-      _,
-      line_nowhere plan holders place unit frames of 254 (within holders size)
-          (subst (IsLatestBelow plan holders place unit 254) c.in_default.is c.address.ensures) c.requires.there
-          (sym c.was_heard.ensures ∙ c.if-was_heard.true),
-      written,
-    ))
+    (λ _ written. λ frames of.
+    (_, line_nowhere c.args.plan.now holders c.args.place c.args.unit.now frames of 254 (within holders (search rules)) none c.requires.there heard, written))
     c.write_nowhere.ensures
 
 pub returns-else-was_heard : goal.returns-else-was_heard

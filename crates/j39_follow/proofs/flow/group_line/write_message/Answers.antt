@@ -4,7 +4,7 @@ use Rattle.std.proofs.lemmas.Bool.{and_parts, leb-true}
 use Rattle.std.proofs.lemmas.Option.{get_or_from_slice_get, slice_get_within}
 use Rattle.j39_network.specs.declared.plan.group_plan.GroupPlan.{GroupPlan}
 use Rattle.j39_log.specs.NamedReports.{named_reading_lines}
-use Rattle.j39_log.specs.inside.ReportHeads.{report_head}
+use Rattle.j39_log.specs.ReportHeads.{report_head}
 use Rattle.j39_log.proofs.FoundGroups.{of_group}
 use Rattle.j39_follow.specs.Fits.{IsSentGroup, fitting_flow}
 use Rattle.j39_follow.specs.FollowReports.{message_line}

@@ -1,40 +1,22 @@
-use Rattle.std.proofs.Common.{◌≡◌, ◌<◌, ◌&&◌, Bool, true, false, List, length, get_or, sym, ap, subst, inl, inr, arith, ◌∙◌}
-use Rattle.std.proofs.lemmas.Bool.{cases_lt}
-use Rattle.j39_network.specs.declared.plan.Plan.{Plan}
+use Rattle.std.proofs.Common.{get_or, sym, arith, ◌∙◌}
+use Rattle.std.proofs.lemmas.Bool.{and_from}
 use Rattle.j39_network.specs.declared.plan.flow_plan.FlowPlan.{FlowPlan}
-use Rattle.j39_log.proofs.Indexes.{first_place, no_place}
 use Rattle.j39_follow.specs.Fits.{fits, fits_all, is_for_all}
-use Rattle.j39_follow.proofs.Flows.ToAll.{unfit_for_all}
+use Rattle.j39_follow.proofs.Flows.ToAll.{first_that_passes, none_that_passes, unfit_for_all}
 use Rattle.j39_follow.proofs.flow.sending.flow_to_all.Goals as goal
 
 pub loop-place-init : goal.loop-place-init
 loop-place-init c = λ k flow less. unfit_for_all c.args.group c.args.sent (get_or c.args.groups.now.flows.items k flow) (c.requires k flow less)
 
-both_so : (a b : Bool) → a ≡ true → b ≡ true → (a && b) ≡ true
-both_so true b x y = y
-both_so false b x y = cc
-
 pub returns-then-is_fit : goal.returns-then-is_fit
 returns-then-is_fit c =
-    let flows : List FlowPlan = c.args.groups.now.flows.items in
-    let place = c.loop-place.place in
     let flow : FlowPlan = c.index-flow.result.now in
-    let test = fits_all c.args.group c.args.sent in
-    let less : place < length flows = subst (λ (p : Plan). place < length p.flows.items) c.plan-plan.ensures (omega arith) in
-    let there : flow ≡ get_or flows place flow =
-    subst (λ (p : Plan). flow ≡ get_or p.flows.items place flow) c.plan-plan.ensures c.index-flow.ensures in
-    let passes = both_so (is_for_all flow.to) (fits c.args.group c.args.sent flow) (sym c.is_for_all.ensures ∙ c.if-is_for_all.true)
+    let passes = and_from (is_for_all flow.to) (fits c.args.group c.args.sent flow) (sym c.is_for_all.ensures ∙ c.if-is_for_all.true)
     (sym c.is_fit.ensures ∙ c.if-is_fit.true) in
-    sym (first_place test place flows flow less (ap test (sym there) ∙ passes) c.loop-place.invariant)
+    first_that_passes (fits_all c.args.group c.args.sent) c.plan-plan.result.now c.args.groups.now c.loop-place.place flow c.plan-plan.ensures (omega arith)
+    c.index-flow.ensures passes c.loop-place.invariant
 
 pub returns : goal.returns
 returns c =
-    let flows : List FlowPlan = c.args.groups.now.flows.items in
-    let place = c.loop-place.place in
-    sym (no_place (fits_all c.args.group c.args.sent) flows
-    (λ k flow less. elim (cases_lt k place) [
-      | inl before ↦ c.loop-place.invariant k flow before
-      | inr behind ↦
-          let within = subst (λ (p : Plan). k < length p.flows.items) (sym c.plan-plan.ensures) less in
-          absurd (omega (arith, behind, within))
-    ]))
+    none_that_passes (fits_all c.args.group c.args.sent) c.plan-plan.result.now c.args.groups.now c.loop-place.place c.plan-plan.ensures (omega arith)
+    c.loop-place.invariant

@@ -1,5 +1,5 @@
 use Rattle.std.proofs.Common.{subst}
-use Rattle.j39_log.specs.inside.Listening.{IsSpanOf}
+use Rattle.j39_log.specs.GroupSpans.{IsSpanOf}
 use Rattle.j39_follow.proofs.Flows.Numbered.{none_numbered}
 use Rattle.j39_follow.proofs.flow.sending.group_of.Goals as goal
 

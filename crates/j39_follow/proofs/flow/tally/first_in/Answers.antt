@@ -1,5 +1,5 @@
 use Rattle.std.proofs.Common.{sym, subst}
-use Rattle.j39_log.specs.inside.Listening.{IsSpanOf}
+use Rattle.j39_log.specs.GroupSpans.{IsSpanOf}
 use Rattle.j39_follow.proofs.Flows.Numbered.{first_of_span, no_first}
 use Rattle.j39_follow.proofs.flow.tally.first_in.Goals as goal
 

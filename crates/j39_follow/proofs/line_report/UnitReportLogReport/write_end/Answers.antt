@@ -1,8 +1,8 @@
 use Rattle.std.proofs.Common.{◌≡◌, ◌++◌, ℕ, List, subst}
 use Rattle.std.proofs.lemmas.Result.{IfOk-weaker}
 use Rattle.j39_network.specs.declared.plan.Plan.{Plan}
-use Rattle.j39_follow.specs.FollowText.{AreUnitLines, FollowedPast, frames_seen}
-use Rattle.j39_follow.specs.inside.FollowedSoFar.{RecallsPast, behind_reports}
+use Rattle.j39_follow.specs.FollowText.{AreUnitLines, FollowedPast, frames_seen, behind_reports}
+use Rattle.j39_follow.specs.inside.FollowedSoFar.{RecallsPast}
 use Rattle.j39_follow.proofs.LinesRead.{closed}
 use Rattle.j39_follow.proofs.line_report.UnitReportLogReport.write_end.Goals as goal
 

@@ -28,10 +28,10 @@ returns c =
     let m = recalls.remembers in
     let recounts = subst (λ (h : Holders). Recounts plan h (frames_seen past.seen)) (sym c.holders.ensures) m.knows.recounts in
     let ends = c.in_ok-write_endings.ensures past.sent (frames_seen past.seen) (tally_read plan past.sent _ _ c.deref.ensures m.tally) recounts in
-    let a : List ℕ = flow_ends plan past.sent 0 plan.flows.items in
-    let b : List ℕ = group_ends plan past.sent 0 plan.groups.items in
-    let needs : List ℕ = need_ends plan past.sent 0 plan.needs.items in
-    let requests : List ℕ = request_ends plan past.events 0 plan.requests.items in
+    let a : List ℕ = flow_ends plan past.sent in
+    let b : List ℕ = group_ends plan past.sent in
+    let needs : List ℕ = need_ends plan past.sent in
+    let requests : List ℕ = request_ends plan past.events in
     let asked = c.in_ok-write_requests.ensures past.events m.exchanges in
     let met = c.in_ok-write_needs.ensures past.sent (tally_read plan past.sent _ _ c.deref-2.ensures m.tally) in
     let counts : follow_counts_line kept.frames kept.skipped kept.bad kept.elsewhere

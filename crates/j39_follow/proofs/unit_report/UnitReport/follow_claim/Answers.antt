@@ -24,8 +24,8 @@ returns-clause-followed c = λ past of few counted.
     let log : List Timed = lines_with past f c.args.stamp.time.now in
     let sent = of.few in
     let room : length past.sent + 2 < 2 ^ 64 = omega (arith, few, sent) in
-    let told_so_far = of.few_noted in
-    let room_told : length past.events + 3 < 2 ^ 64 = omega (arith, few, told_so_far) in
+    let reported_so_far = of.few_noted in
+    let room_stated : length past.events + 3 < 2 ^ 64 = omega (arith, few, reported_so_far) in
     let many : length (frames_seen past.seen) ≡ length past.seen = length-map past.seen (λ (s : Seen). s.frame) in
     let heard : Knows plan c.hear-2.new.self (frames_with past.seen f) =
     subst (λ (p : Plan). Knows p c.hear-2.new.self (frames_with past.seen f)) c.plan-2.ensures
@@ -37,14 +37,14 @@ returns-clause-followed c = λ past of few counted.
     (c.in_ok-hear.ensures past.timed (subst (λ (p : Plan). Knows p c.args.self.now.directory (frames_of past.timed)) (sym c.plan.ensures) first)
     (subst (λ (p : Plan). AreContests p c.args.self.now.contests past.timed) (sym c.plan.ensures) of.contests))) in
     let same = frames_as_well past f c.args.stamp.time.now of.frames in
-    let told = c.in_ok-report.ensures.reported past (subst (Knows plan c.hear-2.new.self) (sym same) heard) contests of.heard of.ranges of.tally of.exchanges room room_told in
-    let w = told.written in
+    let stated = c.in_ok-report.ensures.reported past (subst (Knows plan c.hear-2.new.self) (sym same) heard) contests of.heard of.ranges of.tally of.exchanges room room_stated in
+    let w = stated.written in
     let knows = subst (λ (d : Directory). Knows plan d (frames_with past.seen f)) (sym c.in_ok-report.ensures.directory) heard in
     let before = subst (λ (ps : List Who). ArePartiesOf plan (frames_seen past.seen) ps) (sym c.all_parties-before.ensures) of.knows.parties in
     let after = subst (λ (d : Parties). ArePartiesOf plan (frames_with past.seen f) d.all) (sym c.parties.ensures) knows.parties in
     record {
-      sort = told.sort;
-      ended = told.ended;
+      sort = stated.sort;
+      ended = stated.ended;
       pairs = c.report.new.self.pairs;
       written = w;
       knows = knows;
@@ -52,6 +52,6 @@ returns-clause-followed c = λ past of few counted.
       heard = heard_anew plan past.seen (record { frame = f; packet = w.packet }) c.all_parties-before.result c.parties.result.now.all c.replaced-taken.result
           c.report.new.self.pairs c.begin_anew.new.pairs before after
           (c.replaced-taken.ensures (frames_seen past.seen) (c.holder.ensures plan (frames_seen past.seen) of.knows)) c.begin_anew.ensures.listeners c.begin_anew.ensures.collections w.heard;
-      tally = told.tally;
-      noted = told.noted;
+      tally = stated.tally;
+      noted = stated.noted;
     }

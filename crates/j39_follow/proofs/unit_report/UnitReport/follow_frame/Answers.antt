@@ -4,7 +4,7 @@ use Rattle.std.proofs.lemmas.List.{length-append, length_push}
 use Rattle.std.proofs.lemmas.List.Elements.{All-push}
 use Rattle.j39_id.specs.declared.frame.Frame.{Frame}
 use Rattle.j39_log.specs.LogPairs.{Seen}
-use Rattle.j39_log.specs.inside.Listening.{IsInRange}
+use Rattle.j39_log.specs.PairListeners.{IsInRange}
 use Rattle.j39_follow.specs.FollowReports.{IsBareText, IsMessageReport, IsNotice, in_frame, stamp}
 use Rattle.j39_follow.specs.FollowText.{IsPacketReport, FollowedPast, lines_with}
 use Rattle.j39_follow.specs.LogLines.{interface_behind}
@@ -46,7 +46,7 @@ returns-clause-frame c = λ past recalls number.
     let sent = length-append past.sent (done.sort ∷ sorts) in
     let ended = one_at_most done.ended in
     let few = m.few in
-    let told = length-append past.events noted.more in
+    let stated = length-append past.events noted.more in
     let three = few_events plan (lines_with past f time) f done.sort done.ended noted.more noted.are_events in
     let few_noted = m.few_noted in
     record {
@@ -82,7 +82,7 @@ returns-clause-frame c = λ past recalls number.
           tally = done.tally;
           few = omega (arith, sent, ended, more, few);
           exchanges = noted.exchanges;
-          few_noted = omega (arith, told, three, more, few_noted);
+          few_noted = omega (arith, stated, three, more, few_noted);
         };
         interface_is =
             c.in_ok-keep_interface.ensures

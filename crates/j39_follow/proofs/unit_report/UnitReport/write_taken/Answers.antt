@@ -1,4 +1,4 @@
-use Rattle.std.proofs.Common.{◌≡◌, ◌<◌, ◌∙◌, ℕ, List, None, Option, sym, ap, subst}
+use Rattle.std.proofs.Common.{◌≡◌, ◌<◌, ◌∙◌, ℕ, List, None, Option, inl, inr, refl, sym, ap, subst}
 use Rattle.std.proofs.lemmas.Result.{IfOk-weaker}
 use Rattle.j39_id.specs.declared.frame.Frame.{Frame}
 use Rattle.j39_network.specs.declared.plan.Plan.{Plan}
@@ -14,7 +14,7 @@ use Rattle.j39_follow.proofs.Addresses.Contested.{defends, taken_so}
 use Rattle.j39_follow.proofs.FrameTexts.{written_so}
 use Rattle.j39_follow.proofs.unit_report.UnitReport.write_taken.Goals as goal
 
--- who is taken to be behind an address, as its contest tells
+-- who is taken to be behind an address, as its contest reports
 taken_there : (plan : Plan) (directory : Directory) (contests : Contests) (log : List Timed) (time : Option ℕ) (a : ℕ) (who : Who) → a < 256
     → Knows plan directory (frames_of log) → AreContests plan contests log → IsNow log time
     → who ≡ taken_party (party_at directory.parties.all a) (defender_at contests a time) → IsTaken plan log a who
@@ -49,10 +49,10 @@ returns-clause-written c =
     let time : Option ℕ = c.moment.result in
     let taken : Parties = c.taken-parties.result in
     let a = c.asker_or_source.result in
-    let source : IsTakenFrom plan self.directory self.contests time taken f.ident.sa = rw c.parties.ensures at c.taken-parties.ensures.source in
+    let source : IsTakenFrom plan self.directory self.contests time taken f.ident.sa = rw c.parties.ensures at (c.taken-parties.ensures.taken f.ident.sa (inl refl)) in
     let receiver : IsTakenFrom plan self.directory self.contests time taken f.ident.ps =
-    rw c.parties.ensures at c.taken-parties.ensures.receiver in
-    let asker : IsTakenFrom plan self.directory self.contests time taken a = rw c.parties.ensures at c.taken-parties.ensures.asker in
+    rw c.parties.ensures at (c.taken-parties.ensures.taken f.ident.ps (inr (inl refl))) in
+    let asker : IsTakenFrom plan self.directory self.contests time taken a = rw c.parties.ensures at (c.taken-parties.ensures.taken a (inr (inr refl))) in
     let there : a ≡ asker_or_source plan f = c.asker_or_source.ensures ∙ ap (λ (p : Plan). asker_or_source p f) c.plan.ensures in
     IfOk-weaker c.report_frame.result _ _
     (λ _ written. written_so

@@ -3,8 +3,8 @@ use Rattle.j39_id.specs.Lines.{at_start}
 use Rattle.j39_id.proofs.CutLines.{part_whole}
 use Rattle.j39_id.proofs.cutter.Cutter.advance.Goals as goal
 
-pub returns-then-is_at_start-clause-told : goal.returns-then-is_at_start-clause-told
-returns-then-is_at_start-clause-told c =
+pub returns-then-is_at_start-clause-yielded : goal.returns-then-is_at_start-clause-yielded
+returns-then-is_at_start-clause-yielded c =
     let old : c.args.self.now.pending ≡ at_start = c.if-is_at_start.ensures refl in
     let e = c.bytes_to_feed-length.ensures in
     rw old (part_whole c.args.piece.now c.bytes_to_feed-length.result e.none c.if-length-piece.true

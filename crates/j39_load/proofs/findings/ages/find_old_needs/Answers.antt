@@ -4,7 +4,7 @@ use Rattle.j39_network.specs.declared.plan.need_plan.NeedPlan.{NeedPlan}
 use Rattle.j39_load.specs.Ages.{oldness}
 use Rattle.j39_load.specs.LineLists.{lines_of_each}
 use Rattle.j39_load.specs.declared.findings.load_finding.LoadFinding.{LoadFinding}
-use Rattle.j39_load.proofs.Before.{more, some_told}
+use Rattle.j39_load.proofs.Before.{more, some_stated}
 use Rattle.j39_load.proofs.findings.ages.find_old_needs.Goals.{in-Some+in_ok-push, in_default}
 use Rattle.j39_load.proofs.findings.ages.find_old_needs.Goals as goal
 
@@ -13,11 +13,11 @@ loop-place-preserved c =
     let k = c.loop-place.place in
     let needs = c.args.needs.now in
     let need = c.index-needs-place.result in
-    let tell = oldness c.args.timing c.args.requests.now c.args.flows.now c.args.delays.now in
+    let report = oldness c.args.timing c.args.requests.now c.args.flows.now c.args.delays.now in
     let old = c.args.findings.now.items in
-    let before : List LoadFinding = lines_of_each tell 0 (take k needs) in
-    let step = more tell k needs need c.loop-place-test.true in
-    let here = ap (λ (n : NeedPlan). old ++ (before ++ tell k n)) c.index-needs-place.is in
+    let before : List LoadFinding = lines_of_each report 0 (take k needs) in
+    let step = more report k needs need c.loop-place-test.true in
+    let here = ap (λ (n : NeedPlan). old ++ (before ++ report k n)) c.index-needs-place.is in
     record {
       found = elim (c.match-oldness.branch) [
         | in-Some+in_ok-push w ↦ rw (w.findings-is, w.in_ok-push.ensures.items)
@@ -34,10 +34,10 @@ loop-place-preserved c =
 
 pub returns-in_err-push-clause-memory : goal.returns-in_err-push-clause-memory
 returns-in_err-push-clause-memory c =
-    let tell = oldness c.args.timing c.args.requests.now c.args.flows.now c.args.delays.now in
-    let at : tell c.loop-place.place c.index-needs-place.result ≢ [] = λ none.
+    let report = oldness c.args.timing c.args.requests.now c.args.flows.now c.args.delays.now in
+    let at : report c.loop-place.place c.index-needs-place.result ≢ [] = λ none.
     let never : c.in-Some.finding ∷ [] ≡ [] = sym (c.in-Some.ensures {u = tt}).some ∙ none in cc in
-    let some : lines_of_each tell 0 c.args.needs.now ≢ [] =
-    some_told tell c.loop-place.place c.args.needs.now c.index-needs-place.result c.loop-place-test.true
-    (λ none. at (ap (tell c.loop-place.place) c.index-needs-place.is ∙ none)) in
+    let some : lines_of_each report 0 c.args.needs.now ≢ [] =
+    some_stated report c.loop-place.place c.args.needs.now c.index-needs-place.result c.loop-place-test.true
+    (λ none. at (ap (report c.loop-place.place) c.index-needs-place.is ∙ none)) in
     search rules

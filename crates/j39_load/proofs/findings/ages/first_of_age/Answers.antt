@@ -12,11 +12,11 @@ loop-place-preserved c =
     let k = c.loop-place.place in
     let flows = c.args.flows.now in
     let flow = c.index-flows-place.result in
-    let tell = place_of_age c.args.timing c.args.requests.now c.args.delays.now c.args.need.now c.args.age in
-    let before : List ℕ = lines_of_each tell 0 (take k flows) in
+    let report = place_of_age c.args.timing c.args.requests.now c.args.delays.now c.args.need.now c.args.age in
+    let before : List ℕ = lines_of_each report 0 (take k flows) in
     c.or-first.ensures
     ∙ ap (λ (o : Option ℕ). option_or o c.place_of_age.result) c.loop-place.invariant
     ∙ ap (option_or (first_of before)) c.place_of_age.ensures
-    ∙ sym (first_of_both before (tell k flow))
-    ∙ ap (λ (f : FlowPlan). first_of (before ++ tell k f)) c.index-flows-place.is
-    ∙ ap first_of (sym (more tell k flows flow c.loop-place-test.true))
+    ∙ sym (first_of_both before (report k flow))
+    ∙ ap (λ (f : FlowPlan). first_of (before ++ report k f)) c.index-flows-place.is
+    ∙ ap first_of (sym (more report k flows flow c.loop-place-test.true))

@@ -3,7 +3,7 @@ use Rattle.std.proofs.lemmas.List.{append-nil}
 use Rattle.j39_load.specs.LineLists.{lines_of_each}
 use Rattle.j39_load.specs.declared.findings.load_finding.LoadFinding.{LoadFinding}
 use Rattle.j39_load.specs.inside.FlowSearch.{found_at}
-use Rattle.j39_load.proofs.Before.{more, some_told}
+use Rattle.j39_load.proofs.Before.{more, some_stated}
 use Rattle.j39_load.proofs.findings.faults.find_each.Goals.{in-Some+in_ok-push, in_default}
 use Rattle.j39_load.proofs.findings.faults.find_each.Goals as goal
 
@@ -30,6 +30,6 @@ loop-flow-preserved c =
 pub returns-in_err-push-clause-memory : goal.returns-in_err-push-clause-memory
 returns-in_err-push-clause-memory c =
     let some : lines_of_each (found_at c.args.fault) 0 c.args.delays.now ≢ [] =
-    some_told (found_at c.args.fault) c.loop-flow.flow c.args.delays.now None c.loop-flow-test.true
+    some_stated (found_at c.args.fault) c.loop-flow.flow c.args.delays.now None c.loop-flow-test.true
     (λ none. let never : c.in-Some.finding ∷ [] ≡ [] = sym (c.in-Some.ensures {u = tt}).some ∙ none in cc) in
     search rules

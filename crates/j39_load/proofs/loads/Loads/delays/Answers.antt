@@ -2,7 +2,7 @@ use Rattle.std.proofs.Common.{◌≡◌, ◌∷◌, [], List, length, length-app
 use Rattle.j39_load.specs.declared.waits.delay.Delay.{Delay}
 use Rattle.j39_load.specs.AskedLoads.{asked_in}
 use Rattle.j39_load.specs.Delays.{HasDelay}
-use Rattle.j39_load.proofs.BufferingDelays.{one_more}
+use Rattle.j39_load.proofs.StatedPlaces.{one_more}
 use Rattle.j39_load.proofs.loads.Loads.delays.Goals as goal
 
 pub loop-flow-preserved : goal.loop-flow-preserved

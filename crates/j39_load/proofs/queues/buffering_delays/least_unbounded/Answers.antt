@@ -10,10 +10,10 @@ pub loop-place-preserved : goal.loop-place-preserved
 loop-place-preserved c =
     let k = c.loop-place.place in
     let all = c.args.all.now in
-    let tell = unbounded_at c.args.waits.now in
-    let before : List ℕ = lines_of_each tell 0 (take k all) in
+    let report = unbounded_at c.args.waits.now in
+    let before : List ℕ = lines_of_each report 0 (take k all) in
     c.smaller-least.ensures
     ∙ ap (λ (o : Option ℕ). smaller_known o c.unbounded_at.result) c.loop-place.invariant
     ∙ ap (smaller_known (least before)) c.unbounded_at.ensures
-    ∙ sym (least_of_both before (tell k (get_or all k None)))
-    ∙ ap least (sym (more tell k all None c.loop-place-test.true))
+    ∙ sym (least_of_both before (report k (get_or all k None)))
+    ∙ ap least (sym (more report k all None c.loop-place-test.true))

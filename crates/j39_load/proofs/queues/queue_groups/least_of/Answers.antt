@@ -10,10 +10,10 @@ pub loop-frames-preserved : goal.loop-frames-preserved
 loop-frames-preserved c =
     let k = c.loop-frames.frames-index in
     let all = c.args.all.now in
-    let tell = own_least c.args.unit in
-    let before : List ℕ = lines_of_each tell 0 (take k all) in
+    let report = own_least c.args.unit in
+    let before : List ℕ = lines_of_each report 0 (take k all) in
     c.smaller-least.ensures
     ∙ ap (λ (o : Option ℕ). smaller_known o c.own_least.result) c.loop-frames.invariant
     ∙ ap (smaller_known (least before)) (c.own_least.ensures k)
-    ∙ sym (least_of_both before (tell k (get_or all k None)))
-    ∙ ap least (sym (more tell k all None c.loop-frames-test.true))
+    ∙ sym (least_of_both before (report k (get_or all k None)))
+    ∙ ap least (sym (more report k all None c.loop-frames-test.true))

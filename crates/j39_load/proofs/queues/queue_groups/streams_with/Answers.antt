@@ -9,17 +9,17 @@ use Rattle.j39_load.proofs.queues.queue_groups.streams_with.Goals as goal
 
 pub loop-sent-preserved : goal.loop-sent-preserved
 loop-sent-preserved c =
-    let tell = stream_with c.args.leasts.now c.args.own.now c.args.level in
+    let report = stream_with c.args.leasts.now c.args.own.now c.args.level in
     let damage = damage_streams c.args.timing in
     let all = c.args.all.now in
     let k = c.loop-sent.sent-index in
     let next : k + 1 ≡ suc k = omega arith in
-    let more = ap (λ (n : ℕ). filter_map tell (take n all)) next ∙ ap (filter_map tell) (take-suc all k None c.loop-sent-test.true)
-    ∙ filter_map-append tell (take k all) (get_or all k None ∷ []) in
+    let more = ap (λ (n : ℕ). filter_map report (take n all)) next ∙ ap (filter_map report) (take-suc all k None c.loop-sent-test.true)
+    ∙ filter_map-append report (take k all) (get_or all k None ∷ []) in
     record {
       streams = c.in_ok-add_with.ensures.streams
-          ∙ ap (λ (xs : List Stream). xs ++ cons_option (tell (get_or all k None)) []) c.loop-sent.invariant.streams
-          ∙ append_assoc damage (filter_map tell (take k all)) (cons_option (tell (get_or all k None)) [])
+          ∙ ap (λ (xs : List Stream). xs ++ cons_option (report (get_or all k None)) []) c.loop-sent.invariant.streams
+          ∙ append_assoc damage (filter_map report (take k all)) (cons_option (report (get_or all k None)) [])
           ∙ ap (λ (xs : List Stream). damage ++ xs) (sym more);
       few = omega (arith, c.loop-sent.invariant.few, c.in_ok-add_with.ensures.few);
       fit = c.in_ok-add_with.ensures.fit;

@@ -1,6 +1,6 @@
-use Rattle.std.proofs.Common.{◌≡◌, ◌∙◌, get_or, max, None, false, sym, ap}
+use Rattle.std.proofs.Common.{◌≡◌, ◌∙◌, get_or, max, sym, ap}
 use Rattle.j39_load.specs.Demands.{most_packets}
-use Rattle.j39_load.specs.declared.frames.broadcast.Broadcast.{Broadcast}
+use Rattle.j39_load.proofs.Broadcasting.{no_broadcast}
 use Rattle.j39_load.proofs.DemandLaws.{next_most, none_most}
 use Rattle.j39_load.proofs.waits.demands.most_packets.Goals as goal
 
@@ -9,9 +9,8 @@ loop-broadcast-init c = sym none_most
 
 pub loop-broadcast-preserved : goal.loop-broadcast-preserved
 loop-broadcast-preserved c =
-    let none : Broadcast = record { sender = 0; packets = 0; least_packets = 0; has_short = false; period = 0; apart = 0; jitter = 0; deadline = None } in
     let bs = c.args.broadcasts.now in
     let k = c.loop-broadcast.broadcast-index in
     let old : c.loop-broadcast.most ≡ most_packets _ = c.loop-broadcast.invariant in
-    let greater : c.max-most.result ≡ max (get_or bs k none).packets c.loop-broadcast.most = c.max-most.ensures in
-    greater ∙ ap (max (get_or bs k none).packets) old ∙ sym (next_most bs k none c.loop-broadcast-test.true)
+    let greater : c.max-most.result ≡ max (get_or bs k no_broadcast).packets c.loop-broadcast.most = c.max-most.ensures in
+    greater ∙ ap (max (get_or bs k no_broadcast).packets) old ∙ sym (next_most bs k no_broadcast c.loop-broadcast-test.true)

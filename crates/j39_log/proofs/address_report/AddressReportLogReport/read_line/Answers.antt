@@ -6,7 +6,7 @@ use Rattle.j39_id.specs.Lines.{Short}
 use Rattle.j39_log.specs.LogPairs.{Seen}
 use Rattle.j39_log.specs.ReadText.{Past, nothing_yet, passed_over, with_frame}
 use Rattle.j39_log.specs.declared.line_counts.LineCounts.{LineCounts}
-use Rattle.j39_log.specs.inside.Listening.{IsInRange}
+use Rattle.j39_log.specs.PairListeners.{IsInRange}
 use Rattle.j39_log.specs.inside.ReadSoFar.{Recalls, line_more}
 use Rattle.j39_log.proofs.LinesRead.{recalls_passed_over}
 use Rattle.j39_log.proofs.address_report.AddressReportLogReport.read_line.Goals as goal

@@ -1,5 +1,5 @@
 use Rattle.std.proofs.Common.{get_or, sym, subst, None}
-use Rattle.j39_log.specs.inside.Listening.{IsSpanOf}
+use Rattle.j39_log.specs.GroupSpans.{IsSpanOf}
 use Rattle.j39_log.specs.LogFrames.{is_planned_as}
 use Rattle.j39_log.proofs.Indexes.{no_place, unplanned}
 use Rattle.j39_log.proofs.groups.Groups.place.Goals as goal

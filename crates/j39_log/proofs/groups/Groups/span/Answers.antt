@@ -1,5 +1,5 @@
 use Rattle.std.proofs.Common.{◌∙◌, sym, subst}
-use Rattle.j39_log.specs.inside.Listening.{IsSpanOf}
+use Rattle.j39_log.specs.GroupSpans.{IsSpanOf}
 use Rattle.j39_log.proofs.groups.Groups.span.Goals as goal
 
 pub returns : goal.returns

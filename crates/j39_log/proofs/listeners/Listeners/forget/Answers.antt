@@ -1,7 +1,7 @@
 use Rattle.std.proofs.Common.{◌≡◌, ℕ, Bool, if◌then◌else◌, ap, ◌∙◌}
 use Rattle.j39_tp.specs.Receiver.{fresh}
 use Rattle.j39_tp.specs.declared.receiving.manner.Manner.TheVariants.{Listening}
-use Rattle.j39_log.specs.inside.Listening.{is_of_pair, listener_of_pair}
+use Rattle.j39_log.specs.PairListeners.{is_of_pair, listener_of_pair}
 use Rattle.j39_log.proofs.Forgetting.{all_are_reached, one_more_forgotten}
 use Rattle.j39_log.proofs.listeners.Listeners.forget.Goals as goal
 

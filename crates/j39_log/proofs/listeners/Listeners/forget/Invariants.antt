@@ -1,7 +1,7 @@
 use Rattle.std.proofs.Common.{◌≡◌, ◌==◌, ◌&&◌, ◌||◌, ℕ, nat_lt, if◌then◌else◌}
 use Rattle.j39_tp.specs.Receiver.{fresh}
 use Rattle.j39_tp.specs.declared.receiving.manner.Manner.TheVariants.{Listening}
-use Rattle.j39_log.specs.inside.Listening.{listener_of_pair}
+use Rattle.j39_log.specs.PairListeners.{listener_of_pair}
 use Rattle.j39_log.proofs.listeners.Listeners.forget.Given as goal
 
 abbrev pub invariant-loop-other : goal.invariant-loop-other

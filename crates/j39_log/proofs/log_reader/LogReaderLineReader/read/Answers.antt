@@ -1,7 +1,7 @@
 use Rattle.std.proofs.Common.{◌+◌, ◌^◌, ◌≡◌, ◌++◌, ◌∷◌, ℕ, true, List, [], sym, ap, subst}
 use Rattle.std.proofs.lemmas.List.{append-nil}
 use Rattle.std.proofs.lemmas.Result.{IfOk-weaker}
-use Rattle.j39_id.specs.Lines.{Line, Long, Short, tells}
+use Rattle.j39_id.specs.Lines.{Line, Long, Short, yields}
 use Rattle.j39_id.specs.declared.cut.Cut.{Cut}
 use Rattle.j39_stream.specs.LineReading.{IsSoFar}
 use Rattle.j39_stream.specs.declared.verdict.Verdict.TheVariants.{Done}
@@ -21,7 +21,7 @@ returns-in-More-clause-lines g c before written kept =
     let IsText : List ℕ → List ℕ → Type 0 = g.R.LogReport.is_log_text self.report.now plan in
     subst
     (λ (cut : Cut). IsSoFar (Keeps Reported self.number self.text) (λ log text verdict. IsText log text × (verdict ≡ Done)) true self.text
-    (before ++ tells cut c.args.line.now) written)
+    (before ++ yields cut c.args.line.now) written)
     (sym c.in-More.is)
     (none_more Reported IsText (g.met.R.LogReport.ends self.report.now plan self.counts) self.number self.text before written kept)
 
@@ -39,7 +39,7 @@ returns-in-Line-clause-lines g c =
     (λ _ reported. λ before written kept.
     subst
     (λ (cut : Cut). IsSoFar (Keeps Reported (self.number + 1) text) (λ log text verdict. IsText log text × (verdict ≡ Done)) true text
-    (before ++ tells cut c.args.line.now) written)
+    (before ++ yields cut c.args.line.now) written)
     (sym c.in-Line.is)
     (one_more Reported IsText (g.met.R.LogReport.ends report plan counts) Old self.number (Short c.args.line.now) self.text text before written
     (reported before (written ++ self.text) (ap (λ (n : ℕ). n + 1) kept.0)) kept))
@@ -57,7 +57,7 @@ returns-in-Long-clause-lines g c before written kept =
     let long = g.met.R.LogReport.long_line self.report.now plan self.counts before reports kept.1 in
     subst
     (λ (cut : Cut). IsSoFar (Keeps Reported (self.number + 1) self.text) (λ log text verdict. IsText log text × (verdict ≡ Done)) true self.text
-    (before ++ tells cut c.args.line.now) written)
+    (before ++ yields cut c.args.line.now) written)
     (sym c.in-Long.is)
     (one_more Reported IsText (g.met.R.LogReport.ends self.report.now plan counts) Old self.number Long self.text self.text before written
     (λ _. ([], subst (Reported (before ++ Long ∷ [])) (sym (append-nil reports)) long, sym (append-nil self.text))) kept)

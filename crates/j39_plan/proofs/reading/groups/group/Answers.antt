@@ -14,7 +14,7 @@ use Rattle.j39_plan.specs.TextTables.{IsTextOf, text_faults}
 use Rattle.j39_plan.specs.GroupTables.{group_table_faults}
 use Rattle.j39_toml.proofs.FirstFaults.{fails_on, first-append}
 use Rattle.j39_plan.proofs.NoFaults.{tables_count, length-Each, All-from_Each, Each-weaken}
-use Rattle.j39_plan.proofs.ReadGroups.{IsRead, grows_among, meanings_read, signals_read, signals_apart, signal_texts, signal_texts_told, texts_apart}
+use Rattle.j39_plan.proofs.ReadGroups.{IsRead, grows_among, meanings_read, signals_read, signals_apart, signal_texts, signal_texts_stated, texts_apart}
 use Rattle.j39_plan.proofs.ReadGroups.{texts_beside, texts_count}
 use Rattle.j39_plan.proofs.reading.groups.group.Goals as goal
 
@@ -91,14 +91,14 @@ returns-in_err-texts c =
     let when = rw (later.1.3) at c.in_ok-when.ensures in
     let records = c.is_some-records.ensures ∙ ap is_some later.1.2 in
     let ss = c.in_ok-parts.parts.0.items in
-    let labels = signal_texts_told c.args.version c.is_some-records.result _ ss (signals_read c.args.version c.is_some-records.result _ _ _ c.in_ok-parts.ensures.signals c.in_ok-planned.ensures.gives.1) in
+    let labels = signal_texts_stated c.args.version c.is_some-records.result _ ss (signals_read c.args.version c.is_some-records.result _ _ _ c.in_ok-parts.ensures.signals c.in_ok-planned.ensures.gives.1) in
     let none = rw (records, c.in_ok-arrays.ensures.1.0) at c.in_ok-planned.ensures.gives.0 in
     let ds = items_view c.in_ok-arrays.arrays.texts.now in
-    let told :
+    let stated :
     FailsGrowing (EachGrows (text_faults (signal_texts ss) c.args.index) (NeverGrows {L = List ℕ}) ds) c.in_err-texts.field-0.0
     (each_faults (text_faults (signal_texts ss) c.args.index) label_in 0 [] ds) =
     rw c.deref.ensures.value at c.in_err-texts.ensures.gives in
-    let fails = rw (labels, c.in_ok-arrays.ensures.1.0, c.in_ok-arrays.ensures.1.1) at told in
+    let fails = rw (labels, c.in_ok-arrays.ensures.1.0, c.in_ok-arrays.ensures.1.1) at stated in
     rw (p.1, p.2, c.in_ok-only_known.ensures.0, c.in_ok-label.ensures.gives.0, c.in_ok-pgn.ensures.gives.0, c.in_ok-priority.ensures.gives.0)
     (rw (c.in_ok-length.ensures.gives.0, later.0, when.0, c.in_ok-arrays.ensures.0, none)
     (fails_on _ _ c.in_err-texts.field-0.0 _ _ (λ grows. (refl, inr (refl, grows))) (λ f is. is) fails))
@@ -110,8 +110,8 @@ returns c =
     let when = rw (later.1.3) at c.in_ok-when.ensures in
     let records = c.is_some-records.ensures ∙ ap is_some later.1.2 in
     let ss = c.in_ok-parts.parts.0.items in
-    let labels = signal_texts_told c.args.version c.is_some-records.result _ ss (signals_read c.args.version c.is_some-records.result _ _ _ c.in_ok-parts.ensures.signals c.in_ok-planned.ensures.gives.1) in
-    let told = rw c.in_ok-arrays.ensures.1.0 at (Each-weaken (IsRead c.args.version c.is_some-records.result) (IsSignalOf c.args.version) (λ d s read. read.0) _ _ (signals_read c.args.version c.is_some-records.result _ _ _ c.in_ok-parts.ensures.signals c.in_ok-planned.ensures.gives.1)) in
+    let labels = signal_texts_stated c.args.version c.is_some-records.result _ ss (signals_read c.args.version c.is_some-records.result _ _ _ c.in_ok-parts.ensures.signals c.in_ok-planned.ensures.gives.1) in
+    let stated = rw c.in_ok-arrays.ensures.1.0 at (Each-weaken (IsRead c.args.version c.is_some-records.result) (IsSignalOf c.args.version) (λ d s read. read.0) _ _ (signals_read c.args.version c.is_some-records.result _ _ _ c.in_ok-parts.ensures.signals c.in_ok-planned.ensures.gives.1)) in
     let none = rw (records, c.in_ok-arrays.ensures.1.0) at c.in_ok-planned.ensures.gives.0 in
     let ds = items_view c.in_ok-arrays.arrays.texts.now in
     let read : (each_faults (text_faults (signal_texts ss) c.args.index) label_in 0 [] ds ≡ []) × Each IsTextOf ds c.in_ok-texts.texts.items =
@@ -129,7 +129,7 @@ returns c =
         has_most = later.1.1;
         has_every = c.distance-every.ensures ∙ later.1.2;
         has_when = when.1;
-        has_signals = told;
+        has_signals = stated;
         has_meanings = meanings;
         has_texts = texts.1;
       },

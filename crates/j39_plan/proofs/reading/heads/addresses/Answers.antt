@@ -9,4 +9,4 @@ pub loop-value-preserved : goal.loop-value-preserved
 loop-value-preserved c =
     let here = items_view-drop c.args.values.now c.loop-value.value-index c.value-item.result c.loop-value-test.true in
     let read = rw (here, ← c.value-item.is) at c.loop-value.invariant in
-    rw c.insert.ensures (goes_on _ _ _ _ c.in-Ok.address read c.in-Ok.ensures.told.0 c.in-Ok.ensures.told.1 c.in-Ok.ensures.range)
+    rw c.insert.ensures (goes_on _ _ _ _ c.in-Ok.address read c.in-Ok.ensures.stated.0 c.in-Ok.ensures.stated.1 c.in-Ok.ensures.range)

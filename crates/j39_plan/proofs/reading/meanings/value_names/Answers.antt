@@ -16,7 +16,7 @@ pub loop-name-preserved : goal.loop-name-preserved
 loop-name-preserved c =
     let e = rest_more deref_pair c.loop-name.name-iterator c.next.new.self c.next.result (c.in-Some.name, c.in-Some.value) c.in-Some.is c.next.ensures.steps in
     let before = rw e at c.loop-name.invariant in
-    let told = rw c.as_str.ensures.value at c.in-Some-value_name.ensures in
+    let stated = rw c.as_str.ensures.value at c.in-Some-value_name.ensures in
     let left = members_view c.next.new.self in
     let numbers = and_parts (is_number_below c.args.limit (string_bytes c.in-Some.name.now)) (has_numbers c.args.limit left) before.1 in
     let labels = and_parts (option_map_or is_label (as_str (view c.in-Some.value.now)) Rattle.std.proofs.Common.false) (has_labels left) before.2 in
@@ -24,7 +24,7 @@ loop-name-preserved c =
     let count = before.3 in
     let more = length_push c.loop-name.values.items c.in-Some-value_name.named in (
       rw items (one_more_name (table_view c.args.names.now) left (string_bytes c.in-Some.name.now) (view c.in-Some.value.now) c.loop-name.values.items
-          c.in-Some-value_name.named before.0 told.1 told.2),
+          c.in-Some-value_name.named before.0 stated.1 stated.2),
       numbers.1,
       labels.1,
       rw items (omega (arith, count, more)),

@@ -8,6 +8,6 @@ returns-clause-lines g c =
     let plan = c.args.self.now.units.now in
     let run = c.args.self.now.running in
     IfOk-weaker c.put_text.result _ _
-    (λ _ empty. λ told written has.
-    so_far plan (record run { text = c.put_text.new.text }) told (written ++ run.text) (put_run plan run c.put_text.new.text told written empty has))
+    (λ _ empty. λ yielded written has.
+    so_far plan (record run { text = c.put_text.new.text }) yielded (written ++ run.text) (put_run plan run c.put_text.new.text yielded written empty has))
     c.put_text.ensures.empty

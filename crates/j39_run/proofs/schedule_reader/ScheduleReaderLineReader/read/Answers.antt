@@ -1,6 +1,6 @@
 use Rattle.std.proofs.Common.{◌++◌, arith}
 use Rattle.std.proofs.lemmas.Result.{IfOk-weaker}
-use Rattle.j39_id.specs.Lines.{tells}
+use Rattle.j39_id.specs.Lines.{yields}
 use Rattle.j39_run.proofs.Runs.{so_far}
 use Rattle.j39_run.proofs.schedule_reader.ScheduleReaderLineReader.read.Goals as goal
 
@@ -11,7 +11,7 @@ pub returns-clause-lines : goal.returns-clause-lines
 returns-clause-lines g c =
     IfOk-weaker c.read_cut.result _ _
     (λ _ runs. λ before written has.
-    so_far c.args.self.now.units.now c.read_cut.new.self (before ++ tells c.args.cut c.args.line.now) written (runs.run before written has))
+    so_far c.args.self.now.units.now c.read_cut.new.self (before ++ yields c.args.cut c.args.line.now) written (runs.run before written has))
     c.read_cut.ensures.run
 
 pub returns-clause-count : goal.returns-clause-count

@@ -6,6 +6,6 @@ pub returns : goal.returns
 returns c = record {
   held = λ plan steps w run. stay plan steps w run;
   by_others = λ units u stays. by_others units u stays;
-  from_others = λ units u told. from_others units u told;
+  from_others = λ units u stated. from_others units u stated;
   fixed = λ plan apart silent u in_u fixed. fixed_stay plan apart silent u in_u fixed;
 }

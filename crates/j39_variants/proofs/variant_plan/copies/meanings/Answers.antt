@@ -5,12 +5,12 @@ use Rattle.j39_network.specs.declared.plan.meaning.Meaning.{Meaning}
 use Rattle.j39_variants.specs.VariantPlans.{IsCopyOfMeaning}
 use Rattle.j39_variants.proofs.variant_plan.copies.meanings.Goals as goal
 
-pub loop-told-preserved : goal.loop-told-preserved
-loop-told-preserved c =
+pub loop-stated-preserved : goal.loop-stated-preserved
+loop-stated-preserved c =
     let ms = c.args.meanings.now in
-    let i = c.loop-told.told-index in
-    let m = c.told-item.result in
+    let i = c.loop-stated.stated-index in
+    let m = c.stated-item.result in
     let P : Meaning → Type 0 = λ x. IsCopyOfMeaning x c.in_ok-meaning.field-0 in
-    let here : IsCopyOfMeaning (get_or ms i m) c.in_ok-meaning.field-0 = subst P c.told-item.is c.in_ok-meaning.ensures in
+    let here : IsCopyOfMeaning (get_or ms i m) c.in_ok-meaning.field-0 = subst P c.stated-item.is c.in_ok-meaning.ensures in
     rw (c.in_ok-push.ensures.items, take_more ms i m (omega arith))
-    (AllZip-push IsCopyOfMeaning (take i ms) c.loop-told.copies.items (get_or ms i m) c.in_ok-meaning.field-0 c.loop-told.invariant here)
+    (AllZip-push IsCopyOfMeaning (take i ms) c.loop-stated.copies.items (get_or ms i m) c.in_ok-meaning.field-0 c.loop-stated.invariant here)

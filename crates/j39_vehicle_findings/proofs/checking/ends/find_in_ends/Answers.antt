@@ -1,29 +1,23 @@
-use Rattle.j39_search.specs.ListPlaces.{each}
 use Rattle.j39_search.proofs.AddingLemmas.{refuses, adds_behind, some_left, some_right}
 use Rattle.j39_vehicle_findings.specs.FoundPaths.{end_findings}
 use Rattle.j39_vehicle_findings.proofs.checking.ends.find_in_ends.Goals as goal
 
-pub returns-in_err-find_tested : goal.returns-in_err-find_tested
-unfolding end_findings each
-returns-in_err-find_tested c =
-    refuses _ _ _ _ _ c.from_residual.ensures.1 (some_left _ _ (rw c.deref.ensures.value at c.in_err-find_tested.ensures))
+pub returns-in_err-find_faulty : goal.returns-in_err-find_faulty
+unfolding end_findings
+returns-in_err-find_faulty c = refuses _ _ _ _ _ c.from_residual.ensures.1 (some_left _ _ c.in_err-find_faulty.ensures)
 
-pub returns-in_err-find_tested-2 : goal.returns-in_err-find_tested-2
-unfolding end_findings each
-returns-in_err-find_tested-2 c =
-    refuses _ _ _ _ _ c.from_residual-in_err-find_tested-2.ensures.1
-    (some_right _ _ (some_left _ _ (rw c.deref-2.ensures.value at c.in_err-find_tested-2.ensures)))
+pub returns-in_err-find_faulty-2 : goal.returns-in_err-find_faulty-2
+unfolding end_findings
+returns-in_err-find_faulty-2 c =
+    refuses _ _ _ _ _ c.from_residual-in_err-find_faulty-2.ensures.1 (some_right _ _ (some_left _ _ c.in_err-find_faulty-2.ensures))
 
-pub returns-in_err-find_tested-3 : goal.returns-in_err-find_tested-3
-unfolding end_findings each
-returns-in_err-find_tested-3 c =
-    refuses _ _ _ _ _ c.from_residual-in_err-find_tested-3.ensures.1
-    (some_right _ _ (some_right _ _ (some_left _ _ (rw c.deref-3.ensures.value at c.in_err-find_tested-3.ensures))))
+pub returns-in_err-find_faulty-3 : goal.returns-in_err-find_faulty-3
+unfolding end_findings
+returns-in_err-find_faulty-3 c =
+    refuses _ _ _ _ _ c.from_residual-in_err-find_faulty-3.ensures.1 (some_right _ _ (some_right _ _ (some_left _ _ c.in_err-find_faulty-3.ensures)))
 
 pub returns : goal.returns
-unfolding end_findings each
+unfolding end_findings
 returns c =
-    adds_behind _ _ _ _ _ _ (rw c.deref.ensures.value at c.in_ok-find_tested.ensures)
-    (adds_behind _ _ _ _ _ _ (rw c.deref-2.ensures.value at c.in_ok-find_tested-2.ensures)
-    (adds_behind _ _ _ _ _ _ (rw c.deref-3.ensures.value at c.in_ok-find_tested-3.ensures)
-    (rw c.deref-4.ensures.value at c.find_tested-4.ensures)))
+    adds_behind _ _ _ _ _ _ c.in_ok-find_faulty.ensures
+    (adds_behind _ _ _ _ _ _ c.in_ok-find_faulty-2.ensures (adds_behind _ _ _ _ _ _ c.in_ok-find_faulty-3.ensures c.find_faulty-4.ensures))

@@ -12,9 +12,9 @@ use Rattle.j39_load.proofs.findings.load_answer.LoadAnswer.new.Goals as goal
 
 pub returns-clause-answer : goal.returns-clause-answer
 returns-clause-answer c =
-    let (stays, tells, same) = c.in_ok-loads.ensures.asked in
+    let (stays, states, same) = c.in_ok-loads.ensures.asked in
     answered c.args.plan.now c.args.timing stays
-    (record { loads = c.in_ok-loads.loads; delays = c.in_ok-delays.delays; findings = c.in_ok-findings.findings }) tells c.in_ok-loads.ensures.timing same
+    (record { loads = c.in_ok-loads.loads; delays = c.in_ok-delays.delays; findings = c.in_ok-findings.findings }) states c.in_ok-loads.ensures.timing same
     c.in_ok-delays.ensures.delays (rw (c.total.ensures, c.as_slice.ensures.value) at c.in_ok-findings.ensures.findings)
 
 pub returns-in_err-findings-clause-memory : goal.returns-in_err-findings-clause-memory
@@ -23,7 +23,7 @@ returns-in_err-findings-clause-memory c =
     let timing = c.args.timing in
     let loads = c.in_ok-loads.loads in
     let delays = c.in_ok-delays.delays.items in
-    let (stays, tells, same) = c.in_ok-loads.ensures.asked in
+    let (stays, states, same) = c.in_ok-loads.ensures.asked in
     let total : c.total.result ≡ total_load timing (asked_of timing plan stays) =
     c.total.ensures ∙ ap (λ (t : Timing). total_load t (asked_in loads)) c.in_ok-loads.ensures.timing ∙ ap (total_load timing) same in
     let found = rw (c.as_slice.ensures.value) at c.in_err-findings.ensures.memory in

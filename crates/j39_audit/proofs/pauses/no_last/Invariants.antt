@@ -1,8 +1,0 @@
-use Rattle.std.proofs.Common.{◌≡◌, ℕ, None, length, slice_index_or}
-use Rattle.j39_audit.proofs.pauses.no_last.Given as goal
-
-abbrev pub invariant-loop-unit : goal.invariant-loop-unit
-invariant-loop-unit l = record {
-  size : length l.last.items ≡ l._unit;
-  none : (k : ℕ) → slice_index_or l.last.items k None ≡ None;
-}

@@ -1,5 +1,0 @@
-use Rattle.j39_audit_laws.proofs.SilentTold.{silent_are_found}
-use Rattle.j39_audit_laws.proofs.laws.who_is_long_silent_is_told.Goals as goal
-
-pub returns : goal.returns
-returns c = silent_are_found

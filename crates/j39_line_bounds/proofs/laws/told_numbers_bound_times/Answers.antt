@@ -1,5 +1,0 @@
-use Rattle.j39_line_bounds.proofs.ToldNumbers.{numbers_bound}
-use Rattle.j39_line_bounds.proofs.laws.told_numbers_bound_times.Goals as goal
-
-pub returns : goal.returns
-returns c = numbers_bound

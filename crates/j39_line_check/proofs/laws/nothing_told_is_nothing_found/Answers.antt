@@ -1,5 +1,0 @@
-use Rattle.j39_line_check.proofs.NothingTold.{nothing_found}
-use Rattle.j39_line_check.proofs.laws.nothing_told_is_nothing_found.Goals as goal
-
-pub returns : goal.returns
-returns c = nothing_found

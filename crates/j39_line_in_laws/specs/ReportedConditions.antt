@@ -1,0 +1,61 @@
+-- What is reported of the witness of a finding is a condition: each variant that takes it has the finding.
+use Rattle.std.specs.Prelude.{◌≡◌, ◌⊎◌, ℕ, List, [], ◌∷◌, true, false, if◌then◌else◌}
+use Rattle.j39_load.specs.LineLists.{lines_of_each}
+use Rattle.j39_variants.specs.declared.line.Alternative.{Alternative}
+use Rattle.j39_variants.specs.declared.line.ProductLine.{ProductLine}
+use Rattle.j39_variants.specs.Variants.{IsFirstTaking, IsVariant, takes_all}
+use Rattle.j39_line_findings.specs.Conditions.{conditions_of, goes_by_conditions, meets_any}
+use Rattle.j39_line_findings.specs.FullVariants.{alternative_at, alternatives_of}
+use Rattle.j39_line_findings.specs.LineFound.{AreVariantFindings, IsFound}
+use Rattle.j39_line_findings.specs.PossibleVariants.{IsPossible}
+use Rattle.j39_line_findings.specs.Reported.{is_reported}
+use Rattle.j39_line_findings.specs.declared.line_finding.LineFinding.{LineFinding}
+use Rattle.j39_line_condition_laws.specs.BoxedParts.{ListsNameChoices}
+use Rattle.j39_line_witnesses.specs.FirstMeeting.{IsFirstMeeting}
+
+-- the alternatives of a witness that are reported with a finding
+abbrev pub reported_of_choice : ProductLine → LineFinding → ℕ → ℕ → List Alternative
+reported_of_choice line finding c place = if is_reported line (alternatives_of line) c finding then alternative_at c place ∷ [] else []
+
+abbrev pub reported_with : ProductLine → LineFinding → List ℕ → List Alternative
+reported_with line finding witness = lines_of_each (reported_of_choice line finding) 0 witness
+
+-- another variant takes them too
+pub record TakesWhatIsReported (line : ProductLine) (finding : LineFinding) (witness variant : List ℕ) : Type 0 where
+  pub is_witness : IsVariant line.choices.items witness
+  pub is_variant : IsVariant line.choices.items variant
+  pub takes : takes_all variant (reported_with line finding witness) ≡ true
+
+-- a variant has the finding: it is one of all its findings, whatever these are; or it is one of these
+abbrev pub HasInAll : ProductLine → List ℕ → LineFinding → Type 0
+HasInAll line variant finding = (findings : List LineFinding) → AreVariantFindings line variant findings → IsFound findings finding
+
+pub record HasInSome (line : ProductLine) (variant : List ℕ) (finding : LineFinding) : Type 0 where
+  pub findings : List LineFinding
+  pub are_findings : AreVariantFindings line variant findings
+  pub one : IsFound findings finding
+
+abbrev pub HasFound : ProductLine → List ℕ → LineFinding → Type 0
+HasFound line variant finding = HasInAll line variant finding ⊎ HasInSome line variant finding
+
+-- ---- the laws, of lines whose lists name their choices
+
+abbrev pub ReportedIsCondition : Type 0
+ReportedIsCondition = (line : ProductLine) → ListsNameChoices line → (finding : LineFinding) → goes_by_conditions line finding ≡ true
+    → (witness variant : List ℕ) → TakesWhatIsReported line finding witness variant
+    → meets_any line witness (conditions_of line finding) ≡ true → meets_any line variant (conditions_of line finding) ≡ true
+
+abbrev pub ReportedMayBeAll : Type 0
+ReportedMayBeAll = (line : ProductLine) (finding : LineFinding) → goes_by_conditions line finding ≡ false
+    → (witness variant : List ℕ) → TakesWhatIsReported line finding witness variant → variant ≡ witness
+
+-- of a witness of which it is known what is found
+abbrev pub ReportedIsHad : Type 0
+ReportedIsHad = (line : ProductLine) → ListsNameChoices line → (finding : LineFinding) (witness variant : List ℕ) → TakesWhatIsReported line finding witness variant
+    → (findings : List LineFinding) → AreVariantFindings line witness findings → HasFound line witness finding → HasFound line variant finding
+
+-- a witness is possible, and the first that meets a condition of the finding, where this goes by conditions
+abbrev pub ReportedLeads : Type 0
+ReportedLeads = (line : ProductLine) → ListsNameChoices line → (finding : LineFinding) (witness : List ℕ) → IsPossible line witness
+    → (goes_by_conditions line finding ≡ true → IsFirstMeeting line (conditions_of line finding) witness)
+    → IsFirstTaking line (reported_with line finding witness) witness

@@ -1,7 +1,0 @@
-use Rattle.std.proofs.Common.{append_assoc}
-use Rattle.j39_plan_text.specs.FindingLines.{address_of_units_text}
-use Rattle.j39_plan_text.proofs.finding_lines.write_address_of_units.Goals as goal
-
-pub returns : goal.returns
-unfolding address_of_units_text
-returns c = simp (c.in_ok-write_units.ensures, c.unit_address.ensures, append_assoc) at c.field.ensures

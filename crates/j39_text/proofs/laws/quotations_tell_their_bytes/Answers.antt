@@ -1,5 +1,0 @@
-use Rattle.j39_text.proofs.Quotations as quotations
-use Rattle.j39_text.proofs.laws.quotations_tell_their_bytes.Goals as goal
-
-pub returns : goal.returns
-returns c = quotations.tell

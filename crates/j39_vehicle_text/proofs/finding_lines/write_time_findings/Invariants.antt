@@ -1,6 +1,0 @@
-use Rattle.std.proofs.Common.{◌≡◌, ◌++◌, take}
-use Rattle.j39_vehicle_text.specs.VehicleFindingLines.{time_finding_lines}
-use Rattle.j39_vehicle_text.proofs.finding_lines.write_time_findings.Given as goal
-
-abbrev pub invariant-loop-finding : goal.invariant-loop-finding
-invariant-loop-finding l = l.text ≡ l.initial.text ++ time_finding_lines (take l.finding-index l.findings)
