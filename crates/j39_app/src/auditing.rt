@@ -11,8 +11,8 @@ use crate::{Fault, Sink, Source, Verdict, audit_text, put_all};
 use j39_findings::{Finding, check};
 use j39_network::Plan;
 use j39_plan_text::{PlanFindings, write_check};
-use j39_text::TextBuffer;
-use std::alloc::{AllocError, Global};
+use j39_text::{ReportResult, TextBuffer};
+use std::alloc::Global;
 
 // Whether a finding of this number hinders an audit.
 fn is_hindering(number: u8) -> bool
@@ -31,7 +31,7 @@ fn are_hindering(findings: &[Finding]) -> bool
 }
 
 // What the check command writes of a plan, with its verdict.
-fn findings_of(alloc: Global, plan: &Plan) -> Result<(TextBuffer, Verdict), AllocError>
+fn findings_of(alloc: Global, plan: &Plan) -> ReportResult
     ensures { IfOk result (λ report. IsReport plan.now report.0 report.1) }
 {
     let found = PlanFindings::new(alloc, plan)?;

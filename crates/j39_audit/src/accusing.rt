@@ -13,8 +13,7 @@ use crate::mark::{Mark, Word};
 use crate::tally::Occurrences;
 use j39_follow::{write_name, write_to};
 use j39_network::{Plan, To};
-use j39_text::{TextBuffer, group_label, unit_label};
-use std::alloc::AllocError;
+use j39_text::{TextBuffer, WriteResult, group_label, unit_label};
 
 fn word_text(word: Word) -> &'static str
     ensures { result.now ≡ word_text word }
@@ -38,7 +37,7 @@ fn word_text(word: Word) -> &'static str
 }
 
 #[tactic(auto, unfolding(crate::specs::AuditText::unit_text))]
-fn write_unit(text: &mut TextBuffer, plan: &Plan, unit: usize) -> Result<(), AllocError>
+fn write_unit(text: &mut TextBuffer, plan: &Plan, unit: usize) -> WriteResult
     ensures { OnOk result (text.new ≡ text.old ++ unit_text plan.now unit) }
 {
     text.word(" unit ")?;
@@ -51,7 +50,7 @@ fn write_unit_and_group(
     plan: &Plan,
     unit: usize,
     group: usize,
-) -> Result<(), AllocError>
+) -> WriteResult
     ensures { OnOk result (text.new ≡ text.old ++ unit_and_group_text plan.now unit group) }
 {
     write_unit(text, plan, unit)?;
@@ -60,7 +59,7 @@ fn write_unit_and_group(
 }
 
 #[tactic(auto, unfolding(crate::specs::AuditText::stranger_text))]
-fn write_stranger(text: &mut TextBuffer, address: usize, name: u64) -> Result<(), AllocError>
+fn write_stranger(text: &mut TextBuffer, address: usize, name: u64) -> WriteResult
     ensures { OnOk result (text.new ≡ text.old ++ stranger_text address name) }
 {
     text.field(" address ", address)?;
@@ -69,12 +68,7 @@ fn write_stranger(text: &mut TextBuffer, address: usize, name: u64) -> Result<()
 }
 
 #[tactic(auto, unfolding(crate::specs::AuditText::unit_at_text))]
-fn write_unit_at(
-    text: &mut TextBuffer,
-    plan: &Plan,
-    unit: usize,
-    address: u64,
-) -> Result<(), AllocError>
+fn write_unit_at(text: &mut TextBuffer, plan: &Plan, unit: usize, address: u64) -> WriteResult
     ensures { OnOk result (text.new ≡ text.old ++ unit_at_text plan.now unit address) }
 {
     write_unit(text, plan, unit)?;
@@ -91,7 +85,7 @@ pub(crate) fn write_sending(
     group: usize,
     sender: usize,
     to: To,
-) -> Result<(), AllocError>
+) -> WriteResult
     ensures { OnOk result (text.new ≡ text.old ++ (place_field begin.now place ++ sending_text plan.now group sender to)) }
 {
     text.place(begin, place)?;
@@ -104,7 +98,7 @@ pub(crate) fn write_sending(
 }
 
 #[tactic(auto, unfolding(crate::specs::AuditText::named_flow_text))]
-fn write_flow_at(text: &mut TextBuffer, plan: &Plan, place: usize) -> Result<(), AllocError>
+fn write_flow_at(text: &mut TextBuffer, plan: &Plan, place: usize) -> WriteResult
     ensures { OnOk result (text.new ≡ text.old ++ option_map_or (λ (flow : AFlow). named_flow_text plan.now place flow) (slice_get plan.now.flows.items place) []) }
 {
     match plan.flows.get(place) {
@@ -122,7 +116,7 @@ fn write_flow_at(text: &mut TextBuffer, plan: &Plan, place: usize) -> Result<(),
 }
 
 #[tactic(auto, unfolding(crate::specs::AuditText::request_text))]
-fn write_request_at(text: &mut TextBuffer, plan: &Plan, place: usize) -> Result<(), AllocError>
+fn write_request_at(text: &mut TextBuffer, plan: &Plan, place: usize) -> WriteResult
     ensures { OnOk result (text.new ≡ text.old ++ option_map_or (λ (r : ARequest). request_text plan.now place r) (slice_get plan.now.requests.items place) []) }
 {
     match plan.requests.get(place) {
@@ -140,7 +134,7 @@ fn write_request_at(text: &mut TextBuffer, plan: &Plan, place: usize) -> Result<
 }
 
 #[tactic(auto, unfolding(crate::specs::AuditText::packets_text))]
-fn write_packets(text: &mut TextBuffer, plan: &Plan, unit: usize) -> Result<(), AllocError>
+fn write_packets(text: &mut TextBuffer, plan: &Plan, unit: usize) -> WriteResult
     ensures { OnOk result (text.new ≡ text.old ++ packets_text plan.now unit) }
 {
     text.word(" packets ")?;
@@ -148,12 +142,7 @@ fn write_packets(text: &mut TextBuffer, plan: &Plan, unit: usize) -> Result<(), 
 }
 
 // Writes whom or what a word speaks of, and what belongs to the first line.
-fn write_subject(
-    text: &mut TextBuffer,
-    plan: &Plan,
-    mark: Mark,
-    detail: u64,
-) -> Result<(), AllocError>
+fn write_subject(text: &mut TextBuffer, plan: &Plan, mark: Mark, detail: u64) -> WriteResult
     ensures { OnOk result (text.new ≡ text.old ++ subject_of plan.now mark.word mark.subject mark.group detail) }
 {
     match mark.word {
@@ -174,7 +163,7 @@ fn write_subject(
 }
 
 #[tactic(auto, unfolding(crate::specs::AuditText::worst_text))]
-fn write_worst(text: &mut TextBuffer, reported: Occurrences) -> Result<(), AllocError>
+fn write_worst(text: &mut TextBuffer, reported: Occurrences) -> WriteResult
     ensures { OnOk result (text.new ≡ text.old ++ worst_text reported) }
 {
     text.field(" worst ", reported.worst_at)?;
@@ -183,7 +172,7 @@ fn write_worst(text: &mut TextBuffer, reported: Occurrences) -> Result<(), Alloc
 }
 
 // Writes by how much at most, where a word has a measure.
-fn write_measure(text: &mut TextBuffer, word: Word, reported: Occurrences) -> Result<(), AllocError>
+fn write_measure(text: &mut TextBuffer, word: Word, reported: Occurrences) -> WriteResult
     ensures { OnOk result (text.new ≡ text.old ++ measure_text word reported) }
 {
     match word {
@@ -199,7 +188,7 @@ fn write_measure(text: &mut TextBuffer, word: Word, reported: Occurrences) -> Re
 }
 
 #[tactic(auto, unfolding(crate::specs::AuditText::times_text))]
-fn write_times(text: &mut TextBuffer, word: Word, reported: Occurrences) -> Result<(), AllocError>
+fn write_times(text: &mut TextBuffer, word: Word, reported: Occurrences) -> WriteResult
     ensures { OnOk result (text.new ≡ text.old ++ times_text word reported) }
 {
     text.field(" times ", reported.times)?;
@@ -215,7 +204,7 @@ pub(crate) fn write_accusing(
     plan: &Plan,
     mark: Mark,
     reported: Occurrences,
-) -> Result<(), AllocError>
+) -> WriteResult
     ensures { OnOk result (text.new ≡ text.old ++ accusing_line plan.now mark reported) }
 {
     text.word(word_text(mark.word))?;

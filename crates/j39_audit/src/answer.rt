@@ -15,11 +15,11 @@ use crate::reading::read_log;
 use crate::summary::write_audit;
 use j39_network::Plan;
 use j39_stream::{Fault, Sink, Source, Verdict, put_all};
-use j39_text::TextBuffer;
-use std::alloc::{AllocError, Global};
+use j39_text::{ReportResult, TextBuffer};
+use std::alloc::Global;
 
 // What is written of a log that was read, with the verdict.
-fn report(alloc: Global, log: &AuditLog<'_>) -> Result<(TextBuffer, Verdict), AllocError>
+fn report(alloc: Global, log: &AuditLog<'_>) -> ReportResult
     ensures { IfOk result (λ r. IsAuditReport log.now r.0 r.1) }
 {
     let mut text = TextBuffer::new(alloc);

@@ -13,7 +13,7 @@ use crate::audit_log::AuditLog;
 use crate::basis::Basis;
 use crate::mark::{Mark, Word, make_mark};
 use j39_network::{FlowPlan, Plan, RequestPlan};
-use j39_text::{TextBuffer, unit_label};
+use j39_text::{TextBuffer, WriteResult, unit_label};
 use std::alloc::AllocError;
 
 // The words that accuse, in the order in which they are written.
@@ -202,7 +202,7 @@ fn write_flow(
     flow: &FlowPlan,
     seen: u64,
     unclear: u64,
-) -> Result<(), AllocError>
+) -> WriteResult
     ensures { OnOk result (text.new ≡ text.old ++ flow_seen_line plan.now place flow.now seen unclear) }
 {
     write_sending(text, "flow ", place, plan, flow.group, flow.sender, flow.to)?;
@@ -218,7 +218,7 @@ fn write_request(
     place: usize,
     request: &RequestPlan,
     seen: u64,
-) -> Result<(), AllocError>
+) -> WriteResult
     ensures { OnOk result (text.new ≡ text.old ++ request_seen_line plan.now place request.now seen) }
 {
     write_sending(
@@ -239,7 +239,7 @@ fn write_flow_seen(
     plan: &Plan,
     log: &AuditLog<'_>,
     place: usize,
-) -> Result<(), AllocError>
+) -> WriteResult
     ensures { OnOk result (text.new ≡ text.old ++ flow_seen plan.now (tallied log.now) place) }
 {
     let seen = times_of(log, Word::Seen, place);
@@ -255,7 +255,7 @@ fn write_request_seen(
     plan: &Plan,
     log: &AuditLog<'_>,
     place: usize,
-) -> Result<(), AllocError>
+) -> WriteResult
     ensures { OnOk result (text.new ≡ text.old ++ request_seen plan.now (tallied log.now) place) }
 {
     let seen = times_of(log, Word::Asked, place);
@@ -271,7 +271,7 @@ fn write_unit_seen(
     plan: &Plan,
     log: &AuditLog<'_>,
     unit: usize,
-) -> Result<(), AllocError>
+) -> WriteResult
     ensures { OnOk result (text.new ≡ text.old ++ unit_seen plan.now (tallied log.now) unit) }
 {
     text.word("unit ")?;
@@ -298,7 +298,7 @@ fn write_seen(
     log: &AuditLog<'_>,
     word: Word,
     place: usize,
-) -> Result<(), AllocError>
+) -> WriteResult
     ensures { OnOk result (text.new ≡ text.old ++ seen_at word plan.now (tallied log.now) place) }
 {
     match word {
@@ -309,12 +309,7 @@ fn write_seen(
 }
 
 // Writes it of each.
-fn write_all_seen(
-    text: &mut TextBuffer,
-    plan: &Plan,
-    log: &AuditLog<'_>,
-    word: Word,
-) -> Result<(), AllocError>
+fn write_all_seen(text: &mut TextBuffer, plan: &Plan, log: &AuditLog<'_>, word: Word) -> WriteResult
     ensures { OnOk result (text.new ≡ text.old ++ all_seen word plan.now (tallied log.now)) }
 {
     for place in 0..seen_places(plan, word) {
@@ -325,7 +320,7 @@ fn write_all_seen(
 
 // Writes how many lines there were of each sort.
 #[tactic(auto, unfolding(crate::specs::AuditText::sorts_text))]
-fn write_counts(text: &mut TextBuffer, log: &AuditLog<'_>) -> Result<(), AllocError>
+fn write_counts(text: &mut TextBuffer, log: &AuditLog<'_>) -> WriteResult
     ensures { OnOk result (text.new ≡ text.old ++ sorts_text log.now.basis.stamps log.now.counts (tallied log.now)) }
 {
     log.counts.write(text)?;
@@ -337,7 +332,7 @@ fn write_counts(text: &mut TextBuffer, log: &AuditLog<'_>) -> Result<(), AllocEr
 }
 
 #[tactic(auto, unfolding(crate::specs::AuditText::deviations_line))]
-fn write_deviations(text: &mut TextBuffer, count: u64) -> Result<(), AllocError>
+fn write_deviations(text: &mut TextBuffer, count: u64) -> WriteResult
     ensures { OnOk result (text.new ≡ text.old ++ deviations_line count) }
 {
     text.field("deviations ", count)?;

@@ -10,11 +10,10 @@ use crate::address::party_text::write_way;
 use crate::line::stamp::{Stamp, write_stamp};
 use j39_id::Frame;
 use j39_network::Plan;
-use j39_text::TextBuffer;
-use std::alloc::AllocError;
+use j39_text::{TextBuffer, WriteResult};
 
 #[tactic(auto, unfolding(crate::specs::FollowReports::priority_and_bytes))]
-fn write_end(text: &mut TextBuffer, frame: &Frame) -> Result<(), AllocError>
+fn write_end(text: &mut TextBuffer, frame: &Frame) -> WriteResult
     ensures { OnOk result (text.new ≡ text.old ++ priority_and_bytes frame.now) }
 {
     text.field(" priority ", frame.ident.priority)?;
@@ -31,7 +30,7 @@ pub(crate) fn write_bare(
     parties: &Parties,
     stamp: Stamp<'_>,
     frame: &Frame,
-) -> Result<(), AllocError>
+) -> WriteResult
     ensures { OnOk result ((log : List Timed) → ShowsParties plan.now parties.now log frame.now.ident
         → (way : List ℕ) × IsWay plan.now log frame.now.ident way
         × (text.new ≡ text.old ++ frame_line (front_of stamp.entry) way frame.now)) }

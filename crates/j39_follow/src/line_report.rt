@@ -16,7 +16,7 @@ use crate::unit_report::UnitReport;
 use j39_id::{Frame, read_frame};
 use j39_log::{Groups, LineCounts, LogReport};
 use j39_network::Plan;
-use j39_text::TextBuffer;
+use j39_text::{TextBuffer, WriteResult};
 use std::alloc::{AllocError, Global};
 
 fn copied(alloc: Global, name: &[u8]) -> Result<Vec<u8>, AllocError>
@@ -58,7 +58,7 @@ pub fn kept_interface(kept: &Option<Vec<u8>>) -> Option<&[u8]>
 
 // Writes the counts of lines.
 #[tactic(auto, unfolding(crate::specs::FollowText::follow_counts_line, j39_log::specs::LineCounting::counts_text))]
-fn write_counts(counts: &LineCounts, text: &mut TextBuffer) -> Result<(), AllocError>
+fn write_counts(counts: &LineCounts, text: &mut TextBuffer) -> WriteResult
     ensures { OnOk result (text.new ≡ text.old
         ++ follow_counts_line counts.now.frames counts.now.skipped counts.now.bad counts.now.elsewhere) }
 {
@@ -77,7 +77,7 @@ impl UnitReport {
         frame: &Frame,
         counts: &mut LineCounts,
         text: &mut TextBuffer,
-    ) -> Result<(), AllocError>
+    ) -> WriteResult
         requires { AreWithin counts.old (2 ^ 62) }
         ensures frame { OnOk result ((past : FollowedPast) → RecallsPast groups.now self.old counts.old past
             → stamp.entry.number ≡ past.number
@@ -95,12 +95,7 @@ impl UnitReport {
 
     // Writes what was sent, where each unit stands, how often each request was asked and answered, what met each need,
     // and how many lines there are of each sort.
-    fn finish(
-        &self,
-        plan: &Plan,
-        counts: &LineCounts,
-        text: &mut TextBuffer,
-    ) -> Result<(), AllocError>
+    fn finish(&self, plan: &Plan, counts: &LineCounts, text: &mut TextBuffer) -> WriteResult
         ensures { OnOk result ((past : FollowedPast) → RecallsPast plan.now self.now counts.now past → (units : List ℕ)
             × AreUnitLines plan.now (frames_seen past.seen) 0 plan.now.units.items units
             × (text.new ≡ text.old ++ behind_reports plan.now past units)) }
@@ -128,7 +123,7 @@ impl LogReport for UnitReport {
         line: &[u8],
         counts: &mut LineCounts,
         text: &mut TextBuffer,
-    ) -> Result<(), AllocError> {
+    ) -> WriteResult {
         let part = read_part(line);
         let read = read_frame(part);
         let named = interface(part, &read);
@@ -153,7 +148,7 @@ impl LogReport for UnitReport {
         groups: &Groups<'_>,
         counts: &LineCounts,
         text: &mut TextBuffer,
-    ) -> Result<(), AllocError> {
+    ) -> WriteResult {
         self.finish(groups.plan(), counts, text)
     }
 

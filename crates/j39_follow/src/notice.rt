@@ -15,8 +15,7 @@ use crate::request::acknowledgement::{acknowledges, write_acknowledgement};
 use crate::request::asking::{asked_request, write_asked};
 use j39_id::{Frame, cannot_claim, carried_name, claims_address, requested_group, requests_group};
 use j39_network::Plan;
-use j39_text::TextBuffer;
-use std::alloc::AllocError;
+use j39_text::{TextBuffer, WriteResult};
 
 #[tactic(auto, unfolding(crate::specs::FollowReports::claim_text))]
 fn write_claim(
@@ -25,7 +24,7 @@ fn write_claim(
     stamp: Stamp<'_>,
     name: u64,
     address: u8,
-) -> Result<(), AllocError>
+) -> WriteResult
     ensures { OnOk result (text.new ≡ text.old ++ claim_text plan.now (front_of stamp.entry) name address) }
 {
     write_stamp(text, stamp)?;
@@ -37,12 +36,7 @@ fn write_claim(
 }
 
 #[tactic(auto, unfolding(crate::specs::FollowReports::cannot_text))]
-fn write_cannot(
-    text: &mut TextBuffer,
-    plan: &Plan,
-    stamp: Stamp<'_>,
-    name: u64,
-) -> Result<(), AllocError>
+fn write_cannot(text: &mut TextBuffer, plan: &Plan, stamp: Stamp<'_>, name: u64) -> WriteResult
     ensures { OnOk result (text.new ≡ text.old ++ cannot_text plan.now (front_of stamp.entry) name) }
 {
     write_stamp(text, stamp)?;
@@ -58,7 +52,7 @@ fn write_request(
     parties: &Parties,
     stamp: Stamp<'_>,
     frame: &Frame,
-) -> Result<(), AllocError>
+) -> WriteResult
     requires { length frame.now.payload.items ≡ 3 }
     ensures { OnOk result ((log : List Timed) → ShowsParties plan.now parties.now log frame.now.ident
         → (way : List ℕ) × (asked : Option ℕ) × IsWay plan.now log frame.now.ident way
@@ -83,7 +77,7 @@ pub(crate) fn write_notice(
     parties: &Parties,
     stamp: Stamp<'_>,
     frame: &Frame,
-) -> Result<(), AllocError>
+) -> WriteResult
     ensures { OnOk result ((log : List Timed) → ShowsParties plan.now parties.now log frame.now.ident
         → ShowsAsker plan.now parties.now log frame.now
         → (piece : List ℕ) × IsNotice plan.now log (front_of stamp.entry) frame.now piece

@@ -31,7 +31,7 @@ use crate::request::exchanges::Exchanges;
 use j39_id::{Frame, cannot_claim, claims_address};
 use j39_log::Groups;
 use j39_network::Plan;
-use j39_text::TextBuffer;
+use j39_text::{TextBuffer, WriteResult};
 use std::alloc::{AllocError, Global};
 
 /// What the follow command keeps of a log.
@@ -108,7 +108,7 @@ impl UnitReport {
         stamp: Stamp<'_>,
         frame: &Frame,
         text: &mut TextBuffer,
-    ) -> Result<(), AllocError>
+    ) -> WriteResult
         ensures directory { self.new.directory ≡ self.old.directory }
         ensures contests { self.new.contests ≡ self.old.contests }
         ensures same { IsSameLog self.old self.new }
@@ -149,7 +149,7 @@ impl UnitReport {
         frame: &Frame,
         earlier: u64,
         text: &mut TextBuffer,
-    ) -> Result<(), AllocError>
+    ) -> WriteResult
         requires { (claims_address frame.now || cannot_claim frame.now) ≡ true }
         ensures same { IsSameLog self.old self.new }
         ensures followed { OnOk result ((past : FollowedPast)
@@ -176,7 +176,7 @@ impl UnitReport {
         frame: &Frame,
         earlier: u64,
         text: &mut TextBuffer,
-    ) -> Result<(), AllocError>
+    ) -> WriteResult
         ensures same { IsSameLog self.old self.new }
         ensures followed { OnOk result ((past : FollowedPast)
             → Remembers groups.now self.old past.seen past.timed past.sent past.events

@@ -21,7 +21,7 @@ use j39_line_check::{LineAnswer, LookedAt, ReportedFinding, check_line};
 use j39_plan_text::{LineReport, report_text, stays_report};
 use j39_run_laws::{who_stays, who_stays_with_strangers};
 use j39_stream::{Fault, Sink, Source, Verdict};
-use j39_text::TextBuffer;
+use j39_text::{ReportResult, TextBuffer};
 use j39_variants::ProductLine;
 use std::alloc::{AllocError, Global};
 
@@ -48,7 +48,7 @@ fn found_addresses(
     line: &ProductLine,
     reported: &[ReportedFinding],
     looked: &LookedAt,
-) -> Result<(TextBuffer, Verdict), AllocError>
+) -> ReportResult
     ensures { IfOk result (λ report. AreReportedAt line.now looked.now reported.now → IsLineAddressesReport line.now report.0 report.1) }
 {
     who_stays();
@@ -63,7 +63,7 @@ fn found_addresses(
 }
 
 // What is written of the addresses of a line of vehicles, with the verdict.
-fn line_addresses(alloc: Global, line: &ProductLine) -> Result<(TextBuffer, Verdict), AllocError>
+fn line_addresses(alloc: Global, line: &ProductLine) -> ReportResult
     ensures { IfOk result (λ report. IsLineAddressesReport line.now report.0 report.1) }
 {
     let answer = check_line(alloc, line)?;
@@ -87,11 +87,7 @@ impl LineReport for AddressesReport {
 
     ghost says = { λ _. IsPlanOrLineAddresses };
 
-    fn report(
-        &self,
-        alloc: Global,
-        line: ProductLine,
-    ) -> Result<(TextBuffer, Verdict), AllocError> {
+    fn report(&self, alloc: Global, line: ProductLine) -> ReportResult {
         if line.has_choices() {
             return line_addresses(alloc, &line);
         }

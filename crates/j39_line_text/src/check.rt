@@ -6,9 +6,9 @@ ghost use Rattle.j39_stream.specs.Streams.{plan_limits};
 use crate::line_report::{line_report, plan_report};
 use j39_plan_text::{LineReport, report_text};
 use j39_stream::{Fault, Sink, Source, Verdict};
-use j39_text::TextBuffer;
+use j39_text::{ReportResult, TextBuffer};
 use j39_variants::ProductLine;
-use std::alloc::{AllocError, Global};
+use std::alloc::Global;
 
 // What is found of a line, of its one plan where it has no choices.
 struct CheckReport;
@@ -18,11 +18,7 @@ impl LineReport for CheckReport {
 
     ghost says = { λ _. IsPlanOrLineReport };
 
-    fn report(
-        &self,
-        alloc: Global,
-        line: ProductLine,
-    ) -> Result<(TextBuffer, Verdict), AllocError> {
+    fn report(&self, alloc: Global, line: ProductLine) -> ReportResult {
         if line.has_choices() {
             return line_report(alloc, &line);
         }

@@ -10,7 +10,7 @@ use j39_line_check::{LineAnswer, ReportedFinding, check_line};
 use j39_network::Plan;
 use j39_plan_text::{PlanFindings, write_check};
 use j39_stream::Verdict;
-use j39_text::TextBuffer;
+use j39_text::{ReportResult, TextBuffer};
 use j39_variants::ProductLine;
 use std::alloc::{AllocError, Global};
 
@@ -49,7 +49,7 @@ fn found_report(
     line: &ProductLine,
     reported: &[ReportedFinding],
     many: Option<u64>,
-) -> Result<(TextBuffer, Verdict), AllocError>
+) -> ReportResult
     ensures { IfOk result (λ report. SomePossible line.now → AreReported line.now many reported.now → IsLineReport line.now report.0 report.1) }
 {
     variants_without_findings_are_certified();
@@ -62,10 +62,7 @@ fn found_report(
 }
 
 /// What is written for a line of vehicles, with the verdict.
-pub(crate) fn line_report(
-    alloc: Global,
-    line: &ProductLine,
-) -> Result<(TextBuffer, Verdict), AllocError>
+pub(crate) fn line_report(alloc: Global, line: &ProductLine) -> ReportResult
     ensures { IfOk result (λ report. IsLineReport line.now report.0 report.1) }
 {
     let answer = check_line(alloc, line)?;
@@ -82,7 +79,7 @@ pub(crate) fn line_report(
 }
 
 /// What is written for one plan, with the verdict.
-pub(crate) fn plan_report(alloc: Global, plan: &Plan) -> Result<(TextBuffer, Verdict), AllocError>
+pub(crate) fn plan_report(alloc: Global, plan: &Plan) -> ReportResult
     ensures { IfOk result (λ report. IsReport plan.now report.0 report.1) }
 {
     let found = PlanFindings::new(alloc, plan)?;

@@ -18,9 +18,9 @@ use j39_load::timing_of;
 use j39_network::Timing;
 use j39_plan_text::{LineReport, load_report, report_text};
 use j39_stream::{Fault, Sink, Source, Verdict};
-use j39_text::TextBuffer;
+use j39_text::{ReportResult, TextBuffer};
 use j39_variants::ProductLine;
-use std::alloc::{AllocError, Global};
+use std::alloc::Global;
 
 fn verdict_of(reported: &[ReportedFinding]) -> Verdict
     ensures { result ≡ line_load_verdict reported.now }
@@ -39,7 +39,7 @@ fn times_report(
     timing: Timing,
     reported: &[ReportedFinding],
     looked: &LookedAt,
-) -> Result<(TextBuffer, Verdict), AllocError>
+) -> ReportResult
     ensures { IfOk result (λ report. timing_of line.now.plan ≡ Some timing → IsShownLine Times line.now looked.now reported.now
         → IsTimesReport line.now timing report.0 report.1) }
 {
@@ -59,7 +59,7 @@ fn found_load(
     timing: Timing,
     reported: &[ReportedFinding],
     looked: &LookedAt,
-) -> Result<(TextBuffer, Verdict), AllocError>
+) -> ReportResult
     ensures { IfOk result (λ report. timing_of line.now.plan ≡ Some timing → AreReportedAt line.now looked.now reported.now
         → IsLineLoadReport line.now timing report.0 report.1) }
 {
@@ -73,11 +73,7 @@ fn found_load(
 }
 
 // What is written of the load of a line of vehicles, with the verdict.
-fn line_load(
-    alloc: Global,
-    line: &ProductLine,
-    timing: Timing,
-) -> Result<(TextBuffer, Verdict), AllocError>
+fn line_load(alloc: Global, line: &ProductLine, timing: Timing) -> ReportResult
     ensures { IfOk result (λ report. timing_of line.now.plan ≡ Some timing → IsLineLoadReport line.now timing report.0 report.1) }
 {
     let answer = check_line(alloc, line)?;
@@ -112,11 +108,7 @@ impl LineReport for TimesReport {
 
     ghost says = { λ _. IsPlanOrLineLoad };
 
-    fn report(
-        &self,
-        alloc: Global,
-        line: ProductLine,
-    ) -> Result<(TextBuffer, Verdict), AllocError> {
+    fn report(&self, alloc: Global, line: ProductLine) -> ReportResult {
         match line_timing(&line) {
             Some(timing) => {
                 let report = line_load(alloc, &line, timing)?;

@@ -7,15 +7,11 @@ use crate::possible_places::is_place_possible;
 use j39_line_bounds::LineStanding;
 use j39_network::UnitPlan;
 use j39_plan_text::{WriteLines, write_each};
-use j39_text::TextBuffer;
+use j39_text::{TextBuffer, WriteResult};
 use std::alloc::{AllocError, Global};
 
 #[tactic(auto, unfolding(crate::specs::StandingLines::standing_text))]
-fn write_standing(
-    text: &mut TextBuffer,
-    standing: LineStanding,
-    address: u8,
-) -> Result<(), AllocError>
+fn write_standing(text: &mut TextBuffer, standing: LineStanding, address: u8) -> WriteResult
     ensures { OnOk result (text.new ≡ text.old ++ standing_text standing address) }
 {
     match standing {
@@ -26,11 +22,7 @@ fn write_standing(
 }
 
 #[tactic(auto, unfolding(crate::specs::StandingLines::line_unit_text))]
-fn write_unit(
-    text: &mut TextBuffer,
-    standing: LineStanding,
-    unit: &UnitPlan,
-) -> Result<(), AllocError>
+fn write_unit(text: &mut TextBuffer, standing: LineStanding, unit: &UnitPlan) -> WriteResult
     ensures { OnOk result (text.new ≡ text.old ++ line_unit_text standing unit.now) }
 {
     text.word("unit ")?;
@@ -74,7 +66,7 @@ impl WriteLines<UnitPlan> for UnitStandings<'_> {
 
     ghost lines = { λ w. line_unit_at w.0.now };
 
-    fn write(&self, text: &mut TextBuffer, at: usize, unit: &UnitPlan) -> Result<(), AllocError> {
+    fn write(&self, text: &mut TextBuffer, at: usize, unit: &UnitPlan) -> WriteResult {
         match self.0.get(at) {
             Some(standing) => write_unit(text, *standing, unit),
             None => write_unit(text, LineStanding::NoVariant, unit),
@@ -93,7 +85,7 @@ fn write_standings(
     text: &mut TextBuffer,
     standings: &[LineStanding],
     units: &[UnitPlan],
-) -> Result<(), AllocError>
+) -> WriteResult
     ensures { OnOk result (text.new ≡ text.old ++ standings_text standings.now units.now) }
 {
     write_each(text, &UnitStandings(standings), units)?;

@@ -6,8 +6,7 @@ use j39_line_bounds::{FlowTime, LineTimes, NeedTime};
 use j39_load::bits_of_second;
 use j39_network::{FlowPlan, NeedPlan, Plan, Timing};
 use j39_plan_text::{WriteLines, write_age, write_each, write_flow, write_known_delay, write_time};
-use j39_text::{TextBuffer, write_need};
-use std::alloc::AllocError;
+use j39_text::{TextBuffer, WriteResult, write_need};
 
 #[tactic(auto, unfolding(crate::specs::TimeLines::flow_time_text))]
 fn write_flow_time(
@@ -15,7 +14,7 @@ fn write_flow_time(
     timing: Timing,
     flow: &FlowPlan,
     time: FlowTime,
-) -> Result<(), AllocError>
+) -> WriteResult
     ensures { OnOk result (text.new ≡ text.old ++ flow_time_text timing flow.now.pace time) }
 {
     match time {
@@ -38,7 +37,7 @@ impl WriteLines<FlowPlan> for FlowTimes<'_> {
     ghost lines = { λ w. line_flow_line w.plan.now w.timing w.times.now };
 
     #[tactic(auto, unfolding(crate::specs::TimeLines::line_flow_line))]
-    fn write(&self, text: &mut TextBuffer, at: usize, flow: &FlowPlan) -> Result<(), AllocError> {
+    fn write(&self, text: &mut TextBuffer, at: usize, flow: &FlowPlan) -> WriteResult {
         write_flow(text, self.plan, at, flow)?;
         write_flow_time(text, self.timing, flow, self.times.flow(at))?;
         text.end_line()
@@ -47,7 +46,7 @@ impl WriteLines<FlowPlan> for FlowTimes<'_> {
 
 // Which flow's age it is, where several bring what is needed.
 #[tactic(auto, unfolding(crate::specs::TimeLines::youngest_text))]
-fn write_youngest(text: &mut TextBuffer, youngest: Option<usize>) -> Result<(), AllocError>
+fn write_youngest(text: &mut TextBuffer, youngest: Option<usize>) -> WriteResult
     ensures { OnOk result (text.new ≡ text.old ++ youngest_text youngest) }
 {
     match youngest {
@@ -58,7 +57,7 @@ fn write_youngest(text: &mut TextBuffer, youngest: Option<usize>) -> Result<(), 
 
 // How old it is, of so many milliseconds.
 #[tactic(auto, unfolding(crate::specs::TimeLines::need_time_text))]
-fn write_need_time(text: &mut TextBuffer, within: u16, time: NeedTime) -> Result<(), AllocError>
+fn write_need_time(text: &mut TextBuffer, within: u16, time: NeedTime) -> WriteResult
     ensures { OnOk result (text.new ≡ text.old ++ need_time_text (1000 * within) time) }
 {
     let limit = 1_000 * u32::from(within);
@@ -85,7 +84,7 @@ impl WriteLines<NeedPlan> for NeedTimes<'_> {
     ghost lines = { λ w. line_need_line w.plan.now w.times.now };
 
     #[tactic(auto, unfolding(crate::specs::TimeLines::line_need_line))]
-    fn write(&self, text: &mut TextBuffer, at: usize, need: &NeedPlan) -> Result<(), AllocError> {
+    fn write(&self, text: &mut TextBuffer, at: usize, need: &NeedPlan) -> WriteResult {
         let Some(within) = need.within else {
             return Ok(());
         };
@@ -102,7 +101,7 @@ pub(crate) fn write_times(
     plan: &Plan,
     timing: Timing,
     times: &LineTimes,
-) -> Result<(), AllocError>
+) -> WriteResult
     ensures { OnOk result (text.new ≡ text.old ++ line_times_text plan.now timing times.now) }
 {
     let flows = FlowTimes {

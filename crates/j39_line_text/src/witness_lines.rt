@@ -9,7 +9,7 @@ ghost use Rattle.j39_line_text.specs.WitnessLines.{unshown_of_line_text, witness
 use j39_line_check::ReportedFinding;
 use j39_line_findings::{LineFinding, Reporting, alternatives_of};
 use j39_plan_text::{WriteLines, write_each, write_finding, write_load_finding, write_run};
-use j39_text::TextBuffer;
+use j39_text::{TextBuffer, WriteResult};
 use j39_variants::{Alternative, Choice, ProductLine};
 use std::alloc::{AllocError, Global};
 
@@ -77,7 +77,7 @@ impl WriteLines<Choice> for ReportedAlternatives<'_> {
     ghost lines = { λ w c _. reported_alternative w.line.now w.alternatives.now w.variant.now w.finding c };
 
     #[tactic(auto, unfolding(crate::specs::WitnessLines::reported_alternative))]
-    fn write(&self, text: &mut TextBuffer, at: usize, _choice: &Choice) -> Result<(), AllocError> {
+    fn write(&self, text: &mut TextBuffer, at: usize, _choice: &Choice) -> WriteResult {
         if is_reported(self.line, self.alternatives, self.finding, at) {
             text.label(alternative_label(self.line, at, place_taken(self.variant, at)))
         } else {
@@ -90,7 +90,7 @@ fn write_line_finding(
     text: &mut TextBuffer,
     line: &ProductLine,
     finding: LineFinding,
-) -> Result<(), AllocError>
+) -> WriteResult
     ensures { OnOk result (text.new ≡ text.old ++ line_finding_text line.now finding) }
 {
     match finding {
@@ -104,7 +104,7 @@ fn write_line_run(
     text: &mut TextBuffer,
     line: &ProductLine,
     finding: LineFinding,
-) -> Result<(), AllocError>
+) -> WriteResult
     ensures { OnOk result (text.new ≡ text.old ++ run_of_line line.now finding) }
 {
     match finding {
@@ -116,7 +116,7 @@ fn write_line_run(
 impl ReportedAlternatives<'_> {
     // Writes them behind a word, if any is reported.
     #[tactic(auto, unfolding(crate::specs::WitnessLines::witness_text))]
-    fn write_witness(&self, text: &mut TextBuffer) -> Result<(), AllocError>
+    fn write_witness(&self, text: &mut TextBuffer) -> WriteResult
         ensures { OnOk result (text.new ≡ text.old
             ++ witness_text self.now.line.now self.now.alternatives.now self.now.variant.now self.now.finding) }
     {
@@ -130,7 +130,7 @@ impl ReportedAlternatives<'_> {
 
     // The line of the finding.
     #[tactic(auto, unfolding(crate::specs::WitnessLines::witness_line))]
-    fn write_line(&self, text: &mut TextBuffer) -> Result<(), AllocError>
+    fn write_line(&self, text: &mut TextBuffer) -> WriteResult
         ensures { OnOk result (text.new ≡ text.old
             ++ witness_line self.now.line.now self.now.alternatives.now self.now.variant.now self.now.finding) }
     {
@@ -154,12 +154,7 @@ impl WriteLines<ReportedFinding> for Reports<'_> {
     ghost lines = { λ w _ reported. witness_report w.line.now w.alternatives.now reported.variant.items reported.finding };
 
     #[tactic(auto, unfolding(crate::specs::WitnessLines::witness_report))]
-    fn write(
-        &self,
-        text: &mut TextBuffer,
-        _at: usize,
-        reported: &ReportedFinding,
-    ) -> Result<(), AllocError> {
+    fn write(&self, text: &mut TextBuffer, _at: usize, reported: &ReportedFinding) -> WriteResult {
         let alternatives = ReportedAlternatives {
             line: self.line,
             alternatives: self.alternatives,
@@ -173,7 +168,7 @@ impl WriteLines<ReportedFinding> for Reports<'_> {
 
 // That there are so many full variants, where these are too many.
 #[tactic(auto, unfolding(crate::specs::WitnessLines::many_text))]
-fn write_many(text: &mut TextBuffer, many: Option<u64>) -> Result<(), AllocError>
+fn write_many(text: &mut TextBuffer, many: Option<u64>) -> WriteResult
     ensures { OnOk result (text.new ≡ text.old ++ many_text many) }
 {
     match many {
@@ -203,7 +198,7 @@ fn write_all(
     alternatives: &[Alternative],
     reported: &[ReportedFinding],
     many: Option<u64>,
-) -> Result<(), AllocError>
+) -> WriteResult
     ensures { OnOk result (text.new ≡ text.old ++ findings_of_line_text line.now alternatives.now many reported.now) }
 {
     let reports = Reports {
@@ -249,12 +244,7 @@ impl WriteLines<ReportedFinding> for UnreportedReports<'_> {
     ghost lines = { λ w _ reported. unshown_report w.0.line.now w.0.alternatives.now reported.variant.items reported.finding };
 
     #[tactic(auto, unfolding(crate::specs::WitnessLines::unshown_report))]
-    fn write(
-        &self,
-        text: &mut TextBuffer,
-        at: usize,
-        reported: &ReportedFinding,
-    ) -> Result<(), AllocError> {
+    fn write(&self, text: &mut TextBuffer, at: usize, reported: &ReportedFinding) -> WriteResult {
         if is_of_times(reported.finding) {
             return Ok(());
         }
@@ -270,7 +260,7 @@ pub(crate) fn write_unshown(
     text: &mut TextBuffer,
     line: &ProductLine,
     reported: &[ReportedFinding],
-) -> Result<(), AllocError>
+) -> WriteResult
     ensures { OnOk result (text.new ≡ text.old ++ unshown_of_line_text line.now (alternatives_of line.now) reported.now) }
 {
     let count = reported

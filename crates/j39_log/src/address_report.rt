@@ -15,9 +15,9 @@ use crate::log_report::LogReport;
 use crate::readings::write_group_readings;
 use crate::transport::transport_packet;
 use j39_id::{Frame, Ident, read_frame};
-use j39_text::TextBuffer;
+use j39_text::{TextBuffer, WriteResult};
 use j39_tp::{Packet, listener_completes_what_is_carried};
-use std::alloc::{AllocError, Global};
+use std::alloc::Global;
 
 /// What the read command keeps of a log: what each two addresses heard.
 #[derive(Drop)]
@@ -33,7 +33,7 @@ fn write_group(
     place: usize,
     ident: Ident,
     bytes: &[u8],
-) -> Result<(), AllocError>
+) -> WriteResult
     requires { (pgn : ℕ) × (planned groups.now pgn bytes.now ≡ Some place) }
     ensures { OnOk result ((piece : List ℕ) × IsGroupReport groups.now (Some place) ident bytes.now piece
         × (text.new ≡ text.old ++ piece)) }
@@ -49,7 +49,7 @@ fn write_planned(
     ident: Ident,
     pgn: u32,
     bytes: &[u8],
-) -> Result<(), AllocError>
+) -> WriteResult
     ensures { OnOk result ((piece : List ℕ)
         × IsGroupReport groups.now (planned groups.now pgn bytes.now) ident bytes.now piece
         × (text.new ≡ text.old ++ piece)) }
@@ -67,7 +67,7 @@ fn write_packet(
     groups: &Groups<'_>,
     frame: &Frame,
     packet: &Packet,
-) -> Result<(), AllocError>
+) -> WriteResult
     requires { InRange packet.now }
     ensures heard { OnOk result ((seen : List Seen) → HaveHeard listeners.old.rows.items seen
         → HaveHeard listeners.new.rows.items (seen ++ record { frame = frame.now; packet = Some packet.now } ∷ [])) }
@@ -92,7 +92,7 @@ fn write_frame(
     listeners: &mut Listeners,
     groups: &Groups<'_>,
     frame: &Frame,
-) -> Result<(), AllocError>
+) -> WriteResult
     ensures { OnOk result ((seen : List Seen) → HaveHeard listeners.old.rows.items seen → AreAllInRange seen
         → (packet : Option APacket) × (piece : List ℕ) × IsHeardAs groups.now frame.now packet × IsInRange packet
         × IsFrameReport groups.now seen frame.now packet piece
@@ -111,7 +111,7 @@ fn write_frame(
 
 // Writes the counts of lines.
 #[tactic(auto, unfolding(crate::specs::ReadText::counts_line, crate::specs::LineCounting::counts_text))]
-fn write_counts(counts: &LineCounts, text: &mut TextBuffer) -> Result<(), AllocError>
+fn write_counts(counts: &LineCounts, text: &mut TextBuffer) -> WriteResult
     ensures { OnOk result (text.new ≡ text.old ++ counts_line counts.now.frames counts.now.skipped counts.now.bad) }
 {
     counts.write(text)?;
@@ -143,7 +143,7 @@ impl LogReport for AddressReport {
         line: &[u8],
         counts: &mut LineCounts,
         text: &mut TextBuffer,
-    ) -> Result<(), AllocError> {
+    ) -> WriteResult {
         match read_frame(line) {
             Ok(frame) => {
                 counts.frames += 1;
@@ -161,7 +161,7 @@ impl LogReport for AddressReport {
         _groups: &Groups<'_>,
         counts: &LineCounts,
         text: &mut TextBuffer,
-    ) -> Result<(), AllocError> {
+    ) -> WriteResult {
         write_counts(counts, text)
     }
 

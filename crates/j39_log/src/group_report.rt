@@ -23,12 +23,11 @@ use j39_id::Ident;
 use j39_id::limits::FRAME_BYTES;
 use j39_network::{GroupPlan, stands_once};
 use j39_signal::{Kind, Layout, Signal, State};
-use j39_text::{TextBuffer, write_destination, write_quotient};
-use std::alloc::AllocError;
+use j39_text::{TextBuffer, WriteResult, write_destination, write_quotient};
 
 // The number of a value. One digit, as most values of a few bits have, is written apart, which is faster.
 #[inline(always)]
-fn write_number(text: &mut TextBuffer, value: i64, per: u32) -> Result<(), AllocError>
+fn write_number(text: &mut TextBuffer, value: i64, per: u32) -> WriteResult
     requires { IsDivisor per }
     ensures { OnOk result (text.new ≡ text.old ++ quotient_text per value) }
 {
@@ -41,12 +40,7 @@ fn write_number(text: &mut TextBuffer, value: i64, per: u32) -> Result<(), Alloc
 }
 
 // The line of a value, between what stands around it.
-fn write_scaled(
-    text: &mut TextBuffer,
-    signal: &Signal,
-    line: &ValueLine,
-    value: i64,
-) -> Result<(), AllocError>
+fn write_scaled(text: &mut TextBuffer, signal: &Signal, line: &ValueLine, value: i64) -> WriteResult
     ensures { OnOk result (text.new ≡ text.old
         ++ (line.now.before ++ (quotient_text signal.now.per value ++ line.now.after))) }
 {
@@ -56,7 +50,7 @@ fn write_scaled(
 }
 
 // The line of a raw number that is no value, behind the word for it.
-fn write_raw(text: &mut TextBuffer, signal: &Signal, word: &str, raw: u32) -> Result<(), AllocError>
+fn write_raw(text: &mut TextBuffer, signal: &Signal, word: &str, raw: u32) -> WriteResult
     ensures { OnOk result (text.new ≡ text.old
         ++ (codes "  " ++ (signal.now.label.bytes ++ (field word.now raw ++ 10 ∷ [])))) }
 {
@@ -67,12 +61,7 @@ fn write_raw(text: &mut TextBuffer, signal: &Signal, word: &str, raw: u32) -> Re
 }
 
 // The line of a value, which of a trouble code is its raw number.
-fn write_value(
-    text: &mut TextBuffer,
-    signal: &Signal,
-    line: &ValueLine,
-    value: i64,
-) -> Result<(), AllocError>
+fn write_value(text: &mut TextBuffer, signal: &Signal, line: &ValueLine, value: i64) -> WriteResult
     requires { line.now ≡ value_line_of signal.now }
     ensures { OnOk result (text.new ≡ text.old ++ signal_line signal.now (State.Value value)) }
 {
@@ -88,7 +77,7 @@ fn write_signal(
     signal: &Signal,
     line: &ValueLine,
     state: State,
-) -> Result<(), AllocError>
+) -> WriteResult
     requires { line.now ≡ value_line_of signal.now }
     ensures { OnOk result (text.new ≡ text.old ++ signal_line signal.now state) }
 {
@@ -109,7 +98,7 @@ fn write_single(
     signal: &Signal,
     i: usize,
     bytes: &[u8],
-) -> Result<(), AllocError>
+) -> WriteResult
     requires line { line.now ≡ value_line_of signal.now }
     requires place { i < length layout.now.signals }
     requires at { HoldsAt (λ s. s ≡ signal.now) layout.now.signals i }
@@ -133,7 +122,7 @@ fn write_signals(
     lines: &[ValueLine],
     layout: &Layout,
     bytes: &[u8],
-) -> Result<(), AllocError>
+) -> WriteResult
     requires signals { layout.now.signals ≡ signals.now }
     requires lines { lines.now ≡ map value_line_of signals.now }
     requires bytes { layout.now.length ≤ length bytes.now }
@@ -149,7 +138,7 @@ fn write_signals(
 /// Writes two digits for each byte. Those of a full frame are written apart, which is faster since their count is known
 /// there.
 #[inline(always)]
-pub fn write_digits(text: &mut TextBuffer, bytes: &[u8]) -> Result<(), AllocError>
+pub fn write_digits(text: &mut TextBuffer, bytes: &[u8]) -> WriteResult
     ensures { OnOk result (text.new ≡ text.old ++ encode_upper bytes.now) }
 {
     if bytes.len() == FRAME_BYTES {
@@ -166,7 +155,7 @@ pub(super) fn write_group_line(
     head: &[u8],
     ident: Ident,
     bytes: &[u8],
-) -> Result<(), AllocError>
+) -> WriteResult
     ensures { OnOk result (text.new ≡ text.old ++ (head.now ++ behind_head ident bytes.now)) }
 {
     text.bytes(head)?;
@@ -186,7 +175,7 @@ fn write_states(
     lines: &[ValueLine],
     layout: &Layout,
     bytes: &[u8],
-) -> Result<(), AllocError>
+) -> WriteResult
     requires signals { layout.now.signals ≡ group.now.signals.items }
     requires lines { lines.now ≡ value_lines_of group.now }
     requires bytes { layout.now.length ≤ length bytes.now }
@@ -206,7 +195,7 @@ pub(super) fn write_readings(
     lines: &[ValueLine],
     layout: &Layout,
     bytes: &[u8],
-) -> Result<(), AllocError>
+) -> WriteResult
     requires signals { layout.now.signals ≡ group.now.signals.items }
     requires names { HasTables group.now names }
     requires lines { lines.now ≡ value_lines_of group.now }

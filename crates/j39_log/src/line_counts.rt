@@ -3,8 +3,7 @@ ghost use Rattle.std.specs.Prelude.{◌≡◌, ◌^◌, ◌++◌, OnOk};
 ghost use Rattle.j39_log.specs.LineCounting.{AreWithin, counted_over, counts_text, no_lines};
 
 use j39_id::LineError;
-use j39_text::TextBuffer;
-use std::alloc::AllocError;
+use j39_text::{TextBuffer, WriteResult};
 
 /// How many lines of a log there are of each sort. A line without a word is of none.
 #[derive(Clone, Copy, PartialEq, Eq)]
@@ -45,7 +44,7 @@ impl LineCounts {
 
     /// Writes how many lines are read as frames, skipped and bad.
     #[tactic(auto, unfolding(crate::specs::LineCounting::counts_text))]
-    pub fn write(&self, text: &mut TextBuffer) -> Result<(), AllocError>
+    pub fn write(&self, text: &mut TextBuffer) -> WriteResult
         ensures { OnOk result (text.new ≡ text.old ++ counts_text self.now) }
     {
         text.field("frames ", self.frames)?;

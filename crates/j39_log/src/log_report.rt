@@ -1,8 +1,7 @@
 //! What reports the lines of a log.
 use crate::groups::Groups;
 use crate::line_counts::LineCounts;
-use j39_text::TextBuffer;
-use std::alloc::AllocError;
+use j39_text::{TextBuffer, WriteResult};
 
 /// What reports the lines of a log, one after another, by the groups of a plan.
 pub trait LogReport: Drop {
@@ -27,7 +26,7 @@ pub trait LogReport: Drop {
         line: &[u8],
         counts: &mut LineCounts,
         text: &mut TextBuffer,
-    ) -> Result<(), AllocError>
+    ) -> WriteResult
         requires { AreWithin counts.old (2 ^ 62) }
         ensures reported { OnOk result ((before : List Line) (reports : List ℕ) → number ≡ length before + 1
             → has_reported self.old groups.now counts.old before reports
@@ -44,7 +43,7 @@ pub trait LogReport: Drop {
         groups: &Groups<'_>,
         counts: &LineCounts,
         text: &mut TextBuffer,
-    ) -> Result<(), AllocError>
+    ) -> WriteResult
         ensures { OnOk result ((ls : List Line) (reports log : List ℕ)
             → has_reported self.now groups.now counts.now ls reports
             → lines log ≡ ls

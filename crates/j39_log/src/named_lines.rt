@@ -17,16 +17,11 @@ use crate::text_lines::write_texts;
 use crate::trouble_code::{suspect_parameter, write_code};
 use j39_network::{GroupPlan, stands_once};
 use j39_signal::{Kind, Layout, Shown, Signal, State};
-use j39_text::TextBuffer;
-use std::alloc::AllocError;
+use j39_text::{TextBuffer, WriteResult};
 
 // Writes the name of the suspect parameter that a trouble code reports, behind a space.
 #[tactic(auto, unfolding(crate::specs::NamedReports::parameter_name_text))]
-fn write_parameter_name(
-    text: &mut TextBuffer,
-    parameters: &NameTable,
-    code: u64,
-) -> Result<(), AllocError>
+fn write_parameter_name(text: &mut TextBuffer, parameters: &NameTable, code: u64) -> WriteResult
     ensures { OnOk result (text.new ≡ text.old ++ parameter_name_text (names_in parameters.now) (parameter_of code)) }
 {
     match parameters.get(suspect_parameter(code) as u32) {
@@ -40,11 +35,7 @@ fn write_parameter_name(
 
 // Writes what a trouble code says, with the name of its suspect parameter.
 #[tactic(auto, unfolding(crate::specs::NamedReports::named_code_text))]
-fn write_named_code(
-    text: &mut TextBuffer,
-    parameters: &NameTable,
-    code: u64,
-) -> Result<(), AllocError>
+fn write_named_code(text: &mut TextBuffer, parameters: &NameTable, code: u64) -> WriteResult
     ensures { OnOk result (text.new ≡ text.old ++ named_code_text (names_in parameters.now) code) }
 {
     write_code(text, code)?;
@@ -61,7 +52,7 @@ fn write_value(
     parameters: &NameTable,
     signal: &Signal,
     value: i64,
-) -> Result<(), AllocError>
+) -> WriteResult
     ensures { OnOk result (text.new ≡ text.old
         ++ named_value_text (names_in parameters.now) signal.now.kind signal.now.per signal.now.unit.bytes value) }
 {
@@ -77,7 +68,7 @@ fn write_named_state(
     parameters: &NameTable,
     signal: &Signal,
     state: State,
-) -> Result<(), AllocError>
+) -> WriteResult
     ensures { OnOk result (text.new ≡ text.old ++ named_state_text (names_in parameters.now) signal.now state) }
 {
     match state {
@@ -97,7 +88,7 @@ struct NamedReading<'a> {
 
 impl NamedReading<'_> {
     #[tactic(auto, unfolding(crate::specs::NamedReports::raw_text))]
-    fn write_shown(&self, text: &mut TextBuffer) -> Result<(), AllocError>
+    fn write_shown(&self, text: &mut TextBuffer) -> WriteResult
         requires { self.now.shown ≡ shown_of self.now.signal.now self.now.shown.raw }
         ensures { OnOk result (text.new ≡ text.old
             ++ raw_text (names_in self.now.parameters.now) (self.now.signal.now, names_in self.now.values.now) self.now.shown.raw) }
@@ -114,7 +105,7 @@ impl NamedReading<'_> {
 
     // The line of a signal of a group.
     #[tactic(auto, unfolding(crate::specs::NamedReports::named_signal_line))]
-    fn write_signal(&self, text: &mut TextBuffer) -> Result<(), AllocError>
+    fn write_signal(&self, text: &mut TextBuffer) -> WriteResult
         requires { self.now.shown ≡ shown_of self.now.signal.now self.now.shown.raw }
         ensures { OnOk result (text.new ≡ text.old ++ named_signal_line self.now.signal.now
             (raw_text (names_in self.now.parameters.now) (self.now.signal.now, names_in self.now.values.now) self.now.shown.raw)) }
@@ -127,7 +118,7 @@ impl NamedReading<'_> {
 
     // The line of a signal in the record of a place.
     #[tactic(auto, unfolding(crate::specs::NamedReports::named_record_line))]
-    fn write_line(&self, text: &mut TextBuffer, place: usize) -> Result<(), AllocError>
+    fn write_line(&self, text: &mut TextBuffer, place: usize) -> WriteResult
         requires { self.now.shown ≡ shown_of self.now.signal.now self.now.shown.raw }
         ensures { OnOk result (text.new ≡ text.old ++ named_record_line place self.now.signal.now
             (raw_text (names_in self.now.parameters.now) (self.now.signal.now, names_in self.now.values.now) self.now.shown.raw)) }
@@ -150,7 +141,7 @@ fn write_single(
     signal: &Signal,
     i: usize,
     bytes: &[u8],
-) -> Result<(), AllocError>
+) -> WriteResult
     requires place { i < length layout.now.signals }
     requires at { HoldsAt (λ s. s ≡ signal.now) layout.now.signals i }
     requires bytes { layout.now.length ≤ length bytes.now }
@@ -181,7 +172,7 @@ fn write_signals(
     signals: &[Signal],
     layout: &Layout,
     bytes: &[u8],
-) -> Result<(), AllocError>
+) -> WriteResult
     requires signals { layout.now.signals ≡ signals.now }
     requires names { length values.now ≡ length signals.now }
     requires bytes { layout.now.length ≤ length bytes.now }
@@ -212,11 +203,7 @@ impl RecordWriter for GroupNames<'_> {
     ghost lines = { λ names signals bytes place behind. named_record_lines (names_in names.parameters.now) place
         (named_record_signals behind (named_by names.values.now signals)) bytes };
 
-    fn write_record(
-        &self,
-        text: &mut TextBuffer,
-        record: GroupRecord<'_>,
-    ) -> Result<(), AllocError> {
+    fn write_record(&self, text: &mut TextBuffer, record: GroupRecord<'_>) -> WriteResult {
         let (values, signals) = (self.values, record.signals);
         for (i, signal) in signals.iter().enumerate() {
             let names = &values[i];
@@ -245,7 +232,7 @@ pub(crate) fn write_named(
     group: &GroupPlan,
     layout: &Layout,
     bytes: &[u8],
-) -> Result<(), AllocError>
+) -> WriteResult
     requires signals { layout.now.signals ≡ group.now.signals.items }
     requires names { length names.values.now ≡ length group.now.signals.items }
     requires bytes { layout.now.length ≤ length bytes.now }

@@ -6,8 +6,7 @@ ghost use Rattle.j39_log.specs.NamedReports.{named_reading_lines};
 
 use crate::group_report::write_readings;
 use crate::groups::Groups;
-use j39_text::TextBuffer;
-use std::alloc::AllocError;
+use j39_text::{TextBuffer, WriteResult};
 
 /// Writes what the signals, the records and the texts of the group at a place read in these bytes.
 pub fn write_group_readings(
@@ -15,7 +14,7 @@ pub fn write_group_readings(
     groups: &Groups<'_>,
     place: usize,
     bytes: &[u8],
-) -> Result<(), AllocError>
+) -> WriteResult
     requires { ValueAt (λ (group : APlannedGroup). group.length ≤ length bytes.now) groups.now.groups.items place }
     ensures { OnOk result (ValueAt (λ (group : APlannedGroup). text.new ≡ text.old
         ++ named_reading_lines groups.now group bytes.now)

@@ -8,15 +8,10 @@ use crate::trouble_code::write_code;
 use crate::value_line::write_unit;
 use j39_network::GroupPlan;
 use j39_signal::{Kind, Layout, Signal, State};
-use j39_text::{TextBuffer, write_quotient};
-use std::alloc::AllocError;
+use j39_text::{TextBuffer, WriteResult, write_quotient};
 
 #[tactic(auto, unfolding(crate::specs::LogReports::scaled_text, j39_text::specs::Texts::field_text))]
-pub(crate) fn write_scaled(
-    text: &mut TextBuffer,
-    signal: &Signal,
-    value: i64,
-) -> Result<(), AllocError>
+pub(crate) fn write_scaled(text: &mut TextBuffer, signal: &Signal, value: i64) -> WriteResult
     ensures { OnOk result (text.new ≡ text.old ++ scaled_text signal.now.per signal.now.unit.bytes value) }
 {
     text.word(" value ")?;
@@ -25,7 +20,7 @@ pub(crate) fn write_scaled(
 }
 
 // Writes a value, which of a trouble code is its raw number.
-fn write_value(text: &mut TextBuffer, signal: &Signal, value: i64) -> Result<(), AllocError>
+fn write_value(text: &mut TextBuffer, signal: &Signal, value: i64) -> WriteResult
     ensures { OnOk result (text.new ≡ text.old
         ++ value_text signal.now.kind signal.now.per signal.now.unit.bytes value) }
 {
@@ -36,11 +31,7 @@ fn write_value(text: &mut TextBuffer, signal: &Signal, value: i64) -> Result<(),
 }
 
 #[tactic(auto, unfolding(crate::specs::LogReports::signal_state_text))]
-pub(crate) fn write_state(
-    text: &mut TextBuffer,
-    signal: &Signal,
-    state: State,
-) -> Result<(), AllocError>
+pub(crate) fn write_state(text: &mut TextBuffer, signal: &Signal, state: State) -> WriteResult
     ensures { OnOk result (text.new ≡ text.old ++ signal_state_text signal.now state) }
 {
     match state {
@@ -53,12 +44,7 @@ pub(crate) fn write_state(
 }
 
 #[tactic(auto, unfolding(crate::specs::LogReports::record_line))]
-fn write_line(
-    text: &mut TextBuffer,
-    place: usize,
-    signal: &Signal,
-    state: State,
-) -> Result<(), AllocError>
+fn write_line(text: &mut TextBuffer, place: usize, signal: &Signal, state: State) -> WriteResult
     ensures { OnOk result (text.new ≡ text.old ++ record_line place signal.now state) }
 {
     text.word("  ")?;
@@ -92,7 +78,7 @@ pub(crate) trait RecordWriter {
     /// This is written of the record of a place, so many bytes behind the first, where a message has these bytes.
     ghost lines: { Self → List ASignal → List ℕ → ℕ → ℕ → List ℕ };
 
-    fn write_record(&self, text: &mut TextBuffer, record: GroupRecord<'_>) -> Result<(), AllocError>
+    fn write_record(&self, text: &mut TextBuffer, record: GroupRecord<'_>) -> WriteResult
         requires signals { record.layout.now.signals ≡ record.signals.now }
         requires fits { fits self.now record.signals.now }
         requires inside { All (IsInside (length record.bytes.now)) (record_signals record.behind record.signals.now) }
@@ -110,11 +96,7 @@ impl RecordWriter for NoNames {
 
     ghost lines = { λ _ signals bytes place behind. record_lines place (record_signals behind signals) bytes };
 
-    fn write_record(
-        &self,
-        text: &mut TextBuffer,
-        record: GroupRecord<'_>,
-    ) -> Result<(), AllocError> {
+    fn write_record(&self, text: &mut TextBuffer, record: GroupRecord<'_>) -> WriteResult {
         let signals = record.signals;
         for (i, signal) in signals.iter().enumerate() {
             if signal.is_repeated() {
@@ -135,7 +117,7 @@ fn write_all_records<R: RecordWriter>(
     every: u8,
     layout: &Layout,
     bytes: &[u8],
-) -> Result<(), AllocError>
+) -> WriteResult
     requires signals { layout.now.signals ≡ group.now.signals.items }
     requires fits { R.fits writer.now group.now.signals.items }
     requires every { group.now.every ≡ Some every }
@@ -165,7 +147,7 @@ pub(crate) fn write_records<R: RecordWriter>(
     group: &GroupPlan,
     layout: &Layout,
     bytes: &[u8],
-) -> Result<(), AllocError>
+) -> WriteResult
     requires signals { layout.now.signals ≡ group.now.signals.items }
     requires fits { R.fits writer.now group.now.signals.items }
     ensures { OnOk result (text.new ≡ text.old

@@ -3,8 +3,7 @@ ghost use Rattle.std.specs.Prelude.{◌≡◌, ◌++◌, OnOk};
 ghost use Rattle.j39_log.specs.TextLines.{text_bytes, text_line, text_lines};
 
 use j39_network::TextPlan;
-use j39_text::{TextBuffer, write_quotation};
-use std::alloc::AllocError;
+use j39_text::{TextBuffer, WriteResult, write_quotation};
 
 // The bytes of a text, those of them that came.
 #[tactic(auto, unfolding(crate::specs::TextLines::text_bytes))]
@@ -22,7 +21,7 @@ fn text_bytes<'a>(plan: &TextPlan, bytes: &'a [u8]) -> &'a [u8]
 // Few groups have texts, so what writes one is no part of the code that writes a report.
 #[inline(never)]
 #[tactic(auto, unfolding(crate::specs::TextLines::text_line))]
-fn write_text(text: &mut TextBuffer, plan: &TextPlan, bytes: &[u8]) -> Result<(), AllocError>
+fn write_text(text: &mut TextBuffer, plan: &TextPlan, bytes: &[u8]) -> WriteResult
     ensures { OnOk result (text.new ≡ text.old ++ text_line plan.now bytes.now) }
 {
     text.word("  ")?;
@@ -33,11 +32,7 @@ fn write_text(text: &mut TextBuffer, plan: &TextPlan, bytes: &[u8]) -> Result<()
 }
 
 /// Writes the texts of a group that stand in these bytes.
-pub(crate) fn write_texts(
-    text: &mut TextBuffer,
-    texts: &[TextPlan],
-    bytes: &[u8],
-) -> Result<(), AllocError>
+pub(crate) fn write_texts(text: &mut TextBuffer, texts: &[TextPlan], bytes: &[u8]) -> WriteResult
     ensures { OnOk result (text.new ≡ text.old ++ text_lines texts.now bytes.now) }
 {
     for plan in texts {

@@ -4,8 +4,7 @@ ghost use Rattle.j39_log.specs.LogReports.{code_text, count_text, failure_mode, 
 ghost use Rattle.j39_log.specs.LogReports.{suspect_parameter};
 
 use j39_signal::Signal;
-use j39_text::TextBuffer;
-use std::alloc::AllocError;
+use j39_text::{TextBuffer, WriteResult};
 
 pub(crate) fn suspect_parameter(code: u64) -> u64
     ensures { result ≡ suspect_parameter code }
@@ -20,14 +19,14 @@ fn failure_mode(code: u64) -> u64
 }
 
 #[tactic(auto, unfolding(crate::specs::LogReports::count_text))]
-fn write_count(text: &mut TextBuffer, code: u64) -> Result<(), AllocError>
+fn write_count(text: &mut TextBuffer, code: u64) -> WriteResult
     ensures { OnOk result (text.new ≡ text.old ++ count_text code) }
 {
     text.field(" count ", code / 0x100_0000 % 128)
 }
 
 #[tactic(auto, unfolding(crate::specs::LogReports::parameter_text))]
-fn write_parameter(text: &mut TextBuffer, code: u64) -> Result<(), AllocError>
+fn write_parameter(text: &mut TextBuffer, code: u64) -> WriteResult
     ensures { OnOk result (text.new ≡ text.old ++ parameter_text code) }
 {
     text.field(" dtc spn ", suspect_parameter(code))?;
@@ -36,7 +35,7 @@ fn write_parameter(text: &mut TextBuffer, code: u64) -> Result<(), AllocError>
 }
 
 #[tactic(auto, unfolding(crate::specs::LogReports::raw_code_text))]
-fn write_raw_code(text: &mut TextBuffer, code: u64) -> Result<(), AllocError>
+fn write_raw_code(text: &mut TextBuffer, code: u64) -> WriteResult
     ensures { OnOk result (text.new ≡ text.old ++ raw_code_text code) }
 {
     text.field(" dtc raw ", code)?;
@@ -45,7 +44,7 @@ fn write_raw_code(text: &mut TextBuffer, code: u64) -> Result<(), AllocError>
 
 /// Writes what a trouble code says.
 #[tactic(auto, unfolding(crate::specs::LogReports::code_text))]
-pub(crate) fn write_code(text: &mut TextBuffer, code: u64) -> Result<(), AllocError>
+pub(crate) fn write_code(text: &mut TextBuffer, code: u64) -> WriteResult
     ensures { OnOk result (text.new ≡ text.old ++ code_text code) }
 {
     if code == 0 {
@@ -60,11 +59,7 @@ pub(crate) fn write_code(text: &mut TextBuffer, code: u64) -> Result<(), AllocEr
 /// Writes what a trouble code says, behind the label of its signal. Few signals are codes: the loop over signals is
 /// faster without it.
 #[inline(never)]
-pub(crate) fn write_code_line(
-    text: &mut TextBuffer,
-    signal: &Signal,
-    code: u64,
-) -> Result<(), AllocError>
+pub(crate) fn write_code_line(text: &mut TextBuffer, signal: &Signal, code: u64) -> WriteResult
     ensures { OnOk result (text.new ≡ text.old
         ++ (codes "  " ++ (signal.now.label.bytes ++ (code_text code ++ 10 ∷ [])))) }
 {

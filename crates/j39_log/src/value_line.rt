@@ -6,7 +6,7 @@ ghost use Rattle.j39_log.specs.inside.ValueLines.{items_of, value_line_of, value
 use j39_id::Label;
 use j39_network::GroupPlan;
 use j39_signal::Signal;
-use j39_text::TextBuffer;
+use j39_text::{TextBuffer, WriteResult};
 use std::alloc::{AllocError, Global};
 
 /// The text before the value of a signal, the one behind it, and the whole line of one that is absent.
@@ -19,7 +19,7 @@ pub struct ValueLine {
 
 /// Writes one space and a unit, where there is one.
 #[tactic(auto, unfolding(crate::specs::LogReports::signal_unit_text))]
-pub(crate) fn write_unit(text: &mut TextBuffer, unit: &Label) -> Result<(), AllocError>
+pub(crate) fn write_unit(text: &mut TextBuffer, unit: &Label) -> WriteResult
     ensures { OnOk result (text.new ≡ text.old ++ signal_unit_text unit.now.bytes) }
 {
     if unit.is_empty() {

@@ -9,8 +9,8 @@ use j39_load::check_load;
 use j39_network::Plan;
 use j39_run_laws::{who_stays, who_stays_with_strangers};
 use j39_stream::Verdict;
-use j39_text::TextBuffer;
-use std::alloc::{AllocError, Global};
+use j39_text::{ReportResult, TextBuffer};
+use std::alloc::Global;
 
 /// Whether a finding is one on the NAMEs or the addresses of units.
 pub fn is_of_addresses(finding: &Finding) -> bool
@@ -28,7 +28,7 @@ pub fn is_of_addresses(finding: &Finding) -> bool
 }
 
 /// What is written of a plan's addresses, with the verdict.
-pub fn stays_report(alloc: Global, plan: &Plan) -> Result<(TextBuffer, Verdict), AllocError>
+pub fn stays_report(alloc: Global, plan: &Plan) -> ReportResult
     ensures { IfOk result (λ report. IsAddressesReport plan.now report.0 report.1) }
 {
     let mut text = TextBuffer::new(alloc);

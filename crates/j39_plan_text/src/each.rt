@@ -2,8 +2,7 @@
 ghost use Rattle.std.specs.Prelude.{◌≡◌, ◌++◌, OnOk};
 ghost use Rattle.j39_load.specs.LineLists.{lines_of_each};
 
-use j39_text::TextBuffer;
-use std::alloc::AllocError;
+use j39_text::{TextBuffer, WriteResult};
 
 /// How the lines of a value are written, by its place among others.
 pub trait WriteLines<T> {
@@ -11,7 +10,7 @@ pub trait WriteLines<T> {
 
     ghost lines: { Self → ℕ → T → List ℕ };
 
-    fn write(&self, text: &mut TextBuffer, place: usize, value: &T) -> Result<(), AllocError>
+    fn write(&self, text: &mut TextBuffer, place: usize, value: &T) -> WriteResult
         ensures { OnOk result (text.new ≡ text.old ++ lines self.now place value.now) };
 }
 
@@ -20,7 +19,7 @@ pub fn write_each<T, W: WriteLines<T>>(
     text: &mut TextBuffer,
     writer: &W,
     values: &[T],
-) -> Result<(), AllocError>
+) -> WriteResult
     ensures { OnOk result (text.new ≡ text.old ++ lines_of_each (W.lines writer.now) 0 values.now) }
 {
     for (place, value) in values.iter().enumerate() {

@@ -8,10 +8,10 @@ use j39_findings::{Finding, bad_run};
 use j39_network::Plan;
 use j39_schedule::write_steps;
 use j39_text::{
-    TextBuffer, group_label, group_pgn, group_selector_end, signal_bits, signal_end, signal_label,
-    text_end, text_label, unit_address, unit_label, write_group, write_units,
+    TextBuffer, WriteResult, group_label, group_pgn, group_selector_end, signal_bits, signal_end,
+    signal_label, text_end, text_label, unit_address, unit_label, write_group, write_units,
 };
-use std::alloc::{AllocError, Global};
+use std::alloc::Global;
 
 // A word, two labels and a number.
 #[tactic(auto, unfolding(crate::specs::FindingLines::labels_number_text))]
@@ -21,7 +21,7 @@ fn write_labels_number(
     first: &str,
     second: &str,
     number: u32,
-) -> Result<(), AllocError>
+) -> WriteResult
     ensures { OnOk result (text.new ≡ text.old ++ labels_number_text word.now first.now second.now number) }
 {
     text.labels(word, first, second)?;
@@ -37,7 +37,7 @@ fn write_signals(
     group: usize,
     first: usize,
     second: usize,
-) -> Result<(), AllocError>
+) -> WriteResult
     ensures { OnOk result (text.new ≡ text.old ++ signals_text word.now plan.now group first second) }
 {
     text.labels(
@@ -50,7 +50,7 @@ fn write_signals(
 
 /// Writes a finding, without the end of its line.
 #[tactic(auto, unfolding(crate::specs::FindingLines::finding_text))]
-pub fn write_finding(text: &mut TextBuffer, plan: &Plan, finding: Finding) -> Result<(), AllocError>
+pub fn write_finding(text: &mut TextBuffer, plan: &Plan, finding: Finding) -> WriteResult
     ensures { OnOk result (text.new ≡ text.old ++ finding_text plan.now finding) }
 {
     match finding {
@@ -134,7 +134,7 @@ pub fn write_finding(text: &mut TextBuffer, plan: &Plan, finding: Finding) -> Re
 }
 
 #[tactic(auto, unfolding(crate::specs::FindingLines::finding_line))]
-fn write_line(text: &mut TextBuffer, plan: &Plan, finding: Finding) -> Result<(), AllocError>
+fn write_line(text: &mut TextBuffer, plan: &Plan, finding: Finding) -> WriteResult
     ensures { OnOk result (text.new ≡ text.old ++ finding_line plan.now finding) }
 {
     write_finding(text, plan, finding)?;
@@ -148,7 +148,7 @@ pub fn write_run(
     text: &mut TextBuffer,
     plan: &Plan,
     finding: &Finding,
-) -> Result<(), AllocError>
+) -> WriteResult
     ensures { OnOk result (text.new ≡ text.old ++ run_lines plan.now finding.now) }
 {
     match bad_run(alloc, plan, finding)? {
@@ -158,12 +158,7 @@ pub fn write_run(
 }
 
 #[tactic(auto, unfolding(crate::specs::FindingLines::finding_report))]
-fn write_report(
-    alloc: Global,
-    text: &mut TextBuffer,
-    plan: &Plan,
-    finding: &Finding,
-) -> Result<(), AllocError>
+fn write_report(alloc: Global, text: &mut TextBuffer, plan: &Plan, finding: &Finding) -> WriteResult
     ensures { OnOk result (text.new ≡ text.old ++ finding_report plan.now finding.now) }
 {
     write_line(text, plan, *finding)?;
@@ -192,12 +187,7 @@ impl WriteLines<Finding> for FindingsBetween<'_> {
     ghost lines = { λ w _. finding_part w.from w.below w.plan.now };
 
     #[tactic(auto, unfolding(crate::specs::FindingLines::finding_part))]
-    fn write(
-        &self,
-        text: &mut TextBuffer,
-        _at: usize,
-        finding: &Finding,
-    ) -> Result<(), AllocError> {
+    fn write(&self, text: &mut TextBuffer, _at: usize, finding: &Finding) -> WriteResult {
         if is_between(self.from, self.below, finding.number()) {
             write_report(self.alloc, text, self.plan, finding)
         } else {
@@ -215,7 +205,7 @@ pub(super) fn write_lines(
     findings: &[Finding],
     from: u8,
     below: u8,
-) -> Result<(), AllocError>
+) -> WriteResult
     ensures { OnOk result (text.new ≡ text.old ++ finding_lines from below plan.now findings.now) }
 {
     let writer = FindingsBetween {

@@ -11,8 +11,8 @@ use j39_findings::{Finding, check};
 use j39_load::{LoadAnswer, LoadFinding, timing_of};
 use j39_network::Plan;
 use j39_stream::Verdict;
-use j39_text::TextBuffer;
-use std::alloc::{AllocError, Global};
+use j39_text::{ReportResult, TextBuffer, WriteResult};
+use std::alloc::Global;
 
 /// Whether no times are reported where a finding of this number is.
 pub fn hides_times(number: u8) -> bool
@@ -60,7 +60,7 @@ fn write_unshown_lines(
     findings: &[Finding],
     others: &[LoadFinding],
     count: usize,
-) -> Result<(), AllocError>
+) -> WriteResult
     requires { count ≡ unshown_count findings.now others.now }
     ensures { OnOk result (text.new ≡ text.old ++ unshown_lines plan.now findings.now others.now) }
 {
@@ -80,7 +80,7 @@ fn write_unshown(
     plan: &Plan,
     findings: &[Finding],
     others: &[LoadFinding],
-) -> Result<(), AllocError>
+) -> WriteResult
     ensures { OnOk result (text.new ≡ text.old ++ unshown_text plan.now findings.now others.now) }
 {
     let count = findings.len() + count_unshown(others);
@@ -101,7 +101,7 @@ fn verdict_of(findings: &[Finding], others: &[LoadFinding]) -> Verdict
 }
 
 /// What is written of what a plan asks of its bus, with the verdict.
-pub fn load_report(alloc: Global, plan: &Plan) -> Result<(TextBuffer, Verdict), AllocError>
+pub fn load_report(alloc: Global, plan: &Plan) -> ReportResult
     ensures { IfOk result (λ report. IsLoadReport plan.now (timing_of plan.now) report.0 report.1) }
 {
     let mut text = TextBuffer::new(alloc);

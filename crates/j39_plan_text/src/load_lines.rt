@@ -19,12 +19,11 @@ use j39_load::{
     youngest_flow,
 };
 use j39_network::{FlowPlan, NeedPlan, Pace, Plan, Timing, To, is_met};
-use j39_text::{TextBuffer, group_label, unit_label, write_need};
-use std::alloc::AllocError;
+use j39_text::{TextBuffer, WriteResult, group_label, unit_label, write_need};
 
 /// Writes a finding on the load, without the end of its line.
 #[tactic(auto, unfolding(crate::specs::LoadLines::load_finding_text))]
-pub fn write_load_finding(text: &mut TextBuffer, finding: LoadFinding) -> Result<(), AllocError>
+pub fn write_load_finding(text: &mut TextBuffer, finding: LoadFinding) -> WriteResult
     ensures { OnOk result (text.new ≡ text.old ++ load_finding_text finding) }
 {
     match finding {
@@ -36,7 +35,7 @@ pub fn write_load_finding(text: &mut TextBuffer, finding: LoadFinding) -> Result
 }
 
 #[tactic(auto, unfolding(crate::specs::LoadLines::load_finding_line))]
-fn write_load_finding_line(text: &mut TextBuffer, finding: LoadFinding) -> Result<(), AllocError>
+fn write_load_finding_line(text: &mut TextBuffer, finding: LoadFinding) -> WriteResult
     ensures { OnOk result (text.new ≡ text.old ++ load_finding_line finding) }
 {
     write_load_finding(text, finding)?;
@@ -56,12 +55,7 @@ impl WriteLines<LoadFinding> for LoadFindingsBetween {
     ghost lines = { λ w _. load_finding_part w.from w.below };
 
     #[tactic(auto, unfolding(crate::specs::LoadLines::load_finding_part))]
-    fn write(
-        &self,
-        text: &mut TextBuffer,
-        _at: usize,
-        finding: &LoadFinding,
-    ) -> Result<(), AllocError> {
+    fn write(&self, text: &mut TextBuffer, _at: usize, finding: &LoadFinding) -> WriteResult {
         if is_between(self.from, self.below, finding.number()) {
             write_load_finding_line(text, *finding)
         } else {
@@ -76,7 +70,7 @@ pub(super) fn write_load_findings(
     findings: &[LoadFinding],
     from: u8,
     below: u8,
-) -> Result<(), AllocError>
+) -> WriteResult
     ensures { OnOk result (text.new ≡ text.old ++ load_finding_lines from below findings.now) }
 {
     write_each(text, &LoadFindingsBetween { from, below }, findings)
@@ -84,7 +78,7 @@ pub(super) fn write_load_findings(
 
 /// Writes so many microseconds.
 #[tactic(auto, unfolding(crate::specs::LoadLines::time_text))]
-pub fn write_time(text: &mut TextBuffer, word: &str, us: u128) -> Result<(), AllocError>
+pub fn write_time(text: &mut TextBuffer, word: &str, us: u128) -> WriteResult
     ensures { OnOk result (text.new ≡ text.old ++ time_text word.now us) }
 {
     text.field(word, us)?;
@@ -92,7 +86,7 @@ pub fn write_time(text: &mut TextBuffer, word: &str, us: u128) -> Result<(), All
 }
 
 #[tactic(auto, unfolding(crate::specs::LoadLines::within_text))]
-fn write_within(text: &mut TextBuffer, word: &str, limit: u32, us: u128) -> Result<(), AllocError>
+fn write_within(text: &mut TextBuffer, word: &str, limit: u32, us: u128) -> WriteResult
     ensures { OnOk result (text.new ≡ text.old ++ within_text word.now limit us) }
 {
     text.field(word, us)?;
@@ -106,7 +100,7 @@ fn write_limited(
     beyond: &str,
     limit: u32,
     us: Option<u128>,
-) -> Result<(), AllocError>
+) -> WriteResult
     ensures { OnOk result (text.new ≡ text.old ++ limited_text within.now beyond.now limit us) }
 {
     match us {
@@ -135,7 +129,7 @@ fn write_whole(
     timing: Timing,
     whole: WholeTime,
     deadline: Option<u16>,
-) -> Result<(), AllocError>
+) -> WriteResult
     ensures { OnOk result (text.new ≡ text.old ++ whole_text timing whole deadline whole.bits) }
 {
     match (deadline, whole.bits) {
@@ -163,12 +157,7 @@ fn us_allowed(pace: Pace) -> u32
 }
 
 #[tactic(auto, unfolding(crate::specs::LoadLines::delay_text))]
-fn write_delay(
-    text: &mut TextBuffer,
-    timing: Timing,
-    pace: Pace,
-    delay: Delay,
-) -> Result<(), AllocError>
+fn write_delay(text: &mut TextBuffer, timing: Timing, pace: Pace, delay: Delay) -> WriteResult
     ensures { OnOk result (text.new ≡ text.old ++ delay_text timing pace delay) }
 {
     match delay {
@@ -196,7 +185,7 @@ pub fn write_known_delay(
     timing: Timing,
     pace: Option<Pace>,
     delay: &Option<Delay>,
-) -> Result<(), AllocError>
+) -> WriteResult
     ensures { OnOk result (text.new ≡ text.old ++ known_delay_text timing pace delay.now) }
 {
     match (pace, delay) {
@@ -217,12 +206,7 @@ fn receiver_text(plan: &Plan, to: To) -> &str
 
 /// Writes a flow: its place, its group, its sender and its receiver.
 #[tactic(auto, unfolding(crate::specs::LoadLines::flow_text))]
-pub fn write_flow(
-    text: &mut TextBuffer,
-    plan: &Plan,
-    place: usize,
-    flow: &FlowPlan,
-) -> Result<(), AllocError>
+pub fn write_flow(text: &mut TextBuffer, plan: &Plan, place: usize, flow: &FlowPlan) -> WriteResult
     ensures { OnOk result (text.new ≡ text.old ++ flow_text plan.now place flow.now) }
 {
     text.place("flow ", place)?;
@@ -255,7 +239,7 @@ impl WriteLines<FlowPlan> for FlowDelays<'_> {
     ghost lines = { λ w. flow_line w.plan.now w.timing w.delays.now };
 
     #[tactic(auto, unfolding(crate::specs::LoadLines::flow_line))]
-    fn write(&self, text: &mut TextBuffer, at: usize, flow: &FlowPlan) -> Result<(), AllocError> {
+    fn write(&self, text: &mut TextBuffer, at: usize, flow: &FlowPlan) -> WriteResult {
         write_flow(text, self.plan, at, flow)?;
         write_known_delay(text, self.timing, flow.pace, &delay_of(self.delays, at))?;
         text.end_line()
@@ -264,7 +248,7 @@ impl WriteLines<FlowPlan> for FlowDelays<'_> {
 
 /// Writes how old what is needed is at most, of a limit, which may be less.
 #[tactic(auto, unfolding(crate::specs::LoadLines::age_text))]
-pub fn write_age(text: &mut TextBuffer, limit: u32, age: Option<u64>) -> Result<(), AllocError>
+pub fn write_age(text: &mut TextBuffer, limit: u32, age: Option<u64>) -> WriteResult
     ensures { OnOk result (text.new ≡ text.old ++ age_text limit age) }
 {
     let us = match age {
@@ -282,7 +266,7 @@ fn write_age_flow(
     timing: Timing,
     delays: &[Option<Delay>],
     need: &NeedPlan,
-) -> Result<(), AllocError>
+) -> WriteResult
     requires { length delays.now ≡ length plan.now.flows.items }
     ensures { OnOk result (text.new ≡ text.old ++ age_flow_text plan.now timing delays.now need.now) }
 {
@@ -304,7 +288,7 @@ fn write_known_age(
     delays: &[Option<Delay>],
     need: &NeedPlan,
     limit: u32,
-) -> Result<(), AllocError>
+) -> WriteResult
     requires { length delays.now ≡ length plan.now.flows.items }
     ensures { OnOk result (text.new ≡ text.old ++ known_age_text plan.now timing delays.now need.now limit) }
 {
@@ -332,7 +316,7 @@ fn write_need_line(
     delays: &[Option<Delay>],
     place: usize,
     need: &NeedPlan,
-) -> Result<(), AllocError>
+) -> WriteResult
     requires { length delays.now ≡ length plan.now.flows.items }
     ensures { OnOk result (text.new ≡ text.old ++ need_line plan.now timing delays.now place need.now) }
 {
@@ -350,7 +334,7 @@ fn write_needs(
     plan: &Plan,
     timing: Timing,
     delays: &[Option<Delay>],
-) -> Result<(), AllocError>
+) -> WriteResult
     requires { length delays.now ≡ length plan.now.flows.items }
     ensures { OnOk result (text.new ≡ text.old
         ++ lines_of_each (need_line plan.now timing delays.now) 0 plan.now.needs.items) }
@@ -363,7 +347,7 @@ fn write_needs(
 
 /// Writes how much of the bus all flows take.
 #[tactic(auto, unfolding(crate::specs::LoadLines::load_line))]
-pub fn write_load(text: &mut TextBuffer, loads: &Loads) -> Result<(), AllocError>
+pub fn write_load(text: &mut TextBuffer, loads: &Loads) -> WriteResult
     ensures { OnOk result (text.new ≡ text.old ++ load_line loads.now.timing (asked_in loads.now)) }
 {
     text.field("load ", loads.total())?;
@@ -378,7 +362,7 @@ pub(super) fn write_loads(
     plan: &Plan,
     loads: &Loads,
     delays: &[Option<Delay>],
-) -> Result<(), AllocError>
+) -> WriteResult
     requires { length delays.now ≡ length plan.now.flows.items }
     ensures { OnOk result (text.new ≡ text.old
         ++ loads_text plan.now loads.now.timing (asked_in loads.now) delays.now) }

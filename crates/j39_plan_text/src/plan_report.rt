@@ -11,11 +11,11 @@ use j39_findings::{Finding, clean_where_none};
 use j39_load::LoadFinding;
 use j39_network::Plan;
 use j39_stream::Verdict;
-use j39_text::TextBuffer;
+use j39_text::{TextBuffer, WriteResult};
 use std::alloc::{AllocError, Global};
 
 #[tactic(auto, unfolding(crate::specs::CheckText::ok_line))]
-fn write_ok(text: &mut TextBuffer, plan: &Plan) -> Result<(), AllocError>
+fn write_ok(text: &mut TextBuffer, plan: &Plan) -> WriteResult
     ensures { OnOk result (text.new ≡ text.old ++ ok_line plan.now) }
 {
     text.field("ok ", plan.units.len())?;
@@ -31,7 +31,7 @@ pub(super) fn write_findings(
     plan: &Plan,
     findings: &[Finding],
     others: &[LoadFinding],
-) -> Result<(), AllocError>
+) -> WriteResult
     ensures { OnOk result (text.new ≡ text.old ++ findings_text plan.now findings.now others.now) }
 {
     write_lines(alloc, text, plan, findings, 1, 16)?;

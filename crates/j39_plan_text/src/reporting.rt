@@ -5,9 +5,9 @@ ghost use Rattle.j39_stream.specs.Streams.{plan_limits};
 
 use crate::plan_file::line_text;
 use j39_stream::{Fault, Sink, Source, Verdict, put_all};
-use j39_text::TextBuffer;
+use j39_text::{ReportResult, TextBuffer};
 use j39_variants::ProductLine;
-use std::alloc::{AllocError, Global};
+use std::alloc::Global;
 
 /// What is reported of a line of vehicles.
 pub trait LineReport {
@@ -18,7 +18,7 @@ pub trait LineReport {
     /// This is written for it, with this verdict.
     ghost says: { Self → ALine → List ℕ → AVerdict → Type 0 };
 
-    fn report(&self, alloc: Global, line: ProductLine) -> Result<(TextBuffer, Verdict), AllocError>
+    fn report(&self, alloc: Global, line: ProductLine) -> ReportResult
         ensures { IfOk result (λ report. says self.now line report.0 report.1) };
 }
 

@@ -6,9 +6,9 @@ ghost use Rattle.j39_stream.specs.Streams.{plan_limits};
 use crate::reporting::{LineReport, report_text};
 use crate::show_lines::write_line;
 use j39_stream::{Fault, Sink, Source, Verdict};
-use j39_text::TextBuffer;
+use j39_text::{ReportResult, TextBuffer};
 use j39_variants::ProductLine;
-use std::alloc::{AllocError, Global};
+use std::alloc::Global;
 
 // What is shown of a plan.
 struct ShowReport;
@@ -18,11 +18,7 @@ impl LineReport for ShowReport {
 
     ghost says = { λ _. IsShowReport };
 
-    fn report(
-        &self,
-        alloc: Global,
-        line: ProductLine,
-    ) -> Result<(TextBuffer, Verdict), AllocError> {
+    fn report(&self, alloc: Global, line: ProductLine) -> ReportResult {
         let mut text = TextBuffer::new(alloc);
         write_line(&mut text, &line)?;
         Ok((text, Verdict::Done))

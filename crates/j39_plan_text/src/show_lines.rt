@@ -19,15 +19,14 @@ use j39_id::Address;
 use j39_load::bits_of_second;
 use j39_network::{ErrorRate, Plan, Timing};
 use j39_plan::{Key, Table};
-use j39_text::TextBuffer;
+use j39_text::{TextBuffer, WriteResult};
 use j39_variants::ProductLine;
-use std::alloc::AllocError;
 use units::UnitLines;
 use values::{write_number, write_truth};
 
 // An address that is kept free.
 #[tactic(auto, unfolding(crate::specs::ShowText::kept_line))]
-fn write_kept(text: &mut TextBuffer, kept: &AddressSet, address: u8) -> Result<(), AllocError>
+fn write_kept(text: &mut TextBuffer, kept: &AddressSet, address: u8) -> WriteResult
     requires { address < 254 }
     ensures { OnOk result (text.new ≡ text.old ++ kept_line kept.now address) }
 {
@@ -42,7 +41,7 @@ fn write_kept(text: &mut TextBuffer, kept: &AddressSet, address: u8) -> Result<(
 }
 
 // Each of 128 to 247 that is kept free.
-fn write_all_kept(text: &mut TextBuffer, kept: &AddressSet) -> Result<(), AllocError>
+fn write_all_kept(text: &mut TextBuffer, kept: &AddressSet) -> WriteResult
     ensures { OnOk result (text.new ≡ text.old ++ kept_lines kept.now 120) }
 {
     for place in 0..120 {
@@ -52,7 +51,7 @@ fn write_all_kept(text: &mut TextBuffer, kept: &AddressSet) -> Result<(), AllocE
 }
 
 #[tactic(auto, unfolding(crate::specs::ShowText::error_lines))]
-fn write_errors(text: &mut TextBuffer, errors: Option<ErrorRate>) -> Result<(), AllocError>
+fn write_errors(text: &mut TextBuffer, errors: Option<ErrorRate>) -> WriteResult
     ensures { OnOk result (text.new ≡ text.old ++ error_lines errors) }
 {
     match errors {
@@ -65,7 +64,7 @@ fn write_errors(text: &mut TextBuffer, errors: Option<ErrorRate>) -> Result<(), 
 }
 
 #[tactic(auto, unfolding(crate::specs::ShowText::gap_lines))]
-fn write_gaps(text: &mut TextBuffer, timing: Timing) -> Result<(), AllocError>
+fn write_gaps(text: &mut TextBuffer, timing: Timing) -> WriteResult
     ensures { OnOk result (text.new ≡ text.old ++ gap_lines timing) }
 {
     let table = Table::Timing;
@@ -80,7 +79,7 @@ fn write_gaps(text: &mut TextBuffer, timing: Timing) -> Result<(), AllocError>
 }
 
 #[tactic(auto, unfolding(crate::specs::ShowText::known_timing_lines))]
-fn write_known_timing(text: &mut TextBuffer, timing: Timing) -> Result<(), AllocError>
+fn write_known_timing(text: &mut TextBuffer, timing: Timing) -> WriteResult
     ensures { OnOk result (text.new ≡ text.old ++ known_timing_lines timing) }
 {
     let table = Table::Timing;
@@ -103,7 +102,7 @@ fn write_known_timing(text: &mut TextBuffer, timing: Timing) -> Result<(), Alloc
 }
 
 #[tactic(auto, unfolding(crate::specs::ShowText::timing_lines))]
-fn write_timing(text: &mut TextBuffer, timing: Option<Timing>) -> Result<(), AllocError>
+fn write_timing(text: &mut TextBuffer, timing: Option<Timing>) -> WriteResult
     ensures { OnOk result (text.new ≡ text.old ++ timing_lines timing) }
 {
     match timing {
@@ -113,7 +112,7 @@ fn write_timing(text: &mut TextBuffer, timing: Option<Timing>) -> Result<(), All
 }
 
 #[tactic(auto, unfolding(crate::specs::ShowText::top_lines))]
-fn write_top(text: &mut TextBuffer, plan: &Plan) -> Result<(), AllocError>
+fn write_top(text: &mut TextBuffer, plan: &Plan) -> WriteResult
     ensures { OnOk result (text.new ≡ text.old ++ top_lines plan.now) }
 {
     write_all_kept(text, &plan.keep_free)?;
@@ -124,7 +123,7 @@ fn write_top(text: &mut TextBuffer, plan: &Plan) -> Result<(), AllocError>
 
 /// Writes each value of a plan.
 #[tactic(auto, unfolding(crate::specs::ShowText::show_text))]
-pub(super) fn write_plan(text: &mut TextBuffer, plan: &Plan) -> Result<(), AllocError>
+pub(super) fn write_plan(text: &mut TextBuffer, plan: &Plan) -> WriteResult
     ensures { OnOk result (text.new ≡ text.old ++ show_text plan.now) }
 {
     write_top(text, plan)?;
@@ -137,7 +136,7 @@ pub(super) fn write_plan(text: &mut TextBuffer, plan: &Plan) -> Result<(), Alloc
 
 /// Writes each value of a plan, and its choices.
 #[tactic(auto, unfolding(crate::specs::ShownLines::line_text))]
-pub(super) fn write_line(text: &mut TextBuffer, line: &ProductLine) -> Result<(), AllocError>
+pub(super) fn write_line(text: &mut TextBuffer, line: &ProductLine) -> WriteResult
     ensures { OnOk result (text.new ≡ text.old ++ line_text line.now) }
 {
     write_plan(text, &line.plan)?;

@@ -5,8 +5,7 @@ ghost use Rattle.j39_findings.specs.Standing.{stays_of};
 
 use j39_findings::Standing;
 use j39_network::UnitPlan;
-use j39_text::TextBuffer;
-use std::alloc::AllocError;
+use j39_text::{TextBuffer, WriteResult};
 
 fn word_of(stays: bool) -> &'static str
     ensures { result.now ≡ stays_word stays }
@@ -15,7 +14,7 @@ fn word_of(stays: bool) -> &'static str
 }
 
 #[tactic(auto, unfolding(crate::specs::AddressesText::staying_line))]
-fn write_unit(text: &mut TextBuffer, standing: &Standing, unit: &UnitPlan) -> Result<(), AllocError>
+fn write_unit(text: &mut TextBuffer, standing: &Standing, unit: &UnitPlan) -> WriteResult
     ensures { OnOk result (text.new ≡ text.old ++ staying_line (stays_of standing.now) unit.now) }
 {
     text.word("unit ")?;
@@ -24,11 +23,7 @@ fn write_unit(text: &mut TextBuffer, standing: &Standing, unit: &UnitPlan) -> Re
     text.end_line()
 }
 
-fn write_units(
-    text: &mut TextBuffer,
-    standing: &Standing,
-    units: &[UnitPlan],
-) -> Result<(), AllocError>
+fn write_units(text: &mut TextBuffer, standing: &Standing, units: &[UnitPlan]) -> WriteResult
     ensures { OnOk result (text.new ≡ text.old ++ staying_lines (stays_of standing.now) units.now) }
 {
     for unit in units {
@@ -43,7 +38,7 @@ pub(super) fn write_stays(
     text: &mut TextBuffer,
     standing: &Standing,
     units: &[UnitPlan],
-) -> Result<(), AllocError>
+) -> WriteResult
     ensures { OnOk result (text.new ≡ text.old ++ stays_text (stays_of standing.now) units.now) }
 {
     write_units(text, standing, units)?;

@@ -8,7 +8,7 @@ ghost use Rattle.j39_stream.specs.Streams.{plan_limits};
 use crate::reporting::{LineReport, report_text};
 use crate::show_lines::write_plan;
 use j39_stream::{Fault, Sink, Source, Verdict};
-use j39_text::TextBuffer;
+use j39_text::{ReportResult, TextBuffer};
 use j39_variants::{Alternative, Choice, ProductLine, first_possible, named, plan_of};
 use std::alloc::{AllocError, Global};
 
@@ -53,7 +53,7 @@ fn has_two(alternatives: &[Alternative]) -> bool
 
 // The line that says why there is no such variant.
 #[tactic(auto, unfolding(crate::specs::VariantText::refused_variant))]
-fn refused(alloc: Global, cause: &str) -> Result<(TextBuffer, Verdict), AllocError>
+fn refused(alloc: Global, cause: &str) -> ReportResult
     ensures { IfOk result (λ report. (report.0 ≡ refused_variant cause.now) × (report.1 ≡ Verdict.Refused)) }
 {
     let mut text = TextBuffer::new(alloc);
@@ -74,11 +74,7 @@ impl LineReport for VariantReport<'_> {
 
     ghost says = { λ r. IsVariantReport (map string_bytes r.labels.now) };
 
-    fn report(
-        &self,
-        alloc: Global,
-        line: ProductLine,
-    ) -> Result<(TextBuffer, Verdict), AllocError> {
+    fn report(&self, alloc: Global, line: ProductLine) -> ReportResult {
         let wanted = match named_by(alloc, &line.choices, self.labels)? {
             Some(wanted) => wanted,
             None => return refused(alloc, "UnknownLabel"),

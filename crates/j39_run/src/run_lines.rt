@@ -15,11 +15,10 @@ use j39_bus::{Bus, Report, StepError};
 use j39_id::{Frame, print_frame};
 use j39_network::Plan;
 use j39_schedule::LineFault;
-use j39_text::{TextBuffer, unit_label};
-use std::alloc::AllocError;
+use j39_text::{TextBuffer, WriteResult, unit_label};
 
 #[tactic(auto, unfolding(crate::specs::RunText::sent_line))]
-fn write_frame(text: &mut TextBuffer, frame: &Frame) -> Result<(), AllocError>
+fn write_frame(text: &mut TextBuffer, frame: &Frame) -> WriteResult
     ensures { OnOk result (text.new ≡ text.old ++ sent_line (sent_of frame.now)) }
 {
     text.bytes(print_frame(frame).as_slice())?;
@@ -27,7 +26,7 @@ fn write_frame(text: &mut TextBuffer, frame: &Frame) -> Result<(), AllocError>
 }
 
 /// Writes the frames from this place on.
-pub fn write_frames(text: &mut TextBuffer, frames: &[Frame], from: usize) -> Result<(), AllocError>
+pub fn write_frames(text: &mut TextBuffer, frames: &[Frame], from: usize) -> WriteResult
     ensures { OnOk result (text.new ≡ text.old ++ sent_lines (map sent_of (drop from frames.now))) }
 {
     for place in from..frames.len() {
@@ -72,7 +71,7 @@ fn line_cause(fault: LineFault) -> &'static str
 }
 
 #[tactic(auto, unfolding(crate::specs::RunText::refused_line))]
-fn write_refused(text: &mut TextBuffer, place: usize, cause: &str) -> Result<(), AllocError>
+fn write_refused(text: &mut TextBuffer, place: usize, cause: &str) -> WriteResult
     ensures { OnOk result (text.new ≡ text.old ++ refused_line place cause.now) }
 {
     text.place("refused line ", place)?;
@@ -81,7 +80,7 @@ fn write_refused(text: &mut TextBuffer, place: usize, cause: &str) -> Result<(),
     text.end_line()
 }
 
-pub fn write_halt(text: &mut TextBuffer, halt: Halt) -> Result<(), AllocError>
+pub fn write_halt(text: &mut TextBuffer, halt: Halt) -> WriteResult
     ensures { OnOk result (text.new ≡ text.old ++ halt_lines halt) }
 {
     match halt {
@@ -93,7 +92,7 @@ pub fn write_halt(text: &mut TextBuffer, halt: Halt) -> Result<(), AllocError>
 }
 
 #[tactic(auto, unfolding(crate::specs::RunText::state_text))]
-fn write_state(text: &mut TextBuffer, state: UnitState) -> Result<(), AllocError>
+fn write_state(text: &mut TextBuffer, state: UnitState) -> WriteResult
     ensures { OnOk result (text.new ≡ text.old ++ state_text state) }
 {
     match state {
@@ -104,12 +103,7 @@ fn write_state(text: &mut TextBuffer, state: UnitState) -> Result<(), AllocError
 }
 
 #[tactic(auto, unfolding(crate::specs::RunText::unit_line))]
-fn write_unit(
-    text: &mut TextBuffer,
-    plan: &Plan,
-    unit: usize,
-    state: UnitState,
-) -> Result<(), AllocError>
+fn write_unit(text: &mut TextBuffer, plan: &Plan, unit: usize, state: UnitState) -> WriteResult
     ensures { OnOk result (text.new ≡ text.old ++ unit_line plan.now unit state) }
 {
     text.word("unit ")?;
@@ -118,7 +112,7 @@ fn write_unit(
     text.end_line()
 }
 
-pub fn write_units(text: &mut TextBuffer, plan: &Plan, bus: &Bus) -> Result<(), AllocError>
+pub fn write_units(text: &mut TextBuffer, plan: &Plan, bus: &Bus) -> WriteResult
     requires { length bus.now.units ≡ length plan.now.units.items }
     ensures { OnOk result (text.new ≡ text.old ++ unit_lines plan.now 0
         (map (λ u. unit_state (station_at bus.now.units u)) (range_with_len 0 (length plan.now.units.items)))) }
@@ -140,7 +134,7 @@ pub fn settled_line(settled: bool) -> &'static str
 }
 
 #[tactic(auto, unfolding(crate::specs::RunText::report_route))]
-fn write_route(text: &mut TextBuffer, plan: &Plan, report: &Report) -> Result<(), AllocError>
+fn write_route(text: &mut TextBuffer, plan: &Plan, report: &Report) -> WriteResult
     ensures { OnOk result (text.new ≡ text.old ++ report_route plan.now (reported_of report.now)) }
 {
     text.word("report ")?;
@@ -151,7 +145,7 @@ fn write_route(text: &mut TextBuffer, plan: &Plan, report: &Report) -> Result<()
 }
 
 #[tactic(auto, unfolding(crate::specs::RunText::report_line))]
-fn write_report(text: &mut TextBuffer, plan: &Plan, report: &Report) -> Result<(), AllocError>
+fn write_report(text: &mut TextBuffer, plan: &Plan, report: &Report) -> WriteResult
     ensures { OnOk result (text.new ≡ text.old ++ report_line plan.now (reported_of report.now)) }
 {
     write_route(text, plan, report)?;
@@ -160,11 +154,7 @@ fn write_report(text: &mut TextBuffer, plan: &Plan, report: &Report) -> Result<(
     text.end_line()
 }
 
-pub fn write_reports(
-    text: &mut TextBuffer,
-    plan: &Plan,
-    reports: &[Report],
-) -> Result<(), AllocError>
+pub fn write_reports(text: &mut TextBuffer, plan: &Plan, reports: &[Report]) -> WriteResult
     ensures { OnOk result (text.new ≡ text.old ++ report_lines plan.now (map reported_of reports.now)) }
 {
     for report in reports {

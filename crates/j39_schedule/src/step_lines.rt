@@ -5,11 +5,10 @@ ghost use Rattle.j39_text.specs.Texts.{place_field};
 ghost use Rattle.j39_schedule.specs.StepLines.{step_line, step_lines, step_text, step_unit_text};
 
 use j39_network::{Plan, Step};
-use j39_text::{TextBuffer, unit_label, write_units};
-use std::alloc::AllocError;
+use j39_text::{TextBuffer, WriteResult, unit_label, write_units};
 
 #[tactic(auto, unfolding(crate::specs::StepLines::step_unit_text))]
-fn write_unit(text: &mut TextBuffer, word: &str, plan: &Plan, unit: usize) -> Result<(), AllocError>
+fn write_unit(text: &mut TextBuffer, word: &str, plan: &Plan, unit: usize) -> WriteResult
     ensures { OnOk result (text.new ≡ text.old ++ step_unit_text word.now plan.now unit) }
 {
     text.word(word)?;
@@ -17,12 +16,7 @@ fn write_unit(text: &mut TextBuffer, word: &str, plan: &Plan, unit: usize) -> Re
 }
 
 // A word, the number of a flow, and bytes.
-fn write_message(
-    text: &mut TextBuffer,
-    word: &str,
-    flow: usize,
-    bytes: &Vec<u8>,
-) -> Result<(), AllocError>
+fn write_message(text: &mut TextBuffer, word: &str, flow: usize, bytes: &Vec<u8>) -> WriteResult
     ensures { OnOk result (text.new ≡ text.old ++ (place_field word.now flow ++ (codes " " ++ encode_upper bytes.now.items))) }
 {
     text.place(word, flow)?;
@@ -31,7 +25,7 @@ fn write_message(
 }
 
 #[tactic(auto, unfolding(crate::specs::StepLines::step_text))]
-fn write_step(text: &mut TextBuffer, plan: &Plan, step: &Step) -> Result<(), AllocError>
+fn write_step(text: &mut TextBuffer, plan: &Plan, step: &Step) -> WriteResult
     ensures { OnOk result (text.new ≡ text.old ++ step_text plan.now step.now) }
 {
     match step {
@@ -53,7 +47,7 @@ fn write_step(text: &mut TextBuffer, plan: &Plan, step: &Step) -> Result<(), All
 }
 
 #[tactic(auto, unfolding(crate::specs::StepLines::step_line))]
-fn write_line(text: &mut TextBuffer, plan: &Plan, step: &Step) -> Result<(), AllocError>
+fn write_line(text: &mut TextBuffer, plan: &Plan, step: &Step) -> WriteResult
     ensures { OnOk result (text.new ≡ text.old ++ step_line plan.now step.now) }
 {
     text.word("  ")?;
@@ -62,7 +56,7 @@ fn write_line(text: &mut TextBuffer, plan: &Plan, step: &Step) -> Result<(), All
 }
 
 /// Writes the steps of a plan as lines of a schedule, each after two spaces.
-pub fn write_steps(text: &mut TextBuffer, plan: &Plan, steps: &[Step]) -> Result<(), AllocError>
+pub fn write_steps(text: &mut TextBuffer, plan: &Plan, steps: &[Step]) -> WriteResult
     ensures { OnOk result (text.new ≡ text.old ++ step_lines plan.now steps.now) }
 {
     for step in steps {

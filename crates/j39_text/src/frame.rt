@@ -8,14 +8,14 @@ mod meaning;
 mod name;
 mod route;
 
-use crate::TextBuffer;
+use crate::{ReportResult, TextBuffer, WriteResult};
 use j39_id::{Frame, LineError, print_frame, read_frame};
 use j39_stream::{Fault, Sink, Verdict, put_all};
 pub use route::write_destination;
-use std::alloc::{AllocError, Global};
+use std::alloc::Global;
 
 #[tactic(auto, unfolding(crate::specs::FrameText::head_lines))]
-fn write_head(text: &mut TextBuffer, frame: &Frame) -> Result<(), AllocError>
+fn write_head(text: &mut TextBuffer, frame: &Frame) -> WriteResult
     ensures { OnOk result (text.new ≡ text.old ++ heads_of frame.now) }
 {
     text.word("frame ")?;
@@ -25,7 +25,7 @@ fn write_head(text: &mut TextBuffer, frame: &Frame) -> Result<(), AllocError>
 }
 
 #[tactic(auto, unfolding(crate::specs::FrameText::frame_lines))]
-fn write_frame(text: &mut TextBuffer, frame: &Frame) -> Result<(), AllocError>
+fn write_frame(text: &mut TextBuffer, frame: &Frame) -> WriteResult
     ensures { OnOk result (text.new ≡ text.old ++ lines_of frame.now) }
 {
     write_head(text, frame)?;
@@ -33,7 +33,7 @@ fn write_frame(text: &mut TextBuffer, frame: &Frame) -> Result<(), AllocError>
 }
 
 #[tactic(auto, unfolding(crate::specs::FrameText::refused_frame_line))]
-fn write_refusal(text: &mut TextBuffer, error: LineError) -> Result<(), AllocError>
+fn write_refusal(text: &mut TextBuffer, error: LineError) -> WriteResult
     ensures { OnOk result (text.new ≡ text.old ++ line_of error) }
 {
     text.word("refused ")?;
@@ -49,7 +49,7 @@ fn write_refusal(text: &mut TextBuffer, error: LineError) -> Result<(), AllocErr
 }
 
 // What is written for a line, with the verdict.
-fn line_text(alloc: Global, line: &[u8]) -> Result<(TextBuffer, Verdict), AllocError>
+fn line_text(alloc: Global, line: &[u8]) -> ReportResult
     ensures { IfOk result (λ found. IsFrameText line.now found.0 found.1) }
 {
     let mut text = TextBuffer::new(alloc);

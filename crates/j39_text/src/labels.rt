@@ -5,10 +5,9 @@ ghost use Rattle.j39_text.specs.Labels.{need_text};
 ghost use Rattle.j39_text.specs.Labels.{signal_bits, signal_end, signal_label, signals_of, text_end, text_label};
 ghost use Rattle.j39_text.specs.Labels.{texts_of, unit_address, unit_label, units_text};
 
-use crate::TextBuffer;
+use crate::{TextBuffer, WriteResult};
 use j39_network::{NeedPlan, Plan, TextPlan};
 use j39_signal::Signal;
-use std::alloc::AllocError;
 
 #[tactic(auto, unfolding(crate::specs::Labels::unit_label))]
 pub fn unit_label(plan: &Plan, unit: usize) -> &str
@@ -144,7 +143,7 @@ pub fn write_units(
     plan: &Plan,
     first: usize,
     second: usize,
-) -> Result<(), AllocError>
+) -> WriteResult
     ensures { OnOk result (text.new ≡ text.old ++ units_text word.now plan.now first second) }
 {
     text.labels(word, unit_label(plan, first), unit_label(plan, second))
@@ -152,12 +151,7 @@ pub fn write_units(
 
 /// Writes a word and a group.
 #[tactic(auto, unfolding(crate::specs::Labels::group_text))]
-pub fn write_group(
-    text: &mut TextBuffer,
-    word: &str,
-    plan: &Plan,
-    group: usize,
-) -> Result<(), AllocError>
+pub fn write_group(text: &mut TextBuffer, word: &str, plan: &Plan, group: usize) -> WriteResult
     ensures { OnOk result (text.new ≡ text.old ++ group_text word.now plan.now group) }
 {
     text.word(word)?;
@@ -165,7 +159,7 @@ pub fn write_group(
 }
 
 #[tactic(auto, unfolding(crate::specs::Labels::need_signal_text))]
-fn write_need_signal(text: &mut TextBuffer, plan: &Plan, need: &NeedPlan) -> Result<(), AllocError>
+fn write_need_signal(text: &mut TextBuffer, plan: &Plan, need: &NeedPlan) -> WriteResult
     ensures { OnOk result (text.new ≡ text.old ++ need_signal_text plan.now need.now) }
 {
     match need.signal {
@@ -176,12 +170,7 @@ fn write_need_signal(text: &mut TextBuffer, plan: &Plan, need: &NeedPlan) -> Res
 
 /// Writes the need at a place: its unit, its group, and its signal where it names one.
 #[tactic(auto, unfolding(crate::specs::Labels::need_text))]
-pub fn write_need(
-    text: &mut TextBuffer,
-    plan: &Plan,
-    place: usize,
-    need: &NeedPlan,
-) -> Result<(), AllocError>
+pub fn write_need(text: &mut TextBuffer, plan: &Plan, place: usize, need: &NeedPlan) -> WriteResult
     ensures { OnOk result (text.new ≡ text.old ++ need_text plan.now place need.now) }
 {
     text.place("need ", place)?;

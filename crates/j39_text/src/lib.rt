@@ -23,4 +23,4 @@ pub use laws::{
 pub use putting::put_text;
 pub use quotation::write_quotation;
 pub use quotient::write_quotient;
-pub use text_buffer::TextBuffer;
+pub use text_buffer::{ReportResult, TextBuffer, WriteResult};

@@ -3,14 +3,13 @@ ghost use Rattle.std.specs.Prelude.{◌≡◌, ◌<◌, ◌≤◌, ◌*◌, ◌%
 ghost use Rattle.j39_signal.specs.Parts.{IsDivisor};
 ghost use Rattle.j39_text.specs.Decimals.{last_digits, magnitude_text, most_decimals, quotient_text, without_zeros};
 
-use crate::TextBuffer;
-use std::alloc::AllocError;
+use crate::{TextBuffer, WriteResult};
 
 // No quotient has more decimals.
 const MOST_DECIMALS: u32 = 23;
 
 // The decimals of a proper fraction of which something is left.
-fn write_decimals(text: &mut TextBuffer, rest: u64, per: u64) -> Result<(), AllocError>
+fn write_decimals(text: &mut TextBuffer, rest: u64, per: u64) -> WriteResult
     requires some { 0 < rest }
     requires proper { rest < per }
     requires most { per ≤ 10000000 }
@@ -31,7 +30,7 @@ fn write_decimals(text: &mut TextBuffer, rest: u64, per: u64) -> Result<(), Allo
 }
 
 // A number without its sign, divided.
-fn write_magnitude(text: &mut TextBuffer, magnitude: u64, per: u64) -> Result<(), AllocError>
+fn write_magnitude(text: &mut TextBuffer, magnitude: u64, per: u64) -> WriteResult
     requires { IsDivisor per }
     ensures { OnOk result (text.new ≡ text.old ++ magnitude_text per magnitude) }
 {
@@ -46,7 +45,7 @@ fn write_magnitude(text: &mut TextBuffer, magnitude: u64, per: u64) -> Result<()
 
 /// Writes a number divided by a product of 2s and 5s, exactly: its sign, its whole part, and, where it isn't whole, a
 /// point and its decimals without zeros at their end.
-pub fn write_quotient(text: &mut TextBuffer, number: i64, per: u32) -> Result<(), AllocError>
+pub fn write_quotient(text: &mut TextBuffer, number: i64, per: u32) -> WriteResult
     requires { IsDivisor per }
     ensures { OnOk result (text.new ≡ text.old ++ quotient_text per number) }
 {

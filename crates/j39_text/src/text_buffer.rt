@@ -5,8 +5,15 @@ ghost use Rattle.j39_text.specs.Texts.{field_text, labels_text, numbered_text, p
 
 use arrayvec::ArrayVec;
 use itoa::{Buffer, Integer};
+use j39_stream::Verdict;
 use std::alloc::{AllocError, Global};
 use std::marker::Model;
+
+/// What comes of writing: memory can be refused, and nothing else.
+pub type WriteResult = Result<(), AllocError>;
+
+/// A whole text, and the verdict that it gives.
+pub type ReportResult = Result<(TextBuffer, Verdict), AllocError>;
 
 const DIGITS: [u8; 16] = *b"0123456789ABCDEF";
 
@@ -66,20 +73,20 @@ impl TextBuffer {
         self.bytes.clear();
     }
 
-    pub fn bytes(&mut self, bytes: &[u8]) -> Result<(), AllocError>
+    pub fn bytes(&mut self, bytes: &[u8]) -> WriteResult
         ensures { OnOk result (self.new ≡ self.old ++ bytes.now) }
     {
         self.bytes.extend_from_slice(bytes)
     }
 
-    pub fn word(&mut self, word: &str) -> Result<(), AllocError>
+    pub fn word(&mut self, word: &str) -> WriteResult
         ensures { OnOk result (self.new ≡ self.old ++ word.now) }
     {
         self.bytes(word.as_bytes())
     }
 
     /// Adds the decimal digits of a number.
-    pub fn number<I: Integer>(&mut self, number: I) -> Result<(), AllocError>
+    pub fn number<I: Integer>(&mut self, number: I) -> WriteResult
         ensures { OnOk result (self.new ≡ self.old ++ I.text number) }
     {
         let mut buffer = Buffer::new();
@@ -89,7 +96,7 @@ impl TextBuffer {
     /// Adds a word and the decimal digits of a number.
     #[tactic(auto, unfolding(crate::specs::Texts::field_text))]
     #[inline]
-    pub fn field<I: Integer>(&mut self, word: &str, number: I) -> Result<(), AllocError>
+    pub fn field<I: Integer>(&mut self, word: &str, number: I) -> WriteResult
         ensures { OnOk result (self.new ≡ self.old ++ field_text word.now (I.text number)) }
     {
         self.word(word)?;
@@ -97,7 +104,7 @@ impl TextBuffer {
     }
 
     /// Adds a word and a place, which is counted from 0 and written as counted from 1.
-    pub fn place(&mut self, word: &str, place: usize) -> Result<(), AllocError>
+    pub fn place(&mut self, word: &str, place: usize) -> WriteResult
         ensures { OnOk result (self.new ≡ self.old ++ place_field word.now place) }
     {
         self.field(word, place as u128 + 1)
@@ -105,7 +112,7 @@ impl TextBuffer {
 
     /// Adds a word and two places, with a space between them.
     #[tactic(auto, unfolding(crate::specs::Texts::places_text))]
-    pub fn places(&mut self, word: &str, first: usize, second: usize) -> Result<(), AllocError>
+    pub fn places(&mut self, word: &str, first: usize, second: usize) -> WriteResult
         ensures { OnOk result (self.new ≡ self.old ++ places_text word.now first second) }
     {
         self.place(word, first)?;
@@ -113,7 +120,7 @@ impl TextBuffer {
     }
 
     /// Adds a space and a label.
-    pub fn label(&mut self, label: &str) -> Result<(), AllocError>
+    pub fn label(&mut self, label: &str) -> WriteResult
         ensures { OnOk result (self.new ≡ self.old ++ (codes " " ++ label.now)) }
     {
         self.word(" ")?;
@@ -122,7 +129,7 @@ impl TextBuffer {
 
     /// Adds a word and two labels, with a space between them.
     #[tactic(auto, unfolding(crate::specs::Texts::labels_text))]
-    pub fn labels(&mut self, word: &str, first: &str, second: &str) -> Result<(), AllocError>
+    pub fn labels(&mut self, word: &str, first: &str, second: &str) -> WriteResult
         ensures { OnOk result (self.new ≡ self.old ++ labels_text word.now first.now second.now) }
     {
         self.word(word)?;
@@ -132,12 +139,7 @@ impl TextBuffer {
 
     /// Adds a word, a label and a number, with a space between these two.
     #[tactic(auto, unfolding(crate::specs::Texts::numbered_text))]
-    pub fn numbered<I: Integer>(
-        &mut self,
-        word: &str,
-        label: &str,
-        number: I,
-    ) -> Result<(), AllocError>
+    pub fn numbered<I: Integer>(&mut self, word: &str, label: &str, number: I) -> WriteResult
         ensures { OnOk result (self.new ≡ self.old ++ numbered_text word.now label.now (I.text number)) }
     {
         self.word(word)?;
@@ -147,7 +149,7 @@ impl TextBuffer {
 
     /// Adds two capital digits for each byte.
     #[inline(always)]
-    pub fn hex(&mut self, bytes: &[u8]) -> Result<(), AllocError>
+    pub fn hex(&mut self, bytes: &[u8]) -> WriteResult
         ensures { OnOk result (self.new ≡ self.old ++ encode_upper bytes.now) }
     {
         let mut rest = bytes;
@@ -158,7 +160,7 @@ impl TextBuffer {
         self.bytes(digits_of(rest).as_slice())
     }
 
-    pub fn end_line(&mut self) -> Result<(), AllocError>
+    pub fn end_line(&mut self) -> WriteResult
         ensures { OnOk result (self.new ≡ self.old ++ 10 ∷ []) }
     {
         self.bytes.push(b'\n')?;

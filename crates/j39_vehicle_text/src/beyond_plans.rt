@@ -3,7 +3,7 @@ ghost use Rattle.std.specs.Prelude.{◌≡◌, ◌≤◌, ◌++◌, ◌^◌, [],
 ghost use Rattle.j39_vehicle_text.specs.VehicleText.{AreAllFound, IsFoundBeyond, beyond_lines, count_beyond};
 
 use crate::finding_lines::{write_findings, write_time_findings};
-use j39_text::TextBuffer;
+use j39_text::{TextBuffer, WriteResult};
 use j39_vehicle::Vehicle;
 use j39_vehicle_findings::{Routes, VehicleFindings, find_in_paths, find_in_queues};
 use j39_vehicle_times::{Delays, TimeFindings, find_in_times};
@@ -55,7 +55,7 @@ impl BeyondPlans {
 
     /// Writes a line for each finding, by their numbers and then by their places.
     #[tactic(auto, unfolding(crate::specs::VehicleText::beyond_lines))]
-    pub fn write(&self, text: &mut TextBuffer, vehicle: &Vehicle) -> Result<(), AllocError>
+    pub fn write(&self, text: &mut TextBuffer, vehicle: &Vehicle) -> WriteResult
         ensures { OnOk result (text.new ≡ text.old ++ beyond_lines vehicle.now self.now) }
     {
         write_findings(text, vehicle, &self.paths)?;

@@ -11,7 +11,7 @@ use crate::bus_file::write_bus;
 use j39_load::{Loads, timing_of};
 use j39_network::Plan;
 use j39_plan_text::{PlanFindings, write_check, write_load};
-use j39_text::TextBuffer;
+use j39_text::{TextBuffer, WriteResult};
 use j39_vehicle::BusPlan;
 use std::alloc::{AllocError, Global};
 
@@ -25,7 +25,7 @@ pub struct PlansFound {
 }
 
 // How full the bus of a plan is, where it has timing.
-fn write_load_of(alloc: Global, text: &mut TextBuffer, plan: &Plan) -> Result<(), AllocError>
+fn write_load_of(alloc: Global, text: &mut TextBuffer, plan: &Plan) -> WriteResult
     ensures { OnOk result ((load : List ℕ) × IsLoadOf plan.now (timing_of plan.now) load × (text.new ≡ text.old ++ load)) }
 {
     match timing_of(plan) {
@@ -40,7 +40,7 @@ fn write_load_where(
     text: &mut TextBuffer,
     plan: &Plan,
     is_stated: bool,
-) -> Result<(), AllocError>
+) -> WriteResult
     ensures { OnOk result ((load : List ℕ) × IsLoadWhere is_stated plan.now load × (text.new ≡ text.old ++ load)) }
 {
     if is_stated {
@@ -56,7 +56,7 @@ fn write_block(
     text: &mut TextBuffer,
     bus: &BusPlan,
     found: &PlanFindings,
-) -> Result<(), AllocError>
+) -> WriteResult
     requires { ArePlanFindings bus.now.plan found.now }
     ensures { OnOk result ((block : List ℕ) × IsBlock bus.now found.now.others.items block
         × (text.new ≡ text.old ++ block)) }

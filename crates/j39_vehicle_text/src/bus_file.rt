@@ -10,13 +10,13 @@ use j39_network::Plan;
 use j39_plan::PlanError;
 use j39_plan_text::{write_choices_refused, write_refusal};
 use j39_stream::{Fault, Sink, Source, put_all, read_whole};
-use j39_text::TextBuffer;
+use j39_text::{TextBuffer, WriteResult};
 use j39_variants::read_product_line;
 use std::alloc::{AllocError, Global};
 
 /// Writes the line that names a bus.
 #[tactic(auto, unfolding(crate::specs::VehicleFileText::bus_line))]
-pub(super) fn write_bus(text: &mut TextBuffer, label: &Label) -> Result<(), AllocError>
+pub(super) fn write_bus(text: &mut TextBuffer, label: &Label) -> WriteResult
     ensures { OnOk result (text.new ≡ text.old ++ bus_line label.now.bytes) }
 {
     text.word("bus ")?;

@@ -6,11 +6,10 @@ ghost use Rattle.j39_vehicle_text.specs.VehicleFindingLines.{vehicle_finding_lin
 
 use crate::labels::{bus_label, gateway_label, signal_label_at};
 use j39_plan_text::{WriteLines, write_each};
-use j39_text::TextBuffer;
+use j39_text::{TextBuffer, WriteResult};
 use j39_vehicle::Vehicle;
 use j39_vehicle_findings::VehicleFinding;
 use j39_vehicle_times::TimeFinding;
-use std::alloc::AllocError;
 
 // The label of a signal of the group that the forward at a place sends.
 #[tactic(auto, unfolding(crate::specs::VehicleFindingLines::sent_signal_label))]
@@ -29,7 +28,7 @@ fn write_signal_differs(
     vehicle: &Vehicle,
     forward: usize,
     signal: usize,
-) -> Result<(), AllocError>
+) -> WriteResult
     ensures { OnOk result (text.new ≡ text.old ++ vehicle_finding_text vehicle.now (SignalDiffers forward signal)) }
 {
     text.place("G6 SignalDiffers ", forward)?;
@@ -37,11 +36,7 @@ fn write_signal_differs(
 }
 
 #[tactic(auto, unfolding(crate::specs::VehicleFindingLines::vehicle_finding_text))]
-fn write_finding(
-    text: &mut TextBuffer,
-    vehicle: &Vehicle,
-    finding: VehicleFinding,
-) -> Result<(), AllocError>
+fn write_finding(text: &mut TextBuffer, vehicle: &Vehicle, finding: VehicleFinding) -> WriteResult
     ensures { OnOk result (text.new ≡ text.old ++ vehicle_finding_text vehicle.now finding) }
 {
     match finding {
@@ -63,7 +58,7 @@ fn write_finding(
 }
 
 #[tactic(auto, unfolding(crate::specs::VehicleFindingLines::time_finding_text))]
-fn write_time_finding(text: &mut TextBuffer, finding: TimeFinding) -> Result<(), AllocError>
+fn write_time_finding(text: &mut TextBuffer, finding: TimeFinding) -> WriteResult
     ensures { OnOk result (text.new ≡ text.old ++ time_finding_text finding) }
 {
     match finding {
@@ -84,12 +79,7 @@ impl WriteLines<VehicleFinding> for FindingLines<'_> {
     ghost lines = { λ w _. vehicle_finding_line w.0.now };
 
     #[tactic(auto, unfolding(crate::specs::VehicleFindingLines::vehicle_finding_line))]
-    fn write(
-        &self,
-        text: &mut TextBuffer,
-        _at: usize,
-        finding: &VehicleFinding,
-    ) -> Result<(), AllocError> {
+    fn write(&self, text: &mut TextBuffer, _at: usize, finding: &VehicleFinding) -> WriteResult {
         write_finding(text, self.0, *finding)?;
         text.end_line()
     }
@@ -104,12 +94,7 @@ impl WriteLines<TimeFinding> for TimeFindingLines {
     ghost lines = { λ _ _. time_finding_line };
 
     #[tactic(auto, unfolding(crate::specs::VehicleFindingLines::time_finding_line))]
-    fn write(
-        &self,
-        text: &mut TextBuffer,
-        _at: usize,
-        finding: &TimeFinding,
-    ) -> Result<(), AllocError> {
+    fn write(&self, text: &mut TextBuffer, _at: usize, finding: &TimeFinding) -> WriteResult {
         write_time_finding(text, *finding)?;
         text.end_line()
     }
@@ -120,17 +105,14 @@ pub(super) fn write_findings(
     text: &mut TextBuffer,
     vehicle: &Vehicle,
     findings: &[VehicleFinding],
-) -> Result<(), AllocError>
+) -> WriteResult
     ensures { OnOk result (text.new ≡ text.old ++ vehicle_finding_lines vehicle.now findings.now) }
 {
     write_each(text, &FindingLines(vehicle), findings)
 }
 
 /// Writes a line for each finding of times.
-pub(super) fn write_time_findings(
-    text: &mut TextBuffer,
-    findings: &[TimeFinding],
-) -> Result<(), AllocError>
+pub(super) fn write_time_findings(text: &mut TextBuffer, findings: &[TimeFinding]) -> WriteResult
     ensures { OnOk result (text.new ≡ text.old ++ time_finding_lines findings.now) }
 {
     write_each(text, &TimeFindingLines, findings)

@@ -5,11 +5,10 @@ ghost use Rattle.j39_vehicle_text.specs.ForwardLines.{output_jitter, queued_text
 
 use crate::labels::{gateway_label, write_group_at};
 use j39_plan_text::{WriteLines, write_each};
-use j39_text::TextBuffer;
+use j39_text::{TextBuffer, WriteResult};
 use j39_vehicle::{Forward, Vehicle};
 use j39_vehicle_findings::Routes;
 use j39_vehicle_times::{Delays, first_output, is_late_asked, jitter_of, queued, us_of_ms};
-use std::alloc::AllocError;
 
 // How long after its release a message of the first flow that the forward feeds may be queued, in microseconds.
 #[tactic(auto, unfolding(crate::specs::ForwardLines::output_jitter))]
@@ -24,7 +23,7 @@ fn output_jitter(vehicle: &Vehicle, forward: &Forward) -> u64
 
 // When messages are queued, of when they have to be.
 #[tactic(auto, unfolding(crate::specs::ForwardLines::queued_text))]
-fn write_within(text: &mut TextBuffer, time: u64, limit: u64) -> Result<(), AllocError>
+fn write_within(text: &mut TextBuffer, time: u64, limit: u64) -> WriteResult
     ensures { OnOk result (text.new ≡ text.old ++ queued_text (Some time) limit) }
 {
     text.field(" queued within ", time)?;
@@ -34,14 +33,14 @@ fn write_within(text: &mut TextBuffer, time: u64, limit: u64) -> Result<(), Allo
 
 // When they have to be, where it isn't known when they are.
 #[tactic(auto, unfolding(crate::specs::ForwardLines::queued_text))]
-fn write_late(text: &mut TextBuffer, limit: u64) -> Result<(), AllocError>
+fn write_late(text: &mut TextBuffer, limit: u64) -> WriteResult
     ensures { OnOk result (text.new ≡ text.old ++ queued_text None limit) }
 {
     text.field(" late of ", limit)?;
     text.word(" us")
 }
 
-fn write_queued(text: &mut TextBuffer, time: Option<u64>, limit: u64) -> Result<(), AllocError>
+fn write_queued(text: &mut TextBuffer, time: Option<u64>, limit: u64) -> WriteResult
     ensures { OnOk result (text.new ≡ text.old ++ queued_text time limit) }
 {
     match time {
@@ -52,12 +51,7 @@ fn write_queued(text: &mut TextBuffer, time: Option<u64>, limit: u64) -> Result<
 
 // The same, where it is asked.
 #[tactic(auto, unfolding(crate::specs::ForwardLines::queued_text_where))]
-fn write_asked(
-    text: &mut TextBuffer,
-    is_asked: bool,
-    time: Option<u64>,
-    limit: u64,
-) -> Result<(), AllocError>
+fn write_asked(text: &mut TextBuffer, is_asked: bool, time: Option<u64>, limit: u64) -> WriteResult
     ensures { OnOk result (text.new ≡ text.old ++ queued_text_where is_asked time limit) }
 {
     if is_asked {
@@ -74,7 +68,7 @@ fn write_forward(
     vehicle: &Vehicle,
     place: usize,
     forward: &Forward,
-) -> Result<(), AllocError>
+) -> WriteResult
     ensures { OnOk result (text.new ≡ text.old ++ forward_text vehicle.now place forward.now) }
 {
     text.place("forward ", place)?;
@@ -96,7 +90,7 @@ impl WriteLines<Forward> for ForwardDelays<'_> {
     ghost lines = { λ w. forward_line w.routes.now.vehicle.now w.delays.now };
 
     #[tactic(auto, unfolding(crate::specs::ForwardLines::forward_line))]
-    fn write(&self, text: &mut TextBuffer, at: usize, forward: &Forward) -> Result<(), AllocError> {
+    fn write(&self, text: &mut TextBuffer, at: usize, forward: &Forward) -> WriteResult {
         let vehicle = self.routes.vehicle;
         write_forward(text, vehicle, at, forward)?;
         write_asked(
@@ -114,7 +108,7 @@ pub(super) fn write_forwards(
     text: &mut TextBuffer,
     routes: &Routes<'_>,
     delays: &Delays,
-) -> Result<(), AllocError>
+) -> WriteResult
     ensures { OnOk result (text.new ≡ text.old ++ forward_lines routes.now.vehicle.now delays.now) }
 {
     write_each(

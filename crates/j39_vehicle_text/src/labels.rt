@@ -3,9 +3,8 @@ ghost use Rattle.std.specs.Prelude.{◌≡◌, ◌++◌, OnOk};
 ghost use Rattle.j39_vehicle_text.specs.VehicleLabels.{bus_label, gateway_label, group_label_at, group_text_at};
 ghost use Rattle.j39_vehicle_text.specs.VehicleLabels.{name_on_bus_text, signal_label_at, unit_label_at, unit_text_at};
 
-use j39_text::{TextBuffer, group_label, signal_label, unit_label};
+use j39_text::{TextBuffer, WriteResult, group_label, signal_label, unit_label};
 use j39_vehicle::{GroupAt, UnitAt, Vehicle};
-use std::alloc::AllocError;
 
 /// The label of the bus at a place.
 #[tactic(auto, unfolding(crate::specs::VehicleLabels::bus_label))]
@@ -70,7 +69,7 @@ fn write_name(
     vehicle: &Vehicle,
     bus: usize,
     label: &str,
-) -> Result<(), AllocError>
+) -> WriteResult
     ensures { OnOk result (text.new ≡ text.old ++ name_on_bus_text word.now vehicle.now bus label.now) }
 {
     text.word(word)?;
@@ -86,7 +85,7 @@ pub(super) fn write_group_at(
     word: &str,
     vehicle: &Vehicle,
     place: GroupAt,
-) -> Result<(), AllocError>
+) -> WriteResult
     ensures { OnOk result (text.new ≡ text.old ++ group_text_at word.now vehicle.now place) }
 {
     write_name(
@@ -105,7 +104,7 @@ pub(super) fn write_unit_at(
     word: &str,
     vehicle: &Vehicle,
     place: UnitAt,
-) -> Result<(), AllocError>
+) -> WriteResult
     ensures { OnOk result (text.new ≡ text.old ++ unit_text_at word.now vehicle.now place) }
 {
     write_name(

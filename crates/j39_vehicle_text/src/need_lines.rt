@@ -8,11 +8,11 @@ ghost use Rattle.j39_vehicle_text.specs.NeedLines.{vehicle_need_lines, vehicle_n
 use crate::labels::{group_label_at, signal_label_at, write_unit_at};
 use crate::ways::write_way;
 use j39_plan_text::{WriteLines, write_each};
-use j39_text::TextBuffer;
+use j39_text::{TextBuffer, WriteResult};
 use j39_vehicle::{GroupAt, Vehicle, VehicleNeed};
 use j39_vehicle_findings::{FlowAt, Point, Routes, flows_on};
 use j39_vehicle_times::{Delays, NeedFlow, flow_of_need, need_flow_count, us_of_ms};
-use std::alloc::{AllocError, Global};
+use std::alloc::Global;
 
 // The signal that is meant, if one is.
 #[tactic(auto, unfolding(crate::specs::NeedLines::meant_text))]
@@ -21,7 +21,7 @@ fn write_meant(
     vehicle: &Vehicle,
     group: GroupAt,
     signal: Option<usize>,
-) -> Result<(), AllocError>
+) -> WriteResult
     ensures { OnOk result (text.new ≡ text.old ++ meant_text vehicle.now group signal) }
 {
     match signal {
@@ -37,7 +37,7 @@ fn write_content(
     vehicle: &Vehicle,
     group: GroupAt,
     signal: Option<usize>,
-) -> Result<(), AllocError>
+) -> WriteResult
     ensures { OnOk result (text.new ≡ text.old ++ content_text vehicle.now group signal) }
 {
     text.label(group_label_at(vehicle, group))?;
@@ -51,7 +51,7 @@ fn write_need(
     vehicle: &Vehicle,
     place: usize,
     need: &VehicleNeed,
-) -> Result<(), AllocError>
+) -> WriteResult
     ensures { OnOk result (text.new ≡ text.old ++ vehicle_need_text vehicle.now place need.now) }
 {
     let group = GroupAt {
@@ -75,11 +75,7 @@ fn group_of_flow(vehicle: &Vehicle, at: FlowAt) -> usize
 }
 
 #[tactic(auto, unfolding(crate::specs::NeedLines::origin_content))]
-fn write_origin_content(
-    text: &mut TextBuffer,
-    vehicle: &Vehicle,
-    point: Point,
-) -> Result<(), AllocError>
+fn write_origin_content(text: &mut TextBuffer, vehicle: &Vehicle, point: Point) -> WriteResult
     ensures { OnOk result (text.new ≡ text.old ++ origin_content vehicle.now point) }
 {
     let group = GroupAt {
@@ -91,7 +87,7 @@ fn write_origin_content(
 
 // What the origin sends, where there is one.
 #[tactic(auto, unfolding(crate::specs::NeedLines::origin_text))]
-fn write_origin(text: &mut TextBuffer, routes: &Routes<'_>, start: Point) -> Result<(), AllocError>
+fn write_origin(text: &mut TextBuffer, routes: &Routes<'_>, start: Point) -> WriteResult
     ensures { OnOk result (text.new ≡ text.old ++ origin_text routes.now.vehicle.now start) }
 {
     match routes.origin(start) {
@@ -102,7 +98,7 @@ fn write_origin(text: &mut TextBuffer, routes: &Routes<'_>, start: Point) -> Res
 
 // How old it may be.
 #[tactic(auto, unfolding(crate::specs::NeedLines::limit_text))]
-fn write_limit(text: &mut TextBuffer, within: Option<u16>) -> Result<(), AllocError>
+fn write_limit(text: &mut TextBuffer, within: Option<u16>) -> WriteResult
     ensures { OnOk result (text.new ≡ text.old ++ limit_text within) }
 {
     match within {
@@ -113,7 +109,7 @@ fn write_limit(text: &mut TextBuffer, within: Option<u16>) -> Result<(), AllocEr
 
 // How old it is at most, of how old it may be.
 #[tactic(auto, unfolding(crate::specs::NeedLines::need_age_text))]
-fn write_known_age(text: &mut TextBuffer, age: u64, within: Option<u16>) -> Result<(), AllocError>
+fn write_known_age(text: &mut TextBuffer, age: u64, within: Option<u16>) -> WriteResult
     ensures { OnOk result (text.new ≡ text.old ++ need_age_text (Some age) within) }
 {
     text.field(" age ", age)?;
@@ -123,7 +119,7 @@ fn write_known_age(text: &mut TextBuffer, age: u64, within: Option<u16>) -> Resu
 
 // How old it may be, where it isn't known how old it is.
 #[tactic(auto, unfolding(crate::specs::NeedLines::need_age_text))]
-fn write_unknown_age(text: &mut TextBuffer, within: u16) -> Result<(), AllocError>
+fn write_unknown_age(text: &mut TextBuffer, within: u16) -> WriteResult
     ensures { OnOk result (text.new ≡ text.old ++ need_age_text None (Some within)) }
 {
     text.word(" old")?;
@@ -133,7 +129,7 @@ fn write_unknown_age(text: &mut TextBuffer, within: u16) -> Result<(), AllocErro
 
 // The same, where it is asked.
 #[tactic(auto, unfolding(crate::specs::NeedLines::need_age_text))]
-fn write_unknown_age_where(text: &mut TextBuffer, within: Option<u16>) -> Result<(), AllocError>
+fn write_unknown_age_where(text: &mut TextBuffer, within: Option<u16>) -> WriteResult
     ensures { OnOk result (text.new ≡ text.old ++ need_age_text None within) }
 {
     match within {
@@ -142,7 +138,7 @@ fn write_unknown_age_where(text: &mut TextBuffer, within: Option<u16>) -> Result
     }
 }
 
-fn write_age(text: &mut TextBuffer, age: Option<u64>, within: Option<u16>) -> Result<(), AllocError>
+fn write_age(text: &mut TextBuffer, age: Option<u64>, within: Option<u16>) -> WriteResult
     ensures { OnOk result (text.new ≡ text.old ++ need_age_text age within) }
 {
     match age {
@@ -158,7 +154,7 @@ fn write_age_flow(
     routes: &Routes<'_>,
     need: &VehicleNeed,
     stated: NeedFlow,
-) -> Result<(), AllocError>
+) -> WriteResult
     ensures { OnOk result (text.new ≡ text.old ++ reported_flow_text routes.now.vehicle.now need.now stated.flow stated.age) }
 {
     match stated.age {
@@ -175,7 +171,7 @@ fn write_reported(
     routes: &Routes<'_>,
     need: &VehicleNeed,
     stated: NeedFlow,
-) -> Result<(), AllocError>
+) -> WriteResult
     ensures { OnOk result (text.new ≡ text.old ++ reported_text routes.now.vehicle.now need.now stated) }
 {
     let at = FlowAt {
@@ -198,7 +194,7 @@ fn write_met(
     routes: &Routes<'_>,
     need: &VehicleNeed,
     met: Option<NeedFlow>,
-) -> Result<(), AllocError>
+) -> WriteResult
     ensures { OnOk result (text.new ≡ text.old ++ met_text routes.now.vehicle.now need.now met) }
 {
     match met {
@@ -221,12 +217,7 @@ impl WriteLines<VehicleNeed> for NeedAges<'_> {
     ghost lines = { λ w. vehicle_need_line w.routes.now.vehicle.now w.delays.now };
 
     #[tactic(auto, unfolding(crate::specs::NeedLines::vehicle_need_line))]
-    fn write(
-        &self,
-        text: &mut TextBuffer,
-        at: usize,
-        need: &VehicleNeed,
-    ) -> Result<(), AllocError> {
+    fn write(&self, text: &mut TextBuffer, at: usize, need: &VehicleNeed) -> WriteResult {
         write_need(text, self.routes.vehicle, at, need)?;
         let met = flow_of_need(self.routes, self.delays, need);
         write_met(self.alloc, text, self.routes, need, met)?;
@@ -240,7 +231,7 @@ pub(super) fn write_needs(
     text: &mut TextBuffer,
     routes: &Routes<'_>,
     delays: &Delays,
-) -> Result<(), AllocError>
+) -> WriteResult
     ensures { OnOk result (text.new ≡ text.old ++ vehicle_need_lines routes.now.vehicle.now delays.now) }
 {
     let writer = NeedAges {

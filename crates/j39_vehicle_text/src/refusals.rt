@@ -3,13 +3,13 @@ ghost use Rattle.std.specs.Prelude.{◌≡◌, ◌++◌, IfOk, OnOk};
 ghost use Rattle.j39_vehicle_text.specs.VehicleFileText.{IsVehicleRefusal, vehicle_fault_line, vehicle_key_text};
 ghost use Rattle.j39_vehicle_text.specs.VehicleFileText.{vehicle_table_text};
 
-use j39_text::TextBuffer;
+use j39_text::{TextBuffer, WriteResult};
 use j39_vehicle::{FileError, Key, Table, VehicleError, VehicleFault};
 use std::alloc::{AllocError, Global};
 
 // Writes the name of a table.
 #[tactic(auto, unfolding(crate::specs::VehicleFileText::vehicle_table_text))]
-fn write_table(text: &mut TextBuffer, table: Table) -> Result<(), AllocError>
+fn write_table(text: &mut TextBuffer, table: Table) -> WriteResult
     ensures { OnOk result (text.new ≡ text.old ++ vehicle_table_text table) }
 {
     match table {
@@ -26,7 +26,7 @@ fn write_table(text: &mut TextBuffer, table: Table) -> Result<(), AllocError>
 }
 
 #[tactic(auto, unfolding(crate::specs::VehicleFileText::vehicle_key_text))]
-fn write_key(text: &mut TextBuffer, key: Option<Key>) -> Result<(), AllocError>
+fn write_key(text: &mut TextBuffer, key: Option<Key>) -> WriteResult
     ensures { OnOk result (text.new ≡ text.old ++ vehicle_key_text key) }
 {
     match key {
@@ -39,7 +39,7 @@ fn write_key(text: &mut TextBuffer, key: Option<Key>) -> Result<(), AllocError>
 }
 
 #[tactic(auto, unfolding(crate::specs::VehicleFileText::vehicle_fault_line))]
-fn write_fault(text: &mut TextBuffer, fault: &VehicleFault) -> Result<(), AllocError>
+fn write_fault(text: &mut TextBuffer, fault: &VehicleFault) -> WriteResult
     ensures { OnOk result (text.new ≡ text.old ++ vehicle_fault_line fault.now) }
 {
     text.word("refused ")?;

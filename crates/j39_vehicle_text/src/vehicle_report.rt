@@ -10,7 +10,7 @@ use crate::certificate::certify_vehicle;
 use crate::forward_lines::write_forwards;
 use crate::need_lines::write_needs;
 use j39_stream::Verdict;
-use j39_text::TextBuffer;
+use j39_text::{ReportResult, TextBuffer, WriteResult};
 use j39_vehicle::Vehicle;
 use j39_vehicle_findings::{Routes, path_tables};
 use j39_vehicle_times::delays_of;
@@ -55,7 +55,7 @@ fn write_beyond(
 }
 
 #[tactic(auto, unfolding(crate::specs::VehicleText::vehicle_ok_line))]
-fn write_ok(text: &mut TextBuffer, vehicle: &Vehicle) -> Result<(), AllocError>
+fn write_ok(text: &mut TextBuffer, vehicle: &Vehicle) -> WriteResult
     ensures { OnOk result (text.new ≡ text.old ++ vehicle_ok_line vehicle.now) }
 {
     text.field("ok ", vehicle.buses.len())?;
@@ -84,10 +84,7 @@ fn write_end(text: &mut TextBuffer, vehicle: &Vehicle, count: u128) -> Result<Ve
 }
 
 /// What is written of a vehicle, with the verdict.
-pub(super) fn vehicle_report(
-    alloc: Global,
-    vehicle: &Vehicle,
-) -> Result<(TextBuffer, Verdict), AllocError>
+pub(super) fn vehicle_report(alloc: Global, vehicle: &Vehicle) -> ReportResult
     ensures { IfOk result (λ report. IsVehicleReport vehicle.now report.0 report.1) }
 {
     let mut text = TextBuffer::new(alloc);

@@ -2,7 +2,7 @@
 ghost use Rattle.std.specs.Prelude.{◌≡◌, ◌≢◌, ◌++◌, [], IfOk, OnErr, OnOk};
 ghost use Rattle.j39_vehicle_text.specs.NeedLines.{back_text, way_back, reported_way_text};
 
-use j39_text::TextBuffer;
+use j39_text::{TextBuffer, WriteResult};
 use j39_vehicle_findings::{Point, Routes};
 use std::alloc::{AllocError, Global};
 
@@ -27,7 +27,7 @@ fn way_back(alloc: Global, routes: &Routes<'_>, start: Point) -> Result<Vec<usiz
 }
 
 // Writes the places of forwards, the last one first.
-fn write_back(text: &mut TextBuffer, back: &[usize]) -> Result<(), AllocError>
+fn write_back(text: &mut TextBuffer, back: &[usize]) -> WriteResult
     ensures { OnOk result (text.new ≡ text.old ++ back_text back.now) }
 {
     let mut left = back.len();
@@ -40,7 +40,7 @@ fn write_back(text: &mut TextBuffer, back: &[usize]) -> Result<(), AllocError>
 
 // Writes by which forwards something comes, where there are any.
 #[tactic(auto, unfolding(crate::specs::NeedLines::reported_way_text))]
-fn write_forwards(text: &mut TextBuffer, back: &[usize]) -> Result<(), AllocError>
+fn write_forwards(text: &mut TextBuffer, back: &[usize]) -> WriteResult
     ensures { OnOk result (text.new ≡ text.old ++ reported_way_text back.now) }
 {
     if back.is_empty() {
@@ -56,7 +56,7 @@ pub(super) fn write_way(
     text: &mut TextBuffer,
     routes: &Routes<'_>,
     start: Point,
-) -> Result<(), AllocError>
+) -> WriteResult
     ensures { OnOk result (text.new ≡ text.old ++ reported_way_text (way_back routes.now.vehicle.now start)) }
 {
     let back = way_back(alloc, routes, start)?;

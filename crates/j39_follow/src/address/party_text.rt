@@ -12,15 +12,14 @@ use crate::address::who::{Who, is_of_any, unit_named};
 use j39_id::Ident;
 use j39_id::addresses::GLOBAL_ADDRESS;
 use j39_network::Plan;
-use j39_text::{TextBuffer, unit_label};
-use std::alloc::AllocError;
+use j39_text::{TextBuffer, WriteResult, unit_label};
 
 // The identity numbers of NAMEs: 0 to 2,097,151.
 const IDENTITIES: u64 = 1 << 21;
 
 /// Writes a NAME of no unit.
 #[tactic(auto, unfolding(crate::specs::Who::name_text))]
-pub fn write_name(text: &mut TextBuffer, name: u64) -> Result<(), AllocError>
+pub fn write_name(text: &mut TextBuffer, name: u64) -> WriteResult
     ensures { OnOk result (text.new ≡ text.old ++ name_text name) }
 {
     text.word("#")?;
@@ -29,7 +28,7 @@ pub fn write_name(text: &mut TextBuffer, name: u64) -> Result<(), AllocError>
 
 /// Writes a unit by its NAME.
 #[tactic(auto, unfolding(crate::specs::FollowReports::named_text))]
-pub(crate) fn write_named(text: &mut TextBuffer, plan: &Plan, name: u64) -> Result<(), AllocError>
+pub(crate) fn write_named(text: &mut TextBuffer, plan: &Plan, name: u64) -> WriteResult
     ensures { OnOk result (text.new ≡ text.old ++ named_text plan.now name) }
 {
     match unit_named(plan, name) {
@@ -40,11 +39,7 @@ pub(crate) fn write_named(text: &mut TextBuffer, plan: &Plan, name: u64) -> Resu
 
 /// Writes the serial number of the box of a NAME, where its unit is of any.
 #[tactic(auto, unfolding(crate::specs::FollowReports::identity_text))]
-pub(crate) fn write_identity(
-    text: &mut TextBuffer,
-    plan: &Plan,
-    name: u64,
-) -> Result<(), AllocError>
+pub(crate) fn write_identity(text: &mut TextBuffer, plan: &Plan, name: u64) -> WriteResult
     ensures { OnOk result (text.new ≡ text.old ++ identity_text plan.now name) }
 {
     if is_of_any(plan, unit_named(plan, name)) {
@@ -55,7 +50,7 @@ pub(crate) fn write_identity(
 }
 
 #[tactic(auto, unfolding(crate::specs::Who::party_text))]
-fn write_party(text: &mut TextBuffer, plan: &Plan, who: Who) -> Result<(), AllocError>
+fn write_party(text: &mut TextBuffer, plan: &Plan, who: Who) -> WriteResult
     ensures { OnOk result (text.new ≡ text.old ++ party_text plan.now who) }
 {
     match who {
@@ -75,12 +70,7 @@ fn write_party(text: &mut TextBuffer, plan: &Plan, who: Who) -> Result<(), Alloc
 
 /// Writes who stands behind an address.
 #[tactic(auto, unfolding(crate::specs::Who::who_text, j39_text::specs::Texts::field_text))]
-pub(crate) fn write_who(
-    text: &mut TextBuffer,
-    plan: &Plan,
-    who: Who,
-    address: u8,
-) -> Result<(), AllocError>
+pub(crate) fn write_who(text: &mut TextBuffer, plan: &Plan, who: Who, address: u8) -> WriteResult
     ensures { OnOk result (text.new ≡ text.old ++ who_text plan.now who address) }
 {
     write_party(text, plan, who)?;
@@ -95,12 +85,7 @@ pub(crate) fn is_to_all(ident: Ident) -> bool
 }
 
 // Writes who stands behind an address, from the text that was kept of it where there is one.
-fn write_party_at(
-    text: &mut TextBuffer,
-    plan: &Plan,
-    parties: &Parties,
-    address: u8,
-) -> Result<(), AllocError>
+fn write_party_at(text: &mut TextBuffer, plan: &Plan, parties: &Parties, address: u8) -> WriteResult
     ensures { OnOk result (HasNames plan.now parties.now.all parties.now.names
         → text.new ≡ text.old ++ who_text plan.now (party_at parties.now.all address) address) }
 {
@@ -115,7 +100,7 @@ fn write_receiver(
     plan: &Plan,
     parties: &Parties,
     ident: Ident,
-) -> Result<(), AllocError>
+) -> WriteResult
     ensures { OnOk result (HasNames plan.now parties.now.all parties.now.names → text.new ≡ text.old
         ++ (codes " to "
         ++ (if goes_to_all ident then codes "all" else who_text plan.now (party_at parties.now.all ident.ps) ident.ps))) }
@@ -134,7 +119,7 @@ pub(crate) fn write_parties(
     plan: &Plan,
     parties: &Parties,
     ident: Ident,
-) -> Result<(), AllocError>
+) -> WriteResult
     ensures { OnOk result ((log : List Timed) → ShowsParties plan.now parties.now log ident
         → (way : List ℕ) × IsWay plan.now log ident (codes " from " ++ way) × (text.new ≡ text.old ++ way)) }
 {
@@ -148,7 +133,7 @@ pub(crate) fn write_way(
     plan: &Plan,
     parties: &Parties,
     ident: Ident,
-) -> Result<(), AllocError>
+) -> WriteResult
     ensures { OnOk result ((log : List Timed) → ShowsParties plan.now parties.now log ident
         → (way : List ℕ) × IsWay plan.now log ident way × (text.new ≡ text.old ++ way)) }
 {
@@ -164,7 +149,7 @@ pub(crate) fn write_answer_way(
     parties: &Parties,
     source: u8,
     asker: u8,
-) -> Result<(), AllocError>
+) -> WriteResult
     ensures { OnOk result (HasNames plan.now parties.now.all parties.now.names → text.new ≡ text.old
         ++ answer_way_text plan.now (party_at parties.now.all source) source (party_at parties.now.all asker) asker) }
 {

@@ -14,12 +14,11 @@ ghost use Rattle.j39_follow.specs.inside.Tallies.{IsTally};
 use crate::address::holders::Holders;
 use crate::flow::tally::{Tally, first_of};
 use j39_network::{FlowPlan, GroupPlan, Plan, To, UnitPlan};
-use j39_text::{TextBuffer, group_label, unit_label};
-use std::alloc::AllocError;
+use j39_text::{TextBuffer, WriteResult, group_label, unit_label};
 
 /// Writes whom a flow or a request goes to.
 #[tactic(auto, unfolding(crate::specs::FollowText::to_text))]
-pub fn write_to(text: &mut TextBuffer, plan: &Plan, to: To) -> Result<(), AllocError>
+pub fn write_to(text: &mut TextBuffer, plan: &Plan, to: To) -> WriteResult
     ensures { OnOk result (text.new ≡ text.old ++ to_text plan.now to) }
 {
     match to {
@@ -36,7 +35,7 @@ pub(crate) fn write_route(
     group: usize,
     sender: usize,
     to: To,
-) -> Result<(), AllocError>
+) -> WriteResult
     ensures { OnOk result (text.new ≡ text.old ++ route_text plan.now group sender to) }
 {
     text.word(" ")?;
@@ -54,7 +53,7 @@ fn write_flow(
     place: usize,
     flow: &FlowPlan,
     times: u64,
-) -> Result<(), AllocError>
+) -> WriteResult
     ensures { OnOk result (text.new ≡ text.old ++ flow_sent_line plan.now place flow.now times) }
 {
     text.place("flow ", place)?;
@@ -64,7 +63,7 @@ fn write_flow(
 }
 
 // Writes how often each flow was sent.
-fn write_flows(text: &mut TextBuffer, plan: &Plan, tally: &Tally) -> Result<(), AllocError>
+fn write_flows(text: &mut TextBuffer, plan: &Plan, tally: &Tally) -> WriteResult
     ensures { OnOk result ((sent : List ASort) → IsTally plan.now tally.now sent
         → text.new ≡ text.old ++ flow_ends plan.now sent) }
 {
@@ -94,12 +93,7 @@ fn others_of(plan: &Plan, tally: &Tally, place: usize, group: &GroupPlan) -> u64
 }
 
 #[tactic(auto, unfolding(crate::specs::FollowText::rest_line))]
-fn write_group(
-    text: &mut TextBuffer,
-    group: &GroupPlan,
-    unplanned: u64,
-    others: u64,
-) -> Result<(), AllocError>
+fn write_group(text: &mut TextBuffer, group: &GroupPlan, unplanned: u64, others: u64) -> WriteResult
     ensures { OnOk result (text.new ≡ text.old ++ rest_line group.now unplanned others) }
 {
     text.word("group ")?;
@@ -110,7 +104,7 @@ fn write_group(
 }
 
 // Writes how often each group was sent without a flow, and what else there was of its number.
-fn write_groups(text: &mut TextBuffer, plan: &Plan, tally: &Tally) -> Result<(), AllocError>
+fn write_groups(text: &mut TextBuffer, plan: &Plan, tally: &Tally) -> WriteResult
     ensures { OnOk result ((sent : List ASort) → IsTally plan.now tally.now sent
         → text.new ≡ text.old ++ group_ends plan.now sent) }
 {
@@ -127,7 +121,7 @@ fn write_groups(text: &mut TextBuffer, plan: &Plan, tally: &Tally) -> Result<(),
 }
 
 #[tactic(auto, unfolding(crate::specs::FollowText::unit_end_line))]
-fn write_standing(text: &mut TextBuffer, unit: &UnitPlan, address: u8) -> Result<(), AllocError>
+fn write_standing(text: &mut TextBuffer, unit: &UnitPlan, address: u8) -> WriteResult
     ensures { OnOk result (text.new ≡ text.old ++ unit_end_line unit.now (field (codes " address ") address)) }
 {
     text.word("unit ")?;
@@ -137,7 +131,7 @@ fn write_standing(text: &mut TextBuffer, unit: &UnitPlan, address: u8) -> Result
 }
 
 #[tactic(auto, unfolding(crate::specs::FollowText::unit_end_line))]
-fn write_nowhere(text: &mut TextBuffer, unit: &UnitPlan, words: &str) -> Result<(), AllocError>
+fn write_nowhere(text: &mut TextBuffer, unit: &UnitPlan, words: &str) -> WriteResult
     ensures { OnOk result (text.new ≡ text.old ++ unit_end_line unit.now words.now) }
 {
     text.word("unit ")?;
@@ -153,7 +147,7 @@ fn write_unit(
     holders: &Holders,
     place: usize,
     unit: &UnitPlan,
-) -> Result<(), AllocError>
+) -> WriteResult
     requires there { slice_get plan.now.units.items place ≡ Some unit.now }
     requires room { place < unit_limit }
     ensures { OnOk result ((frames : List AFrame) → Recounts plan.now holders.now frames
@@ -170,7 +164,7 @@ fn write_unit(
 }
 
 // Writes where each unit stands.
-fn write_units(text: &mut TextBuffer, plan: &Plan, holders: &Holders) -> Result<(), AllocError>
+fn write_units(text: &mut TextBuffer, plan: &Plan, holders: &Holders) -> WriteResult
     ensures { OnOk result ((frames : List AFrame) → Recounts plan.now holders.now frames
         → (piece : List ℕ) × AreUnitLines plan.now frames 0 plan.now.units.items piece
         × (text.new ≡ text.old ++ piece)) }
@@ -187,7 +181,7 @@ pub(crate) fn write_endings(
     plan: &Plan,
     tally: &Tally,
     holders: &Holders,
-) -> Result<(), AllocError>
+) -> WriteResult
     ensures { OnOk result ((sent : List ASort) (frames : List AFrame) → IsTally plan.now tally.now sent
         → Recounts plan.now holders.now frames
         → (units : List ℕ) × AreUnitLines plan.now frames 0 plan.now.units.items units

@@ -20,7 +20,7 @@ use crate::message::{Arrival, Sort};
 use j39_id::{PDU2_FIRST, pf_of};
 use j39_log::{Groups, write_digits, write_group_readings};
 use j39_network::{GroupPlan, Plan};
-use j39_text::TextBuffer;
+use j39_text::{TextBuffer, WriteResult};
 use std::alloc::AllocError;
 
 // Whom a message went to.
@@ -58,7 +58,7 @@ pub(crate) fn sending_of(parties: &Parties, message: Arrival<'_>) -> Sending
 }
 
 #[tactic(auto, unfolding(crate::specs::FollowReports::flow_word))]
-fn write_flow(text: &mut TextBuffer, flow: Option<usize>) -> Result<(), AllocError>
+fn write_flow(text: &mut TextBuffer, flow: Option<usize>) -> WriteResult
     ensures { OnOk result (text.new ≡ text.old ++ flow_word flow) }
 {
     match flow {
@@ -69,7 +69,7 @@ fn write_flow(text: &mut TextBuffer, flow: Option<usize>) -> Result<(), AllocErr
 
 // Writes the priority of a frame that isn't its group's.
 #[tactic(auto, unfolding(crate::specs::FollowReports::priority_text))]
-fn write_priority(text: &mut TextBuffer, planned: u8, framed: Option<u8>) -> Result<(), AllocError>
+fn write_priority(text: &mut TextBuffer, planned: u8, framed: Option<u8>) -> WriteResult
     ensures { OnOk result (text.new ≡ text.old ++ priority_text planned framed) }
 {
     match framed {
@@ -90,7 +90,7 @@ fn write_sent(
     group: &GroupPlan,
     flow: Option<usize>,
     message: Arrival<'_>,
-) -> Result<(), AllocError>
+) -> WriteResult
     ensures { OnOk result (text.new ≡ text.old ++ sent_text group.now flow (arrived_message message.entry)) }
 {
     write_flow(text, flow)?;
@@ -109,7 +109,7 @@ fn write_group_line(
     head: &[u8],
     flow: Option<usize>,
     message: Arrival<'_>,
-) -> Result<(), AllocError>
+) -> WriteResult
     requires { head.now ≡ report_head group.now }
     ensures { OnOk result ((log : List Timed) → ShowsParties plan.now parties.now log message.entry.ident
         → (way : List ℕ) × IsWay plan.now log message.entry.ident way

@@ -8,8 +8,7 @@ ghost use Rattle.j39_follow.specs.inside.Tallies.{IsTally, tally_at};
 
 use crate::flow::tally::Tally;
 use j39_network::{FlowPlan, NeedPlan, Plan, RequestPlan, meets};
-use j39_text::{TextBuffer, write_need};
-use std::alloc::AllocError;
+use j39_text::{TextBuffer, WriteResult, write_need};
 
 // How often the flow at a place was sent, where it meets the need.
 fn met_by(
@@ -48,7 +47,7 @@ fn write_met(
     place: usize,
     need: &NeedPlan,
     times: u128,
-) -> Result<(), AllocError>
+) -> WriteResult
     ensures { OnOk result (text.new ≡ text.old ++ need_met_line plan.now place need.now times) }
 {
     write_need(text, plan, place, need)?;
@@ -57,11 +56,7 @@ fn write_met(
 }
 
 /// Writes how often each need was met.
-pub(crate) fn write_needs(
-    text: &mut TextBuffer,
-    plan: &Plan,
-    tally: &Tally,
-) -> Result<(), AllocError>
+pub(crate) fn write_needs(text: &mut TextBuffer, plan: &Plan, tally: &Tally) -> WriteResult
     ensures { OnOk result ((sent : List ASort) → IsTally plan.now tally.now sent
         → text.new ≡ text.old ++ need_ends plan.now sent) }
 {

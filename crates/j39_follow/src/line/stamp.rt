@@ -2,8 +2,7 @@
 ghost use Rattle.std.specs.Prelude.{◌≡◌, ◌++◌, OnOk};
 ghost use Rattle.j39_follow.specs.inside.Reporting.{front_of};
 
-use j39_text::TextBuffer;
-use std::alloc::AllocError;
+use j39_text::{TextBuffer, WriteResult};
 
 /// The number of a line, counted from 1, and what is printed of its time.
 #[derive(Clone, Copy)]
@@ -13,7 +12,7 @@ pub(crate) struct Stamp<'a> {
 }
 
 #[tactic(auto, unfolding(crate::specs::FollowReports::stamp))]
-pub(crate) fn write_stamp(text: &mut TextBuffer, stamp: Stamp<'_>) -> Result<(), AllocError>
+pub(crate) fn write_stamp(text: &mut TextBuffer, stamp: Stamp<'_>) -> WriteResult
     ensures { OnOk result (text.new ≡ text.old ++ front_of stamp.entry) }
 {
     text.number(stamp.number)?;

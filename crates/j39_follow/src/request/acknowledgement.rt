@@ -15,8 +15,7 @@ use crate::line::stamp::{Stamp, write_stamp};
 use j39_id::services::ACKNOWLEDGEMENT;
 use j39_id::{Frame, number_of_bytes};
 use j39_network::Plan;
-use j39_text::TextBuffer;
-use std::alloc::AllocError;
+use j39_text::{TextBuffer, WriteResult};
 
 fn is_acknowledgement(frame: &Frame) -> bool
     ensures same { result ≡ is_acknowledgement frame.now }
@@ -101,7 +100,7 @@ fn write_answer(
     stamp: Stamp<'_>,
     frame: &Frame,
     word: &str,
-) -> Result<(), AllocError>
+) -> WriteResult
     requires { length frame.now.payload.items ≡ 8 }
     ensures { OnOk result (HasNames plan.now parties.now.all parties.now.names → text.new ≡ text.old
         ++ answer_text (front_of stamp.entry) word.now frame.now (answer_way_text plan.now
@@ -121,7 +120,7 @@ pub(crate) fn write_acknowledgement(
     parties: &Parties,
     stamp: Stamp<'_>,
     frame: &Frame,
-) -> Result<(), AllocError>
+) -> WriteResult
     requires acknowledged { acknowledges plan.now frame.now ≡ true }
     requires eight { length frame.now.payload.items ≡ 8 }
     ensures { OnOk result ((log : List Timed) → ShowsParties plan.now parties.now log frame.now.ident

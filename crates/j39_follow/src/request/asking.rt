@@ -5,8 +5,7 @@ ghost use Rattle.j39_follow.specs.LoggedRequests.{number_of_group};
 
 use crate::flow::sending::{Aim, Sending, is_sender};
 use j39_network::{Plan, RequestPlan, To};
-use j39_text::TextBuffer;
-use std::alloc::AllocError;
+use j39_text::{TextBuffer, WriteResult};
 
 /// The number of the group at a place, 0 where there is none.
 pub(crate) fn number_of_group(plan: &Plan, place: usize) -> u32
@@ -58,7 +57,7 @@ pub(crate) fn asked_request(plan: &Plan, number: u32, sent: Sending) -> Option<u
 
 /// Writes which request of the plan a frame asks, if one fits.
 #[tactic(auto, unfolding(crate::specs::LoggedRequests::asked_text))]
-pub(crate) fn write_asked(text: &mut TextBuffer, asked: Option<usize>) -> Result<(), AllocError>
+pub(crate) fn write_asked(text: &mut TextBuffer, asked: Option<usize>) -> WriteResult
     ensures { OnOk result (text.new ≡ text.old ++ asked_text asked) }
 {
     match asked {

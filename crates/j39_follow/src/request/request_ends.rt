@@ -8,11 +8,10 @@ use crate::flow::endings::write_route;
 use crate::request::exchange::Exchange;
 use crate::request::exchanges::Exchanges;
 use j39_network::{Plan, RequestPlan};
-use j39_text::TextBuffer;
-use std::alloc::AllocError;
+use j39_text::{TextBuffer, WriteResult};
 
 #[tactic(auto, unfolding(crate::specs::FollowText::exchange_text))]
-fn write_exchange(text: &mut TextBuffer, exchange: Exchange) -> Result<(), AllocError>
+fn write_exchange(text: &mut TextBuffer, exchange: Exchange) -> WriteResult
     ensures { OnOk result (text.new ≡ text.old ++ exchange_text exchange.asked exchange.answered exchange.refused) }
 {
     text.field(" asked ", exchange.asked)?;
@@ -28,7 +27,7 @@ fn write_request_end(
     place: usize,
     request: &RequestPlan,
     exchange: Exchange,
-) -> Result<(), AllocError>
+) -> WriteResult
     ensures { OnOk result (text.new ≡ text.old
         ++ request_end_line plan.now place request.now exchange.asked exchange.answered exchange.refused) }
 {
@@ -42,7 +41,7 @@ pub(crate) fn write_requests(
     text: &mut TextBuffer,
     plan: &Plan,
     exchanges: &Exchanges,
-) -> Result<(), AllocError>
+) -> WriteResult
     ensures { OnOk result ((events : List AnEvent) → AreExchanges plan.now exchanges.now events
         → text.new ≡ text.old ++ request_ends plan.now events) }
 {

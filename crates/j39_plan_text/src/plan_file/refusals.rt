@@ -5,12 +5,12 @@ ghost use Rattle.j39_stream.specs.CommandEnds.{PutsText};
 
 use j39_plan::{FileError, Key, PlanError, PlanFault, Table};
 use j39_stream::{Fault, Sink, Verdict, put_all};
-use j39_text::TextBuffer;
+use j39_text::{TextBuffer, WriteResult};
 use std::alloc::{AllocError, Global};
 
 /// Writes the name of a table.
 #[tactic(auto, unfolding(crate::specs::PlanText::table_text))]
-pub(crate) fn write_table(text: &mut TextBuffer, table: Table) -> Result<(), AllocError>
+pub(crate) fn write_table(text: &mut TextBuffer, table: Table) -> WriteResult
     ensures { OnOk result (text.new ≡ text.old ++ table_text table) }
 {
     match table {
@@ -44,7 +44,7 @@ pub(crate) fn write_table(text: &mut TextBuffer, table: Table) -> Result<(), All
 }
 
 #[tactic(auto, unfolding(crate::specs::PlanText::key_text))]
-fn write_key(text: &mut TextBuffer, key: Option<Key>) -> Result<(), AllocError>
+fn write_key(text: &mut TextBuffer, key: Option<Key>) -> WriteResult
     ensures { OnOk result (text.new ≡ text.old ++ key_text key) }
 {
     match key {
@@ -57,7 +57,7 @@ fn write_key(text: &mut TextBuffer, key: Option<Key>) -> Result<(), AllocError>
 }
 
 #[tactic(auto, unfolding(crate::specs::PlanText::fault_line))]
-fn write_fault(text: &mut TextBuffer, fault: &PlanFault) -> Result<(), AllocError>
+fn write_fault(text: &mut TextBuffer, fault: &PlanFault) -> WriteResult
     ensures { OnOk result (text.new ≡ text.old ++ fault_line fault.now) }
 {
     text.word("refused ")?;
@@ -69,7 +69,7 @@ fn write_fault(text: &mut TextBuffer, fault: &PlanFault) -> Result<(), AllocErro
 }
 
 /// Writes the line of a refusal. Where the plan could not be read for want of memory there is none.
-pub fn write_refusal(text: &mut TextBuffer, error: &PlanError) -> Result<(), AllocError>
+pub fn write_refusal(text: &mut TextBuffer, error: &PlanError) -> WriteResult
     ensures { OnOk result ((line : List ℕ) × IsRefusalLine error.now line × (text.new ≡ text.old ++ line)) }
 {
     match error {
@@ -90,7 +90,7 @@ pub(super) fn refusal(alloc: Global, error: &PlanError) -> Result<TextBuffer, Al
 
 /// Writes that a plan has choices, where one plan is wanted.
 #[tactic(auto, unfolding(crate::specs::PlanText::choices_line))]
-pub fn write_choices_refused(text: &mut TextBuffer) -> Result<(), AllocError>
+pub fn write_choices_refused(text: &mut TextBuffer) -> WriteResult
     ensures { OnOk result (text.new ≡ text.old ++ choices_line) }
 {
     text.word("refused plan Choices\n")

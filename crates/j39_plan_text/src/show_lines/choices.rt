@@ -8,9 +8,8 @@ use super::values::write_word;
 use crate::each::{WriteLines, write_each};
 use j39_id::Label;
 use j39_plan::{Key, Table};
-use j39_text::TextBuffer;
+use j39_text::{TextBuffer, WriteResult};
 use j39_variants::{Alternative, Choice, ListedItem, ProductLine};
-use std::alloc::AllocError;
 
 // Writes each alternative of a choice.
 #[derive(Clone, Copy)]
@@ -22,7 +21,7 @@ impl WriteLines<Label> for OfChoice {
     ghost lines = { λ w p l. alternative_line w.0 p l };
 
     #[tactic(auto, unfolding(crate::specs::ChoiceLines::alternative_line))]
-    fn write(&self, text: &mut TextBuffer, _place: usize, label: &Label) -> Result<(), AllocError> {
+    fn write(&self, text: &mut TextBuffer, _place: usize, label: &Label) -> WriteResult {
         write_word(text, Table::Choice(self.0), Key::Of, label.as_str())
     }
 }
@@ -37,12 +36,7 @@ impl WriteLines<Choice> for Choices {
     ghost lines = { λ _. choice_lines };
 
     #[tactic(auto, unfolding(crate::specs::ChoiceLines::choice_lines))]
-    fn write(
-        &self,
-        text: &mut TextBuffer,
-        place: usize,
-        choice: &Choice,
-    ) -> Result<(), AllocError> {
+    fn write(&self, text: &mut TextBuffer, place: usize, choice: &Choice) -> WriteResult {
         write_each(text, &OfChoice(place), &choice.alternatives)
     }
 }
@@ -68,7 +62,7 @@ impl WriteLines<Label> for NamedInChoice<'_> {
     ghost lines = { λ w. named_line w.table w.key w.list.now w.choice };
 
     #[tactic(auto, unfolding(crate::specs::ChoiceLines::named_line))]
-    fn write(&self, text: &mut TextBuffer, place: usize, label: &Label) -> Result<(), AllocError> {
+    fn write(&self, text: &mut TextBuffer, place: usize, label: &Label) -> WriteResult {
         if is_named(self.list, self.choice, place) {
             write_word(text, self.table, self.key, label.as_str())
         } else {
@@ -91,12 +85,7 @@ impl WriteLines<Choice> for NamedInChoices<'_> {
     ghost lines = { λ w. named_alternative_lines w.table w.key w.list.now };
 
     #[tactic(auto, unfolding(crate::specs::ChoiceLines::named_alternative_lines))]
-    fn write(
-        &self,
-        text: &mut TextBuffer,
-        place: usize,
-        choice: &Choice,
-    ) -> Result<(), AllocError> {
+    fn write(&self, text: &mut TextBuffer, place: usize, choice: &Choice) -> WriteResult {
         let writer = NamedInChoice {
             table: self.table,
             key: self.key,
@@ -114,7 +103,7 @@ fn write_list(
     table: Table,
     key: Key,
     list: &[Alternative],
-) -> Result<(), AllocError>
+) -> WriteResult
     ensures { OnOk result (text.new ≡ text.old ++ list_lines choices.now table key list.now) }
 {
     write_each(text, &NamedInChoices { table, key, list }, choices)
@@ -132,12 +121,7 @@ impl WriteLines<Vec<Alternative>> for Nevers<'_> {
     ghost lines = { λ w. never_lines w.choices.now };
 
     #[tactic(auto, unfolding(crate::specs::ChoiceLines::never_lines))]
-    fn write(
-        &self,
-        text: &mut TextBuffer,
-        place: usize,
-        list: &Vec<Alternative>,
-    ) -> Result<(), AllocError> {
+    fn write(&self, text: &mut TextBuffer, place: usize, list: &Vec<Alternative>) -> WriteResult {
         write_list(text, self.choices, Table::Never(place), Key::Of, list)
     }
 }
@@ -155,12 +139,7 @@ impl WriteLines<Vec<Alternative>> for Items<'_> {
     ghost lines = { λ w. item_lines w.choices.now w.item };
 
     #[tactic(auto, unfolding(crate::specs::ChoiceLines::item_lines))]
-    fn write(
-        &self,
-        text: &mut TextBuffer,
-        place: usize,
-        list: &Vec<Alternative>,
-    ) -> Result<(), AllocError> {
+    fn write(&self, text: &mut TextBuffer, place: usize, list: &Vec<Alternative>) -> WriteResult {
         write_list(text, self.choices, self.item.table(place), Key::With, list)
     }
 }
@@ -168,7 +147,7 @@ impl WriteLines<Vec<Alternative>> for Items<'_> {
 /// Writes each choice, each box that isn't built, and with which alternatives each unit, group, flow, need and request
 /// goes.
 #[tactic(auto, unfolding(crate::specs::ChoiceLines::choices_lines))]
-pub(super) fn write_choices(text: &mut TextBuffer, line: &ProductLine) -> Result<(), AllocError>
+pub(super) fn write_choices(text: &mut TextBuffer, line: &ProductLine) -> WriteResult
     ensures { OnOk result (text.new ≡ text.old ++ choices_lines line.now) }
 {
     let choices = line.choices.as_slice();
@@ -183,14 +162,14 @@ fn write_items(
     choices: &[Choice],
     item: ListedItem,
     lists: &[Vec<Alternative>],
-) -> Result<(), AllocError>
+) -> WriteResult
     ensures { OnOk result (text.new ≡ text.old ++ items_lines choices.now item lists.now) }
 {
     write_each(text, &Items { choices, item }, lists)
 }
 
 #[tactic(auto, unfolding(crate::specs::ChoiceLines::lists_lines))]
-fn write_lists(text: &mut TextBuffer, line: &ProductLine) -> Result<(), AllocError>
+fn write_lists(text: &mut TextBuffer, line: &ProductLine) -> WriteResult
     ensures { OnOk result (text.new ≡ text.old ++ lists_lines line.now) }
 {
     let choices = line.choices.as_slice();

@@ -6,8 +6,7 @@ use super::values::{write_number, write_optional, write_truth, write_word};
 use crate::each::WriteLines;
 use j39_network::{FlowPlan, NeedPlan, Pace, Plan, RequestPlan, To};
 use j39_plan::{Key, Table};
-use j39_text::{TextBuffer, group_label, signal_label, unit_label};
-use std::alloc::AllocError;
+use j39_text::{TextBuffer, WriteResult, group_label, signal_label, unit_label};
 
 #[tactic(auto, unfolding(crate::specs::ShowText::receivers_text))]
 fn to_word(plan: &Plan, to: To) -> &str
@@ -20,7 +19,7 @@ fn to_word(plan: &Plan, to: To) -> &str
 }
 
 #[tactic(auto, unfolding(crate::specs::ShowText::pace_lines))]
-fn write_pace(text: &mut TextBuffer, table: Table, pace: Option<Pace>) -> Result<(), AllocError>
+fn write_pace(text: &mut TextBuffer, table: Table, pace: Option<Pace>) -> WriteResult
     ensures { OnOk result (text.new ≡ text.old ++ pace_lines table pace) }
 {
     match pace {
@@ -43,7 +42,7 @@ impl WriteLines<FlowPlan> for Flows<'_> {
     ghost lines = { λ w. flow_lines w.0.now };
 
     #[tactic(auto, unfolding(crate::specs::ShowText::flow_lines))]
-    fn write(&self, text: &mut TextBuffer, at: usize, flow: &FlowPlan) -> Result<(), AllocError> {
+    fn write(&self, text: &mut TextBuffer, at: usize, flow: &FlowPlan) -> WriteResult {
         let table = Table::Flow(at);
         write_word(text, table, Key::Group, group_label(self.0, flow.group))?;
         write_word(text, table, Key::From, unit_label(self.0, flow.sender))?;
@@ -61,7 +60,7 @@ fn write_need_signal(
     plan: &Plan,
     table: Table,
     need: &NeedPlan,
-) -> Result<(), AllocError>
+) -> WriteResult
     ensures { OnOk result (text.new ≡ text.old ++ need_signal_line plan.now table need.now) }
 {
     match need.signal {
@@ -79,12 +78,7 @@ fn write_need_signal(
 
 // The unit that a need asks of, if it asks of one.
 #[tactic(auto, unfolding(crate::specs::ShowText::need_from_line))]
-fn write_need_from(
-    text: &mut TextBuffer,
-    plan: &Plan,
-    table: Table,
-    need: &NeedPlan,
-) -> Result<(), AllocError>
+fn write_need_from(text: &mut TextBuffer, plan: &Plan, table: Table, need: &NeedPlan) -> WriteResult
     ensures { OnOk result (text.new ≡ text.old ++ need_from_line plan.now table need.now) }
 {
     match need.from {
@@ -103,7 +97,7 @@ impl WriteLines<NeedPlan> for Needs<'_> {
     ghost lines = { λ w. need_lines w.0.now };
 
     #[tactic(auto, unfolding(crate::specs::ShowText::need_lines))]
-    fn write(&self, text: &mut TextBuffer, at: usize, need: &NeedPlan) -> Result<(), AllocError> {
+    fn write(&self, text: &mut TextBuffer, at: usize, need: &NeedPlan) -> WriteResult {
         let table = Table::Need(at);
         write_word(text, table, Key::Unit, unit_label(self.0, need.unit))?;
         write_word(text, table, Key::Group, group_label(self.0, need.group))?;
@@ -123,12 +117,7 @@ impl WriteLines<RequestPlan> for Requests<'_> {
     ghost lines = { λ w. request_lines w.0.now };
 
     #[tactic(auto, unfolding(crate::specs::ShowText::request_lines))]
-    fn write(
-        &self,
-        text: &mut TextBuffer,
-        at: usize,
-        request: &RequestPlan,
-    ) -> Result<(), AllocError> {
+    fn write(&self, text: &mut TextBuffer, at: usize, request: &RequestPlan) -> WriteResult {
         let table = Table::Request(at);
         write_word(text, table, Key::Group, group_label(self.0, request.group))?;
         write_word(text, table, Key::From, unit_label(self.0, request.sender))?;

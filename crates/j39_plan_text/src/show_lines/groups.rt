@@ -12,8 +12,7 @@ use crate::each::{WriteLines, write_each};
 use j39_network::{GroupPlan, Meaning, TextPlan, ValueName};
 use j39_plan::{Key, Table};
 use j39_signal::{Kind, Selector, Signal};
-use j39_text::TextBuffer;
-use std::alloc::AllocError;
+use j39_text::{TextBuffer, WriteResult};
 
 fn kind_word(kind: Kind) -> &'static str
     ensures { result.now ≡ kind_text kind }
@@ -38,12 +37,7 @@ impl WriteLines<ValueName> for ValueNames {
     ghost lines = { λ w _. name_of_value_line w.0 };
 
     #[tactic(auto, unfolding(crate::specs::ShowText::name_of_value_line, crate::specs::ShowText::value_line))]
-    fn write(
-        &self,
-        text: &mut TextBuffer,
-        _at: usize,
-        value: &ValueName,
-    ) -> Result<(), AllocError> {
+    fn write(&self, text: &mut TextBuffer, _at: usize, value: &ValueName) -> WriteResult {
         write_front(text, self.0, Key::Values)?;
         text.number(value.raw)?;
         text.label(value.name.as_str())?;
@@ -53,11 +47,7 @@ impl WriteLines<ValueName> for ValueNames {
 
 // What is said of a signal's meaning, if anything is.
 #[tactic(auto, unfolding(crate::specs::ShowText::signal_meaning_lines))]
-fn write_meaning(
-    text: &mut TextBuffer,
-    table: Table,
-    meaning: Option<&Meaning>,
-) -> Result<(), AllocError>
+fn write_meaning(text: &mut TextBuffer, table: Table, meaning: Option<&Meaning>) -> WriteResult
     ensures { OnOk result (text.new ≡ text.old ++ meaning_lines table (option_copied meaning.entry)) }
 {
     let Some(meaning) = meaning else {
@@ -69,11 +59,7 @@ fn write_meaning(
 
 // Where the bits of a signal are.
 #[tactic(auto, unfolding(crate::specs::ShowText::signal_place_lines))]
-fn write_signal_place(
-    text: &mut TextBuffer,
-    table: Table,
-    signal: &Signal,
-) -> Result<(), AllocError>
+fn write_signal_place(text: &mut TextBuffer, table: Table, signal: &Signal) -> WriteResult
     ensures { OnOk result (text.new ≡ text.old ++ signal_place_lines table signal.now) }
 {
     write_word(text, table, Key::Label, signal.label().as_str())?;
@@ -85,11 +71,7 @@ fn write_signal_place(
 
 // What the raw numbers of a signal are worth.
 #[tactic(auto, unfolding(crate::specs::ShowText::signal_scale_lines))]
-fn write_signal_scale(
-    text: &mut TextBuffer,
-    table: Table,
-    signal: &Signal,
-) -> Result<(), AllocError>
+fn write_signal_scale(text: &mut TextBuffer, table: Table, signal: &Signal) -> WriteResult
     ensures { OnOk result (text.new ≡ text.old ++ signal_scale_lines table signal.now) }
 {
     write_number(text, table, Key::Step, signal.step() as u64)?;
@@ -101,7 +83,7 @@ fn write_signal_scale(
 }
 
 #[tactic(auto, unfolding(crate::specs::ShowText::signal_value_lines))]
-fn write_signal(text: &mut TextBuffer, table: Table, signal: &Signal) -> Result<(), AllocError>
+fn write_signal(text: &mut TextBuffer, table: Table, signal: &Signal) -> WriteResult
     ensures { OnOk result (text.new ≡ text.old ++ signal_lines table signal.now) }
 {
     write_signal_place(text, table, signal)?;
@@ -118,7 +100,7 @@ impl WriteLines<Signal> for Signals<'_> {
     ghost lines = { λ w. signal_at_lines w.0 w.1.now };
 
     #[tactic(auto, unfolding(crate::specs::ShowText::signal_at_lines))]
-    fn write(&self, text: &mut TextBuffer, at: usize, signal: &Signal) -> Result<(), AllocError> {
+    fn write(&self, text: &mut TextBuffer, at: usize, signal: &Signal) -> WriteResult {
         let table = Table::Signal(self.0, at);
         write_signal(text, table, signal)?;
         write_meaning(text, table, self.1.meanings.get(at))
@@ -135,12 +117,7 @@ impl WriteLines<TextPlan> for Texts {
     ghost lines = { λ w. planned_text_lines w.0 };
 
     #[tactic(auto, unfolding(crate::specs::ShowText::planned_text_lines))]
-    fn write(
-        &self,
-        text: &mut TextBuffer,
-        at: usize,
-        planned: &TextPlan,
-    ) -> Result<(), AllocError> {
+    fn write(&self, text: &mut TextBuffer, at: usize, planned: &TextPlan) -> WriteResult {
         let table = Table::Text(self.0, at);
         write_word(text, table, Key::Label, planned.label.as_str())?;
         write_number(text, table, Key::Byte, planned.byte)?;
@@ -149,11 +126,7 @@ impl WriteLines<TextPlan> for Texts {
 }
 
 #[tactic(auto, unfolding(crate::specs::ShowText::group_head_lines))]
-fn write_group_head(
-    text: &mut TextBuffer,
-    table: Table,
-    group: &GroupPlan,
-) -> Result<(), AllocError>
+fn write_group_head(text: &mut TextBuffer, table: Table, group: &GroupPlan) -> WriteResult
     ensures { OnOk result (text.new ≡ text.old ++ group_head_lines table group.now) }
 {
     write_word(text, table, Key::Label, group.label.as_str())?;
@@ -163,11 +136,7 @@ fn write_group_head(
 }
 
 #[tactic(auto, unfolding(crate::specs::ShowText::group_form_lines))]
-fn write_group_form(
-    text: &mut TextBuffer,
-    table: Table,
-    group: &GroupPlan,
-) -> Result<(), AllocError>
+fn write_group_form(text: &mut TextBuffer, table: Table, group: &GroupPlan) -> WriteResult
     ensures { OnOk result (text.new ≡ text.old ++ group_form_lines table group.now) }
 {
     write_truth(text, table, Key::Private, group.private)?;
@@ -177,7 +146,7 @@ fn write_group_form(
 
 // The bits that report a group's messages, if any do.
 #[tactic(auto, unfolding(crate::specs::ShowText::when_lines))]
-fn write_when(text: &mut TextBuffer, table: Table, when: Option<Selector>) -> Result<(), AllocError>
+fn write_when(text: &mut TextBuffer, table: Table, when: Option<Selector>) -> WriteResult
     ensures { OnOk result (text.new ≡ text.old ++ when_lines table when) }
 {
     let Some(selector) = when else {
@@ -198,7 +167,7 @@ impl WriteLines<GroupPlan> for GroupLines {
     ghost lines = { λ _. group_lines };
 
     #[tactic(auto, unfolding(crate::specs::ShowText::group_lines))]
-    fn write(&self, text: &mut TextBuffer, at: usize, group: &GroupPlan) -> Result<(), AllocError> {
+    fn write(&self, text: &mut TextBuffer, at: usize, group: &GroupPlan) -> WriteResult {
         let table = Table::Group(at);
         write_group_head(text, table, group)?;
         write_group_form(text, table, group)?;

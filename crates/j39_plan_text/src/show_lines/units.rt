@@ -9,8 +9,7 @@ use crate::each::WriteLines;
 use j39_id::NameFields;
 use j39_network::{Queue, UnitPlan, Way};
 use j39_plan::{Key, Table};
-use j39_text::TextBuffer;
-use std::alloc::AllocError;
+use j39_text::{TextBuffer, WriteResult};
 
 fn chooser_word(way: Way) -> &'static str
     ensures { result.now ≡ chooser_text way }
@@ -31,12 +30,7 @@ fn queue_word(queue: Queue) -> &'static str
 }
 
 // The identity number, where the unit isn't of any.
-fn write_identity(
-    text: &mut TextBuffer,
-    table: Table,
-    any: bool,
-    identity: u32,
-) -> Result<(), AllocError>
+fn write_identity(text: &mut TextBuffer, table: Table, any: bool, identity: u32) -> WriteResult
     ensures { OnOk result (text.new ≡ text.old ++ identity_lines table any identity) }
 {
     if any {
@@ -52,7 +46,7 @@ fn write_lower_name(
     table: Table,
     any: bool,
     fields: NameFields,
-) -> Result<(), AllocError>
+) -> WriteResult
     ensures { OnOk result (text.new ≡ text.old ++ lower_name_lines table any fields) }
 {
     write_identity(text, table, any, fields.identity)?;
@@ -63,11 +57,7 @@ fn write_lower_name(
 }
 
 #[tactic(auto, unfolding(crate::specs::ShowText::upper_name_lines))]
-fn write_upper_name(
-    text: &mut TextBuffer,
-    table: Table,
-    fields: NameFields,
-) -> Result<(), AllocError>
+fn write_upper_name(text: &mut TextBuffer, table: Table, fields: NameFields) -> WriteResult
     ensures { OnOk result (text.new ≡ text.old ++ upper_name_lines table fields) }
 {
     write_number(text, table, Key::System, fields.system)?;
@@ -77,12 +67,7 @@ fn write_upper_name(
 }
 
 #[tactic(auto, unfolding(crate::specs::ShowText::name_field_lines))]
-fn write_name(
-    text: &mut TextBuffer,
-    table: Table,
-    any: bool,
-    fields: NameFields,
-) -> Result<(), AllocError>
+fn write_name(text: &mut TextBuffer, table: Table, any: bool, fields: NameFields) -> WriteResult
     ensures { OnOk result (text.new ≡ text.old ++ name_lines table any fields) }
 {
     write_lower_name(text, table, any, fields)?;
@@ -91,7 +76,7 @@ fn write_name(
 
 // How the unit chooses addresses, how many packets it grants, and which of its waiting frames it offers.
 #[tactic(auto, unfolding(crate::specs::ShowText::unit_way_lines))]
-fn write_ways(text: &mut TextBuffer, table: Table, unit: &UnitPlan) -> Result<(), AllocError>
+fn write_ways(text: &mut TextBuffer, table: Table, unit: &UnitPlan) -> WriteResult
     ensures { OnOk result (text.new ≡ text.old ++ unit_way_lines table unit.now) }
 {
     write_word(text, table, Key::Chooser, chooser_word(unit.way))?;
@@ -108,7 +93,7 @@ impl WriteLines<UnitPlan> for UnitLines {
     ghost lines = { λ _. unit_value_lines };
 
     #[tactic(auto, unfolding(crate::specs::ShowText::unit_value_lines))]
-    fn write(&self, text: &mut TextBuffer, at: usize, unit: &UnitPlan) -> Result<(), AllocError> {
+    fn write(&self, text: &mut TextBuffer, at: usize, unit: &UnitPlan) -> WriteResult {
         let table = Table::Unit(at);
         write_word(text, table, Key::Label, unit.label.as_str())?;
         write_number(text, table, Key::Address, unit.address.number())?;

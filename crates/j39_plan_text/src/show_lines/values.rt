@@ -6,12 +6,11 @@ ghost use Rattle.j39_plan_text.specs.ShowText.{value_line};
 use crate::plan_file::write_table;
 use itoa::Integer;
 use j39_plan::{Key, Table};
-use j39_text::TextBuffer;
-use std::alloc::AllocError;
+use j39_text::{TextBuffer, WriteResult};
 
 /// Writes what stands before a value.
 #[tactic(auto, unfolding(crate::specs::ShowText::value_front))]
-pub(super) fn write_front(text: &mut TextBuffer, table: Table, key: Key) -> Result<(), AllocError>
+pub(super) fn write_front(text: &mut TextBuffer, table: Table, key: Key) -> WriteResult
     ensures { OnOk result (text.new ≡ text.old ++ value_front table key) }
 {
     write_table(text, table)?;
@@ -22,12 +21,7 @@ pub(super) fn write_front(text: &mut TextBuffer, table: Table, key: Key) -> Resu
 
 /// Writes a value that is a text.
 #[tactic(auto, unfolding(crate::specs::ShowText::value_line))]
-pub(super) fn write_word(
-    text: &mut TextBuffer,
-    table: Table,
-    key: Key,
-    word: &str,
-) -> Result<(), AllocError>
+pub(super) fn write_word(text: &mut TextBuffer, table: Table, key: Key, word: &str) -> WriteResult
     ensures { OnOk result (text.new ≡ text.old ++ value_line table key word.now) }
 {
     write_front(text, table, key)?;
@@ -42,7 +36,7 @@ pub(super) fn write_number<I: Integer>(
     table: Table,
     key: Key,
     number: I,
-) -> Result<(), AllocError>
+) -> WriteResult
     ensures { OnOk result (text.new ≡ text.old ++ value_line table key (I.text number)) }
 {
     write_front(text, table, key)?;
@@ -57,7 +51,7 @@ pub(super) fn write_optional<I: Integer>(
     table: Table,
     key: Key,
     number: Option<I>,
-) -> Result<(), AllocError>
+) -> WriteResult
     ensures { OnOk result (text.new ≡ text.old ++ optional_line I.text table key number) }
 {
     match number {
@@ -68,12 +62,7 @@ pub(super) fn write_optional<I: Integer>(
 
 /// Writes whether something is so.
 #[tactic(auto, unfolding(crate::specs::ShowText::truth_line))]
-pub(super) fn write_truth(
-    text: &mut TextBuffer,
-    table: Table,
-    key: Key,
-    truth: bool,
-) -> Result<(), AllocError>
+pub(super) fn write_truth(text: &mut TextBuffer, table: Table, key: Key, truth: bool) -> WriteResult
     ensures { OnOk result (text.new ≡ text.old ++ truth_line table key truth) }
 {
     if truth {
@@ -85,12 +74,7 @@ pub(super) fn write_truth(
 
 /// Writes a text that may be empty.
 #[tactic(auto, unfolding(crate::specs::ShowText::text_value_line))]
-pub(super) fn write_text(
-    text: &mut TextBuffer,
-    table: Table,
-    key: Key,
-    word: &str,
-) -> Result<(), AllocError>
+pub(super) fn write_text(text: &mut TextBuffer, table: Table, key: Key, word: &str) -> WriteResult
     ensures { OnOk result (text.new ≡ text.old ++ text_line table key word.now) }
 {
     if word.is_empty() {

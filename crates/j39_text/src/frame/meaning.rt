@@ -3,12 +3,11 @@ ghost use Rattle.std.specs.Prelude.{◌≡◌, ◌++◌, length, OnOk};
 ghost use Rattle.j39_text.specs.FrameText.{cannot_claim_lines, claim_lines, meaning_lines, request_line};
 
 use super::name::write_name;
-use crate::TextBuffer;
+use crate::{TextBuffer, WriteResult};
 use j39_id::{Frame, cannot_claim, carried_name, claims_address, requested_group, requests_group};
-use std::alloc::AllocError;
 
 #[tactic(auto, unfolding(crate::specs::FrameText::claim_lines))]
-fn write_claim(text: &mut TextBuffer, frame: &Frame) -> Result<(), AllocError>
+fn write_claim(text: &mut TextBuffer, frame: &Frame) -> WriteResult
     requires { length frame.now.payload.items ≡ 8 }
     ensures { OnOk result (text.new ≡ text.old ++ claim_lines frame.now) }
 {
@@ -18,7 +17,7 @@ fn write_claim(text: &mut TextBuffer, frame: &Frame) -> Result<(), AllocError>
 }
 
 #[tactic(auto, unfolding(crate::specs::FrameText::cannot_claim_lines))]
-fn write_cannot_claim(text: &mut TextBuffer, frame: &Frame) -> Result<(), AllocError>
+fn write_cannot_claim(text: &mut TextBuffer, frame: &Frame) -> WriteResult
     requires { length frame.now.payload.items ≡ 8 }
     ensures { OnOk result (text.new ≡ text.old ++ cannot_claim_lines frame.now) }
 {
@@ -27,7 +26,7 @@ fn write_cannot_claim(text: &mut TextBuffer, frame: &Frame) -> Result<(), AllocE
 }
 
 #[tactic(auto, unfolding(crate::specs::FrameText::request_line))]
-fn write_request(text: &mut TextBuffer, frame: &Frame) -> Result<(), AllocError>
+fn write_request(text: &mut TextBuffer, frame: &Frame) -> WriteResult
     requires { length frame.now.payload.items ≡ 3 }
     ensures { OnOk result (text.new ≡ text.old ++ request_line frame.now) }
 {
@@ -36,7 +35,7 @@ fn write_request(text: &mut TextBuffer, frame: &Frame) -> Result<(), AllocError>
 }
 
 #[tactic(auto, unfolding(crate::specs::FrameText::meaning_lines))]
-pub(super) fn write_meaning(text: &mut TextBuffer, frame: &Frame) -> Result<(), AllocError>
+pub(super) fn write_meaning(text: &mut TextBuffer, frame: &Frame) -> WriteResult
     ensures { OnOk result (text.new ≡ text.old ++ meaning_lines frame.now) }
 {
     if claims_address(frame) {

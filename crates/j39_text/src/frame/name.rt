@@ -2,12 +2,11 @@
 ghost use Rattle.std.specs.Prelude.{◌≡◌, ◌++◌, OnOk};
 ghost use Rattle.j39_text.specs.FrameText.{fields_line, lower_fields, middle_fields, name_lines, upper_fields};
 
-use crate::TextBuffer;
+use crate::{TextBuffer, WriteResult};
 use j39_id::{Name, NameFields};
-use std::alloc::AllocError;
 
 #[tactic(auto, unfolding(crate::specs::FrameText::lower_fields))]
-fn write_lower_fields(text: &mut TextBuffer, fields: NameFields) -> Result<(), AllocError>
+fn write_lower_fields(text: &mut TextBuffer, fields: NameFields) -> WriteResult
     ensures { OnOk result (text.new ≡ text.old ++ lower_fields fields) }
 {
     text.field("identity ", fields.identity)?;
@@ -16,7 +15,7 @@ fn write_lower_fields(text: &mut TextBuffer, fields: NameFields) -> Result<(), A
 }
 
 #[tactic(auto, unfolding(crate::specs::FrameText::middle_fields))]
-fn write_middle_fields(text: &mut TextBuffer, fields: NameFields) -> Result<(), AllocError>
+fn write_middle_fields(text: &mut TextBuffer, fields: NameFields) -> WriteResult
     ensures { OnOk result (text.new ≡ text.old ++ middle_fields fields) }
 {
     text.field(" function_instance ", fields.function_instance)?;
@@ -25,7 +24,7 @@ fn write_middle_fields(text: &mut TextBuffer, fields: NameFields) -> Result<(), 
 }
 
 #[tactic(auto, unfolding(crate::specs::FrameText::upper_fields))]
-fn write_upper_fields(text: &mut TextBuffer, fields: NameFields) -> Result<(), AllocError>
+fn write_upper_fields(text: &mut TextBuffer, fields: NameFields) -> WriteResult
     ensures { OnOk result (text.new ≡ text.old ++ upper_fields fields) }
 {
     text.field(" system ", fields.system)?;
@@ -35,7 +34,7 @@ fn write_upper_fields(text: &mut TextBuffer, fields: NameFields) -> Result<(), A
 }
 
 #[tactic(auto, unfolding(crate::specs::FrameText::fields_line))]
-fn write_fields(text: &mut TextBuffer, fields: NameFields) -> Result<(), AllocError>
+fn write_fields(text: &mut TextBuffer, fields: NameFields) -> WriteResult
     ensures { OnOk result (text.new ≡ text.old ++ fields_line fields) }
 {
     write_lower_fields(text, fields)?;
@@ -46,7 +45,7 @@ fn write_fields(text: &mut TextBuffer, fields: NameFields) -> Result<(), AllocEr
 
 // The digits of a NAME, and its fields in a line of their own.
 #[tactic(auto, unfolding(crate::specs::FrameText::name_lines))]
-pub(super) fn write_name(text: &mut TextBuffer, name: Name) -> Result<(), AllocError>
+pub(super) fn write_name(text: &mut TextBuffer, name: Name) -> WriteResult
     ensures { OnOk result (text.new ≡ text.old ++ name_lines name) }
 {
     text.hex(&name.to_bits().to_be_bytes())?;

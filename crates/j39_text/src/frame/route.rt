@@ -2,15 +2,14 @@
 ghost use Rattle.std.specs.Prelude.{◌≡◌, ◌++◌, OnOk};
 ghost use Rattle.j39_text.specs.FrameText.{destination_text, page_text, route_line};
 
-use crate::TextBuffer;
+use crate::{TextBuffer, WriteResult};
 use j39_id::Ident;
 use j39_id::addresses::GLOBAL_ADDRESS;
-use std::alloc::AllocError;
 
 /// Writes where a frame goes to: to all, or to an address.
 #[tactic(auto, using(crate::proofs::Destinations::pdu2_kept), unfolding(crate::specs::FrameText::destination_text))]
 #[inline(always)]
-pub fn write_destination(text: &mut TextBuffer, ident: Ident) -> Result<(), AllocError>
+pub fn write_destination(text: &mut TextBuffer, ident: Ident) -> WriteResult
     ensures { OnOk result (text.new ≡ text.old ++ destination_text ident) }
 {
     match ident.destination() {
@@ -20,14 +19,14 @@ pub fn write_destination(text: &mut TextBuffer, ident: Ident) -> Result<(), Allo
 }
 
 #[tactic(auto, unfolding(crate::specs::FrameText::page_text))]
-fn write_page(text: &mut TextBuffer, ident: Ident) -> Result<(), AllocError>
+fn write_page(text: &mut TextBuffer, ident: Ident) -> WriteResult
     ensures { OnOk result (text.new ≡ text.old ++ page_text ident) }
 {
     text.word(if ident.edp == 1 { " other" } else { "" })
 }
 
 #[tactic(auto, unfolding(crate::specs::FrameText::route_line))]
-pub(super) fn write_route(text: &mut TextBuffer, ident: Ident) -> Result<(), AllocError>
+pub(super) fn write_route(text: &mut TextBuffer, ident: Ident) -> WriteResult
     ensures { OnOk result (text.new ≡ text.old ++ route_line ident) }
 {
     text.field("priority ", ident.priority)?;
