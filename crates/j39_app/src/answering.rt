@@ -10,17 +10,15 @@ ghost use Rattle.j39_text.specs.FrameText.{IsInputText};
 use crate::answering_vehicles::vehicle_files;
 use crate::by_plan::{CommandByPlan, by_two};
 use crate::plan_command::{PlanCommand, of_plan_file};
-use crate::{Fault, Folder, Order, Sink, Source, Verdict, frame_text, input_text, put_all};
+use crate::{
+    CommandResult, Fault, Folder, Order, Sink, Source, Verdict, frame_text, input_text, put_all,
+};
 use std::alloc::Global;
 
 // What reads an input or files holds its buffers and tables in a frame of its own, since that of `answer` lies on the
 // stack below all of them.
 #[inline(never)]
-fn input_by<S: Source, W: Sink>(
-    alloc: Global,
-    input: &mut S,
-    sink: &mut W,
-) -> Result<Verdict, Fault>
+fn input_by<S: Source, W: Sink>(alloc: Global, input: &mut S, sink: &mut W) -> CommandResult
     ensures { AnswersWhole IsInputText (IsOfAny IsInputText) plan_limits (S.state input.old) (S.state input.new) W.state sink.old sink.new result }
 {
     input_text(alloc, input, sink)
@@ -34,7 +32,7 @@ pub fn answer<F: Folder, S: Source, W: Sink>(
     input: &mut S,
     order: &Order,
     sink: &mut W,
-) -> Result<Verdict, Fault>
+) -> CommandResult
     ensures ends { Ends (IsAnswer (F.bytes_of files.now) (S.state input.old).left order.now)
         (IsOfSome (IsFrontAnswer (F.bytes_of files.now) (S.state input.old).left order.now)) (PutsAtOnce order.now)
         (IsOfRead (MayBeTooLong plan_limits (S.state input.old).left) (λ limits name. MayBeTooLong limits (F.bytes_of files.now name)) (F.bytes_of files.now)

@@ -8,7 +8,7 @@ ghost use Rattle.j39_stream.specs.Streams.{plan_limits};
 ghost use Rattle.j39_vehicle_text.specs.VehicleFileText.{IsBusPlanText, IsVehicleFileText};
 ghost use Rattle.j39_vehicle_text.specs.VehicleText.{IsVehicleText};
 
-use crate::{Fault, Folder, Sink, Verdict, bus_plan, vehicle_file, vehicle_text};
+use crate::{CommandResult, Fault, Folder, Sink, Verdict, bus_plan, vehicle_file, vehicle_text};
 use j39_id::Label;
 use j39_network::Plan;
 use j39_vehicle::{BusPlan, BusTable, VehicleFile, plan_file};
@@ -96,7 +96,7 @@ fn vehicle_by<W: Sink>(
     file: &VehicleFile,
     buses: Vec<BusPlan>,
     sink: &mut W,
-) -> Result<Verdict, Fault>
+) -> CommandResult
     requires { length buses.items ≡ length file.now.buses.items }
     ensures { PutsText (IsVehicleText file.now buses.items) W.state sink.old sink.new result }
 {
@@ -110,7 +110,7 @@ fn vehicle_with<F: Folder, W: Sink>(
     vehicle: &str,
     file: &VehicleFile,
     sink: &mut W,
-) -> Result<Verdict, Fault>
+) -> CommandResult
     ensures { EndsByPlans (F.stays_shut files.now) (F.bytes_of files.now) F.File.state vehicle.now file.now W.state sink.old sink.new result }
 {
     match buses_of(alloc, files, vehicle, &file.buses, sink)? {
@@ -126,7 +126,7 @@ pub(super) fn vehicle_files<F: Folder, W: Sink>(
     files: &F,
     vehicle: &str,
     sink: &mut W,
-) -> Result<Verdict, Fault>
+) -> CommandResult
     ensures { EndsByVehicle (F.stays_shut files.now) (F.bytes_of files.now) F.File.state vehicle.now W.state sink.old sink.new result }
 {
     match vehicle_of(alloc, files, vehicle, sink)? {

@@ -7,7 +7,7 @@ ghost use Rattle.j39_plan_text.specs.CheckText.{IsReport};
 ghost use Rattle.j39_stream.specs.CommandEnds.{AnswersWhole, IsOfAny, PutsText};
 ghost use Rattle.j39_stream.specs.Streams.{log_limits};
 
-use crate::{Fault, Sink, Source, Verdict, audit_text, put_all};
+use crate::{CommandResult, Sink, Source, audit_text, put_all};
 use j39_findings::{Finding, check};
 use j39_network::Plan;
 use j39_plan_text::{PlanFindings, write_check};
@@ -40,7 +40,7 @@ fn findings_of(alloc: Global, plan: &Plan) -> ReportResult
     Ok((text, verdict))
 }
 
-fn put_findings<W: Sink>(alloc: Global, plan: &Plan, sink: &mut W) -> Result<Verdict, Fault>
+fn put_findings<W: Sink>(alloc: Global, plan: &Plan, sink: &mut W) -> CommandResult
     ensures { PutsText (IsReport plan.now) W.state sink.old sink.new result }
 {
     let (text, verdict) = findings_of(alloc, plan)?;
@@ -58,7 +58,7 @@ pub fn audit_planned<S: Source, W: Sink>(
     stamps: u64,
     log: &mut S,
     sink: &mut W,
-) -> Result<Verdict, Fault>
+) -> CommandResult
     ensures hindered { is_hindered plan.now ≡ true → PutsText (IsReport plan.now) W.state sink.old sink.new result }
     ensures unread { is_hindered plan.now ≡ true → log.new ≡ log.old }
     ensures audited { is_hindered plan.now ≡ false → AnswersWhole (IsAudit plan.now part stamps) (IsOfAny (IsAudit plan.now part stamps)) log_limits

@@ -9,8 +9,8 @@ ghost use Rattle.j39_stream.specs.Streams.{HasFailed, plan_limits};
 
 use crate::auditing::audit_planned;
 use crate::{
-    Fault, Folder, Sink, Source, Verdict, follow_text, line_text, read_text, refuse_choices,
-    run_planned,
+    CommandResult, Fault, Folder, Sink, Source, Verdict, follow_text, line_text, read_text,
+    refuse_choices, run_planned,
 };
 use j39_network::Plan;
 use j39_variants::ProductLine;
@@ -37,7 +37,7 @@ fn write_by_plan<S: Source, W: Sink>(
     plan: &Plan,
     file: &mut S,
     sink: &mut W,
-) -> Result<Verdict, Fault>
+) -> CommandResult
     ensures { (known : Option (List ℕ)) → AreLeft known (S.state file.old).left
         → Ends (IsTextByPlan command plan.now known) (IsOfSome (IsFrontByPlan command plan.now known)) (PutsByPlan command)
         (MayBeTooLong (limits_by_plan command) known) (HasFailed (S.state file.old).failures (S.state file.new).failures)
@@ -74,7 +74,7 @@ fn by_line<F: Folder, W: Sink>(
     line: &ProductLine,
     name: &str,
     sink: &mut W,
-) -> Result<Verdict, Fault>
+) -> CommandResult
     ensures { EndsByFile (IsForOnePlan (IsTextByPlan command) line.now) (λ known. IsOfSome (IsForOnePlan (IsFrontByPlan command) line.now known))
         (PutsByPlan command) (limits_by_plan command) (F.stays_shut files.now) (F.bytes_of files.now) F.File.state name.now W.state sink.old sink.new result }
 {
@@ -94,7 +94,7 @@ pub(crate) fn by_two<F: Folder, W: Sink>(
     plan: &str,
     other: &str,
     sink: &mut W,
-) -> Result<Verdict, Fault>
+) -> CommandResult
     ensures { EndsByTwo (IsForOnePlan (IsTextByPlan command)) (IsForOnePlan (IsFrontByPlan command)) (PutsByPlan command) (limits_by_plan command)
         (F.stays_shut files.now) (F.bytes_of files.now) F.File.state plan.now other.now W.state sink.old sink.new result }
 {

@@ -2,10 +2,10 @@
 ghost use Rattle.std.specs.Prelude.{◌≡◌};
 ghost use Rattle.j39_app.specs.Status.{status_of};
 
-use crate::{Fault, Verdict};
+use crate::{CommandResult, Fault, Verdict};
 
 /// The exit status that says how a command ended.
-pub fn status(outcome: &Result<Verdict, Fault>) -> u8
+pub fn status(outcome: &CommandResult) -> u8
     ensures { result ≡ status_of outcome.now }
 {
     match outcome {

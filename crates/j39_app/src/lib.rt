@@ -23,7 +23,7 @@ pub use j39_plan_text::{line_text, refuse_choices, show_text, variant_text};
 pub use j39_run::{refused_lines_end_the_text, run_planned, run_text};
 pub use j39_schedule::LineFault;
 pub use j39_stream::{
-    Failed, Fault, FromRead, Sink, Source, ToWrite, Verdict, put_all, read_whole,
+    CommandResult, Failed, Fault, FromRead, Sink, Source, ToWrite, Verdict, put_all, read_whole,
 };
 pub use j39_text::{frame_text, input_text};
 pub use j39_vehicle_text::{bus_plan, vehicle_file, vehicle_text};

@@ -6,7 +6,7 @@ ghost use Rattle.j39_stream.specs.CommandEnds.{AnswersWhole, IsOfAny};
 ghost use Rattle.j39_stream.specs.Streams.{plan_limits};
 
 use crate::{
-    Fault, Folder, Sink, Source, Verdict, addresses_line_text, check_line_text, load_line_text,
+    CommandResult, Folder, Sink, Source, addresses_line_text, check_line_text, load_line_text,
     show_text, variant_text,
 };
 use std::alloc::Global;
@@ -31,7 +31,7 @@ fn write_of_plan<S: Source, W: Sink>(
     command: PlanCommand<'_>,
     source: &mut S,
     sink: &mut W,
-) -> Result<Verdict, Fault>
+) -> CommandResult
     ensures { AnswersWhole (IsTextOfPlan command.entry) (IsOfAny (IsTextOfPlan command.entry)) plan_limits
         (S.state source.old) (S.state source.new) W.state sink.old sink.new result }
 {
@@ -52,7 +52,7 @@ pub(crate) fn of_plan_file<F: Folder, W: Sink>(
     command: PlanCommand<'_>,
     plan: &str,
     sink: &mut W,
-) -> Result<Verdict, Fault>
+) -> CommandResult
     ensures { EndsByFile (IsOfBytes (IsTextOfPlan command.entry)) (λ known. IsOfSome (IsOfBytes (IsTextOfPlan command.entry) known)) (Unit {0}) plan_limits
         (F.stays_shut files.now) (F.bytes_of files.now) F.File.state plan.now W.state sink.old sink.new result }
 {

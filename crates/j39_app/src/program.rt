@@ -1,6 +1,6 @@
 //! The program.
 use crate::{
-    Fault, FromRead, Order, SystemFiles, ToWrite, Verdict, WordsFault, answer, order, status,
+    CommandResult, Fault, FromRead, Order, SystemFiles, ToWrite, WordsFault, answer, order, status,
 };
 use std::env::Env;
 use std::fmt::Display;
@@ -22,10 +22,7 @@ fn words<R: Env + AllocGlobal>(rt: &R) -> Result<Vec<String>, WordsFault> {
 }
 
 // Does what the words order, on standard output. Each put is handed on at once: the commands put many lines at a time.
-fn perform<R: Input + Print + Files + AllocGlobal>(
-    rt: &R,
-    order: &Order,
-) -> Result<Verdict, Fault> {
+fn perform<R: Input + Print + Files + AllocGlobal>(rt: &R, order: &Order) -> CommandResult {
     let mut input = FromRead::new(rt.reader());
     let mut sink = ToWrite::new(io::writer(rt));
     let outcome = answer(

@@ -14,7 +14,7 @@ use crate::by_load::{Bound, responses_of};
 use crate::reading::read_log;
 use crate::summary::write_audit;
 use j39_network::Plan;
-use j39_stream::{Fault, Sink, Source, Verdict, put_all};
+use j39_stream::{CommandResult, Sink, Source, Verdict, put_all};
 use j39_text::{ReportResult, TextBuffer};
 use std::alloc::Global;
 
@@ -32,7 +32,7 @@ fn report(alloc: Global, log: &AuditLog<'_>) -> ReportResult
 }
 
 // Writes it.
-fn put_report<W: Sink>(alloc: Global, log: &AuditLog<'_>, sink: &mut W) -> Result<Verdict, Fault>
+fn put_report<W: Sink>(alloc: Global, log: &AuditLog<'_>, sink: &mut W) -> CommandResult
     ensures { PutsText (IsAuditReport log.now) W.state sink.old sink.new result }
 {
     let (text, verdict) = report(alloc, log)?;
@@ -46,7 +46,7 @@ fn audit_by<S: Source, W: Sink>(
     basis: Basis<'_>,
     source: &mut S,
     sink: &mut W,
-) -> Result<Verdict, Fault>
+) -> CommandResult
     requires moving { AreMoving basis.plan.now basis.moving.now }
     requires responses { AreResponses basis.plan.now basis.responses.now }
     requires bus { basis.bound ≡ Bus }
@@ -68,7 +68,7 @@ pub fn audit_text<S: Source, W: Sink>(
     stamps: u64,
     source: &mut S,
     sink: &mut W,
-) -> Result<Verdict, Fault>
+) -> CommandResult
     ensures { AnswersWhole (IsAudit plan.now part stamps) (IsOfAny (IsAudit plan.now part stamps)) log_limits
         (S.state source.old) (S.state source.new) W.state sink.old sink.new result }
 {

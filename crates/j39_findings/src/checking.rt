@@ -26,6 +26,7 @@ pub use finding::{Finding, Findings};
 use flows::find_in_flows;
 use groups::find_in_groups;
 use j39_network::Plan;
+use j39_search::FindResult;
 use kept::find_kept;
 use needs::find_in_needs;
 use private::find_unsent;
@@ -39,7 +40,7 @@ use texts::find_in_texts;
 use units::find_in_units;
 
 // Adds all that is wrong with the plan, by the findings' numbers and then by their places in rising order.
-fn find_all(findings: &mut Vec<Finding>, plan: &Plan) -> Result<(), AllocError>
+fn find_all(findings: &mut Vec<Finding>, plan: &Plan) -> FindResult
     ensures { Adds result findings.old.items findings.new.items (found plan.now) }
 {
     find_in_units(findings, &plan.keep_free, plan.strangers, &plan.units)?;

@@ -6,7 +6,7 @@ ghost use Rattle.j39_stream.specs.Streams.{log_limits};
 use crate::unit_report::UnitReport;
 use j39_log::report_log;
 use j39_network::Plan;
-use j39_stream::{Fault, Sink, Source, Verdict};
+use j39_stream::{CommandResult, Sink, Source};
 use std::alloc::Global;
 
 /// Writes who sent what in a log, by the claims of the log itself: each claim, each request with the request of the
@@ -27,7 +27,7 @@ pub fn follow_text<S: Source, W: Sink>(
     all_frames: bool,
     source: &mut S,
     sink: &mut W,
-) -> Result<Verdict, Fault>
+) -> CommandResult
     ensures { AnswersInPieces (IsFollowText plan.now all_frames) log_limits (S.state source.old) (S.state source.new) W.state sink.old sink.new result }
 {
     let mut report = UnitReport::new(alloc, plan, all_frames)?;

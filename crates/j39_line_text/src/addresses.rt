@@ -20,7 +20,7 @@ use j39_line_bounds::line_standings;
 use j39_line_check::{LineAnswer, LookedAt, ReportedFinding, check_line};
 use j39_plan_text::{LineReport, report_text, stays_report};
 use j39_run_laws::{who_stays, who_stays_with_strangers};
-use j39_stream::{Fault, Sink, Source, Verdict};
+use j39_stream::{CommandResult, Sink, Source, Verdict};
 use j39_text::{ReportResult, TextBuffer};
 use j39_variants::ProductLine;
 use std::alloc::{AllocError, Global};
@@ -104,7 +104,7 @@ pub fn addresses_line_text<S: Source, W: Sink>(
     alloc: Global,
     source: &mut S,
     sink: &mut W,
-) -> Result<Verdict, Fault>
+) -> CommandResult
     ensures { AnswersWhole IsLineAddressesText (IsOfAny IsLineAddressesText) plan_limits (S.state source.old) (S.state source.new) W.state sink.old sink.new result }
 {
     report_text(alloc, &AddressesReport, source, sink)

@@ -5,8 +5,8 @@ ghost use Rattle.j39_stream.specs.Streams.{plan_limits};
 
 use crate::line_report::{line_report, plan_report};
 use j39_plan_text::{LineReport, report_text};
-use j39_stream::{Fault, Sink, Source, Verdict};
-use j39_text::{ReportResult, TextBuffer};
+use j39_stream::{CommandResult, Sink, Source};
+use j39_text::ReportResult;
 use j39_variants::ProductLine;
 use std::alloc::Global;
 
@@ -34,7 +34,7 @@ pub fn check_line_text<S: Source, W: Sink>(
     alloc: Global,
     source: &mut S,
     sink: &mut W,
-) -> Result<Verdict, Fault>
+) -> CommandResult
     ensures { AnswersWhole IsLineCheckText (IsOfAny IsLineCheckText) plan_limits (S.state source.old) (S.state source.new) W.state sink.old sink.new result }
 {
     report_text(alloc, &CheckReport, source, sink)

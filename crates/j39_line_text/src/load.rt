@@ -17,7 +17,7 @@ use j39_line_check::{LineAnswer, LookedAt, ReportedFinding, check_line};
 use j39_load::timing_of;
 use j39_network::Timing;
 use j39_plan_text::{LineReport, load_report, report_text};
-use j39_stream::{Fault, Sink, Source, Verdict};
+use j39_stream::{CommandResult, Sink, Source, Verdict};
 use j39_text::{ReportResult, TextBuffer};
 use j39_variants::ProductLine;
 use std::alloc::Global;
@@ -132,7 +132,7 @@ pub fn load_line_text<S: Source, W: Sink>(
     alloc: Global,
     source: &mut S,
     sink: &mut W,
-) -> Result<Verdict, Fault>
+) -> CommandResult
     ensures { AnswersWhole IsLineLoadText (IsOfAny IsLineLoadText) plan_limits (S.state source.old) (S.state source.new) W.state sink.old sink.new result }
 {
     report_text(alloc, &TimesReport, source, sink)

@@ -6,7 +6,7 @@ ghost use Rattle.j39_stream.specs.Streams.{log_limits};
 use crate::address_report::AddressReport;
 use crate::reported_log::report_log;
 use j39_network::Plan;
-use j39_stream::{Fault, Sink, Source, Verdict};
+use j39_stream::{CommandResult, Sink, Source};
 use std::alloc::Global;
 
 /// Writes what a log says of the groups of a plan: a report for each frame of a planned group and for each message that
@@ -20,7 +20,7 @@ pub fn read_text<S: Source, W: Sink>(
     plan: &Plan,
     source: &mut S,
     sink: &mut W,
-) -> Result<Verdict, Fault>
+) -> CommandResult
     ensures { AnswersInPieces (IsReadText plan.now) log_limits (S.state source.old) (S.state source.new) W.state sink.old sink.new result }
 {
     let mut report = AddressReport::new(alloc);

@@ -12,7 +12,7 @@ use crate::line_counts::LineCounts;
 use crate::log_reader::LogReader;
 use crate::log_report::LogReport;
 use j39_network::Plan;
-use j39_stream::{Fault, LOG_LIMITS, Sink, Source, Verdict, put_all, read_lines};
+use j39_stream::{CommandResult, Fault, LOG_LIMITS, Sink, Source, Verdict, put_all, read_lines};
 use j39_text::{TextBuffer, group_label};
 use std::alloc::{AllocError, Global};
 
@@ -29,7 +29,7 @@ fn refusal(alloc: Global, plan: &Plan, group: usize) -> Result<TextBuffer, Alloc
 }
 
 // Writes why no log can be read with the plan: by this group.
-fn refuse<W: Sink>(alloc: Global, plan: &Plan, group: usize, sink: &mut W) -> Result<Verdict, Fault>
+fn refuse<W: Sink>(alloc: Global, plan: &Plan, group: usize, sink: &mut W) -> CommandResult
     ensures { PutsText (IsRefused plan.now group) W.state sink.old sink.new result }
 {
     let text = refusal(alloc, plan, group)?;
@@ -47,7 +47,7 @@ pub fn report_log<R: LogReport, S: Source, W: Sink>(
     report: &mut R,
     source: &mut S,
     sink: &mut W,
-) -> Result<Verdict, Fault>
+) -> CommandResult
     requires { R.has_reported report.old plan.now no_lines [] [] }
     ensures { AnswersInPieces (IsTextFor plan.now (R.is_log_text report.old plan.now)) log_limits
         (S.state source.old) (S.state source.new) W.state sink.old sink.new result }

@@ -4,8 +4,8 @@ ghost use Rattle.j39_stream.specs.CommandEnds.{AnswersWhole, IsOfAny, PutsText};
 ghost use Rattle.j39_stream.specs.Streams.{plan_limits};
 
 use crate::plan_file::line_text;
-use j39_stream::{Fault, Sink, Source, Verdict, put_all};
-use j39_text::{ReportResult, TextBuffer};
+use j39_stream::{CommandResult, Sink, Source, Verdict, put_all};
+use j39_text::ReportResult;
 use j39_variants::ProductLine;
 use std::alloc::Global;
 
@@ -28,7 +28,7 @@ fn put_report<R: LineReport, W: Sink>(
     report: &R,
     line: ProductLine,
     sink: &mut W,
-) -> Result<Verdict, Fault>
+) -> CommandResult
     ensures { PutsText (R.says report.now line) W.state sink.old sink.new result }
 {
     let (text, verdict) = report.report(alloc, line)?;
@@ -42,7 +42,7 @@ pub fn report_text<R: LineReport, S: Source, W: Sink>(
     report: &R,
     source: &mut S,
     sink: &mut W,
-) -> Result<Verdict, Fault>
+) -> CommandResult
     ensures { AnswersWhole (IsReportedText (R.says report.now)) (IsOfAny (IsReportedText (R.says report.now))) plan_limits (S.state source.old) (S.state source.new)
         W.state sink.old sink.new result }
 {

@@ -5,7 +5,7 @@ ghost use Rattle.j39_stream.specs.Streams.{plan_limits};
 
 use crate::reporting::{LineReport, report_text};
 use crate::show_lines::write_line;
-use j39_stream::{Fault, Sink, Source, Verdict};
+use j39_stream::{CommandResult, Sink, Source, Verdict};
 use j39_text::{ReportResult, TextBuffer};
 use j39_variants::ProductLine;
 use std::alloc::Global;
@@ -28,11 +28,7 @@ impl LineReport for ShowReport {
 /// Writes each value of the plan that a file describes, those too that the file leaves to their defaults, one a line,
 /// whatever is wrong with the plan; or why the file describes none.
 #[inline(never)]
-pub fn show_text<S: Source, W: Sink>(
-    alloc: Global,
-    source: &mut S,
-    sink: &mut W,
-) -> Result<Verdict, Fault>
+pub fn show_text<S: Source, W: Sink>(alloc: Global, source: &mut S, sink: &mut W) -> CommandResult
     ensures { AnswersWhole IsShowText (IsOfAny IsShowText) plan_limits (S.state source.old) (S.state source.new) W.state sink.old sink.new result }
 {
     report_text(alloc, &ShowReport, source, sink)

@@ -7,7 +7,7 @@ ghost use Rattle.j39_stream.specs.Streams.{plan_limits};
 
 use crate::reporting::{LineReport, report_text};
 use crate::show_lines::write_plan;
-use j39_stream::{Fault, Sink, Source, Verdict};
+use j39_stream::{CommandResult, Sink, Source, Verdict};
 use j39_text::{ReportResult, TextBuffer};
 use j39_variants::{Alternative, Choice, ProductLine, first_possible, named, plan_of};
 use std::alloc::{AllocError, Global};
@@ -101,7 +101,7 @@ pub fn variant_text<S: Source, W: Sink>(
     labels: &[String],
     source: &mut S,
     sink: &mut W,
-) -> Result<Verdict, Fault>
+) -> CommandResult
     ensures { let words = map string_bytes labels.now in
         AnswersWhole (IsVariantText words) (IsOfAny (IsVariantText words)) plan_limits (S.state source.old) (S.state source.new) W.state sink.old sink.new result }
 {

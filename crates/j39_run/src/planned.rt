@@ -9,7 +9,7 @@ ghost use Rattle.j39_stream.specs.Streams.{plan_limits};
 use crate::run_text;
 use j39_claim::{Choose, Lowest, Upward};
 use j39_network::{Plan, Way};
-use j39_stream::{Fault, Sink, Source, Verdict};
+use j39_stream::{CommandResult, Fault, Sink, Source};
 use std::alloc::Global;
 
 /// Writes what a bus of the plan sends on a schedule as `run_text` does, each unit choosing addresses in its planned
@@ -20,7 +20,7 @@ pub fn run_planned<S: Source, W: Sink>(
     plan: &Plan,
     source: &mut S,
     sink: &mut W,
-) -> Result<Verdict, Fault>
+) -> CommandResult
     ensures answers { AnswersInPieces (IsRunText plan.now (length plan.now.units.items)) plan_limits (S.state source.old) (S.state source.new)
         W.state sink.old sink.new result }
 

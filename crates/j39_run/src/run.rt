@@ -13,16 +13,11 @@ use j39_bus::{Bus, BusError};
 use j39_claim::Choose;
 use j39_network::Plan;
 use j39_schedule::Units;
-use j39_stream::{Fault, PLAN_LIMITS, Sink, Source, Verdict, put_all, read_lines};
+use j39_stream::{CommandResult, PLAN_LIMITS, Sink, Source, Verdict, put_all, read_lines};
 use std::alloc::Global;
 
 // Writes why the plan has no bus.
-fn refuse<W: Sink>(
-    alloc: Global,
-    plan: &Plan,
-    error: BusError,
-    sink: &mut W,
-) -> Result<Verdict, Fault>
+fn refuse<W: Sink>(alloc: Global, plan: &Plan, error: BusError, sink: &mut W) -> CommandResult
     ensures { PutsText (IsRefusedBy plan.now error) W.state sink.old sink.new result }
 {
     let text = plan_refusal(alloc, plan, error)?;
@@ -40,7 +35,7 @@ pub fn run_text<S: Source, W: Sink>(
     choosers: Vec<Box<dyn Choose>>,
     source: &mut S,
     sink: &mut W,
-) -> Result<Verdict, Fault>
+) -> CommandResult
     ensures answers { AnswersInPieces (IsRunText plan.now (length choosers.items)) plan_limits (S.state source.old) (S.state source.new)
         W.state sink.old sink.new result }
 

@@ -3,4 +3,6 @@
 
 mod rules;
 
-pub use rules::{PairRule, Rule, TestRule, find_each, find_pairs, find_tested, push_if};
+pub use rules::{
+    FindResult, PairRule, Rule, TestRule, find_each, find_pairs, find_tested, push_if,
+};

@@ -5,13 +5,16 @@ ghost use Rattle.j39_search.specs.Adding.{Adds};
 
 use std::alloc::AllocError;
 
+/// What comes of a search: memory can be refused, and nothing else.
+pub type FindResult = Result<(), AllocError>;
+
 /// What is found of one value.
 pub trait Rule<T, F> {
     ghost use Rattle.j39_search.specs.Adding.{Adds};
 
     ghost gives: { Self → ℕ → T → List F };
 
-    fn find(&self, findings: &mut Vec<F>, place: usize, value: &T) -> Result<(), AllocError>
+    fn find(&self, findings: &mut Vec<F>, place: usize, value: &T) -> FindResult
         ensures { Adds result findings.old.items findings.new.items (gives self.now place value.now) };
 }
 
@@ -42,7 +45,7 @@ pub trait PairRule<T, F> {
 }
 
 /// Adds the finding where the test holds.
-pub fn push_if<F: Drop>(findings: &mut Vec<F>, holds: bool, finding: F) -> Result<(), AllocError>
+pub fn push_if<F: Drop>(findings: &mut Vec<F>, holds: bool, finding: F) -> FindResult
     ensures { Adds result findings.old.items findings.new.items (found_if holds finding) }
 {
     if holds {
@@ -52,11 +55,7 @@ pub fn push_if<F: Drop>(findings: &mut Vec<F>, holds: bool, finding: F) -> Resul
 }
 
 /// Adds what is found of each value, in the order of the values.
-pub fn find_each<T, F, R: Rule<T, F>>(
-    findings: &mut Vec<F>,
-    rule: &R,
-    values: &[T],
-) -> Result<(), AllocError>
+pub fn find_each<T, F, R: Rule<T, F>>(findings: &mut Vec<F>, rule: &R, values: &[T]) -> FindResult
     ensures { Adds result findings.old.items findings.new.items (in_each (R.gives rule.now) 0 values.now) }
 {
     for (place, value) in values.iter().enumerate() {
@@ -70,7 +69,7 @@ pub fn find_tested<T, F: Drop, R: TestRule<T, F>>(
     findings: &mut Vec<F>,
     rule: &R,
     values: &[T],
-) -> Result<(), AllocError>
+) -> FindResult
     ensures { Adds result findings.old.items findings.new.items (each (R.test rule.now) (R.make rule.now) 0 values.now) }
 {
     for (place, value) in values.iter().enumerate() {
@@ -85,7 +84,7 @@ fn find_against<T, F: Drop, R: PairRule<T, F>>(
     i: usize,
     value: &T,
     values: &[T],
-) -> Result<(), AllocError>
+) -> FindResult
     requires { i < length values.now }
     ensures { Adds result findings.old.items findings.new.items
         (each (R.test rule.now value.now) (R.make rule.now i) (i + 1) (drop (i + 1) values.now)) }
@@ -101,7 +100,7 @@ pub fn find_pairs<T, F: Drop, R: PairRule<T, F>>(
     findings: &mut Vec<F>,
     rule: &R,
     values: &[T],
-) -> Result<(), AllocError>
+) -> FindResult
     ensures { Adds result findings.old.items findings.new.items (pairs (R.test rule.now) (R.make rule.now) values.now) }
 {
     for (i, value) in values.iter().enumerate() {

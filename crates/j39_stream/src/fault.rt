@@ -2,9 +2,12 @@
 ghost use Rattle.std.specs.Prelude.{◌≡◌};
 ghost use Rattle.j39_stream.specs.declared.fault.Fault.TheVariants.{Memory, Device};
 
-use crate::Failed;
+use crate::{Failed, Verdict};
 use std::alloc::AllocError;
 use thiserror::Error;
+
+/// What comes of a command.
+pub type CommandResult = Result<Verdict, Fault>;
 
 /// Why a command gave up.
 #[derive(Clone, Copy, Debug, PartialEq, Eq, Error)]

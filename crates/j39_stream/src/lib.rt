@@ -16,7 +16,7 @@ mod verdict;
 mod writing;
 
 pub use failed::Failed;
-pub use fault::Fault;
+pub use fault::{CommandResult, Fault};
 pub use from_read::FromRead;
 pub use intake::{Intake, PIECE_BYTES};
 pub use limits::{LOG_LIMITS, Limits, PLAN_LIMITS};

@@ -6,7 +6,7 @@ ghost use Rattle.j39_stream.specs.CommandEnds.{AnswersInPieces};
 ghost use Rattle.j39_stream.specs.Intakes.{EndsWithItsPiece};
 ghost use Rattle.j39_stream.specs.LineReading.{AreTextsOf, HasReadInput, IsCutOff, IsSoFar};
 
-use crate::{Fault, Intake, Limits, LineReader, PIECE_BYTES, Sink, Source, Verdict};
+use crate::{CommandResult, Fault, Intake, Limits, LineReader, PIECE_BYTES, Sink, Source};
 use j39_id::Cutter;
 use std::alloc::AllocError;
 
@@ -77,7 +77,7 @@ pub fn read_lines<R: LineReader, S: Source, W: Sink>(
     reader: &mut R,
     source: &mut S,
     sink: &mut W,
-) -> Result<Verdict, Fault>
+) -> CommandResult
     requires begins { IsSoFar (R.has_read reader.old) (R.is_text reader.old) (R.goes reader.old) (R.text reader.old) [] [] }
     requires count { R.within reader.old 0 }
     requires bytes { limits.bytes ≤ 2 ^ 62 }

@@ -10,7 +10,7 @@ mod route;
 
 use crate::{ReportResult, TextBuffer, WriteResult};
 use j39_id::{Frame, LineError, print_frame, read_frame};
-use j39_stream::{Fault, Sink, Verdict, put_all};
+use j39_stream::{CommandResult, Sink, Verdict, put_all};
 pub use route::write_destination;
 use std::alloc::Global;
 
@@ -67,7 +67,7 @@ fn line_text(alloc: Global, line: &[u8]) -> ReportResult
 
 /// Writes the frame that the line spells, with its route and what it says of a NAME or a request, or why the line is
 /// refused. Where a call of the sink fails, what was written is a prefix of that.
-pub fn frame_text<W: Sink>(alloc: Global, line: &[u8], sink: &mut W) -> Result<Verdict, Fault>
+pub fn frame_text<W: Sink>(alloc: Global, line: &[u8], sink: &mut W) -> CommandResult
     ensures puts { PutsText (IsFrameText line.now) W.state sink.old sink.new result }
     ensures calm { IfOk result (λ _. (W.state sink.new).failures ≡ (W.state sink.old).failures) }
 {

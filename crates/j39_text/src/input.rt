@@ -7,7 +7,7 @@ ghost use Rattle.j39_stream.specs.CommandEnds.{AnswersWhole, IsOfAny};
 ghost use Rattle.j39_stream.specs.Streams.{plan_limits};
 
 use crate::frame_text;
-use j39_stream::{Fault, Sink, Source, Verdict, read_whole};
+use j39_stream::{CommandResult, Sink, Source, read_whole};
 use std::alloc::Global;
 
 // Where the first line feed stands.
@@ -29,11 +29,7 @@ fn first_line(input: &[u8]) -> &[u8]
 }
 
 /// Writes what the first line of the input spells, or why it is refused.
-pub fn input_text<S: Source, W: Sink>(
-    alloc: Global,
-    source: &mut S,
-    sink: &mut W,
-) -> Result<Verdict, Fault>
+pub fn input_text<S: Source, W: Sink>(alloc: Global, source: &mut S, sink: &mut W) -> CommandResult
     ensures { AnswersWhole IsInputText (IsOfAny IsInputText) plan_limits (S.state source.old) (S.state source.new) W.state sink.old sink.new result }
 {
     let input = read_whole(alloc, source)?;

@@ -6,11 +6,11 @@ ghost use Rattle.j39_vehicle_text.specs.VehicleText.{IsVehicleReport, IsVehicleT
 
 use crate::refusals::refusal;
 use crate::vehicle_report::vehicle_report;
-use j39_stream::{Fault, Sink, Verdict, put_all};
+use j39_stream::{CommandResult, Sink, Verdict, put_all};
 use j39_vehicle::{BusPlan, Vehicle, VehicleError, VehicleFile, resolve};
 use std::alloc::Global;
 
-fn put_report<W: Sink>(alloc: Global, vehicle: &Vehicle, sink: &mut W) -> Result<Verdict, Fault>
+fn put_report<W: Sink>(alloc: Global, vehicle: &Vehicle, sink: &mut W) -> CommandResult
     ensures { PutsText (IsVehicleReport vehicle.now) W.state sink.old sink.new result }
 {
     let (text, verdict) = vehicle_report(alloc, vehicle)?;
@@ -19,7 +19,7 @@ fn put_report<W: Sink>(alloc: Global, vehicle: &Vehicle, sink: &mut W) -> Result
 }
 
 // Writes which label names nothing in the plans of the buses.
-fn refuse<W: Sink>(alloc: Global, error: &VehicleError, sink: &mut W) -> Result<Verdict, Fault>
+fn refuse<W: Sink>(alloc: Global, error: &VehicleError, sink: &mut W) -> CommandResult
     ensures { PutsText (RefusesWith error.now) W.state sink.old sink.new result }
 {
     let text = refusal(alloc, error)?;
@@ -33,7 +33,7 @@ pub fn vehicle_text<W: Sink>(
     file: &VehicleFile,
     buses: Vec<BusPlan>,
     sink: &mut W,
-) -> Result<Verdict, Fault>
+) -> CommandResult
     requires { length buses.items ≤ bus_limit }
     ensures { PutsText (IsVehicleText file.now buses.items) W.state sink.old sink.new result }
 {

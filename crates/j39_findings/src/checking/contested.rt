@@ -8,8 +8,7 @@ use crate::checking::finding::Finding;
 use crate::standing::Standing;
 use j39_claim::AddressSet;
 use j39_network::{FlowPlan, Plan, To, UnitPlan};
-use j39_search::{TestRule, find_tested};
-use std::alloc::AllocError;
+use j39_search::{FindResult, TestRule, find_tested};
 
 #[derive(Clone, Copy)]
 struct FlowContested<'a> {
@@ -62,7 +61,7 @@ impl TestRule<FlowPlan, Finding> for FlowContested<'_> {
     }
 }
 
-pub fn find_contested(findings: &mut Vec<Finding>, plan: &Plan) -> Result<(), AllocError>
+pub fn find_contested(findings: &mut Vec<Finding>, plan: &Plan) -> FindResult
     ensures { Adds result findings.old.items findings.new.items
         (contested_findings plan.now.live plan.now.keep_free plan.now.strangers plan.now.units.items plan.now.flows.items) }
 {

@@ -6,8 +6,7 @@ ghost use Rattle.j39_findings.specs.Found.{are_one_flow, cannot_go_to_one, flow_
 use crate::checking::finding::Finding;
 use crate::sending::is_one_frame_to_all;
 use j39_network::{FlowPlan, GroupPlan, To};
-use j39_search::{PairRule, TestRule, find_pairs, find_tested};
-use std::alloc::AllocError;
+use j39_search::{FindResult, PairRule, TestRule, find_pairs, find_tested};
 
 fn cannot_go_to_one(groups: &[GroupPlan], flow: &FlowPlan) -> bool
     ensures { result ≡ cannot_go_to_one groups.now flow.now }
@@ -82,7 +81,7 @@ pub fn find_in_flows(
     findings: &mut Vec<Finding>,
     groups: &[GroupPlan],
     flows: &[FlowPlan],
-) -> Result<(), AllocError>
+) -> FindResult
     ensures { Adds result findings.old.items findings.new.items (flow_findings groups.now flows.now) }
 {
     find_tested(findings, &FlowToOne { groups }, flows)?;

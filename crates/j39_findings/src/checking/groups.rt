@@ -11,9 +11,8 @@ use j39_id::proprietary::is_proprietary;
 use j39_id::services::is_service;
 use j39_id::{EXTENDED_PAGE, Pgn};
 use j39_network::{FlowPlan, GroupPlan};
-use j39_search::{PairRule, TestRule, find_pairs, find_tested};
+use j39_search::{FindResult, PairRule, TestRule, find_pairs, find_tested};
 use j39_signal::Selector;
-use std::alloc::AllocError;
 
 fn is_for_no_plan(pgn: u32) -> bool
     ensures { result ≡ is_for_no_plan pgn }
@@ -124,7 +123,7 @@ pub fn find_in_groups(
     findings: &mut Vec<Finding>,
     groups: &[GroupPlan],
     flows: &[FlowPlan],
-) -> Result<(), AllocError>
+) -> FindResult
     ensures { Adds result findings.old.items findings.new.items (group_findings groups.now flows.now) }
 {
     find_tested(findings, &BadPgn, groups)?;

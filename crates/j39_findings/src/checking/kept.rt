@@ -6,8 +6,7 @@ ghost use Rattle.j39_findings.specs.Found.{prefers_kept, kept_findings};
 use crate::checking::finding::Finding;
 use j39_claim::AddressSet;
 use j39_network::UnitPlan;
-use j39_search::{TestRule, find_tested};
-use std::alloc::AllocError;
+use j39_search::{FindResult, TestRule, find_tested};
 
 fn prefers_kept(kept: &AddressSet, unit: &UnitPlan) -> bool
     ensures { result ≡ prefers_kept kept.now unit.now }
@@ -37,11 +36,7 @@ impl TestRule<UnitPlan, Finding> for KeptAddress<'_> {
 }
 
 #[tactic(auto, unfolding(crate::specs::Found::kept_findings))]
-pub fn find_kept(
-    findings: &mut Vec<Finding>,
-    kept: &AddressSet,
-    units: &[UnitPlan],
-) -> Result<(), AllocError>
+pub fn find_kept(findings: &mut Vec<Finding>, kept: &AddressSet, units: &[UnitPlan]) -> FindResult
     ensures { Adds result findings.old.items findings.new.items (kept_findings kept.now units.now) }
 {
     find_tested(findings, &KeptAddress { kept }, units)

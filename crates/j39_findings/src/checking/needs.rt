@@ -5,8 +5,7 @@ ghost use Rattle.j39_network.specs.Serving.{meets};
 
 use crate::checking::finding::Finding;
 use j39_network::{FlowPlan, NeedPlan, RequestPlan, is_met};
-use j39_search::{TestRule, find_tested};
-use std::alloc::AllocError;
+use j39_search::{FindResult, TestRule, find_tested};
 
 #[derive(Clone, Copy)]
 struct NeedUnmet<'a> {
@@ -38,7 +37,7 @@ pub fn find_in_needs(
     requests: &[RequestPlan],
     flows: &[FlowPlan],
     needs: &[NeedPlan],
-) -> Result<(), AllocError>
+) -> FindResult
     ensures { Adds result findings.old.items findings.new.items (need_findings requests.now flows.now needs.now) }
 {
     find_tested(findings, &NeedUnmet { requests, flows }, needs)

@@ -7,8 +7,7 @@ ghost use Rattle.j39_findings.specs.Found.{unsent_findings};
 use crate::checking::finding::Finding;
 use crate::sending::{sends, sends_beside};
 use j39_network::{FlowPlan, GroupPlan};
-use j39_search::{TestRule, find_tested};
-use std::alloc::AllocError;
+use j39_search::{FindResult, TestRule, find_tested};
 
 fn is_sent_beside(
     groups: &[GroupPlan],
@@ -91,7 +90,7 @@ pub fn find_unsent(
     findings: &mut Vec<Finding>,
     groups: &[GroupPlan],
     flows: &[FlowPlan],
-) -> Result<(), AllocError>
+) -> FindResult
     ensures { Adds result findings.old.items findings.new.items (unsent_findings groups.now flows.now) }
 {
     find_tested(findings, &PrivateUnsent { groups, flows }, groups)

@@ -6,9 +6,8 @@ ghost use Rattle.j39_findings.specs.Found.{comes_onto, do_records_meet, group_ov
 
 use crate::checking::finding::Finding;
 use j39_network::GroupPlan;
-use j39_search::{Rule, find_each, push_if};
+use j39_search::{FindResult, Rule, find_each, push_if};
 use j39_signal::Signal;
-use std::alloc::AllocError;
 
 // The bits to the first record that stands further on than these.
 fn bits_behind(every: u8, bits: u32) -> u32
@@ -64,12 +63,7 @@ impl Rule<Signal, Finding> for RepeatedSignal<'_> {
     ghost gives = { λ rule t other.
         found_if (do_records_meet rule.every rule.count rule.place t rule.signal.now other) (RecordOverlap rule.group rule.place t) };
 
-    fn find(
-        &self,
-        findings: &mut Vec<Finding>,
-        place: usize,
-        other: &Signal,
-    ) -> Result<(), AllocError> {
+    fn find(&self, findings: &mut Vec<Finding>, place: usize, other: &Signal) -> FindResult {
         push_if(
             findings,
             do_records_meet(self, place, other),
@@ -91,12 +85,7 @@ struct RecordSignals<'a> {
 impl Rule<Signal, Finding> for RecordSignals<'_> {
     ghost gives = { λ rule s signal. overlaps_of rule.every rule.count rule.group rule.signals.now s signal };
 
-    fn find(
-        &self,
-        findings: &mut Vec<Finding>,
-        place: usize,
-        signal: &Signal,
-    ) -> Result<(), AllocError> {
+    fn find(&self, findings: &mut Vec<Finding>, place: usize, signal: &Signal) -> FindResult {
         if !signal.is_repeated() {
             return Ok(());
         }
@@ -117,12 +106,7 @@ struct Records;
 impl Rule<GroupPlan, Finding> for Records {
     ghost gives = { λ _ g group. group_overlaps g group };
 
-    fn find(
-        &self,
-        findings: &mut Vec<Finding>,
-        place: usize,
-        group: &GroupPlan,
-    ) -> Result<(), AllocError> {
+    fn find(&self, findings: &mut Vec<Finding>, place: usize, group: &GroupPlan) -> FindResult {
         let Some(every) = group.every else {
             return Ok(());
         };
@@ -138,7 +122,7 @@ impl Rule<GroupPlan, Finding> for Records {
 
 /// Adds the signals that later records come onto.
 #[tactic(auto, unfolding(crate::specs::Found::record_findings))]
-pub fn find_in_records(findings: &mut Vec<Finding>, groups: &[GroupPlan]) -> Result<(), AllocError>
+pub fn find_in_records(findings: &mut Vec<Finding>, groups: &[GroupPlan]) -> FindResult
     ensures { Adds result findings.old.items findings.new.items (record_findings groups.now) }
 {
     find_each(findings, &Records, groups)

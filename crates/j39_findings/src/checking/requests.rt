@@ -10,8 +10,7 @@ use crate::checking::finding::Finding;
 use crate::checking::groups::WhenOutside;
 use crate::sending::{may_name_receiver, serves_all, serves_one};
 use j39_network::{FlowPlan, GroupPlan, RequestPlan, To, is_served};
-use j39_search::{PairRule, TestRule, find_pairs, find_tested};
-use std::alloc::AllocError;
+use j39_search::{FindResult, PairRule, TestRule, find_pairs, find_tested};
 
 fn is_served_to_one(flows: &[FlowPlan], request: &RequestPlan) -> bool
     ensures { result ≡ is_served_to_one flows.now request.now }
@@ -145,7 +144,7 @@ pub fn find_in_requests(
     groups: &[GroupPlan],
     flows: &[FlowPlan],
     requests: &[RequestPlan],
-) -> Result<(), AllocError>
+) -> FindResult
     ensures { Adds result findings.old.items findings.new.items (request_findings groups.now flows.now requests.now) }
 {
     find_tested(findings, &RequestUnanswered { flows }, requests)?;

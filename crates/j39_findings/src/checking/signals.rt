@@ -8,9 +8,8 @@ ghost use Rattle.j39_findings.specs.Found.{overlap_findings, signal_findings};
 
 use crate::checking::finding::Finding;
 use j39_network::GroupPlan;
-use j39_search::{PairRule, Rule, TestRule, find_each, find_pairs, find_tested};
+use j39_search::{FindResult, PairRule, Rule, TestRule, find_each, find_pairs, find_tested};
 use j39_signal::Signal;
-use std::alloc::AllocError;
 
 #[derive(Clone, Copy)]
 struct SignalWidth {
@@ -98,12 +97,7 @@ struct Widths;
 impl Rule<GroupPlan, Finding> for Widths {
     ghost gives = { λ _ g group. width_findings g group };
 
-    fn find(
-        &self,
-        findings: &mut Vec<Finding>,
-        place: usize,
-        group: &GroupPlan,
-    ) -> Result<(), AllocError> {
+    fn find(&self, findings: &mut Vec<Finding>, place: usize, group: &GroupPlan) -> FindResult {
         find_tested(findings, &SignalWidth { group: place }, &group.signals)
     }
 }
@@ -115,12 +109,7 @@ impl Rule<GroupPlan, Finding> for Outsides {
     ghost gives = { λ _ g group. outside_findings g group };
 
     #[tactic(auto, unfolding(j39_search::specs::ListPlaces::each))]
-    fn find(
-        &self,
-        findings: &mut Vec<Finding>,
-        place: usize,
-        group: &GroupPlan,
-    ) -> Result<(), AllocError> {
+    fn find(&self, findings: &mut Vec<Finding>, place: usize, group: &GroupPlan) -> FindResult {
         let rule = SignalOutside {
             group: place,
             length: group.length,
@@ -136,18 +125,13 @@ struct Overlaps;
 impl Rule<GroupPlan, Finding> for Overlaps {
     ghost gives = { λ _ g group. overlap_findings g group };
 
-    fn find(
-        &self,
-        findings: &mut Vec<Finding>,
-        place: usize,
-        group: &GroupPlan,
-    ) -> Result<(), AllocError> {
+    fn find(&self, findings: &mut Vec<Finding>, place: usize, group: &GroupPlan) -> FindResult {
         find_pairs(findings, &SignalOverlap { group: place }, &group.signals)
     }
 }
 
 #[tactic(auto, using(j39_search::proofs::AddingLemmas::refuses, j39_search::proofs::AddingLemmas::some_left, j39_search::proofs::AddingLemmas::some_right, j39_search::proofs::AddingLemmas::adds_behind), unfolding(crate::specs::Found::signal_findings))]
-pub fn find_in_signals(findings: &mut Vec<Finding>, groups: &[GroupPlan]) -> Result<(), AllocError>
+pub fn find_in_signals(findings: &mut Vec<Finding>, groups: &[GroupPlan]) -> FindResult
     ensures { Adds result findings.old.items findings.new.items (signal_findings groups.now) }
 {
     find_each(findings, &Widths, groups)?;

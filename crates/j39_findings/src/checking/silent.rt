@@ -7,8 +7,7 @@ use crate::checking::finding::Finding;
 use j39_claim::AddressSet;
 use j39_id::addresses::is_in_pool;
 use j39_network::UnitPlan;
-use j39_search::{PairRule, TestRule, find_pairs, find_tested};
-use std::alloc::AllocError;
+use j39_search::{FindResult, PairRule, TestRule, find_pairs, find_tested};
 
 #[derive(Clone, Copy)]
 struct SilentAddress;
@@ -64,7 +63,7 @@ pub fn find_silent(
     kept: &AddressSet,
     strangers: u8,
     units: &[UnitPlan],
-) -> Result<(), AllocError>
+) -> FindResult
     ensures { Adds result findings.old.items findings.new.items (silent_findings kept.now strangers units.now) }
 {
     find_pairs(findings, &SilentAddress, units)?;

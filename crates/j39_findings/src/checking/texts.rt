@@ -5,8 +5,7 @@ ghost use Rattle.j39_findings.specs.Found.{lies_outside, outside_text_findings, 
 
 use crate::checking::finding::Finding;
 use j39_network::{GroupPlan, TextPlan};
-use j39_search::{Rule, TestRule, find_each, find_tested};
-use std::alloc::AllocError;
+use j39_search::{FindResult, Rule, TestRule, find_each, find_tested};
 
 fn lies_outside(group: &GroupPlan, text: &TextPlan) -> bool
     ensures { result ≡ lies_outside group.now text.now }
@@ -42,19 +41,14 @@ struct OutsideTexts;
 impl Rule<GroupPlan, Finding> for OutsideTexts {
     ghost gives = { λ _ g group. outside_text_findings g group };
 
-    fn find(
-        &self,
-        findings: &mut Vec<Finding>,
-        place: usize,
-        group: &GroupPlan,
-    ) -> Result<(), AllocError> {
+    fn find(&self, findings: &mut Vec<Finding>, place: usize, group: &GroupPlan) -> FindResult {
         find_tested(findings, &TextOutside { place, group }, &group.texts)
     }
 }
 
 /// Adds the texts that lie outside.
 #[tactic(auto, unfolding(crate::specs::Found::text_findings))]
-pub fn find_in_texts(findings: &mut Vec<Finding>, groups: &[GroupPlan]) -> Result<(), AllocError>
+pub fn find_in_texts(findings: &mut Vec<Finding>, groups: &[GroupPlan]) -> FindResult
     ensures { Adds result findings.old.items findings.new.items (text_findings groups.now) }
 {
     find_each(findings, &OutsideTexts, groups)

@@ -10,8 +10,7 @@ use crate::checking::finding::Finding;
 use j39_claim::AddressSet;
 use j39_id::addresses::is_in_pool;
 use j39_network::{UnitPlan, may_be_one};
-use j39_search::{PairRule, find_pairs, push_if};
-use std::alloc::AllocError;
+use j39_search::{FindResult, PairRule, find_pairs, push_if};
 
 #[derive(Clone, Copy)]
 struct SameName;
@@ -86,7 +85,7 @@ pub fn find_in_units(
     kept: &AddressSet,
     strangers: u8,
     units: &[UnitPlan],
-) -> Result<(), AllocError>
+) -> FindResult
     requires { length units.now ≤ unit_limit }
     ensures { Adds result findings.old.items findings.new.items (unit_findings kept.now strangers units.now) }
 {

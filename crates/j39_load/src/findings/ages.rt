@@ -7,7 +7,7 @@ use crate::findings::load_finding::LoadFinding;
 use crate::frames::{us_of_bits, us_of_unit_ms};
 use crate::waits::Delay;
 use j39_network::{FlowPlan, NeedPlan, RequestPlan, Timing, is_met, meets};
-use std::alloc::AllocError;
+use j39_search::FindResult;
 
 // The age of what a flow of this delay brings, in microseconds, where one is known: it isn't known when answers are asked for.
 fn age_of(timing: Timing, flow: &FlowPlan, delay: Option<Delay>) -> Option<u64>
@@ -199,7 +199,7 @@ pub(crate) fn find_old_needs(
     flows: &[FlowPlan],
     delays: &[Option<Delay>],
     needs: &[NeedPlan],
-) -> Result<(), AllocError>
+) -> FindResult
     requires { length delays.now ≡ length flows.now }
     ensures found { OnOk result (findings.new.items ≡ findings.old.items
         ++ old_needs timing requests.now flows.now delays.now needs.now) }

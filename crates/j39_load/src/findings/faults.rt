@@ -9,6 +9,7 @@ use crate::findings::load_finding::LoadFinding;
 use crate::frames::bits_of_second;
 use crate::waits::{Delay, WholeTime};
 use j39_network::{Plan, Timing};
+use j39_search::FindResult;
 use std::alloc::{AllocError, Global};
 
 /// What is looked for at each flow.
@@ -50,7 +51,7 @@ fn find_each(
     findings: &mut Vec<LoadFinding>,
     fault: FlowFault,
     delays: &[Option<Delay>],
-) -> Result<(), AllocError>
+) -> FindResult
     ensures found { OnOk result (findings.new.items ≡ findings.old.items
         ++ lines_of_each (found_at fault) 0 delays.now) }
     ensures memory { OnErr result (lines_of_each (found_at fault) 0 delays.now ≢ []) }

@@ -4,7 +4,7 @@ ghost use Rattle.j39_plan_text.specs.PlanText.{IsRefusalLine, RefusesChoices, ch
 ghost use Rattle.j39_stream.specs.CommandEnds.{PutsText};
 
 use j39_plan::{FileError, Key, PlanError, PlanFault, Table};
-use j39_stream::{Fault, Sink, Verdict, put_all};
+use j39_stream::{CommandResult, Fault, Sink, Verdict, put_all};
 use j39_text::{TextBuffer, WriteResult};
 use std::alloc::{AllocError, Global};
 
@@ -106,7 +106,7 @@ fn choices_refused(alloc: Global) -> Result<TextBuffer, AllocError>
 }
 
 /// Writes the line that says that a plan has choices.
-pub fn refuse_choices<W: Sink>(alloc: Global, sink: &mut W) -> Result<Verdict, Fault>
+pub fn refuse_choices<W: Sink>(alloc: Global, sink: &mut W) -> CommandResult
     ensures { PutsText RefusesChoices W.state sink.old sink.new result }
 {
     let text = choices_refused(alloc)?;

@@ -7,16 +7,12 @@ use crate::checking::forward_faults::{ForwardFault, find_faulty};
 use crate::checking::odds::TwoForwards;
 use crate::checking::signals::Differences;
 use crate::finding::VehicleFinding;
-use j39_search::{find_each, find_pairs};
+use j39_search::{FindResult, find_each, find_pairs};
 use j39_vehicle::Vehicle;
-use std::alloc::AllocError;
 
 /// Adds the forwards that copy into another layout, the signals that don't say what goes into them, and the forwards
 /// that may say different things of one flow.
-pub fn find_in_contents(
-    findings: &mut Vec<VehicleFinding>,
-    vehicle: &Vehicle,
-) -> Result<(), AllocError>
+pub fn find_in_contents(findings: &mut Vec<VehicleFinding>, vehicle: &Vehicle) -> FindResult
     ensures { Adds result findings.old.items findings.new.items (content_findings vehicle.now) }
 {
     find_faulty(findings, vehicle, ForwardFault::LayoutDiffers)?;

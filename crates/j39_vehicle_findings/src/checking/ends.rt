@@ -10,8 +10,8 @@ ghost use Rattle.j39_vehicle_findings.specs.FoundPaths.{has_no_output};
 use crate::checking::forward_faults::{ForwardFault, find_faulty};
 use crate::finding::VehicleFinding;
 use crate::forwards::{input_flows, is_input, is_output, output_flows};
+use j39_search::FindResult;
 use j39_vehicle::{Forward, Vehicle};
-use std::alloc::AllocError;
 
 fn has_input(vehicle: &Vehicle, forward: &Forward) -> bool
     ensures { result ≡ list_any (is_input vehicle.now forward.now) (input_flows vehicle.now forward.now) }
@@ -66,7 +66,7 @@ pub fn has_many_outputs(vehicle: &Vehicle, forward: &Forward) -> bool
 }
 
 /// Adds the forwards that have no input or several, and no output or several.
-pub fn find_in_ends(findings: &mut Vec<VehicleFinding>, vehicle: &Vehicle) -> Result<(), AllocError>
+pub fn find_in_ends(findings: &mut Vec<VehicleFinding>, vehicle: &Vehicle) -> FindResult
     ensures { Adds result findings.old.items findings.new.items (end_findings vehicle.now) }
 {
     find_faulty(findings, vehicle, ForwardFault::NoInput)?;

@@ -7,9 +7,8 @@ ghost use Rattle.j39_vehicle_findings.specs.inside.ForwardFaults.{forward_fault_
 use crate::checking::ends::{has_many_inputs, has_many_outputs, has_no_input, has_no_output};
 use crate::checking::layouts::copies_other_layout;
 use crate::finding::VehicleFinding;
-use j39_search::{TestRule, find_tested};
+use j39_search::{FindResult, TestRule, find_tested};
 use j39_vehicle::{Forward, Vehicle};
-use std::alloc::AllocError;
 
 /// What can be wrong with a forward by itself: with its inputs, with its outputs, or with the layout of what it copies.
 #[derive(Clone, Copy)]
@@ -58,7 +57,7 @@ pub fn find_faulty(
     findings: &mut Vec<VehicleFinding>,
     vehicle: &Vehicle,
     fault: ForwardFault,
-) -> Result<(), AllocError>
+) -> FindResult
     ensures { Adds result findings.old.items findings.new.items
         (each (has_forward_fault vehicle.now fault) (forward_fault_at fault) 0 vehicle.now.forwards.items) }
 {

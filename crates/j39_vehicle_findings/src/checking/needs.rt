@@ -10,9 +10,8 @@ use crate::buses::{flows_on, requests_on};
 use crate::finding::VehicleFinding;
 use crate::routes::Routes;
 use j39_network::{FlowPlan, NeedPlan, RequestPlan, meets};
-use j39_search::{TestRule, find_tested};
+use j39_search::{FindResult, TestRule, find_tested};
 use j39_vehicle::VehicleNeed;
-use std::alloc::AllocError;
 
 // Whether the flow brings the need's unit the group that it needs.
 fn is_needed(requests: &[RequestPlan], need: &VehicleNeed, flow: &FlowPlan) -> bool
@@ -81,10 +80,7 @@ impl TestRule<VehicleNeed, VehicleFinding> for VehicleNeedUnmet<'_> {
 
 /// Adds the needs that no flow meets.
 #[tactic(auto, unfolding(crate::specs::FoundPaths::need_findings))]
-pub fn find_in_needs(
-    findings: &mut Vec<VehicleFinding>,
-    routes: &Routes<'_>,
-) -> Result<(), AllocError>
+pub fn find_in_needs(findings: &mut Vec<VehicleFinding>, routes: &Routes<'_>) -> FindResult
     ensures { Adds result findings.old.items findings.new.items (need_findings routes.now.vehicle.now) }
 {
     find_tested(

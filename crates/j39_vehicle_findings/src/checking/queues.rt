@@ -10,9 +10,8 @@ ghost use Rattle.j39_vehicle_findings.specs.FoundPaths.{shared_queues};
 
 use crate::finding::VehicleFinding;
 use j39_network::{Queue, UnitPlan};
-use j39_search::{Rule, find_each, push_if};
+use j39_search::{FindResult, Rule, find_each, push_if};
 use j39_vehicle::{BusPlan, Gateway, UnitAt, Vehicle};
-use std::alloc::AllocError;
 
 fn is_any(queue: Queue) -> bool
     ensures { result ≡ is_any_queue queue }
@@ -63,12 +62,7 @@ impl Rule<BusPlan, VehicleFinding> for SharedQueue<'_> {
 
     ghost gives = { λ rule b bus. found_if (may_share_queue rule.gateway.now b bus) (SharedQueues rule.place b) };
 
-    fn find(
-        &self,
-        findings: &mut Vec<VehicleFinding>,
-        place: usize,
-        bus: &BusPlan,
-    ) -> Result<(), AllocError> {
+    fn find(&self, findings: &mut Vec<VehicleFinding>, place: usize, bus: &BusPlan) -> FindResult {
         push_if(
             findings,
             may_share_queue(self.gateway, place, bus),
@@ -90,14 +84,14 @@ impl Rule<Gateway, VehicleFinding> for QueuesOf<'_> {
         findings: &mut Vec<VehicleFinding>,
         place: usize,
         gateway: &Gateway,
-    ) -> Result<(), AllocError> {
+    ) -> FindResult {
         find_each(findings, &SharedQueue { gateway, place }, self.buses)
     }
 }
 
 /// Adds the buses on which a gateway has two units, one of which keeps no order.
 #[tactic(auto, unfolding(crate::specs::FoundPaths::queue_findings))]
-pub fn find_queues(findings: &mut Vec<VehicleFinding>, vehicle: &Vehicle) -> Result<(), AllocError>
+pub fn find_queues(findings: &mut Vec<VehicleFinding>, vehicle: &Vehicle) -> FindResult
     ensures { Adds result findings.old.items findings.new.items (queue_findings vehicle.now) }
 {
     let buses = vehicle.buses.as_slice();

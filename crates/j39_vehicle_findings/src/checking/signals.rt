@@ -13,10 +13,9 @@ use crate::forwards::{copies, listed};
 use crate::matching::{are_alike, has};
 use crate::traces::first_agreeing;
 use j39_network::GroupPlan;
-use j39_search::{Rule, find_each, push_if};
+use j39_search::{FindResult, Rule, find_each, push_if};
 use j39_signal::{Selector, Signal};
 use j39_vehicle::{Forward, ForwardedSignal, Vehicle};
-use std::alloc::AllocError;
 
 // Whether two signals, at places of their groups, aren't alike.
 fn are_unlike(
@@ -140,7 +139,7 @@ impl Rule<Signal, VehicleFinding> for SignalDiffers<'_> {
         findings: &mut Vec<VehicleFinding>,
         place: usize,
         signal: &Signal,
-    ) -> Result<(), AllocError> {
+    ) -> FindResult {
         push_if(
             findings,
             is_other_signal(self.forward, self.heard, self.sent, place, signal),
@@ -163,7 +162,7 @@ impl Rule<Forward, VehicleFinding> for Differences<'_> {
         findings: &mut Vec<VehicleFinding>,
         place: usize,
         forward: &Forward,
-    ) -> Result<(), AllocError> {
+    ) -> FindResult {
         let Some(heard) = group_at(&self.vehicle.buses, forward.input) else {
             return Ok(());
         };

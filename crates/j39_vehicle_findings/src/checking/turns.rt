@@ -7,9 +7,8 @@ ghost use Rattle.j39_vehicle_findings.specs.FoundPaths.{loop_findings};
 
 use crate::finding::VehicleFinding;
 use crate::reaching::flag_at;
-use j39_search::{Rule, find_each, push_if};
+use j39_search::{FindResult, Rule, find_each, push_if};
 use j39_vehicle::{Forward, Vehicle};
-use std::alloc::AllocError;
 
 #[derive(Clone, Copy)]
 struct ForwardLoop<'a> {
@@ -26,7 +25,7 @@ impl Rule<Forward, VehicleFinding> for ForwardLoop<'_> {
         findings: &mut Vec<VehicleFinding>,
         place: usize,
         _forward: &Forward,
-    ) -> Result<(), AllocError> {
+    ) -> FindResult {
         push_if(
             findings,
             flag_at(self.loops, place),
@@ -41,7 +40,7 @@ pub fn find_loops(
     findings: &mut Vec<VehicleFinding>,
     loops: &[bool],
     vehicle: &Vehicle,
-) -> Result<(), AllocError>
+) -> FindResult
     ensures { Adds result findings.old.items findings.new.items (loop_findings loops.now vehicle.now) }
 {
     find_each(findings, &ForwardLoop { loops }, &vehicle.forwards)
