@@ -8,7 +8,7 @@ use Rattle.std.specs.FinSet.{contains}
 use Rattle.j39_claim.specs.AddressSets.{free_count}
 use Rattle.j39_id.specs.Pgn.{IsPgn, is_pgn}
 use Rattle.j39_id.specs.Proprietary.{is_proprietary}
-use Rattle.j39_signal.specs.Parts.{SignalParts}
+use Rattle.j39_signal.specs.declared.signal_parts.SignalParts.{SignalParts}
 use Rattle.j39_signal.specs.Places.{WidthFits, IsInside, SharesBit, LaysOut, LaysOutFrom, width_fits}
 use Rattle.j39_network.specs.declared.plan.Plan.{Plan}
 use Rattle.j39_network.specs.declared.plan.group_plan.GroupPlan.{GroupPlan}

@@ -14,7 +14,7 @@ use Rattle.j39_id.specs.Pgn.{pgn_end, extended_page, pdu2_first, IsPgn, pf_of, i
 use Rattle.j39_id.specs.Proprietary.{proprietary_a, proprietary_a2, proprietary_b_first, proprietary_b_last, proprietary_b2_first, proprietary_b2_last}
 use Rattle.j39_id.specs.Proprietary.{is_proprietary}
 use Rattle.j39_id.specs.Services.{service_groups}
-use Rattle.j39_signal.specs.Parts.{SignalParts}
+use Rattle.j39_signal.specs.declared.signal_parts.SignalParts.{SignalParts}
 use Rattle.j39_signal.specs.Places.{WidthFits, IsInside, SharesBit, shares_bit}
 use Rattle.j39_signal.proofs.Sharing.{shared_by_test}
 use Rattle.j39_search.specs.ListPlaces.{SomeMeets, ValueAt}

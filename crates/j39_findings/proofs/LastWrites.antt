@@ -3,7 +3,7 @@ use Rattle.std.proofs.Common.{◌≡◌, ◌≢◌, ℕ, ◌<◌, List, [], ◌�
 use Rattle.std.proofs.lemmas.List.{get_or-map, get_or-set_other, get_or-set_same, length-map, length-set}
 use Rattle.std.proofs.lemmas.List.Elements.{All-tail}
 use Rattle.j39_signal.specs.Bits.{raw_of}
-use Rattle.j39_signal.specs.Parts.{SignalParts}
+use Rattle.j39_signal.specs.declared.signal_parts.SignalParts.{SignalParts}
 use Rattle.j39_signal.specs.Laid.{Write, Chain, last_raws, last_payload, KeepsWrites}
 use Rattle.j39_signal.specs.State.{state_of}
 use Rattle.j39_network.specs.SoundSignals.{LeaveAlone, ReadsBack, ReadsLastGiven}

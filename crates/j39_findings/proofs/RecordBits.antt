@@ -8,7 +8,7 @@ use Rattle.std.proofs.lemmas.Bool.{and_parts, cases_Bool, cases_lt, false≢true
 use Rattle.std.proofs.lemmas.List.Elements.{All-append, All-contains, All-contains_itself, All-filter, Contains-append_cases, filter_passes}
 use Rattle.std.proofs.lemmas.List.Kept.{AllPairs-filter}
 use Rattle.std.proofs.lemmas.Option.{same_Some, slice_get-get_or}
-use Rattle.j39_signal.specs.Parts.{SignalParts}
+use Rattle.j39_signal.specs.declared.signal_parts.SignalParts.{SignalParts}
 use Rattle.j39_signal.specs.Places.{Covers, IsAlwaysInside, IsInside, LaysOut, LaysOutFrom, is_there, SharesBit, WidthFits, further, width_fits}
 use Rattle.j39_signal.proofs.There.{inside_there}
 use Rattle.j39_signal.specs.declared.kind.Kind.{Kind}

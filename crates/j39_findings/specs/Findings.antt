@@ -11,7 +11,7 @@ use Rattle.j39_id.specs.Proprietary.{proprietary_a, proprietary_a2, proprietary_
 use Rattle.j39_id.specs.Services.{service_groups}
 use Rattle.std.specs.List.{slice_get}
 use Rattle.j39_signal.specs.Selectors.{DifferInValue}
-use Rattle.j39_signal.specs.Parts.{SignalParts}
+use Rattle.j39_signal.specs.declared.signal_parts.SignalParts.{SignalParts}
 use Rattle.j39_signal.specs.Places.{Covers, WidthFits, IsInside, SharesBit, further}
 use Rattle.j39_network.specs.Kinds.{MayBeOne}
 use Rattle.j39_network.specs.PlannedUnits.{units_of}

@@ -14,7 +14,7 @@ use Rattle.j39_id.specs.Pgn.{is_pgn, is_pdu2, extended_page}
 use Rattle.j39_id.specs.Proprietary.{is_proprietary}
 use Rattle.j39_id.specs.Services.{is_service}
 use Rattle.j39_signal.specs.Selectors.{differ_in_value, selector_end}
-use Rattle.j39_signal.specs.Parts.{SignalParts}
+use Rattle.j39_signal.specs.declared.signal_parts.SignalParts.{SignalParts}
 use Rattle.j39_signal.specs.Places.{width_fits, is_inside, shares_bit, end_of, further}
 use Rattle.j39_network.specs.Kinds.{may_be_one}
 use Rattle.j39_search.specs.ListPlaces.{found_if, each, pairs, in_each}

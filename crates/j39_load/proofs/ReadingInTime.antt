@@ -5,7 +5,7 @@ use Rattle.std.proofs.lemmas.Option.{get_or_from_slice_get, slice_get_cases, sli
 use Rattle.std.specs.List.{HoldsAt, slice_get}
 use Rattle.j39_signal.specs.Bits.{all_ones, raw_of}
 use Rattle.j39_signal.specs.Laid.{Chain, IsBlank, KeepsWrites, Write, last_payload}
-use Rattle.j39_signal.specs.Parts.{SignalParts}
+use Rattle.j39_signal.specs.declared.signal_parts.SignalParts.{SignalParts}
 use Rattle.j39_signal.specs.Places.{IsInside, WidthFits}
 use Rattle.j39_signal.specs.State.{IsRawOf, state_of}
 use Rattle.j39_signal.specs.declared.selector.Selector.{Selector}

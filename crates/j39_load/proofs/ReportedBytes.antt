@@ -5,7 +5,7 @@ use Rattle.std.proofs.lemmas.Bool.{and_parts, leb-true}
 use Rattle.std.specs.List.{slice_get}
 use Rattle.j39_signal.specs.Bits.{bit, number_at}
 use Rattle.j39_signal.specs.Laid.{IsSelectorBit}
-use Rattle.j39_signal.specs.Parts.{SignalParts}
+use Rattle.j39_signal.specs.declared.signal_parts.SignalParts.{SignalParts}
 use Rattle.j39_signal.specs.Places.{Covers}
 use Rattle.j39_signal.specs.Selectors.{is_selected, selector_end}
 use Rattle.j39_signal.specs.declared.selector.Selector.{Selector}

@@ -5,7 +5,7 @@ use Rattle.std.specs.Prelude.{◌≡◌, ℕ, ◌+◌, ◌*◌, ◌<◌, ◌≤�
 use Rattle.std.specs.List.{HoldsAt, slice_get}
 use Rattle.j39_signal.specs.Bits.{all_ones, raw_of}
 use Rattle.j39_signal.specs.Laid.{Chain, Write, last_payload}
-use Rattle.j39_signal.specs.Parts.{SignalParts}
+use Rattle.j39_signal.specs.declared.signal_parts.SignalParts.{SignalParts}
 use Rattle.j39_signal.specs.State.{IsRawOf, state_of}
 use Rattle.j39_signal.specs.declared.state.State.TheVariants.{Value}
 use Rattle.j39_network.specs.Records.{signals_in}

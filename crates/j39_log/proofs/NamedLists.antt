@@ -5,7 +5,7 @@ use Rattle.std.specs.List.{filter, zip}
 use Rattle.std.proofs.lemmas.List.{drop_all, drop_more, get_or-map, length-map}
 use Rattle.std.proofs.lemmas.Slice.Zip.{get_or-zip, length-zip}
 use Rattle.j39_signal.specs.Bits.{raw_of}
-use Rattle.j39_signal.specs.Parts.{SignalParts}
+use Rattle.j39_signal.specs.declared.signal_parts.SignalParts.{SignalParts}
 use Rattle.j39_signal.specs.Places.{further}
 use Rattle.j39_network.specs.Records.{stands_once}
 use Rattle.j39_network.specs.declared.plan.Plan.{Plan}

@@ -8,7 +8,7 @@ use Rattle.std.proofs.lemmas.Bool.{eqb-true}
 use Rattle.std.proofs.lemmas.List.{append-nil, get_or-map, length-map, take_all, take_more}
 use Rattle.std.proofs.lemmas.List.Folds.{find-append}
 use Rattle.std.proofs.lemmas.Slice.Zip.{get_or-zip, length-zip}
-use Rattle.j39_signal.specs.Parts.{SignalParts}
+use Rattle.j39_signal.specs.declared.signal_parts.SignalParts.{SignalParts}
 use Rattle.j39_network.specs.declared.plan.group_plan.GroupPlan.{GroupPlan}
 use Rattle.j39_network.specs.declared.plan.meaning.Meaning.{Meaning}
 use Rattle.j39_network.specs.declared.plan.meaning.ValueName.{ValueName}

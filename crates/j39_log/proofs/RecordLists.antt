@@ -7,7 +7,7 @@ use Rattle.std.proofs.lemmas.Option.{get_or_from_slice_get, slice_get_read}
 use Rattle.std.proofs.lemmas.List.Elements.{All-head, All-tail}
 use Rattle.std.proofs.lemmas.List.{append-nil, drop_more}
 use Rattle.j39_signal.specs.Bits.{raw_of}
-use Rattle.j39_signal.specs.Parts.{SignalParts}
+use Rattle.j39_signal.specs.declared.signal_parts.SignalParts.{SignalParts}
 use Rattle.j39_signal.specs.Places.{IsInside, further}
 use Rattle.j39_signal.specs.State.{state_of}
 use Rattle.j39_network.specs.Records.{record_count, record_signals, repeated_signals}

@@ -6,7 +6,7 @@ use Rattle.std.specs.Prelude.{unsigned_abs}
 use Rattle.j39_signal.specs.declared.kind.Kind.{Kind}
 use Rattle.j39_signal.specs.declared.kind.Kind.TheVariants.{Measured, Discrete, Raw, States, Signed, Dtc}
 use Rattle.j39_text.specs.Decimals.{quotient_text}
-use Rattle.j39_signal.specs.Parts.{SignalParts}
+use Rattle.j39_signal.specs.declared.signal_parts.SignalParts.{SignalParts}
 use Rattle.j39_signal.specs.declared.state.State.TheVariants.{Value}
 use Rattle.j39_text.proofs.Quotients.{undivided}
 use Rattle.j39_text.specs.Texts.{field_text}

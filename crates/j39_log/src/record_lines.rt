@@ -68,7 +68,7 @@ pub(crate) struct GroupRecord<'a> {
 /// What writes the records of a group.
 pub(crate) trait RecordWriter {
     ghost use Rattle.std.specs.Prelude.{◌≡◌, ◌++◌, ℕ, List, All, length, OnOk};
-    ghost use Rattle.j39_signal.specs.Parts.{SignalParts as ASignal};
+    ghost use Rattle.j39_signal.specs.declared.signal_parts.SignalParts.{SignalParts as ASignal};
     ghost use Rattle.j39_signal.specs.Places.{IsInside};
     ghost use Rattle.j39_network.specs.Records.{record_signals};
 

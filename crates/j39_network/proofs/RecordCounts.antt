@@ -7,7 +7,8 @@ use Rattle.std.proofs.Math.Nat.{le-div_iff_mul-le, mul_comm}
 use Rattle.std.proofs.lemmas.Bool.{cases_Bool, eqb-false, false≢true, le-ltb, ltb-false, ne_eqb}
 use Rattle.std.proofs.lemmas.List.{append-nil}
 use Rattle.std.proofs.lemmas.List.Elements.{All-cons, All-head, All-nil, All-tail, All-weaker}
-use Rattle.j39_signal.specs.Parts.{SignalParts, HasRanges}
+use Rattle.j39_signal.specs.Parts.{HasRanges}
+use Rattle.j39_signal.specs.declared.signal_parts.SignalParts.{SignalParts}
 use Rattle.j39_signal.specs.Places.{IsInside, end_of, further, is_there}
 use Rattle.j39_network.specs.declared.plan.group_plan.GroupPlan.{GroupPlan}
 use Rattle.j39_network.specs.Records.{single_signals, repeated_signals, record_signals, records_signals, last_end, first_bytes, count_inside, record_count}

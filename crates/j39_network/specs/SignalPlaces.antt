@@ -1,6 +1,6 @@
 -- Where the signals of a group end: inside each of its messages, one that is optional inside its longest.
 use Rattle.std.specs.Prelude.{◌≡◌, ℕ, false, if◌then◌else◌, All}
-use Rattle.j39_signal.specs.Parts.{SignalParts}
+use Rattle.j39_signal.specs.declared.signal_parts.SignalParts.{SignalParts}
 use Rattle.j39_network.specs.declared.plan.Plan.{Plan}
 
 -- the bytes inside which a signal of a group of these lengths ends

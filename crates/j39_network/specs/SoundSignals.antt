@@ -2,7 +2,7 @@
 use Rattle.std.specs.Prelude.{◌≡◌, ◌≢◌, ℕ, ◌<◌, ℤ, None, List, ◌∷◌, ◌++◌, length, length as count, All}
 use Rattle.std.specs.List.{HoldsAt}
 use Rattle.j39_signal.specs.Bits.{all_ones, raw_of}
-use Rattle.j39_signal.specs.Parts.{SignalParts}
+use Rattle.j39_signal.specs.declared.signal_parts.SignalParts.{SignalParts}
 use Rattle.j39_signal.specs.Laid.{IsBlank, KeepsWrites, Write, Chain, last_payload, given_up}
 use Rattle.j39_signal.specs.State.{IsRawOf, state_of, value_of}
 use Rattle.j39_signal.specs.declared.state.State.{State}

@@ -13,7 +13,7 @@ use Rattle.j39_search.specs.ListPlaces.{PairAt, ValueAt}
 use Rattle.j39_network.specs.SignalPlaces.{room_of_signal}
 use Rattle.j39_network.specs.TextPlaces.{last_byte}
 use Rattle.j39_network.specs.declared.plan.text_plan.TextPlan.{TextPlan}
-use Rattle.j39_signal.specs.Parts.{SignalParts}
+use Rattle.j39_signal.specs.declared.signal_parts.SignalParts.{SignalParts}
 use Rattle.j39_signal.specs.Places.{IsInside}
 use Rattle.j39_load.specs.Loads.{any_unit, bits_at_least, bits_at_most, bits_inside, destination_at, flow_load, greatest_address, has_short, is_always_short}
 use Rattle.j39_load.specs.Loads.{least_address, load_of_messages, long_messages, of_unit, packet_frames, single_frames, time_limit}

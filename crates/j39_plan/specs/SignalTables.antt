@@ -7,7 +7,8 @@ use Rattle.toml.specs.Data.{Data, Members, as_table}
 use Rattle.j39_id.specs.Limits.{message_bytes}
 use Rattle.j39_signal.specs.declared.kind.Kind.{Kind}
 use Rattle.j39_signal.specs.declared.kind.Kind.TheVariants.{Measured, Discrete, Raw, States, Signed, Dtc}
-use Rattle.j39_signal.specs.Parts.{SignalParts, IsDivisor, IsSignal}
+use Rattle.j39_signal.specs.Parts.{IsDivisor, IsSignal}
+use Rattle.j39_signal.specs.declared.signal_parts.SignalParts.{SignalParts}
 use Rattle.j39_id.specs.LabelForm.{is_label}
 use Rattle.j39_network.specs.declared.plan.meaning.Meaning.{Meaning}
 use Rattle.j39_plan.specs.declared.reading.key.Key.TheVariants as key

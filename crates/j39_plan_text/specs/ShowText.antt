@@ -8,7 +8,7 @@ use Rattle.std.specs.Option.{option_map_or}
 use Rattle.std.specs.Ordering.{nat_cmp}
 use Rattle.j39_id.specs.Name.{fields_of}
 use Rattle.j39_id.specs.declared.name_fields.NameFields.{NameFields}
-use Rattle.j39_signal.specs.Parts.{SignalParts}
+use Rattle.j39_signal.specs.declared.signal_parts.SignalParts.{SignalParts}
 use Rattle.j39_signal.specs.declared.kind.Kind.{Kind}
 use Rattle.j39_signal.specs.declared.kind.Kind.TheVariants as kinds
 use Rattle.j39_signal.specs.declared.selector.Selector.{Selector}

@@ -6,7 +6,7 @@ use Rattle.std.proofs.lemmas.Option.{get_or_from_slice_get, same_Some, slice_get
 use Rattle.std.specs.List.{HoldsAt, filter, range_with_len, slice_get}
 use Rattle.j39_signal.specs.Bits.{all_ones, raw_of}
 use Rattle.j39_signal.specs.Laid.{Chain, Write, last_payload}
-use Rattle.j39_signal.specs.Parts.{SignalParts}
+use Rattle.j39_signal.specs.declared.signal_parts.SignalParts.{SignalParts}
 use Rattle.j39_signal.specs.Places.{WidthFits}
 use Rattle.j39_signal.specs.State.{IsRawOf, state_of}
 use Rattle.j39_signal.proofs.Writes.{keeps_writes, ones_read, value_read}

@@ -10,7 +10,7 @@ use Rattle.std.proofs.lemmas.List.Sums.{position_or_len_is}
 use Rattle.std.proofs.Math.Seq.{get_or-append_seam}
 use Rattle.j39_id.specs.FirstFault.{first_fault}
 use Rattle.j39_id.specs.Limits.{message_bytes}
-use Rattle.j39_signal.specs.Parts.{SignalParts}
+use Rattle.j39_signal.specs.declared.signal_parts.SignalParts.{SignalParts}
 use Rattle.j39_signal.specs.Places.{WidthFits, IsInside, SharesBit, LaysOut, shares_bit}
 use Rattle.j39_signal.specs.Refusals.{HasLayoutFault, faults_behind, first_sharer, layout_faults, placement_faults}
 use Rattle.j39_signal.specs.declared.layout_error.LayoutError.{LayoutError}

@@ -1,7 +1,7 @@
 -- Two signals share a bit exactly where the later of their starts is below the earlier of their ends.
 use Rattle.std.proofs.Common.{◌≡◌, true, max, ◌↔◌, arith}
 use Rattle.std.specs.Prelude.{IsTrue}
-use Rattle.j39_signal.specs.Parts.{SignalParts}
+use Rattle.j39_signal.specs.declared.signal_parts.SignalParts.{SignalParts}
 use Rattle.j39_signal.specs.Places.{SharesBit, shares_bit}
 use Rattle.std.proofs.lemmas.Bool.{ltb-true, lt-ltb}
 

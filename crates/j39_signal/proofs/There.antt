@@ -2,7 +2,7 @@
 use Rattle.std.proofs.Common.{◌≡◌, ℕ, ◌+◌, ◌*◌, ◌/◌, ◌≤◌, Bool, true, false, ℤ, arith, inl, inr, refl, sym, ◌∙◌}
 use Rattle.std.specs.Prelude.{nat_le, not, ◌||◌}
 use Rattle.std.proofs.lemmas.Bool.{cases_lt, le-leb, lt-leb, leb-true}
-use Rattle.j39_signal.specs.Parts.{SignalParts}
+use Rattle.j39_signal.specs.declared.signal_parts.SignalParts.{SignalParts}
 use Rattle.j39_signal.specs.Places.{IsAlwaysInside, IsInside, IsThere, end_of}
 use Rattle.j39_signal.specs.State.{RefusesValue, RefusesWrite}
 use Rattle.j39_signal.specs.declared.write_error.WriteError.{WriteError}

@@ -9,7 +9,7 @@ use Rattle.std.proofs.lemmas.Nat.Bits.{bit_at_ones}
 use Rattle.std.proofs.lemmas.List.{get_or-set_same, get_or-set_other, get_or-map, length-set, length-map}
 use Rattle.j39_signal.specs.Bits.{bit, number_at, raw_of, all_ones, Put}
 use Rattle.j39_signal.specs.Laid.{Laid, IsBlank, Write, IsWrittenFrom, Chain, last_payload, last_raws, given_up}
-use Rattle.j39_signal.specs.Parts.{SignalParts}
+use Rattle.j39_signal.specs.declared.signal_parts.SignalParts.{SignalParts}
 use Rattle.j39_signal.specs.Places.{IsInside, LaysOut, SharesBit, width_fits}
 use Rattle.j39_signal.specs.State.{Ranges, ranges_of, state_in, state_of, value_of, IsRawOf}
 use Rattle.j39_signal.specs.declared.kind.Kind.{Kind}

@@ -1,6 +1,6 @@
 -- The bits of a payload and the raw number of a signal (SAE J1939-71, bit and byte order of parameters).
 use Rattle.std.specs.Prelude.{◌≡◌, ℕ, zero, suc, ◌+◌, ◌-◌, ◌*◌, ◌/◌, ◌%◌, ◌^◌, List, length, slice_index}
-use Rattle.j39_signal.specs.Parts.{SignalParts}
+use Rattle.j39_signal.specs.declared.signal_parts.SignalParts.{SignalParts}
 use Rattle.j39_signal.specs.Places.{Covers}
 
 -- the bit at place j: bit j % 8 of byte j / 8, both counted from 0

@@ -2,7 +2,7 @@
 use Rattle.std.specs.Prelude.{◌≡◌, ℕ, ◌*◌, ◌<◌, ◌≤◌, ◌⊎◌, ℤ, true, Option, Some, None, List, [], ◌∷◌, length, slice_index, slice_set, replicate, map, All}
 use Rattle.std.specs.List.{HoldsAt}
 use Rattle.j39_signal.specs.Bits.{bit, raw_of, all_ones, Put}
-use Rattle.j39_signal.specs.Parts.{SignalParts}
+use Rattle.j39_signal.specs.declared.signal_parts.SignalParts.{SignalParts}
 use Rattle.j39_signal.specs.Places.{Covers, IsInside, LaysOut, WidthFits}
 use Rattle.j39_signal.specs.Selectors.{is_selected, selector_end}
 use Rattle.j39_signal.specs.declared.selector.Selector.{Selector}

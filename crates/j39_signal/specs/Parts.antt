@@ -1,26 +1,11 @@
--- What a contract sees of a signal, and the ranges that every signal keeps.
+-- The ranges that every signal keeps.
 use Rattle.std.specs.Prelude.{ℕ, ◌*◌, ◌%◌, ◌^◌, ◌<◌, ◌≤◌, ℤ, pos, negsuc, ◌≤ℤ◌, Bool, ◌==◌, ◌&&◌, nat_le, IsTrue}
-use Rattle.arrayvec.specs.ArrayString.{ArrayString}
-use Rattle.j39_signal.specs.declared.kind.Kind.{Kind}
+use Rattle.j39_signal.specs.declared.signal_parts.SignalParts.{SignalParts}
 
 -- the number is 1 to 10,000,000 and a product of 2s and 5s, so that what is divided by it has finitely many decimals: 2 ^ 23 and
 -- 5 ^ 10 are the greatest powers in that range
 abbrev pub divides_decimally : ℕ → Bool
 divides_decimally per = nat_le 1 per && (nat_le per 10000000 && 2 ^ 23 * 5 ^ 10 % per == 0)
-
--- the parts of a signal; of its label and its unit the bytes count; one that is repeated comes again in further records,
--- and one that is optional stands only in messages that are long enough
-pub record SignalParts : Type 0 where
-  pub label : ArrayString
-  pub start : ℕ
-  pub bits : ℕ
-  pub kind : Kind
-  pub step : ℕ
-  pub offset : ℤ
-  pub per : ℕ
-  pub unit : ArrayString
-  pub repeated : Bool
-  pub optional : Bool
 
 -- the ranges that every signal keeps
 pub record IsSignal (start bits step : ℕ) (offset : ℤ) : Type 0 where

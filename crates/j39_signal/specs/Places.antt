@@ -1,7 +1,7 @@
 -- The widths and the places of signals (SAE J1939-71, bit and byte order of parameters).
 use Rattle.std.specs.Prelude.{ℕ, ◌+◌, ◌*◌, ◌%◌, ◌<◌, ◌≤◌, ◌≡◌, max, min, Bool, false, not, ◌==◌, ◌||◌, ◌&&◌, nat_le, nat_lt, List, All, AllPairs, IsTrue}
 use Rattle.j39_id.specs.Limits.{message_bytes}
-use Rattle.j39_signal.specs.Parts.{SignalParts}
+use Rattle.j39_signal.specs.declared.signal_parts.SignalParts.{SignalParts}
 use Rattle.j39_signal.specs.declared.kind.Kind.{Kind}
 use Rattle.j39_signal.specs.declared.kind.Kind.TheVariants.{Measured, Discrete, Raw, States, Signed, Dtc}
 

@@ -11,6 +11,7 @@ mod scaling;
 mod selecting;
 mod selector;
 mod signal;
+mod signal_parts;
 mod state;
 mod write_error;
 

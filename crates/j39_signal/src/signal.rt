@@ -3,59 +3,30 @@ ghost use Rattle.std.specs.Prelude.{◌≡◌, ◌↔◌, ◌≤◌, false, IsTr
 ghost use Rattle.j39_signal.specs.Parts.{divides_decimally};
 
 use crate::Kind;
+use crate::signal_parts::SignalParts;
 use j39_id::Label;
 use std::marker::Model;
 
 // 2^23 * 5^10, the greatest powers of both up to 10,000,000.
 const DECIMAL_MULTIPLE: u64 = 81_920_000_000_000;
 
-/// A signal of a parameter group: its label, its place in the payload, and how its raw number is scaled.
+/// A signal of a parameter group: parts that are in range.
 #[derive(Clone, Copy)]
 pub struct Signal {
-    label: Label,
-    start: u16,
-    bits: u8,
-    kind: Kind,
-    step: u32,
-    offset: i64,
-    per: u32,
-    unit: Label,
-    repeated: bool,
-    optional: bool,
+    parts: SignalParts,
 }
 
 impl Model for Signal {
-    ghost use Rattle.j39_signal.specs.Parts.{SignalParts, IsSignal, IsDivisor};
+    ghost use Rattle.j39_signal.specs.Parts.{IsSignal, IsDivisor};
+    ghost use Rattle.j39_signal.specs.declared.signal_parts.SignalParts.{SignalParts};
 
     ghost Value = { SignalParts };
 
-    ghost view = { λ s. record {
-      label = s.label;
-      start = s.start;
-      bits = s.bits;
-      kind = s.kind;
-      step = s.step;
-      offset = s.offset;
-      per = s.per;
-      unit = s.unit;
-      repeated = s.repeated;
-      optional = s.optional;
-    } };
+    ghost view = { λ s. s.parts };
 
-    ghost invariant = { λ s. IsSignal s.start s.bits s.step s.offset × IsDivisor s.per };
+    ghost invariant = { λ s. IsSignal s.parts.start s.parts.bits s.parts.step s.parts.offset × IsDivisor s.parts.per };
 
-    ghost inverse = { λ s. record {
-      label = s.label;
-      start = s.start;
-      bits = s.bits;
-      kind = s.kind;
-      step = s.step;
-      offset = s.offset;
-      per = s.per;
-      unit = s.unit;
-      repeated = s.repeated;
-      optional = s.optional;
-    } };
+    ghost inverse = { λ p. record { parts = p } };
 }
 
 /// Whether a number is 1..=10,000,000 and has no other prime factors than 2 and 5, so that what it divides has finitely
@@ -102,7 +73,7 @@ impl Signal {
             && -1_000_000_000_000 <= offset
             && offset <= 1_000_000_000_000;
         if in_range {
-            Some(Signal {
+            let parts = SignalParts {
                 label,
                 start,
                 bits,
@@ -113,7 +84,8 @@ impl Signal {
                 unit,
                 repeated: false,
                 optional: false,
-            })
+            };
+            Some(Signal { parts })
         } else {
             None
         }
@@ -127,7 +99,8 @@ impl Signal {
         ensures divided { IfSome result (λ s. s ≡ record self { per = per }) }
     {
         if divides_decimally(per) {
-            Some(Signal { per, ..self })
+            let parts = SignalParts { per, ..self.parts };
+            Some(Signal { parts })
         } else {
             None
         }
@@ -137,28 +110,36 @@ impl Signal {
     pub fn with_repeated(self, repeated: bool) -> Self
         ensures { result ≡ record self { repeated = repeated } }
     {
-        Signal { repeated, ..self }
+        let parts = SignalParts {
+            repeated,
+            ..self.parts
+        };
+        Signal { parts }
     }
 
     /// The signal as one that only messages have which are long enough, or as one that each message has.
     pub fn with_optional(self, optional: bool) -> Self
         ensures { result ≡ record self { optional = optional } }
     {
-        Signal { optional, ..self }
+        let parts = SignalParts {
+            optional,
+            ..self.parts
+        };
+        Signal { parts }
     }
 
     /// The name of the signal.
     pub fn label(&self) -> &Label
         ensures { result.now ≡ self.now.label }
     {
-        &self.label
+        &self.parts.label
     }
 
     /// The place of the lowest bit, counted from 0.
     pub fn start(&self) -> u16
         ensures { result ≡ self.now.start }
     {
-        self.start
+        self.parts.start
     }
 
     /// The width in bits.
@@ -166,14 +147,14 @@ impl Signal {
         ensures value { result ≡ self.now.bits }
         ensures ranges { HasRanges self.now }
     {
-        self.bits
+        self.parts.bits
     }
 
     /// What the raw numbers mean.
     pub fn kind(&self) -> Kind
         ensures { result ≡ self.now.kind }
     {
-        self.kind
+        self.parts.kind
     }
 
     /// How much the value rises from one raw number to the next.
@@ -181,7 +162,7 @@ impl Signal {
         ensures value { result ≡ pos self.now.step }
         ensures ranges { HasRanges self.now }
     {
-        i64::from(self.step)
+        i64::from(self.parts.step)
     }
 
     /// The value of the raw number 0.
@@ -189,7 +170,7 @@ impl Signal {
         ensures value { result ≡ self.now.offset }
         ensures ranges { HasRanges self.now }
     {
-        self.offset
+        self.parts.offset
     }
 
     /// What the values are divided by where they are shown: a product of 2s and 5s.
@@ -197,21 +178,21 @@ impl Signal {
         ensures value { result ≡ self.now.per }
         ensures divisor { IsDivisor result }
     {
-        self.per
+        self.parts.per
     }
 
     /// The unit of the value, empty where it has none.
     pub fn unit(&self) -> &Label
         ensures { result.now ≡ self.now.unit }
     {
-        &self.unit
+        &self.parts.unit
     }
 
     /// Whether the signal comes again in further records, each some bytes behind the one before.
     pub fn is_repeated(&self) -> bool
         ensures { result ≡ self.now.repeated }
     {
-        self.repeated
+        self.parts.repeated
     }
 
     /// Whether only messages have the signal which are long enough. It is asked at each signal of a frame.
@@ -219,7 +200,7 @@ impl Signal {
     pub fn is_optional(&self) -> bool
         ensures { result ≡ self.now.optional }
     {
-        self.optional
+        self.parts.optional
     }
 
     /// Whether the width fits the kind: 8, 16 or 32 bits for a measured signal, 2 for a discrete one, 1..=32 for a raw
@@ -228,13 +209,15 @@ impl Signal {
     pub fn width_fits(&self) -> bool
         ensures { result ≡ width_fits self.now.kind self.now.start self.now.bits }
     {
-        match self.kind {
-            Kind::Measured => self.bits == 8 || self.bits == 16 || self.bits == 32,
-            Kind::Discrete => self.bits == 2,
-            Kind::Raw => 1 <= self.bits && self.bits <= 32,
-            Kind::States => 2 <= self.bits && self.bits <= 8,
-            Kind::Signed => 2 <= self.bits && self.bits <= 32,
-            Kind::Dtc => self.bits == 32 && self.start % 8 == 0,
+        match self.parts.kind {
+            Kind::Measured => self.parts.bits == 8
+                || self.parts.bits == 16
+                || self.parts.bits == 32,
+            Kind::Discrete => self.parts.bits == 2,
+            Kind::Raw => 1 <= self.parts.bits && self.parts.bits <= 32,
+            Kind::States => 2 <= self.parts.bits && self.parts.bits <= 8,
+            Kind::Signed => 2 <= self.parts.bits && self.parts.bits <= 32,
+            Kind::Dtc => self.parts.bits == 32 && self.parts.start % 8 == 0,
         }
     }
 
@@ -243,7 +226,7 @@ impl Signal {
         ensures value { result ≡ end_of self.now }
         ensures most { result ≤ 65599 }
     {
-        u32::from(self.start) + u32::from(self.bits)
+        u32::from(self.parts.start) + u32::from(self.parts.bits)
     }
 
     /// Whether the signal ends within a payload of `length` bytes.
@@ -260,7 +243,7 @@ impl Signal {
     pub fn is_there(&self, bytes: usize) -> bool
         ensures { result ≡ is_there bytes self.now }
     {
-        !self.optional || (self.end() as usize + 7) / 8 <= bytes
+        !self.parts.optional || (self.end() as usize + 7) / 8 <= bytes
     }
 
     /// Whether some bit belongs to both signals.
@@ -269,6 +252,6 @@ impl Signal {
         ensures test { result ≡ shares_bit self.now other.now }
         ensures shared { IsTrue result ↔ SharesBit self.now other.now }
     {
-        u32::from(self.start.max(other.start)) < self.end().min(other.end())
+        u32::from(self.parts.start.max(other.parts.start)) < self.end().min(other.end())
     }
 }

@@ -2,7 +2,7 @@
 use Rattle.std.specs.Prelude.{ℕ, ◌+◌, List, [], ◌∷◌, ◌++◌, Bool, true, false, not, ◌&&◌, ◌||◌, ◌==◌, nat_lt, count_by, Option, Some, None}
 use Rattle.std.specs.List.{slice_get, list_any, slice_index_or}
 use Rattle.std.specs.Option.{option_map_or}
-use Rattle.j39_signal.specs.Parts.{SignalParts}
+use Rattle.j39_signal.specs.declared.signal_parts.SignalParts.{SignalParts}
 use Rattle.j39_signal.specs.Places.{shares_bit}
 use Rattle.j39_signal.specs.declared.selector.Selector.{Selector}
 use Rattle.j39_network.specs.Serving.{meets}

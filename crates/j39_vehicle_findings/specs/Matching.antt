@@ -1,7 +1,7 @@
 -- When what one signal says can stand in another one: signals that agree, that are alike, and values that both have (SAE J1939-71).
 use Rattle.std.specs.Prelude.{◌≡◌, ℕ, ◌-◌, ◌*◌, ◌/◌, ◌%◌, ◌^◌, ◌⊎◌, ◌↔◌, ℤ, pos, ◌+ℤ◌, ◌-ℤ◌, ◌*ℤ◌, unsigned_abs, int_lt, List, [], Bool, true, ◌&&◌, ◌==◌}
 use Rattle.std.specs.Prelude.{nat_le, nat_lt, if◌then◌else◌, Option, None}
-use Rattle.j39_signal.specs.Parts.{SignalParts}
+use Rattle.j39_signal.specs.declared.signal_parts.SignalParts.{SignalParts}
 use Rattle.j39_signal.specs.Places.{WidthFits}
 use Rattle.j39_signal.specs.State.{ranges_of}
 use Rattle.j39_signal.specs.declared.kind.Kind.{Kind}

@@ -2,7 +2,7 @@
 -- their places from 0.
 use Rattle.std.specs.Prelude.{◌≡◌, ℕ, ◌<◌, ◌⊎◌, List, [], ◌∷◌, Option, Some, None, true, Contains, AllPairs}
 use Rattle.std.specs.Option.{MatchOption}
-use Rattle.j39_signal.specs.Parts.{SignalParts}
+use Rattle.j39_signal.specs.declared.signal_parts.SignalParts.{SignalParts}
 use Rattle.j39_signal.specs.Places.{SharesBit}
 use Rattle.j39_signal.specs.declared.selector.Selector.{Selector}
 use Rattle.j39_search.specs.ListPlaces.{ValueAt, PairAt, SomeMeets, SoManyMeet}

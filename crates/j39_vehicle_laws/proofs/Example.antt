@@ -12,7 +12,8 @@ use Rattle.arrayvec.specs.ArrayString.{ArrayString}
 use denote.RawPtr.{null_ptr}
 use Rattle.std.specs.Prelude.{IsTrue, pos}
 use Rattle.std.proofs.lemmas.Int.{ints}
-use Rattle.j39_signal.specs.Parts.{IsDivisor, IsSignal, SignalParts}
+use Rattle.j39_signal.specs.Parts.{IsDivisor, IsSignal}
+use Rattle.j39_signal.specs.declared.signal_parts.SignalParts.{SignalParts}
 use Rattle.j39_signal.specs.declared.kind.Kind.TheVariants.{Measured}
 use Rattle.j39_id.specs.Addresses.{null_address}
 use Rattle.j39_id.specs.LabelForm.{is_label, is_unit_label}

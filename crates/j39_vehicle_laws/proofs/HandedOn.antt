@@ -7,7 +7,7 @@ use Rattle.j39_network.specs.Records.{signals_in}
 use Rattle.j39_network.specs.SoundSignals.{IsBlankOf, ReadsLastGiven, SoundSignals}
 use Rattle.j39_network.specs.declared.plan.Plan.{Plan}
 use Rattle.j39_network.specs.declared.plan.group_plan.GroupPlan.{GroupPlan}
-use Rattle.j39_signal.specs.Parts.{SignalParts}
+use Rattle.j39_signal.specs.declared.signal_parts.SignalParts.{SignalParts}
 use Rattle.j39_world.specs.Sound.{AreReportsSound, IsSubsequence, reported}
 use Rattle.j39_world.specs.Transfers.{Begun}
 use Rattle.j39_world.specs.World.{World}

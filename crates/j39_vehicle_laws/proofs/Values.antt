@@ -7,7 +7,7 @@ use Rattle.std.proofs.Math.Nat.{mul_comm, pow-le-pow_right, two-pow-succ}
 use Rattle.std.proofs.lemmas.Nat.{pow_pos}
 use Rattle.std.proofs.lemmas.Bool.{and_parts, eqb-true}
 use Rattle.std.proofs.lemmas.Bool.Decides.{Decides-eqb, Decides-ltb, leb_tells}
-use Rattle.j39_signal.specs.Parts.{SignalParts}
+use Rattle.j39_signal.specs.declared.signal_parts.SignalParts.{SignalParts}
 use Rattle.j39_signal.specs.Places.{WidthFits, width_fits}
 use Rattle.j39_signal.specs.State.{IsRawOf, Ranges, is_negative, ranges_of, state_in, state_of, value_of}
 use Rattle.j39_signal.specs.declared.kind.Kind.{Kind}

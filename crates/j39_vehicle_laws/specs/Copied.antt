@@ -1,7 +1,7 @@
 -- What it is good for that copies have the layout of what is heard, and what signals read in messages.
 use Rattle.std.specs.Prelude.{◌≡◌, ℕ, ◌≤◌, true, List, length as count, Some}
 use Rattle.std.specs.List.{slice_get}
-use Rattle.j39_signal.specs.Parts.{SignalParts}
+use Rattle.j39_signal.specs.declared.signal_parts.SignalParts.{SignalParts}
 use Rattle.j39_signal.specs.Places.{IsAlwaysInside}
 use Rattle.j39_signal.specs.Selectors.{is_selected}
 use Rattle.j39_signal.specs.State.{state_in_payload}

@@ -1,7 +1,7 @@
 -- A vehicle without findings, and a run of it in which a message is forwarded: so the laws of vehicles speak of something.
 use Rattle.std.specs.Prelude.{◌≡◌, ℕ, ℤ, List, [], Some}
 use Rattle.std.specs.List.{slice_get}
-use Rattle.j39_signal.specs.Parts.{SignalParts}
+use Rattle.j39_signal.specs.declared.signal_parts.SignalParts.{SignalParts}
 use Rattle.j39_signal.specs.declared.state.State.TheVariants.{Value}
 use Rattle.j39_network.specs.declared.plan.flow_plan.FlowPlan.{FlowPlan}
 use Rattle.j39_vehicle.specs.declared.vehicle.Vehicle.{Vehicle}

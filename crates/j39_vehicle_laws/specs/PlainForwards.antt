@@ -1,7 +1,7 @@
 -- What it is good for that nothing is found in what gateways send on, forward by forward, in the words of a vehicle file.
 use Rattle.std.specs.Prelude.{◌≡◌, ◌≢◌, ℕ, ◌⊎◌, [], true, Some}
 use Rattle.std.specs.List.{slice_get}
-use Rattle.j39_signal.specs.Parts.{SignalParts}
+use Rattle.j39_signal.specs.declared.signal_parts.SignalParts.{SignalParts}
 use Rattle.j39_network.specs.declared.plan.flow_plan.FlowPlan.{FlowPlan}
 use Rattle.j39_network.specs.declared.plan.group_plan.GroupPlan.{GroupPlan}
 use Rattle.j39_network.specs.declared.plan.queue.Queue.TheVariants.{Priority}

@@ -1,6 +1,6 @@
 -- What it is good for that one signal has another one: it has each of its values; and values of several signals, one after another.
 use Rattle.std.specs.Prelude.{◌≡◌, ℕ, ◌≤◌, ℤ}
-use Rattle.j39_signal.specs.Parts.{SignalParts}
+use Rattle.j39_signal.specs.declared.signal_parts.SignalParts.{SignalParts}
 use Rattle.j39_signal.specs.State.{state_of}
 use Rattle.j39_signal.specs.declared.state.State.TheVariants.{Value}
 use Rattle.j39_vehicle_findings.specs.Matching.{CanStandFor}

@@ -5,7 +5,7 @@ ghost use Rattle.j39_network.specs.Records.{signals_in};
 ghost use Rattle.j39_network.specs.SoundSignals.{SoundSignals};
 ghost use Rattle.j39_network.specs.declared.plan.Plan.{Plan};
 ghost use Rattle.j39_network.specs.declared.plan.group_plan.GroupPlan.{GroupPlan};
-ghost use Rattle.j39_signal.specs.Parts.{SignalParts};
+ghost use Rattle.j39_signal.specs.declared.signal_parts.SignalParts.{SignalParts};
 ghost use Rattle.j39_world.specs.Sound.{AreReportsSound};
 ghost use Rattle.j39_world.specs.World.{World};
 ghost use Rattle.j39_vehicle_laws.specs.HandedOn.{Forwarded, Gateway, IsFaithful, IsFromOrigin, ReadsAsBefore};

@@ -1,6 +1,6 @@
 use Rattle.std.proofs.Common.{arith}
 use Rattle.std.proofs.lemmas.List.{append-nil}
-use Rattle.j39_signal.specs.Parts.{SignalParts}
+use Rattle.j39_signal.specs.declared.signal_parts.SignalParts.{SignalParts}
 use Rattle.j39_log.specs.NamedReports.{named_signal_lines}
 use Rattle.j39_log.specs.inside.NameTables.{named_by, names_in}
 use Rattle.j39_log.proofs.NamedLists.{all_named, named_at, named_count, one_more_line}

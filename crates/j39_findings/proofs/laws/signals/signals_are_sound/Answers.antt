@@ -1,7 +1,7 @@
 use Rattle.std.proofs.Common.{ℕ, List, All, None, Option, length, get_or, ap, subst, ◌∙◌}
 use Rattle.j39_signal.proofs.Writes.{blank_ones, keeps_writes, value_read, ones_read}
 use Rattle.j39_signal.specs.Laid.{IsBlank, KeepsWrites}
-use Rattle.j39_signal.specs.Parts.{SignalParts}
+use Rattle.j39_signal.specs.declared.signal_parts.SignalParts.{SignalParts}
 use Rattle.j39_signal.specs.Places.{WidthFits}
 use Rattle.j39_signal.specs.State.{state_of}
 use Rattle.j39_signal.specs.declared.selector.Selector.{Selector}

@@ -1,7 +1,7 @@
 use Rattle.std.proofs.Common.{◌++◌, ℕ, Bool, List, length, sym, ap, ◌∙◌, arith}
 use Rattle.std.proofs.lemmas.List.{append-nil}
 use Rattle.j39_signal.specs.Bits.{raw_of}
-use Rattle.j39_signal.specs.Parts.{SignalParts}
+use Rattle.j39_signal.specs.declared.signal_parts.SignalParts.{SignalParts}
 use Rattle.j39_signal.specs.Places.{further}
 use Rattle.j39_signal.specs.State.{shown_of}
 use Rattle.j39_signal.specs.declared.state.Shown.{Shown}
