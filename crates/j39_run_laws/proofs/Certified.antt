@@ -68,7 +68,7 @@ pub sound_by_laws : (plan : Plan) → Clean plan
     → ((p : Plan) (steps : List Step) (w : World) → Clean p → Run p all_off steps w
     → (d : Delivered p w) (x : LastWrite d.message) → ReadsAsWritten d.message x x.write.place)
     → ((p : Plan) (steps : List Step) (w : World) → Run p all_off steps w → (n : NeededAlone p w)
-    → HasArrivedAlone w n.frame.after n.message.flow.sender n.message.need.unit (record { flow = n.message.place; bytes = bytes_of n.message }))
+    → HasArrivedAlone w n.frame.passage.after n.message.flow.sender n.message.need.unit (record { flow = n.message.place; bytes = bytes_of n.message }))
     → ((p : Plan) (steps : List Step) (w : World) → Clean p → Run p all_off steps w
     → (n : NeededAlone p w) (x : LastWrite n.message) → ReadsAsWritten n.message x x.write.place)
     → IsSound plan

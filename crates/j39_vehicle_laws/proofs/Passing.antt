@@ -69,8 +69,8 @@ heard_answered : (plan : Plan) (w after : World) → ((m : Answered plan w) → 
     → (f : ℕ) (flow : FlowPlan) (v : ℕ) (bytes : List ℕ) → slice_get plan.flows.items f ≡ Some flow → IsSparedAnswered plan f v bytes w after
     → WasHeard after flow.sender v f bytes
 heard_answered plan w after arrives f flow v bytes is s =
-    let m = s.message in
-    let arrived = arrives m s.alone in
+    let m = s.message.passage in
+    let arrived = arrives s.message s.alone in
     let sender : m.flow.sender ≡ flow.sender =
     ap (λ x. x.sender) (same_Some _ _ (sym m.planned ∙ ap (slice_get (flows_of plan)) s.place_is ∙ flow_there plan f flow is)) in
     let heard : WasHeard m.after m.flow.sender m.receiver m.place m.bytes =
@@ -81,8 +81,8 @@ heard_answered plan w after arrives f flow v bytes is s =
 heard_alone : (plan : Plan) (w after : World) → SentFramesArrive plan w → (f : ℕ) (flow : FlowPlan) (v : ℕ) (bytes : List ℕ)
     → slice_get plan.flows.items f ≡ Some flow → IsSparedAlone plan f v bytes w after → WasHeard after flow.sender v f bytes
 heard_alone plan w after arrives f flow v bytes is s =
-    let m = s.frame in
-    let arrived = arrives m in
+    let m = s.frame.passage in
+    let arrived = arrives s.frame in
     let sender : m.flow.sender ≡ flow.sender =
     ap (λ x. x.sender) (same_Some _ _ (sym m.planned ∙ ap (slice_get (flows_of plan)) s.place_is ∙ flow_there plan f flow is)) in
     let heard : WasHeard m.after m.flow.sender m.receiver m.place m.bytes =

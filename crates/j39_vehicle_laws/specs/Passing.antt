@@ -34,18 +34,18 @@ pub record IsSpared (plan : Plan) (place : ℕ) (flow : Flow) (v : ℕ) (bytes :
 pub record IsSparedAnswered (plan : Plan) (place v : ℕ) (bytes : List ℕ) (w after : World) : Type 0 where
   pub message : Answered plan w
   pub alone : IsAlone plan w message
-  pub place_is : message.place ≡ place
-  pub bytes_are : message.bytes ≡ bytes
-  pub receiver_is : message.receiver ≡ v
-  pub after_is : message.after ≡ after
+  pub place_is : message.passage.place ≡ place
+  pub bytes_are : message.passage.bytes ≡ bytes
+  pub receiver_is : message.passage.receiver ≡ v
+  pub after_is : message.passage.after ≡ after
 
 -- and with one that is sent in a frame alone
 pub record IsSparedAlone (plan : Plan) (place v : ℕ) (bytes : List ℕ) (w after : World) : Type 0 where
   pub frame : SentAlone plan w
-  pub place_is : frame.place ≡ place
-  pub bytes_are : frame.bytes ≡ bytes
-  pub receiver_is : frame.receiver ≡ v
-  pub after_is : frame.after ≡ after
+  pub place_is : frame.passage.place ≡ place
+  pub bytes_are : frame.passage.bytes ≡ bytes
+  pub receiver_is : frame.passage.receiver ≡ v
+  pub after_is : frame.passage.after ≡ after
 
 -- in a world of a run of its bus's plan, or of that of its boxes, the message is begun, and nothing of it is lost to its hearer up to this other
 -- world

@@ -12,6 +12,7 @@ use Rattle.j39_network.specs.declared.steps.Step.TheVariants.{Begin, Down, Emit,
 use Rattle.j39_world.specs.declared.flow.Flow.{Flow}
 use Rattle.j39_world.specs.declared.wired.Wired.{Wired}
 use Rattle.j39_world.specs.Flows.{flows_of, is_short}
+use Rattle.j39_world.specs.Passage.{Passage}
 use Rattle.j39_world.specs.Resting.{is_alone, is_of_sender, is_of_receiver}
 use Rattle.j39_world.specs.Run.{count_of, begin_refusal, refusal, Follows}
 use Rattle.j39_world.specs.Sound.{reported}
@@ -104,18 +105,13 @@ pub record IsThroughBetween (plan : Plan) (w : World) (u v : ℕ) : Type 0 where
 -- a message of several frames to one unit that is begun here, a run from there that spares it, and the world to which it leads and in
 -- which all of it and of what answers it was taken
 pub record Answered (plan : Plan) (w : World) : Type 0 where
-  pub place : ℕ
-  pub flow : Flow
-  pub bytes : List ℕ
-  pub receiver : ℕ
-  pub steps : List Step
-  pub after : World
-  pub planned : slice_get (flows_of plan) place ≡ Some flow
-  pub one : flow.to ≡ tos.One receiver
-  pub several : is_short (length bytes) ≡ false
-  pub allowed : begin_refusal plan.live (count_of plan) w (Some flow) bytes ≡ None
-  pub runs : SparingRun plan flow.sender receiver (begins (count_of plan) w place flow bytes) steps after
-  pub through : IsThroughBetween plan after flow.sender receiver
+  pub passage : Passage plan
+  pub one : passage.flow.to ≡ tos.One passage.receiver
+  pub several : is_short (length passage.bytes) ≡ false
+  pub allowed : begin_refusal plan.live (count_of plan) w (Some passage.flow) passage.bytes ≡ None
+  pub runs : SparingRun plan passage.flow.sender passage.receiver (begins (count_of plan) w passage.place passage.flow passage.bytes) passage.steps
+      passage.after
+  pub through : IsThroughBetween plan passage.after passage.flow.sender passage.receiver
 
 -- what v sends, if anything, is no message of this group to u alone: one that has ended counts until its rest
 abbrev pub SendsOther : Option Outgoing → ℕ → ℕ → Type 0
@@ -132,13 +128,13 @@ BeginsOther plan v u pgn _ = Unit {0}
 -- one that has ended: an Abort names a group and may be of either direction, so one of such a message, which may still be under way,
 -- would end this one
 pub record IsAlone (plan : Plan) (w : World) (m : Answered plan w) : Type 0 where
-  pub first : SendsOther (w.sessions m.receiver) m.flow.sender m.flow.pgn
-  pub since : All (BeginsOther plan m.receiver m.flow.sender m.flow.pgn) m.steps
+  pub first : SendsOther (w.sessions m.passage.receiver) m.passage.flow.sender m.passage.flow.pgn
+  pub since : All (BeginsOther plan m.passage.receiver m.passage.flow.sender m.passage.flow.pgn) m.passage.steps
 
 -- its sender rests acknowledged, and its receiver has reported it once since
 abbrev pub HasArrivedAnswered : (plan : Plan) (w : World) → Answered plan w → Type 0
 HasArrivedAnswered plan w m =
-    HasArrived w m.after m.flow.sender (outgoing (count_of plan) w.stations m.place m.flow m.bytes) (m.receiver ∷ []) Acked
+    HasArrived w m.passage.after m.passage.flow.sender (outgoing (count_of plan) w.stations m.passage.place m.passage.flow m.passage.bytes) (m.passage.receiver ∷ []) Acked
 
 abbrev pub ArrivesAnswered : Plan → World → Type 0
 ArrivesAnswered plan w = (m : Answered plan w) → IsAlone plan w m → HasArrivedAnswered plan w m
@@ -150,4 +146,4 @@ CanArriveAnswered plan w =
     (f : ℕ) (flow : Flow) (v : ℕ) (bytes : List ℕ)
     → slice_get (flows_of plan) f ≡ Some flow → flow.to ≡ tos.One v → is_short (length bytes) ≡ false
     → begin_refusal plan.live (count_of plan) w (Some flow) bytes ≡ None → SendsOther (w.sessions v) flow.sender flow.pgn
-    → (m : Answered plan w) × (m.place ≡ f) × (m.bytes ≡ bytes) × IsAlone plan w m
+    → (m : Answered plan w) × (m.passage.place ≡ f) × (m.passage.bytes ≡ bytes) × IsAlone plan w m

@@ -16,6 +16,7 @@ pub mod Settling
 pub mod Leading
 pub mod Ending
 pub mod Conflict
+pub mod Passage
 pub mod Arriving
 pub mod Needed
 pub mod SentArriving

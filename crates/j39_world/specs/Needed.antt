@@ -49,7 +49,8 @@ IsDelivered plan m w after =
     × (begin_refusal plan.live (count_of plan) w (Some flow) (bytes_of m) ≡ None)
     × RunSparing plan flow.sender (m.need.unit ∷ []) (begins (count_of plan) w m.place flow (bytes_of m)) steps after
     × IsThrough plan after flow.sender (m.need.unit ∷ []))
-    ⊎ ((a : Answered plan w) × IsAlone plan w a × (a.place ≡ m.place) × (a.bytes ≡ bytes_of m) × (a.after ≡ after))
+    ⊎ ((a : Answered plan w) × IsAlone plan w a × (a.passage.place ≡ m.place) × (a.passage.bytes ≡ bytes_of m)
+    × (a.passage.after ≡ after))
 
 -- such a message that is begun in this world, while the need's unit is on, and the world in which it has arrived
 pub record Delivered (plan : Plan) (w : World) : Type 0 where

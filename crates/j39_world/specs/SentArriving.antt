@@ -9,6 +9,7 @@ use Rattle.j39_world.specs.declared.wired.Wired.{Wired}
 use Rattle.j39_world.specs.declared.wired.Wired.TheVariants as wired
 use Rattle.j39_world.specs.Flows.{flows_of}
 use Rattle.j39_world.specs.Needed.{LastWrite, NeededMessage, ReadsAsWritten, bytes_of}
+use Rattle.j39_world.specs.Passage.{Passage}
 use Rattle.j39_world.specs.Resting.{is_alone}
 use Rattle.j39_world.specs.Run.{Follows, count_of, refusal, send_refusal}
 use Rattle.j39_world.specs.Sound.{IsSubsequence, reported_alone}
@@ -48,18 +49,12 @@ RunSparingAlone plan u v place w (step ∷ steps) new =
 -- a frame that is sent alone here, one of its receivers, and a run from there in which this one doesn't lose it, to a world in which this one
 -- can take no more of its sender
 pub record SentAlone (plan : Plan) (w : World) : Type 0 where
-  pub place : ℕ
-  pub flow : Flow
-  pub bytes : List ℕ
-  pub receiver : ℕ
-  pub steps : List Step
-  pub after : World
-  pub planned : slice_get (flows_of plan) place ≡ Some flow
-  pub allowed : send_refusal plan.live (count_of plan) w (Some flow) bytes ≡ None
-  pub among : is_among (targets_of (count_of plan) w.stations flow.sender flow.to) receiver ≡ true
-  pub runs : RunSparingAlone plan flow.sender receiver (length (w.sent_alone flow.sender receiver))
-      (sends_alone (count_of plan) w place flow bytes) steps after
-  pub taken : refusal plan after (Take flow.sender receiver) ≢ None
+  pub passage : Passage plan
+  pub allowed : send_refusal plan.live (count_of plan) w (Some passage.flow) passage.bytes ≡ None
+  pub among : is_among (targets_of (count_of plan) w.stations passage.flow.sender passage.flow.to) passage.receiver ≡ true
+  pub runs : RunSparingAlone plan passage.flow.sender passage.receiver (length (w.sent_alone passage.flow.sender passage.receiver))
+      (sends_alone (count_of plan) w passage.place passage.flow passage.bytes) passage.steps passage.after
+  pub taken : refusal plan passage.after (Take passage.flow.sender passage.receiver) ≢ None
 
 -- since the first of two worlds v has reported of u, of the frames that were sent alone, some of those that lay there, then this one, and then
 -- some of those that u sent it so since; each of these in order and nothing twice
@@ -74,7 +69,7 @@ pub record HasArrivedAlone (before after : World) (u v : ℕ) (one : Begun) : Ty
 
 -- each such frame arrives
 abbrev pub SentFramesArrive : Plan → World → Type 0
-SentFramesArrive plan w = (s : SentAlone plan w) → HasArrivedAlone w s.after s.flow.sender s.receiver (record { flow = s.place; bytes = s.bytes })
+SentFramesArrive plan w = (s : SentAlone plan w) → HasArrivedAlone w s.passage.after s.passage.flow.sender s.passage.receiver (record { flow = s.passage.place; bytes = s.passage.bytes })
 
 -- each such frame that can be sent here can arrive at each of its receivers: some run spares it, and all is taken
 abbrev pub SentFramesCanArrive : Plan → World → Type 0
@@ -82,18 +77,18 @@ SentFramesCanArrive plan w =
     (f : ℕ) (flow : Flow) (bytes : List ℕ) (v : ℕ)
     → slice_get (flows_of plan) f ≡ Some flow → send_refusal plan.live (count_of plan) w (Some flow) bytes ≡ None
     → is_among (targets_of (count_of plan) w.stations flow.sender flow.to) v ≡ true
-    → (s : SentAlone plan w) × (s.place ≡ f) × (s.bytes ≡ bytes) × (s.receiver ≡ v)
+    → (s : SentAlone plan w) × (s.passage.place ≡ f) × (s.passage.bytes ≡ bytes) × (s.passage.receiver ≡ v)
 
 -- one of a flow that meets a need, whose bytes were written signal after signal, and that is sent to the need's unit
 pub record NeededAlone (plan : Plan) (w : World) : Type 0 where
   pub message : NeededMessage plan
   pub frame : SentAlone plan w
-  pub place : frame.place ≡ message.place
-  pub bytes : frame.bytes ≡ bytes_of message
-  pub receiver : frame.receiver ≡ message.need.unit
+  pub place : frame.passage.place ≡ message.place
+  pub bytes : frame.passage.bytes ≡ bytes_of message
+  pub receiver : frame.passage.receiver ≡ message.need.unit
 
 -- it arrives, and each signal in it reads as it was written
 abbrev pub SentValuesArrive : Plan → World → Type 0
 SentValuesArrive plan w = (n : NeededAlone plan w)
-    → HasArrivedAlone w n.frame.after n.message.flow.sender n.message.need.unit (record { flow = n.message.place; bytes = bytes_of n.message })
+    → HasArrivedAlone w n.frame.passage.after n.message.flow.sender n.message.need.unit (record { flow = n.message.place; bytes = bytes_of n.message })
     × ((x : LastWrite n.message) → ReadsAsWritten n.message x x.write.place)

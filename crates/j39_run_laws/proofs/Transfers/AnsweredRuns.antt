@@ -12,7 +12,7 @@ use Rattle.j39_world.specs.Run.{Follows, count_of, refusal}
 use Rattle.j39_world.specs.SoundPlan.{Always}
 use Rattle.j39_world.specs.TransferSteps.{begins}
 use Rattle.j39_world.specs.World.{World}
-use Rattle.j39_run_laws.proofs.Transfers.ByLowering.{reaches}
+use Rattle.j39_run_laws.proofs.Transfers.ByLowering.{passage_of, reaches}
 use Rattle.j39_run_laws.proofs.Transfers.FitSteps.{IsWorldFit, begin_fits, worlds_fit}
 use Rattle.j39_run_laws.proofs.Transfers.Lowering.{left_of}
 
@@ -72,13 +72,7 @@ can_arrive plan before w run f flow v bytes planned one several allowed other =
     let fit : IsWorldFit begun = begin_fits plan w (worlds_fit plan before w run) f bytes (Some flow) planned allowed begun refl in
     let run_on : Comes plan flow.sender v flow.pgn begun = comes plan flow.sender v flow.pgn begun fit in (
       record {
-        place = f;
-        flow = flow;
-        bytes = bytes;
-        receiver = v;
-        steps = run_on.steps;
-        after = run_on.after;
-        planned = planned;
+        passage = passage_of plan f flow bytes v run_on.steps run_on.after planned;
         one = one;
         several = several;
         allowed = allowed;

@@ -24,7 +24,7 @@ use Rattle.j39_run_laws.proofs.Reports.SentFrames.{AreDropped, AreParts, lying_m
 use Rattle.j39_run_laws.proofs.Reports.Subsequences.{subsequence_both, subsequence_front, subsequence_same, subsequence_without}
 use Rattle.j39_run_laws.proofs.Runs.Conditions.{none_refuses, not_refused}
 use Rattle.j39_run_laws.proofs.Transfers.AccountedSteps.{IsKept, all_kept, keeps, send_kept, untaken}
-use Rattle.j39_run_laws.proofs.Transfers.ByLowering.{reaches}
+use Rattle.j39_run_laws.proofs.Transfers.ByLowering.{passage_of, reaches}
 use Rattle.j39_run_laws.proofs.Transfers.Ending.{item_ready}
 use Rattle.j39_run_laws.proofs.Transfers.FitSteps.{IsWorldFit, send_fits, worlds_fit}
 use Rattle.j39_run_laws.proofs.Transfers.Lowering.{left_of}
@@ -258,60 +258,60 @@ nothing_lies plan u v w kept taken (item ∷ rest) is =
 
 module _ (plan : Plan) (w : World) (kept : IsKept plan w) (s : SentAlone plan w) where
   abbrev one : Begun
-  one = record { flow = s.place; bytes = s.bytes }
+  one = record { flow = s.passage.place; bytes = s.passage.bytes }
 
   abbrev begun : World
-  begun = sends_alone (count_of plan) w s.place s.flow s.bytes
+  begun = sends_alone (count_of plan) w s.passage.place s.passage.flow s.passage.bytes
 
   abbrev stated : List Begun
-  stated = reported_alone w.reports s.receiver s.flow.sender
+  stated = reported_alone w.reports s.passage.receiver s.passage.flow.sender
 
   abbrev lay : List Begun
-  lay = lying_alone (w.wire s.flow.sender s.receiver)
+  lay = lying_alone (w.wire s.passage.flow.sender s.passage.receiver)
 
   abbrev passed : List Begun
-  passed = w.sent_alone s.flow.sender s.receiver
+  passed = w.sent_alone s.passage.flow.sender s.passage.receiver
 
-  here : (eqb s.flow.sender s.flow.sender && is_among (targets_of (count_of plan) w.stations s.flow.sender s.flow.to) s.receiver) ≡ true
-  here = and_from (eqb s.flow.sender s.flow.sender) (is_among (targets_of (count_of plan) w.stations s.flow.sender s.flow.to) s.receiver)
-      (eq-eqb s.flow.sender s.flow.sender refl) s.among
+  here : (eqb s.passage.flow.sender s.passage.flow.sender && is_among (targets_of (count_of plan) w.stations s.passage.flow.sender s.passage.flow.to) s.passage.receiver) ≡ true
+  here = and_from (eqb s.passage.flow.sender s.passage.flow.sender) (is_among (targets_of (count_of plan) w.stations s.passage.flow.sender s.passage.flow.to) s.passage.receiver)
+      (eq-eqb s.passage.flow.sender s.passage.flow.sender refl) s.among
 
-  wire_now : begun.wire s.flow.sender s.receiver ≡ w.wire s.flow.sender s.receiver ++ wired.Alone s.place s.bytes ∷ []
-  wire_now = cond-true (eqb s.flow.sender s.flow.sender && is_among (targets_of (count_of plan) w.stations s.flow.sender s.flow.to) s.receiver)
-      (w.wire s.flow.sender s.receiver ++ wired.Alone s.place s.bytes ∷ []) (w.wire s.flow.sender s.receiver) here
+  wire_now : begun.wire s.passage.flow.sender s.passage.receiver ≡ w.wire s.passage.flow.sender s.passage.receiver ++ wired.Alone s.passage.place s.passage.bytes ∷ []
+  wire_now = cond-true (eqb s.passage.flow.sender s.passage.flow.sender && is_among (targets_of (count_of plan) w.stations s.passage.flow.sender s.passage.flow.to) s.passage.receiver)
+      (w.wire s.passage.flow.sender s.passage.receiver ++ wired.Alone s.passage.place s.passage.bytes ∷ []) (w.wire s.passage.flow.sender s.passage.receiver) here
 
-  sent_now : begun.sent_alone s.flow.sender s.receiver ≡ passed ++ one ∷ []
-  sent_now = cond-true (eqb s.flow.sender s.flow.sender && is_among (targets_of (count_of plan) w.stations s.flow.sender s.flow.to) s.receiver)
+  sent_now : begun.sent_alone s.passage.flow.sender s.passage.receiver ≡ passed ++ one ∷ []
+  sent_now = cond-true (eqb s.passage.flow.sender s.passage.flow.sender && is_among (targets_of (count_of plan) w.stations s.passage.flow.sender s.passage.flow.to) s.passage.receiver)
       (passed ++ one ∷ []) passed here
 
   -- it lies behind what lay there
-  at_first : IsThere stated lay passed one (reported_alone begun.reports s.receiver s.flow.sender) (lying_alone (begun.wire s.flow.sender s.receiver))
-      (begun.sent_alone s.flow.sender s.receiver)
+  at_first : IsThere stated lay passed one (reported_alone begun.reports s.passage.receiver s.passage.flow.sender) (lying_alone (begun.wire s.passage.flow.sender s.passage.receiver))
+      (begun.sent_alone s.passage.flow.sender s.passage.receiver)
   at_first = inl (record {
     earlier = [];
     ahead = lay;
     since = [];
     sent_so = sent_now;
     reported_so = sym (append-nil stated);
-    lies_so = ap lying_alone wire_now ∙ lying_more (w.wire s.flow.sender s.receiver) (wired.Alone s.place s.bytes ∷ []);
+    lies_so = ap lying_alone wire_now ∙ lying_more (w.wire s.passage.flow.sender s.passage.receiver) (wired.Alone s.passage.place s.passage.bytes ∷ []);
     before_it = subsequence_same lay;
   })
 
-  all_first : AllFollowed plan s.flow.sender s.receiver stated lay passed one begun
+  all_first : AllFollowed plan s.passage.flow.sender s.passage.receiver stated lay passed one begun
   all_first x y is_u is_v =
       subst (λ (k : ℕ). IsThere stated lay passed one (reported_alone begun.reports y k) (lying_alone (begun.wire k y)) (begun.sent_alone k y)) (sym is_u)
-      (subst (λ (k : ℕ). IsThere stated lay passed one (reported_alone begun.reports k s.flow.sender) (lying_alone (begun.wire s.flow.sender k))
-      (begun.sent_alone s.flow.sender k)) (sym is_v) at_first)
+      (subst (λ (k : ℕ). IsThere stated lay passed one (reported_alone begun.reports k s.passage.flow.sender) (lying_alone (begun.wire s.passage.flow.sender k))
+      (begun.sent_alone s.passage.flow.sender k)) (sym is_v) at_first)
 
-  has_arrived : HasArrivedAlone w s.after s.flow.sender s.receiver one
+  has_arrived : HasArrivedAlone w s.passage.after s.passage.flow.sender s.passage.receiver one
   has_arrived =
-      let (there, all) = run_followed plan s.flow.sender s.receiver stated lay passed one s.steps begun s.after
-      (send_kept plan w kept s.place s.flow s.bytes s.allowed) all_first s.runs in
-      let none = nothing_lies plan s.flow.sender s.receiver s.after there s.taken (s.after.wire s.flow.sender s.receiver) refl in
-      let now : IsStated stated lay passed one (reported_alone s.after.reports s.receiver s.flow.sender) [] (s.after.sent_alone s.flow.sender s.receiver) =
-      none_there stated lay passed one (reported_alone s.after.reports s.receiver s.flow.sender) (s.after.sent_alone s.flow.sender s.receiver)
-      (subst (λ (list : List Begun). IsThere stated lay passed one (reported_alone s.after.reports s.receiver s.flow.sender) list
-      (s.after.sent_alone s.flow.sender s.receiver)) none (all s.flow.sender s.receiver refl refl)) in
+      let (there, all) = run_followed plan s.passage.flow.sender s.passage.receiver stated lay passed one s.passage.steps begun s.passage.after
+      (send_kept plan w kept s.passage.place s.passage.flow s.passage.bytes s.allowed) all_first s.runs in
+      let none = nothing_lies plan s.passage.flow.sender s.passage.receiver s.passage.after there s.taken (s.passage.after.wire s.passage.flow.sender s.passage.receiver) refl in
+      let now : IsStated stated lay passed one (reported_alone s.passage.after.reports s.passage.receiver s.passage.flow.sender) [] (s.passage.after.sent_alone s.passage.flow.sender s.passage.receiver) =
+      none_there stated lay passed one (reported_alone s.passage.after.reports s.passage.receiver s.passage.flow.sender) (s.passage.after.sent_alone s.passage.flow.sender s.passage.receiver)
+      (subst (λ (list : List Begun). IsThere stated lay passed one (reported_alone s.passage.after.reports s.passage.receiver s.passage.flow.sender) list
+      (s.passage.after.sent_alone s.passage.flow.sender s.passage.receiver)) none (all s.passage.flow.sender s.passage.receiver refl refl)) in
       record {
         earlier = now.earlier;
         later = now.later;
@@ -361,13 +361,7 @@ can_arrive_alone plan before w run f flow bytes v planned allowed among =
     let run_on : IsTaken plan flow.sender v (length (w.sent_alone flow.sender v)) begun =
     all_taken plan flow.sender v (length (w.sent_alone flow.sender v)) begun fit in (
       record {
-        place = f;
-        flow = flow;
-        bytes = bytes;
-        receiver = v;
-        steps = run_on.steps;
-        after = run_on.after;
-        planned = planned;
+        passage = passage_of plan f flow bytes v run_on.steps run_on.after planned;
         allowed = allowed;
         among = among;
         runs = run_on.runs;
