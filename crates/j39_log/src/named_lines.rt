@@ -203,19 +203,19 @@ impl RecordWriter for GroupNames<'_> {
     ghost lines = { λ names signals bytes place behind. named_record_lines (names_in names.parameters.now) place
         (named_record_signals behind (named_by names.values.now signals)) bytes };
 
-    fn write_record(&self, text: &mut TextBuffer, record: GroupRecord<'_>) -> WriteResult {
-        let (values, signals) = (self.values, record.signals);
+    fn write_record(&self, text: &mut TextBuffer, at: GroupRecord<'_>) -> WriteResult {
+        let (values, signals) = (self.values, at.signals);
         for (i, signal) in signals.iter().enumerate() {
             let names = &values[i];
             if signal.is_repeated() {
-                let shown = record.layout.show_further(record.bytes, i, record.behind);
+                let shown = at.layout.show_further(at.bytes, i, at.behind);
                 let reading = NamedReading {
                     signal,
                     values: names,
                     parameters: self.parameters,
                     shown,
                 };
-                reading.write_line(text, record.place)?;
+                reading.write_line(text, at.place)?;
             }
         }
         Ok(())

@@ -78,11 +78,11 @@ pub(crate) trait RecordWriter {
     /// This is written of the record of a place, so many bytes behind the first, where a message has these bytes.
     ghost lines: { Self → List ASignal → List ℕ → ℕ → ℕ → List ℕ };
 
-    fn write_record(&self, text: &mut TextBuffer, record: GroupRecord<'_>) -> WriteResult
-        requires signals { record.layout.now.signals ≡ record.signals.now }
-        requires fits { fits self.now record.signals.now }
-        requires inside { All (IsInside (length record.bytes.now)) (record_signals record.behind record.signals.now) }
-        ensures { let r = record.entry in OnOk result (text.new ≡ text.old ++ lines self.now r.signals.now r.bytes.now r.place r.behind) };
+    fn write_record(&self, text: &mut TextBuffer, at: GroupRecord<'_>) -> WriteResult
+        requires signals { at.layout.now.signals ≡ at.signals.now }
+        requires fits { fits self.now at.signals.now }
+        requires inside { All (IsInside (length at.bytes.now)) (record_signals at.behind at.signals.now) }
+        ensures { let r = at.entry in OnOk result (text.new ≡ text.old ++ lines self.now r.signals.now r.bytes.now r.place r.behind) };
 }
 
 /// Writes records where the plan has no names.
@@ -96,12 +96,12 @@ impl RecordWriter for NoNames {
 
     ghost lines = { λ _ signals bytes place behind. record_lines place (record_signals behind signals) bytes };
 
-    fn write_record(&self, text: &mut TextBuffer, record: GroupRecord<'_>) -> WriteResult {
-        let signals = record.signals;
+    fn write_record(&self, text: &mut TextBuffer, at: GroupRecord<'_>) -> WriteResult {
+        let signals = at.signals;
         for (i, signal) in signals.iter().enumerate() {
             if signal.is_repeated() {
-                let state = record.layout.read_further(record.bytes, i, record.behind);
-                write_line(text, record.place, signal, state)?;
+                let state = at.layout.read_further(at.bytes, i, at.behind);
+                write_line(text, at.place, signal, state)?;
             }
         }
         Ok(())

@@ -12,16 +12,16 @@ use Rattle.j39_log.proofs.record_lines.NoNamesRecordWriter.write_record.Goals.{t
 
 pub read_further-state-requires-clause-inside : goal.read_further-state-requires-clause-inside
 read_further-state-requires-clause-inside c =
-    inside_at (length c.args.record.bytes.now) c.args.record.behind _ c.args.record.signals.now c.loop-i.i c.index-signals-i.result c.requires.signals c.loop-i-test.true
+    inside_at (length c.args.at.bytes.now) c.args.at.behind _ c.args.at.signals.now c.loop-i.i c.index-signals-i.result c.requires.signals c.loop-i-test.true
     c.index-signals-i.is c.requires.inside (sym c.is_repeated.ensures ∙ c.if-is_repeated.true)
 
 pub loop-i-preserved : goal.loop-i-preserved
 loop-i-preserved c =
     let s : SignalParts = c.index-signals-i.result in
-    let signals = c.args.record.signals.now in
-    let bytes = c.args.record.bytes.now in
-    let place = c.args.record.place in
-    let behind = c.args.record.behind in
+    let signals = c.args.at.signals.now in
+    let bytes = c.args.at.bytes.now in
+    let place = c.args.at.place in
+    let behind = c.args.at.behind in
     let old : List ℕ = c.loop-i.text in
     one_more_signal place behind signals bytes old _ _ c.loop-i.i s c.loop-i-test.true c.index-signals-i.is
     (elim c.if-is_repeated.branch [
@@ -39,5 +39,5 @@ loop-i-preserved c =
 pub returns : goal.returns
 unfolding record_lines
 returns c =
-    let done = drop_all c.loop-i.i c.args.record.signals.now (omega arith) in
+    let done = drop_all c.loop-i.i c.args.at.signals.now (omega arith) in
     rw (done, append-nil) at c.loop-i.invariant

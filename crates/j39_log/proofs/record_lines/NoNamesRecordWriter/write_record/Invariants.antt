@@ -5,5 +5,5 @@ use Rattle.j39_log.proofs.record_lines.NoNamesRecordWriter.write_record.Given as
 
 abbrev pub invariant-loop-i : goal.invariant-loop-i
 invariant-loop-i l =
-    l.text ++ record_lines l.record.place (record_signals l.record.behind (drop l.i l.record.signals.now)) l.record.bytes.now
-    ≡ l.initial.text ++ record_lines l.record.place (record_signals l.record.behind l.record.signals.now) l.record.bytes.now
+    l.text ++ record_lines l.at.place (record_signals l.at.behind (drop l.i l.at.signals.now)) l.at.bytes.now
+    ≡ l.initial.text ++ record_lines l.at.place (record_signals l.at.behind l.at.signals.now) l.at.bytes.now
