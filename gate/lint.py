@@ -1,6 +1,7 @@
 #!/usr/bin/env python3
-"""Looks at what needs no proof: the format of the crates' sources, the libraries that they list, scripts of the shell, names and types in Python. What a missing program
-keeps from being looked at is skipped and said. The last line is 'N passed, M failed'.
+"""Looks at what needs no proof: the format of the crates' sources, the libraries that they list, whether the edits that must fail can still be applied and what they
+name is there, scripts of the shell, names and types in Python. What a missing program keeps from being looked at is skipped and said. The last line is 'N passed, M
+failed'.
 """
 
 from __future__ import annotations
@@ -14,9 +15,12 @@ import tempfile
 
 sys.dont_write_bytecode = True
 import crates
+import edits
 from tally import Tally
 
 PARTS = ("src", "specs", "proofs", "edits")
+# What an edit has to find in its file: of a definition or a proof each name of two letters or more, of a source each type and module in front of '::'.
+LOGIC_NAMES, CODE_NAMES = re.compile(r"[A-Za-z_]\w+"), re.compile(r"(?<![\w:])[A-Z]\w*(?=::)")
 
 
 def tracked() -> list[str]:
@@ -66,6 +70,20 @@ def unnamed(crate: str) -> list[str]:
     return [it for it in crates.listed()[crate] if not re.search(rf"\b{it}\b", code)]
 
 
+def faults_of(edit: edits.Edit) -> list[str]:
+    """Why an edit can't be applied to its crate, or compiled there: a file that isn't there, a text that doesn't stand in it once, a name that it doesn't have."""
+    found = []
+    for file, old, new in edit.pairs:
+        path = f"{crates.folder(edit.crate)}/{file}"
+        text = bytes_of(path).decode() if os.path.isfile(path) else ""
+        if not old or text.count(old) != 1:
+            found.append(f"{edit.crate}/{edit.name}: its text stands {text.count(old) if old else 0} times in {file}")
+        names = CODE_NAMES if file.startswith("src/") else LOGIC_NAMES
+        lacking = sorted(set(names.findall(new)) - set(re.findall(r"\w+", text)))
+        found += [f"{edit.crate}/{edit.name}: {file} has no {name}" for name in lacking]
+    return found
+
+
 def look(tally: Tally, program: str, what: str, words: list[str]) -> None:
     """Counts what a command, which needs this program, says of files: its status 0 is right."""
     if not shutil.which(program):
@@ -85,6 +103,8 @@ def main() -> int:
         print("format: skipped, since rt is missing")
     lacking = [f"{crate}: {', '.join(names)}" for crate in crates.listed() if (names := unnamed(crate))]
     tally.count("libraries", not lacking, f"listed in crates.txt and named nowhere: {'; '.join(lacking)}")
+    astray = [fault for crate in crates.listed() for edit in edits.edits_of(crate, edits.FOLDERS) for fault in faults_of(edit)]
+    tally.count("edits", not astray, "; ".join(astray))
     look(tally, "shellcheck", "scripts", ["shellcheck", "--severity=warning", *scripts()])
     look(tally, "pyflakes3", "names in Python", ["pyflakes3", *python_files()])
     look(tally, "mypy", "types in Python", [sys.executable, "gate/python_types.py"])
