@@ -1,6 +1,6 @@
 #!/usr/bin/env python3
-"""Shows that gate/edits.py tells what it has to tell: it plants edits in a copy of the crate j39_search, over the library that was built,
-and compares the verdicts. It takes some minutes of processor. The last line is 'N passed, M failed'.
+"""Shows that gate/edits.py, and of edits gate/lint.py, tells what it has to tell: it plants edits in a copy of the crate j39_search, over
+the library that was built, and compares the verdicts. It takes some minutes of processor. The last line is 'N passed, M failed'.
 """
 
 import os
@@ -35,6 +35,14 @@ PLANTS = (
     ("function_fits_nothing", "function: rules::nobody\n", "    if holds {", "    if true {", r"NOT NAMED: rules::nobody fits 0 functions .*"),
     ("definition", "", "    ghost gives: { Self → ℕ → T → List F };", "    ghost gives: { Self → ℕ → T → List T };", r"(BAD|refused): .*"),
 )
+# What lint says of edits without a prover: of one of these that all is there, of the others why they can't be applied or compiled.
+LINTED = (
+    ("sound", "", "    if holds {", "    if !holds {", r""),
+    ("no_such_text", "", "    if there_is_no_such_text {", "    if holds {", r"its text stands 0 times in src/rules\.rt"),
+    ("text_twice", "", "    Ok(())", "    Ok( ())", r"its text stands [2-9] times in src/rules\.rt"),
+    ("no_such_type", "", "    if holds {", "    if Nobody::holds() {", r"src/rules\.rt has no Nobody"),
+)
+LINT = "import edits, lint; print(*(it for edit in edits.edits_of('j39_search', edits.FOLDERS) for it in lint.faults_of(edit)), sep='\\n')"
 # Edits that a second run tries, by a prover that is killed, and one that says nothing of what it is asked.
 KILLED = "#!/bin/sh\nkill -9 $$\n"
 SILENT = "#!/bin/sh\necho 'only=1 proved=0'\nexit 1\n"
@@ -116,6 +124,16 @@ def by_others(tally: Tally, top: str) -> None:
     tally.count("a crate that is none", ran.returncode == 2, ran.stderr)
 
 
+def by_lint(tally: Tally, top: str) -> None:
+    """What lint says of edits."""
+    plant(top, LINTED)
+    ran = subprocess.run([sys.executable, "-c", LINT], cwd=f"{top}/gate", capture_output=True, text=True, check=False)
+    for name, _, _, _, wanted in LINTED:
+        faults = [it for it in ran.stdout.split("\n") if it.startswith(f"{CRATE}/{name}: ")]
+        is_said = re.fullmatch(f"{CRATE}/{name}: {wanted}", "; ".join(faults)) is not None if wanted else not faults
+        tally.count(f"lint: {name}", ran.returncode == 0 and is_said, ran.stdout + ran.stderr)
+
+
 def stale(tally: Tally, top: str) -> None:
     """Without a library nothing is tried."""
     shutil.rmtree(f"{top}/crates/{CRATE}/out")
@@ -127,7 +145,7 @@ def main() -> int:
     tally = Tally()
     with tempfile.TemporaryDirectory(prefix="j39plan-plants-") as top:
         made(top)
-        for part in (planted, by_others, stale):
+        for part in (planted, by_others, by_lint, stale):
             part(tally, top)
     return tally.end()
 
