@@ -145,16 +145,20 @@ module _ (plan : Plan) (m : NeededMessage plan) where
       (λ v is. subst (λ k. is_among (targets_of (count_of plan) w.stations flow.sender flow.to) k ≡ true) (sym (among_one m.need.unit v is))
       (among_of w flow on same)) sparing through)
   from_delivery steps w after run on (inr (a, alone, place, bytes, last)) =
-      let has : HasArrived w a.passage.after a.passage.flow.sender (outgoing (count_of plan) w.stations a.passage.place a.passage.flow a.passage.bytes) (a.passage.receiver ∷ []) Acked =
+      let p = a.passage in
+      let has : HasArrived w p.after p.flow.sender (outgoing (count_of plan) w.stations p.place p.flow p.bytes) (p.receiver ∷ []) Acked =
       arrives_answered plan steps w run a alone in
-      let planned : slice_get (flows_of plan) m.place ≡ Some a.passage.flow = subst (λ (k : ℕ). slice_get (flows_of plan) k ≡ Some a.passage.flow) place a.passage.planned in
-      let there = subst (λ (x : World). HasArrived w x a.passage.flow.sender (outgoing (count_of plan) w.stations a.passage.place a.passage.flow a.passage.bytes) (a.passage.receiver ∷ []) Acked) last has in
-      let placed = subst (λ (k : ℕ). HasArrived w after a.passage.flow.sender (outgoing (count_of plan) w.stations k a.passage.flow a.passage.bytes) (a.passage.receiver ∷ []) Acked) place there in
-      let here : is_among (a.passage.receiver ∷ []) m.need.unit ≡ true =
-      subst (λ (to : To). is_among (targets_of (count_of plan) w.stations a.passage.flow.sender to) m.need.unit ≡ true) a.one
-      (among_of w a.passage.flow on (flow_here a.passage.flow planned)) in
-      from_arrival w after a.passage.flow (a.passage.receiver ∷ []) Acked here (flow_here a.passage.flow planned)
-      (subst (λ (bs : List ℕ). HasArrived w after a.passage.flow.sender (outgoing (count_of plan) w.stations m.place a.passage.flow bs) (a.passage.receiver ∷ []) Acked) bytes placed)
+      let planned : slice_get (flows_of plan) m.place ≡ Some p.flow = subst (λ (k : ℕ). slice_get (flows_of plan) k ≡ Some p.flow) place p.planned in
+      let there = subst (λ (x : World). HasArrived w x p.flow.sender (outgoing (count_of plan) w.stations p.place p.flow p.bytes) (p.receiver ∷ []) Acked)
+      last has in
+      let placed = subst (λ (k : ℕ). HasArrived w after p.flow.sender (outgoing (count_of plan) w.stations k p.flow p.bytes) (p.receiver ∷ []) Acked)
+      place there in
+      let here : is_among (p.receiver ∷ []) m.need.unit ≡ true =
+      subst (λ (to : To). is_among (targets_of (count_of plan) w.stations p.flow.sender to) m.need.unit ≡ true) a.one
+      (among_of w p.flow on (flow_here p.flow planned)) in
+      from_arrival w after p.flow (p.receiver ∷ []) Acked here (flow_here p.flow planned)
+      (subst (λ (bs : List ℕ). HasArrived w after p.flow.sender (outgoing (count_of plan) w.stations m.place p.flow bs) (p.receiver ∷ []) Acked)
+      bytes placed)
 
 pub is_reported : (plan : Plan) (steps : List Step) (w : World) → Clean plan → Run plan all_off steps w → (d : Delivered plan w) → ReportsNeeded plan w d
 is_reported plan steps w clean run d = from_delivery plan d.message steps w d.after run d.on d.through
@@ -164,12 +168,13 @@ pub is_reported_alone : (plan : Plan) (steps : List Step) (w : World) → Run pl
     → HasArrivedAlone w n.frame.passage.after n.message.flow.sender n.message.need.unit (record { flow = n.message.place; bytes = bytes_of n.message })
 is_reported_alone plan steps w run n =
     let m = n.message in
-    let has : HasArrivedAlone w n.frame.passage.after n.frame.passage.flow.sender n.frame.passage.receiver (record { flow = n.frame.passage.place; bytes = n.frame.passage.bytes }) =
+    let p = n.frame.passage in
+    let has : HasArrivedAlone w p.after p.flow.sender p.receiver (record { flow = p.place; bytes = p.bytes }) =
     arrives_alone plan steps w run n.frame in
-    let planned : slice_get (flows_of plan) m.place ≡ Some n.frame.passage.flow =
-    subst (λ (k : ℕ). slice_get (flows_of plan) k ≡ Some n.frame.passage.flow) n.place n.frame.passage.planned in
-    let by : n.frame.passage.flow.sender ≡ m.flow.sender = ap (λ (f : Flow). f.sender) (flow_here plan m n.frame.passage.flow planned) in
-    let unit = subst (λ (k : ℕ). HasArrivedAlone w n.frame.passage.after n.frame.passage.flow.sender k (record { flow = n.frame.passage.place; bytes = n.frame.passage.bytes })) n.receiver has in
-    let from = subst (λ (k : ℕ). HasArrivedAlone w n.frame.passage.after k m.need.unit (record { flow = n.frame.passage.place; bytes = n.frame.passage.bytes })) by unit in
-    let placed = subst (λ (k : ℕ). HasArrivedAlone w n.frame.passage.after m.flow.sender m.need.unit (record { flow = k; bytes = n.frame.passage.bytes })) n.place from in
-    subst (λ (bs : List ℕ). HasArrivedAlone w n.frame.passage.after m.flow.sender m.need.unit (record { flow = m.place; bytes = bs })) n.bytes placed
+    let planned : slice_get (flows_of plan) m.place ≡ Some p.flow =
+    subst (λ (k : ℕ). slice_get (flows_of plan) k ≡ Some p.flow) n.place p.planned in
+    let by : p.flow.sender ≡ m.flow.sender = ap (λ (f : Flow). f.sender) (flow_here plan m p.flow planned) in
+    let unit = subst (λ (k : ℕ). HasArrivedAlone w p.after p.flow.sender k (record { flow = p.place; bytes = p.bytes })) n.receiver has in
+    let from = subst (λ (k : ℕ). HasArrivedAlone w p.after k m.need.unit (record { flow = p.place; bytes = p.bytes })) by unit in
+    let placed = subst (λ (k : ℕ). HasArrivedAlone w p.after m.flow.sender m.need.unit (record { flow = k; bytes = p.bytes })) n.place from in
+    subst (λ (bs : List ℕ). HasArrivedAlone w p.after m.flow.sender m.need.unit (record { flow = m.place; bytes = bs })) n.bytes placed

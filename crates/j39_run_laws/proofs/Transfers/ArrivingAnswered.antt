@@ -28,6 +28,7 @@ use Rattle.j39_claim.specs.declared.item.Item.{Item}
 use Rattle.j39_world.specs.ClaimSteps.{GivenFrom, asked, heard_and_answered, switched_on}
 use Rattle.j39_network.specs.PlannedUnits.{units_of}
 use Rattle.j39_world.specs.Flows.{flows_of, windows_of, dest_of, is_short}
+use Rattle.j39_world.specs.Passage.{Passage}
 use Rattle.j39_world.specs.Run.{count_of, begin_refusals, refusal, StepsTo, Follows}
 use Rattle.j39_world.specs.Sound.{reported}
 use Rattle.j39_world.specs.SoundPlan.{Always}
@@ -188,34 +189,37 @@ module _ (plan : Plan) (u v : ℕ) (o : Outgoing) (before : List Begun) (apart :
 -- ---- it is begun
 
 module _ (plan : Plan) (w : World) (kept : IsKeptNamed plan w) (m : Answered plan w) (free_of : IsAlone plan w m) where
+  abbrev p : Passage plan
+  p = m.passage
+
   abbrev u : ℕ
-  u = m.passage.flow.sender
+  u = p.flow.sender
 
   abbrev v : ℕ
-  v = m.passage.receiver
+  v = p.receiver
 
   abbrev message : Outgoing
-  message = outgoing (count_of plan) w.stations m.passage.place m.passage.flow m.passage.bytes
+  message = outgoing (count_of plan) w.stations p.place p.flow p.bytes
 
   abbrev begun : World
-  begun = begins (count_of plan) w m.passage.place m.passage.flow m.passage.bytes
+  begun = begins (count_of plan) w p.place p.flow p.bytes
 
   abbrev earlier : List Begun
   earlier = reported w.reports v u
 
   begun_kept : IsKeptNamed plan begun
   begun_kept = record {
-    kept = begin_kept plan w kept.kept m.passage.place m.passage.flow m.passage.bytes m.allowed;
-    named = begin_named plan w kept.kept kept.named m.passage.place (Some m.passage.flow) m.passage.bytes m.allowed begun refl;
+    kept = begin_kept plan w kept.kept p.place p.flow p.bytes m.allowed;
+    named = begin_named plan w kept.kept kept.named p.place (Some p.flow) p.bytes m.allowed begun refl;
   }
 
   idle : w.sessions u ≡ None
   idle =
-      let (sendable, (on, (stated, (addressed, (free, rest))))) = none_hold (begin_refusals plan.live (count_of plan) w (Some m.passage.flow) m.passage.bytes) m.allowed in
+      let (sendable, (on, (stated, (addressed, (free, rest))))) = none_hold (begin_refusals plan.live (count_of plan) w (Some p.flow) p.bytes) m.allowed in
       no_session (w.sessions u) free
 
   long : 0 < packet_count message
-  long = (let above : 8 < length m.passage.bytes = leb-false (length m.passage.bytes) 8 m.several in omega (arith, above))
+  long = (let above : 8 < length p.bytes = leb-false (length p.bytes) 8 m.several in omega (arith, above))
 
   alone : message.targets ≡ v ∷ []
   alone = ap (targets_of (count_of plan) w.stations u) m.one
@@ -231,28 +235,29 @@ module _ (plan : Plan) (w : World) (kept : IsKeptNamed plan w) (m : Answered pla
       (planned.others v among).1 (sym same)
 
   stage_is : message.stage ≡ Waiting
-  stage_is = cond-false (is_short (length m.passage.bytes)) (Resting Sent) (sender.begun (dest_of m.passage.flow.to) (length m.passage.bytes)) m.several
-      ∙ ap (λ (to : To). sender.begun (dest_of to) (length m.passage.bytes)) m.one
+  stage_is = cond-false (is_short (length p.bytes)) (Resting Sent) (sender.begun (dest_of p.flow.to) (length p.bytes)) m.several
+      ∙ ap (λ (to : To). sender.begun (dest_of to) (length p.bytes)) m.one
 
-  item_is : first_item m.passage.flow m.passage.bytes ≡ wired.Packet (Rts (length m.passage.bytes) 255 m.passage.flow.pgn)
+  item_is : first_item p.flow p.bytes ≡ wired.Packet (Rts (length p.bytes) 255 p.flow.pgn)
   item_is =
-      cond-false (is_short (length m.passage.bytes)) (wired.Short m.passage.bytes) (wired.Packet (sender.announcement (dest_of m.passage.flow.to) m.passage.flow.pgn (length m.passage.bytes))) m.several
-      ∙ ap (λ (to : To). wired.Packet (sender.announcement (dest_of to) m.passage.flow.pgn (length m.passage.bytes))) m.one
+      cond-false (is_short (length p.bytes)) (wired.Short p.bytes) (wired.Packet (sender.announcement (dest_of p.flow.to) p.flow.pgn (length p.bytes)))
+      m.several
+      ∙ ap (λ (to : To). wired.Packet (sender.announcement (dest_of to) p.flow.pgn (length p.bytes))) m.one
 
   none_before : IsIdle (pair_of w u v)
   none_before = subst (λ (x : Option Outgoing). Exchange (message_to x v) (pair_of w u v)) idle (kept.kept.transfers.exchanges u v)
 
-  forth_before : AllByRecursion (IsBesideForth m.passage.flow.pgn) (w.wire u v)
-  forth_before = all_both exchanges.IsAnswering (IsNamed w.sessions u v) (IsBesideForth m.passage.flow.pgn)
-      (forth_beside w.sessions u v m.passage.flow.pgn idle free_of.first) (w.wire u v) none_before.wire (kept.named.wire u v)
+  forth_before : AllByRecursion (IsBesideForth p.flow.pgn) (w.wire u v)
+  forth_before = all_both exchanges.IsAnswering (IsNamed w.sessions u v) (IsBesideForth p.flow.pgn)
+      (forth_beside w.sessions u v p.flow.pgn idle free_of.first) (w.wire u v) none_before.wire (kept.named.wire u v)
 
-  back_before : AllByRecursion (IsBesideBack m.passage.flow.pgn) (w.wire v u)
-  back_before = all_both (IsAccounted w.sessions v u) (IsNamed w.sessions v u) (IsBesideBack m.passage.flow.pgn)
-      (back_beside w.sessions u v m.passage.flow.pgn idle free_of.first) (w.wire v u) (kept.kept.accounted.wire v u) (kept.named.wire v u)
+  back_before : AllByRecursion (IsBesideBack p.flow.pgn) (w.wire v u)
+  back_before = all_both (IsAccounted w.sessions v u) (IsNamed w.sessions v u) (IsBesideBack p.flow.pgn)
+      (back_beside w.sessions u v p.flow.pgn idle free_of.first) (w.wire v u) (kept.kept.accounted.wire v u) (kept.named.wire v u)
 
   begun_on_its_way : IsOnItsWay plan u v message earlier apart m.one alone message.stage (begun.wire u v) (begun.wire v u) (w.receivers v u) earlier
   begun_on_its_way =
-      let item : Wired = first_item m.passage.flow m.passage.bytes in
+      let item : Wired = first_item p.flow p.bytes in
       let forth : begun.wire u v ≡ w.wire u v ++ item ∷ [] =
       cond-true (eqb u u && is_among message.targets v) (w.wire u v ++ item ∷ []) (w.wire u v)
       (and_from (eqb u u) (is_among message.targets v) (eq-eqb u u refl)
@@ -261,10 +266,10 @@ module _ (plan : Plan) (w : World) (kept : IsKeptNamed plan w) (m : Answered pla
       record {
         coming = item ∷ [];
         answering = [];
-        wire = subst (λ (zs : List Wired). Holds (IsBesideForth m.passage.flow.pgn) zs (item ∷ [])) (sym forth)
-            (holds_own (IsBesideForth m.passage.flow.pgn) (w.wire u v) [] (item ∷ []) (holds_none (IsBesideForth m.passage.flow.pgn) (w.wire u v) forth_before));
-        answers = subst (λ (zs : List Wired). Holds (IsBesideBack m.passage.flow.pgn) zs []) (sym back)
-            (holds_none (IsBesideBack m.passage.flow.pgn) (w.wire v u) back_before);
+        wire = subst (λ (zs : List Wired). Holds (IsBesideForth p.flow.pgn) zs (item ∷ [])) (sym forth)
+            (holds_own (IsBesideForth p.flow.pgn) (w.wire u v) [] (item ∷ []) (holds_none (IsBesideForth p.flow.pgn) (w.wire u v) forth_before));
+        answers = subst (λ (zs : List Wired). Holds (IsBesideBack p.flow.pgn) zs []) (sym back)
+            (holds_none (IsBesideBack p.flow.pgn) (w.wire v u) back_before);
         at = inl (record {
           waits = stage_is;
           wire = ap (λ (x : Wired). x ∷ []) item_is;
@@ -279,19 +284,19 @@ module _ (plan : Plan) (w : World) (kept : IsKeptNamed plan w) (m : Answered pla
     stage = message.stage;
     session = session;
     other =
-        subst (λ (x : Option Outgoing). SendsOther x u m.passage.flow.pgn) (sym (changed_elsewhere w.sessions u (Some message) v (λ e. apart (sym e)))) free_of.first;
+        subst (λ (x : Option Outgoing). SendsOther x u p.flow.pgn) (sym (changed_elsewhere w.sessions u (Some message) v (λ e. apart (sym e)))) free_of.first;
     way = begun_on_its_way;
   }
 
   has_arrived : HasArrivedAnswered plan w m
   has_arrived =
-      let (here, now) = run_keeps plan u v message earlier apart m.one alone long m.passage.steps begun m.passage.after begun_kept begun_answering free_of.since m.runs in
-      let end = at_end plan u v message earlier apart m.one alone long m.passage.after here now m.through in
+      let (here, now) = run_keeps plan u v message earlier apart m.one alone long p.steps begun p.after begun_kept begun_answering free_of.since m.runs in
+      let end = at_end plan u v message earlier apart m.one alone long p.after here now m.through in
       record {
         rests = (at_stage plan u v message earlier apart m.one alone now.stage, now.session, end.0);
         reports = λ x among.
             let same : x ≡ v = among_one v x among in
-            subst (λ k. reported m.passage.after.reports k u ≡ reported w.reports k u ++ begun_of message ∷ []) (sym same) end.1;
+            subst (λ k. reported p.after.reports k u ≡ reported w.reports k u ++ begun_of message ∷ []) (sym same) end.1;
       }
 
 pub arrives_answered : (plan : Plan) → Always plan (ArrivesAnswered plan)

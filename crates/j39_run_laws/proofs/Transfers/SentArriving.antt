@@ -12,6 +12,7 @@ use Rattle.j39_world.specs.declared.step_error.StepError.{StepError}
 use Rattle.j39_world.specs.declared.wired.Wired.{Wired}
 use Rattle.j39_world.specs.declared.wired.Wired.TheVariants as wired
 use Rattle.j39_world.specs.Ending.{IsOfTransfers}
+use Rattle.j39_world.specs.Passage.{Passage}
 use Rattle.j39_world.specs.Run.{Follows, StepsTo, count_of, refusal}
 use Rattle.j39_world.specs.SentArriving.{HasArrivedAlone, IsNextAlone, RunSparingAlone, SentAlone, SentFramesArrive, SentFramesCanArrive, SparesAlone}
 use Rattle.j39_world.specs.SentArriving.{is_oldest_alone, lying_alone}
@@ -257,61 +258,64 @@ nothing_lies plan u v w kept taken (item ∷ rest) is =
 -- ---- it is sent
 
 module _ (plan : Plan) (w : World) (kept : IsKept plan w) (s : SentAlone plan w) where
+  abbrev p : Passage plan
+  p = s.passage
+
   abbrev one : Begun
-  one = record { flow = s.passage.place; bytes = s.passage.bytes }
+  one = record { flow = p.place; bytes = p.bytes }
 
   abbrev begun : World
-  begun = sends_alone (count_of plan) w s.passage.place s.passage.flow s.passage.bytes
+  begun = sends_alone (count_of plan) w p.place p.flow p.bytes
 
   abbrev stated : List Begun
-  stated = reported_alone w.reports s.passage.receiver s.passage.flow.sender
+  stated = reported_alone w.reports p.receiver p.flow.sender
 
   abbrev lay : List Begun
-  lay = lying_alone (w.wire s.passage.flow.sender s.passage.receiver)
+  lay = lying_alone (w.wire p.flow.sender p.receiver)
 
   abbrev passed : List Begun
-  passed = w.sent_alone s.passage.flow.sender s.passage.receiver
+  passed = w.sent_alone p.flow.sender p.receiver
 
-  here : (eqb s.passage.flow.sender s.passage.flow.sender && is_among (targets_of (count_of plan) w.stations s.passage.flow.sender s.passage.flow.to) s.passage.receiver) ≡ true
-  here = and_from (eqb s.passage.flow.sender s.passage.flow.sender) (is_among (targets_of (count_of plan) w.stations s.passage.flow.sender s.passage.flow.to) s.passage.receiver)
-      (eq-eqb s.passage.flow.sender s.passage.flow.sender refl) s.among
+  here : (eqb p.flow.sender p.flow.sender && is_among (targets_of (count_of plan) w.stations p.flow.sender p.flow.to) p.receiver) ≡ true
+  here = and_from (eqb p.flow.sender p.flow.sender) (is_among (targets_of (count_of plan) w.stations p.flow.sender p.flow.to) p.receiver)
+      (eq-eqb p.flow.sender p.flow.sender refl) s.among
 
-  wire_now : begun.wire s.passage.flow.sender s.passage.receiver ≡ w.wire s.passage.flow.sender s.passage.receiver ++ wired.Alone s.passage.place s.passage.bytes ∷ []
-  wire_now = cond-true (eqb s.passage.flow.sender s.passage.flow.sender && is_among (targets_of (count_of plan) w.stations s.passage.flow.sender s.passage.flow.to) s.passage.receiver)
-      (w.wire s.passage.flow.sender s.passage.receiver ++ wired.Alone s.passage.place s.passage.bytes ∷ []) (w.wire s.passage.flow.sender s.passage.receiver) here
+  wire_now : begun.wire p.flow.sender p.receiver ≡ w.wire p.flow.sender p.receiver ++ wired.Alone p.place p.bytes ∷ []
+  wire_now = cond-true (eqb p.flow.sender p.flow.sender && is_among (targets_of (count_of plan) w.stations p.flow.sender p.flow.to) p.receiver)
+      (w.wire p.flow.sender p.receiver ++ wired.Alone p.place p.bytes ∷ []) (w.wire p.flow.sender p.receiver) here
 
-  sent_now : begun.sent_alone s.passage.flow.sender s.passage.receiver ≡ passed ++ one ∷ []
-  sent_now = cond-true (eqb s.passage.flow.sender s.passage.flow.sender && is_among (targets_of (count_of plan) w.stations s.passage.flow.sender s.passage.flow.to) s.passage.receiver)
+  sent_now : begun.sent_alone p.flow.sender p.receiver ≡ passed ++ one ∷ []
+  sent_now = cond-true (eqb p.flow.sender p.flow.sender && is_among (targets_of (count_of plan) w.stations p.flow.sender p.flow.to) p.receiver)
       (passed ++ one ∷ []) passed here
 
   -- it lies behind what lay there
-  at_first : IsThere stated lay passed one (reported_alone begun.reports s.passage.receiver s.passage.flow.sender) (lying_alone (begun.wire s.passage.flow.sender s.passage.receiver))
-      (begun.sent_alone s.passage.flow.sender s.passage.receiver)
+  at_first : IsThere stated lay passed one (reported_alone begun.reports p.receiver p.flow.sender) (lying_alone (begun.wire p.flow.sender p.receiver))
+      (begun.sent_alone p.flow.sender p.receiver)
   at_first = inl (record {
     earlier = [];
     ahead = lay;
     since = [];
     sent_so = sent_now;
     reported_so = sym (append-nil stated);
-    lies_so = ap lying_alone wire_now ∙ lying_more (w.wire s.passage.flow.sender s.passage.receiver) (wired.Alone s.passage.place s.passage.bytes ∷ []);
+    lies_so = ap lying_alone wire_now ∙ lying_more (w.wire p.flow.sender p.receiver) (wired.Alone p.place p.bytes ∷ []);
     before_it = subsequence_same lay;
   })
 
-  all_first : AllFollowed plan s.passage.flow.sender s.passage.receiver stated lay passed one begun
+  all_first : AllFollowed plan p.flow.sender p.receiver stated lay passed one begun
   all_first x y is_u is_v =
       subst (λ (k : ℕ). IsThere stated lay passed one (reported_alone begun.reports y k) (lying_alone (begun.wire k y)) (begun.sent_alone k y)) (sym is_u)
-      (subst (λ (k : ℕ). IsThere stated lay passed one (reported_alone begun.reports k s.passage.flow.sender) (lying_alone (begun.wire s.passage.flow.sender k))
-      (begun.sent_alone s.passage.flow.sender k)) (sym is_v) at_first)
+      (subst (λ (k : ℕ). IsThere stated lay passed one (reported_alone begun.reports k p.flow.sender) (lying_alone (begun.wire p.flow.sender k))
+      (begun.sent_alone p.flow.sender k)) (sym is_v) at_first)
 
-  has_arrived : HasArrivedAlone w s.passage.after s.passage.flow.sender s.passage.receiver one
+  has_arrived : HasArrivedAlone w p.after p.flow.sender p.receiver one
   has_arrived =
-      let (there, all) = run_followed plan s.passage.flow.sender s.passage.receiver stated lay passed one s.passage.steps begun s.passage.after
-      (send_kept plan w kept s.passage.place s.passage.flow s.passage.bytes s.allowed) all_first s.runs in
-      let none = nothing_lies plan s.passage.flow.sender s.passage.receiver s.passage.after there s.taken (s.passage.after.wire s.passage.flow.sender s.passage.receiver) refl in
-      let now : IsStated stated lay passed one (reported_alone s.passage.after.reports s.passage.receiver s.passage.flow.sender) [] (s.passage.after.sent_alone s.passage.flow.sender s.passage.receiver) =
-      none_there stated lay passed one (reported_alone s.passage.after.reports s.passage.receiver s.passage.flow.sender) (s.passage.after.sent_alone s.passage.flow.sender s.passage.receiver)
-      (subst (λ (list : List Begun). IsThere stated lay passed one (reported_alone s.passage.after.reports s.passage.receiver s.passage.flow.sender) list
-      (s.passage.after.sent_alone s.passage.flow.sender s.passage.receiver)) none (all s.passage.flow.sender s.passage.receiver refl refl)) in
+      let (there, all) = run_followed plan p.flow.sender p.receiver stated lay passed one p.steps begun p.after
+      (send_kept plan w kept p.place p.flow p.bytes s.allowed) all_first s.runs in
+      let none = nothing_lies plan p.flow.sender p.receiver p.after there s.taken (p.after.wire p.flow.sender p.receiver) refl in
+      let now : IsStated stated lay passed one (reported_alone p.after.reports p.receiver p.flow.sender) [] (p.after.sent_alone p.flow.sender p.receiver) =
+      none_there stated lay passed one (reported_alone p.after.reports p.receiver p.flow.sender) (p.after.sent_alone p.flow.sender p.receiver)
+      (subst (λ (list : List Begun). IsThere stated lay passed one (reported_alone p.after.reports p.receiver p.flow.sender) list
+      (p.after.sent_alone p.flow.sender p.receiver)) none (all p.flow.sender p.receiver refl refl)) in
       record {
         earlier = now.earlier;
         later = now.later;
