@@ -2,6 +2,7 @@
 
 from __future__ import annotations
 
+import json
 import os
 import re
 import shutil
@@ -16,7 +17,7 @@ import build
 import crates
 
 # How long a check may take, by the clock, and how often one is tried that was killed.
-SECONDS, TRIES = 1800, 2
+SECONDS, TRIES = 3600, 2
 # What the prover says of a proof that names what isn't there.
 GONE = re.compile(r"has no field|is not in scope|has no `|was not admitted")
 
@@ -110,9 +111,26 @@ def own_reason(kind: str, more: str) -> str:
     return "" if "it calls" in more or "it passes" in more or kind == "could not tell" else f"{kind}{more[:80]}"
 
 
+def take_proved(library: str, kept: str) -> None:
+    """Puts each module of a library as its proof has checked it into a folder of what checks keep, so that a check proves none again that
+    is as it was. The library has them in one file, by an index of names, places and sizes; the folder's name is that of the prover."""
+    with open(f"{library}/format", encoding="utf-8") as lines:
+        prover = re.search(r"^rattle-build (\S+)$", lines.read(), re.M)
+    if prover is None:
+        return
+    folder = f"{kept}/{prover[1].replace('/', '_')}"
+    os.mkdir(folder)
+    with open(f"{library}/toolchain/checked.json", encoding="utf-8") as lines, open(f"{library}/toolchain/checked.a", "rb") as modules:
+        for name, place, size in map(json.loads, lines):
+            if "/" not in name:
+                modules.seek(place)
+                with open(f"{folder}/{name}.oantt", "wb") as file:
+                    file.write(modules.read(size))
+
+
 class Lab:
-    """A copy of a crate in which edits are tried, and what its checks keep: a later one takes what an earlier one has proved of functions
-    that are as they were."""
+    """A copy of a crate in which edits are tried, and what its checks keep: one takes what the library's proof or an earlier check has
+    proved of functions that are as they were."""
 
     def __init__(self, name: str, top: str, keep: str) -> None:
         self.crate, self.top, self.keep = name, top, keep
@@ -120,6 +138,8 @@ class Lab:
         self.words = words_of(name)
         self.count, self.seconds = 0, 0.0
         os.mkdir(self.kept)
+        if os.path.isdir(library := f"{crates.folder(name)}/out/rlib/{name}.rlib"):
+            take_proved(library, self.kept)
 
     def fresh(self) -> str:
         shutil.rmtree(self.room, ignore_errors=True)

@@ -5,6 +5,8 @@ libraries that were built. What counts is processor time, which other work on th
 usage: costs.py CRATE [COUNT]           proves the library or the program; shows the dearest COUNT, else 20
        costs.py --all FILE [CRATE..]    proves these crates, else all, one after another, and writes a page of what they and their dearest
                                         functions cost
+       costs.py --beside TREE [CRATE..] proves these crates, else all, here and in another checkout, each pair at one time, and shows what both
+                                        take. A machine's speed changes by the hour; such pairs of equal sources agree within 2 %
        costs.py --test CRATE [COUNT]    proves, builds and runs the crate's tests, over what ./j39plan has built
        costs.py --kept CRATE [COUNT]    checks nothing: shows how much earlier checks have written of each function, also of forms that it
                                         no longer has, and at the end what of all this stands in the library that was built last
@@ -193,6 +195,22 @@ def of_all(file: str, names: list[str]) -> int:
     return 0
 
 
+def of_two(tree: str, names: list[str]) -> int:
+    """Proves crates in another checkout and here, each in both at one time, and shows what both take."""
+    sums = [0, 0]
+    for name in names:
+        words = [[sys.executable, f"{top}/gate/costs.py", name, "0"] for top in (tree, crates.TOP)]
+        started = [subprocess.Popen(it, stdin=subprocess.DEVNULL, stdout=subprocess.PIPE, text=True) for it in words]
+        said = [it.communicate()[0] for it in started]
+        seconds = [int(found[1]) for it in said if (found := re.match(rf"{name}: (\d+) s ", it))]
+        if len(seconds) != len(said):
+            return 1
+        sums = [sum(it) for it in zip(sums, seconds)]
+        print(f"{name}: {seconds[0]} s there, {seconds[1]} here", flush=True)
+    print(f"all: {sums[0]} s there, {sums[1]} here")
+    return 0
+
+
 def of_one(name: str, words: list[str], count: int) -> int:
     """Proves a crate, and shows what that takes."""
     found = proof_of(name, words)
@@ -204,16 +222,19 @@ def of_one(name: str, words: list[str], count: int) -> int:
 
 
 def main(words: list[str]) -> int:
-    mode = words[0] if words and words[0] in ("--all", "--test", "--kept") else ""
+    mode = words[0] if words and words[0] in ("--all", "--beside", "--test", "--kept") else ""
     names = words[1:] if mode else words
-    file = names.pop(0) if mode == "--all" and names else ""
-    if any(it not in crates.below() for it in (names if mode == "--all" else names[:1] or [""])) or mode == "--all" and not file:
+    is_of_many = mode in ("--all", "--beside")
+    where = names.pop(0) if is_of_many and names else ""
+    if any(it not in crates.below() for it in (names if is_of_many else names[:1] or [""])) or is_of_many and not where:
         print(__doc__, file=sys.stderr)
         return 2
     # what is stopped ends what it has started, and removes its copy
     signal.signal(signal.SIGTERM, lambda *_: sys.exit(1))
     if mode == "--all":
-        return of_all(file, names or list(crates.below()))
+        return of_all(where, names or list(crates.below()))
+    if mode == "--beside":
+        return of_two(os.path.abspath(where), names or list(crates.below()))
     name, count = names[0], int(names[1]) if names[1:] else COUNT
     if mode == "--kept":
         return of_kept(name, count)

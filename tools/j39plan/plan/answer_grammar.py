@@ -1,5 +1,6 @@
 """The grammar of what the program answers of a plan: each line of `check`, `addresses` and `load`, by its parts."""
 
+import functools
 import re
 from typing import NamedTuple
 
@@ -23,23 +24,32 @@ LABEL, NUMBER = r"[A-Za-z0-9_]{1,32}", r"\d+"
 IN = rf"(?: in (?P<variant>{LABEL}(?: {LABEL})*))?"
 
 
-class Form(NamedTuple):
-    """What a line looks like, and which of its parts are numbers."""
+class Form:
+    """What a line looks like: how it begins, its pattern, and which of its parts are numbers. The pattern is compiled once a line begins so."""
 
-    pattern: re.Pattern[str]
-    numbers: frozenset[str]
+    def __init__(self, start: str, pattern: str, numbers: frozenset[str]) -> None:
+        self.start, self.text, self.numbers = start, pattern, numbers
+
+    @functools.cached_property
+    def pattern(self) -> re.Pattern[str]:
+        """Its pattern."""
+        return re.compile(self.text)
+
+    def match(self, text: str) -> re.Match[str] | None:
+        """The parts of a line that has this form."""
+        return self.pattern.fullmatch(text) if text.startswith(self.start) else None
 
 
-def form_of(text: str) -> Form:
-    """The form of a line in which `{key}` is a label and `{#key}` a number."""
+def form_of(text: str, start: str = "") -> Form:
+    """The form of a line in which `{key}` is a label and `{#key}` a number. It begins as is said, or by the words ahead of its parts."""
     pattern = re.sub(r"\{(#?)([a-z_]+)\}", lambda part: f"(?P<{part.group(2)}>{NUMBER if part.group(1) else LABEL})", text)
-    return Form(re.compile(pattern), frozenset(re.findall(r"\{#([a-z_]+)\}", text)))
+    return Form(start or re.split("[^a-z ]", text, maxsplit=1)[0], pattern, frozenset(re.findall(r"\{#([a-z_]+)\}", text)))
 
 
 def finding_form(text: str) -> Form:
     """The form of a finding."""
     number, name, *parts = text.split()
-    return form_of(" ".join([f"(?P<finding>{number})", f"(?P<name>{name})", *(f"{{{part}}}" for part in parts)]) + IN)
+    return form_of(" ".join([f"(?P<finding>{number})", f"(?P<name>{name})", *(f"{{{part}}}" for part in parts)]) + IN, f"{number} {name}")
 
 
 # The lines, by what they are. Times are in us.
@@ -102,7 +112,7 @@ def line_of(text: str, lines: dict[str, list[Form]] = LINES) -> Line:
     """A line of an answer by its parts."""
     for kind, forms in lines.items():
         for form in forms:
-            if found := form.pattern.fullmatch(text):
+            if found := form.match(text):
                 said = {part: word for part, word in found.groupdict().items() if word is not None}
                 return Line(kind, {part: int(word) if part in form.numbers else word for part, word in said.items()}, text)
     raise Unknown(text)
