@@ -233,7 +233,7 @@ def module_map() -> str:
 
 def help_of(words: list[str]) -> str:
     """What a command answers to --help, in lines of 100 columns."""
-    environment = {**os.environ, "COLUMNS": "100", "PYTHONDONTWRITEBYTECODE": "1"}
+    environment = {**os.environ, "COLUMNS": "100"}
     return subprocess.run([*words, "--help"], cwd=crates.TOP, stdin=subprocess.DEVNULL, capture_output=True, text=True, check=True, env=environment).stdout
 
 

@@ -12,7 +12,7 @@ import sys
 import tempfile
 import traceback
 from collections.abc import Callable, Iterable, Iterator, Sequence
-from typing import IO, NoReturn
+from typing import IO, Any, NoReturn
 
 from j39plan.left_out import Notes
 
@@ -150,9 +150,16 @@ class Version(argparse.Action):
         words.exit()
 
 
+class Words(argparse.ArgumentParser):
+    """The words of a command line. A device that can't take its help is a fault, which newer versions of the library pass over."""
+
+    def print_help(self, file: Any = None) -> None:
+        print(self.format_help(), end="", file=file)
+
+
 def parser(description: str, own_version: bool = False) -> argparse.ArgumentParser:
     """The words of a tool's command line, its help and its version among them, unless the tool has a `--version` of its own."""
-    words = argparse.ArgumentParser(description=" ".join(description.split("\n\n", maxsplit=1)[0].split()))
+    words = Words(description=" ".join(description.split("\n\n", maxsplit=1)[0].split()))
     if own_version:
         return words
     words.add_argument("--version", action=Version, nargs=0, help="print the version and exit")

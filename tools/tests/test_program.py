@@ -1,5 +1,6 @@
 """How the tools end."""
 
+import itertools
 import os
 import subprocess
 import sys
@@ -20,10 +21,10 @@ TOOL = "import sys; sys.path.insert(0, {tools!r}); sys.argv[0] = 'tool.py'; from
 
 
 class End(InFolder):
-    def ended(self, words: list[str], **more: Any) -> tuple[int, str]:
-        """A tool's exit status and standard error, its standard output being given."""
+    def ended(self, words: list[str], unbuffered: str = "", **more: Any) -> tuple[int, str]:
+        """A tool's exit status and standard error, its standard output being given, and whether it writes each text at once."""
         ended = subprocess.run([sys.executable, *words], stderr=subprocess.PIPE, text=True, check=False,
-                               env={**os.environ, "J39PLAN": program.path()}, **more)
+                               env={**os.environ, "J39PLAN": program.path(), "PYTHONUNBUFFERED": unbuffered}, **more)
         return ended.returncode, ended.stderr
 
     def main(self, main: str) -> tuple[int, str]:
@@ -58,19 +59,19 @@ class End(InFolder):
         self.assertEqual(lines[100_001:], ["refused line 50002 TooManyFrames", "unit A address 128", "unit B off", "settled"])
 
     def test_a_closed_pipe(self) -> None:
-        for words in CALLS:
+        for words, unbuffered in itertools.product(CALLS, ("", "1")):
             reader, writer = os.pipe()
             os.close(reader)
-            status, said = self.ended([os.path.join(TOOLS, words[0]), *words[1:]], stdout=writer)
+            status, said = self.ended([os.path.join(TOOLS, words[0]), *words[1:]], unbuffered, stdout=writer)
             os.close(writer)
             self.assertEqual(status, 4, words)
             self.assertNotIn("Traceback", said)
             self.assertNotIn("Exception", said)
 
     def test_a_full_device(self) -> None:
-        for words in CALLS:
+        for words, unbuffered in itertools.product(CALLS, ("", "1")):
             with open("/dev/full", "w", encoding="utf-8") as full:
-                status, said = self.ended([os.path.join(TOOLS, words[0]), *words[1:]], stdout=full)
+                status, said = self.ended([os.path.join(TOOLS, words[0]), *words[1:]], unbuffered, stdout=full)
             self.assertEqual((status, said.splitlines()[-1]), (4, f"{words[0][:-3]}: No space left on device"))
 
     def test_a_closed_standard_output(self) -> None:

@@ -23,6 +23,9 @@ MOST = 20
 # The keys that the library names in what it says.
 NAMED = re.compile(r"'(\w+)' is a (?:required property|dependency of '(?:\w+)')")
 
+# What no value meets. Of the schema false the library's later versions don't say which key has it.
+NEVER: Rule = {"not": {}}
+
 
 class Fault(NamedTuple):
     """A fault by the schema: the table, its key, and what is wrong with that, as refusals call it."""
@@ -74,6 +77,16 @@ def readable(text: str) -> tuple[list[Told], str, set[str]]:
     return told, text, left_out
 
 
+def named(rule: Any) -> Any:
+    """A schema in which `NEVER` stands for false where that is the schema of a key."""
+    if isinstance(rule, list):
+        return [named(part) for part in rule]
+    if not isinstance(rule, dict):
+        return rule
+    keys = {key: NEVER if part is False else named(part) for key, part in rule.get("properties", {}).items()}
+    return {word: keys if word == "properties" else named(part) for word, part in rule.items()}
+
+
 def errors_of(text: str, rule: Rule, versions: Container[object]) -> list[Any]:
     """What the library finds wrong with a text of one of these versions by a schema; nothing where it isn't there."""
     try:
@@ -84,7 +97,7 @@ def errors_of(text: str, rule: Rule, versions: Container[object]) -> list[Any]:
     if values.get("version") not in versions:
         return []
     types = Draft7Validator.TYPE_CHECKER.redefine("integer", lambda _, value: type(value) is int)  # 10.0 is none
-    return list(validators.extend(Draft7Validator, type_checker=types)(rule).iter_errors(values))
+    return list(validators.extend(Draft7Validator, type_checker=types)(named(rule)).iter_errors(values))
 
 
 def by_plan_schema(text: str, left_out: set[str]) -> list[Told]:
@@ -119,7 +132,8 @@ def faults_of(error: Any) -> Iterator[Fault]:
             table, key = table[:-1], "claims"
         if isinstance(path[-1], int) and key != "keep_free":  # an element of an array
             return
-        cause = {None: "UnknownKey", "type": "WrongType", "maxItems": "TooMany", "maxProperties": "TooMany"}.get(error.validator, "Range")
+        cause = {"type": "WrongType", "maxItems": "TooMany", "maxProperties": "TooMany"}.get(error.validator, "Range")
+        cause = "UnknownKey" if error.schema == NEVER else cause
         yield Fault(table, key, cause)
 
 
