@@ -33,8 +33,8 @@ pub near_with : {kept : KeptMoments} {tally : MarkTally} {pauses : Pauses} → A
 near_with near pauses = record { earliest = near.earliest; since = near.since; pauses = pauses }
 
 pub recalls_with : {kept : KeptMoments} {m : Moments} {tally : MarkTally} {untimely : List Noted} {pauses : Pauses} {newest : ℕ → Option Newest}
-    {last : ℕ → Option LastFrame} → RecallsMoments kept m → AreCounted tally untimely → IsKeptAt pauses.newest.items pauses.open newest
-    → IsKeptAt pauses.last.items pauses.open last
+    {last : ℕ → Option LastFrame} → RecallsMoments kept m → AreCounted tally untimely → IsKeptAt pauses.newest.items pauses.is_open newest
+    → IsKeptAt pauses.last.items pauses.is_open last
     → RecallsMoments (record kept { untimely = tally; pauses = pauses }) (record m { untimely = untimely; newest = newest; last = last })
 recalls_with recalls counted newest last = record {
   before = recalls.before;

@@ -39,7 +39,7 @@ pub struct ClaimRequest {
 pub(crate) struct Asking {
     pub asked: Vec<Option<ClaimRequest>>,
     // Whether there may be one.
-    pub open: bool,
+    pub is_open: bool,
     pub deaf: MarkTally,
 }
 
@@ -125,7 +125,7 @@ impl Asking {
         let asked = nothing_kept(alloc, basis.plan.units.len())?;
         Ok(Asking {
             asked,
-            open: false,
+            is_open: false,
             deaf: MarkTally::new(alloc),
         })
     }
@@ -135,9 +135,9 @@ impl Asking {
         ensures { (a : AnAsking) → RecallsAsking (settings_of basis.now) self.old a
             → RecallsAsking (settings_of basis.now) self.new (all_forgotten a) }
     {
-        if self.open {
+        if self.is_open {
             forget_each(&mut self.asked);
-            self.open = false;
+            self.is_open = false;
         }
     }
 
@@ -184,7 +184,7 @@ impl Asking {
     )
         requires unit { unit < length self.old.asked.items }
         requires sender { sender ≡ sender_at (settings_of basis.now) (known_by known.now) frame.now.ident.ps }
-        ensures open { self.new.open ≡ self.old.open }
+        ensures is_open { self.new.is_open ≡ self.old.is_open }
         ensures deaf { self.new.deaf ≡ self.old.deaf }
         ensures size { length self.new.asked.items ≡ length self.old.asked.items }
         ensures others { (u : ℕ) → u ≢ unit → request_in self.new u ≡ request_in self.old u }
@@ -201,7 +201,7 @@ impl Asking {
         ensures { (a : AnAsking) → RecallsAsking (settings_of basis.now) self.old a
             → RecallsAsking (settings_of basis.now) self.new (asked_with (settings_of basis.now) (known_by known.now) frame.now request a) }
     {
-        self.open = true;
+        self.is_open = true;
         let sender = sender_at(basis, known, frame.ident.ps);
         for unit in 0..self.asked.len() {
             self.ask_unit(basis, known, frame, sender, request, unit);

@@ -37,7 +37,7 @@ pub struct BegunBroadcast {
 pub(crate) struct BegunBroadcasts {
     pub begun: Vec<Option<BegunBroadcast>>,
     // Whether there may be one.
-    pub open: bool,
+    pub is_open: bool,
     pub late: MarkTally,
 }
 
@@ -120,7 +120,7 @@ impl BegunBroadcasts {
         let begun = nothing_kept(alloc, basis.plan.units.len())?;
         Ok(BegunBroadcasts {
             begun,
-            open: false,
+            is_open: false,
             late: MarkTally::new(alloc),
         })
     }
@@ -131,7 +131,7 @@ impl BegunBroadcasts {
         ensures { (b : SomeBroadcasts) → RecallsBroadcasts (settings_of basis.now) self.old b
             → RecallsBroadcasts (settings_of basis.now) self.new (with_one unit one b) }
     {
-        self.open = true;
+        self.is_open = true;
         keep_at(&mut self.begun, unit, one);
     }
 
@@ -140,9 +140,9 @@ impl BegunBroadcasts {
         ensures { (b : SomeBroadcasts) → RecallsBroadcasts (settings_of basis.now) self.old b
             → RecallsBroadcasts (settings_of basis.now) self.new (all_ended b) }
     {
-        if self.open {
+        if self.is_open {
             forget_each(&mut self.begun);
-            self.open = false;
+            self.is_open = false;
         }
     }
 

@@ -225,7 +225,7 @@ impl Moments {
     {
         let since = self.since;
         let last = LastFrame { line, since };
-        self.pauses.open = true;
+        self.pauses.is_open = true;
         keep_at(&mut self.pauses.last, unit, Some(last));
     }
 

@@ -49,7 +49,7 @@ pub(crate) struct Pauses {
     pub newest: Vec<Option<Newest>>,
     pub last: Vec<Option<LastFrame>>,
     // Whether there may be one.
-    pub open: bool,
+    pub is_open: bool,
 }
 
 // The one of the earlier line.
@@ -77,7 +77,7 @@ impl Pauses {
         Ok(Pauses {
             newest,
             last,
-            open: false,
+            is_open: false,
         })
     }
 
@@ -114,7 +114,7 @@ impl Pauses {
     {
         forget_each(&mut self.newest);
         forget_each(&mut self.last);
-        self.open = false;
+        self.is_open = false;
     }
 }
 

@@ -114,7 +114,7 @@ impl Moments {
         note_silent(&mut self.untimely, place, newest, by)?;
         let moment = latest_next(pause, latest, window);
         let next = Newest { moment, line };
-        self.pauses.open = true;
+        self.pauses.is_open = true;
         keep_at(&mut self.pauses.newest, place, Some(next));
         Ok(())
     }
@@ -226,7 +226,7 @@ impl Moments {
         ensures moments { OnOk result ((m : AMoments) → RecallsMoments self.old m → RecallsMoments self.new
             (pauses_dropped (pauses_ended (settings_of basis.now) timing None (length basis.now.plan.now.flows.items) m))) }
     {
-        if !self.pauses.open {
+        if !self.pauses.is_open {
             return Ok(());
         }
         self.end_flows(basis, timing, None)?;

@@ -6,7 +6,7 @@ use crate::{Failed, Verdict};
 use std::alloc::AllocError;
 use thiserror::Error;
 
-/// What comes of a command.
+/// What comes of a command: its verdict, or the fault for which it gave up.
 pub type CommandResult = Result<Verdict, Fault>;
 
 /// Why a command gave up.

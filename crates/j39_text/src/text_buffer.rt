@@ -12,7 +12,7 @@ use std::marker::Model;
 /// What comes of writing: memory can be refused, and nothing else.
 pub type WriteResult = Result<(), AllocError>;
 
-/// A whole text, and the verdict that it gives.
+/// A whole text, and the verdict that it gives: memory can be refused, and nothing else.
 pub type ReportResult = Result<(TextBuffer, Verdict), AllocError>;
 
 const DIGITS: [u8; 16] = *b"0123456789ABCDEF";

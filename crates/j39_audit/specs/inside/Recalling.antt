@@ -79,8 +79,8 @@ abbrev pub last_in_pauses : Pauses → ℕ → Option LastFrame
 last_in_pauses pauses u = slice_index_or pauses.last.items u None
 
 pub record RecallsPauses (pauses : Pauses) (m : Moments) : Type 0 where
-  pub newest : IsKeptAt pauses.newest.items pauses.open m.newest
-  pub last : IsKeptAt pauses.last.items pauses.open m.last
+  pub newest : IsKeptAt pauses.newest.items pauses.is_open m.newest
+  pub last : IsKeptAt pauses.last.items pauses.is_open m.last
 
 pub record ArePausesNear (pauses : Pauses) : Type 0 where
   pub newest : (n : ℕ) → IfSome (newest_in pauses n) (λ x. x.moment < far_ahead)
@@ -110,7 +110,7 @@ request_in kept u = slice_index_or kept.asked.items u None
 -- who is asked is kept
 pub record RecallsAsking (s : Settings) (kept : KeptAsking) (a : Asking) : Type 0 where
   pub size : length kept.asked.items ≡ length s.plan.units.items
-  pub asked : IsKeptAt kept.asked.items kept.open a.asked
+  pub asked : IsKeptAt kept.asked.items kept.is_open a.asked
   pub counted : AreCounted kept.deaf a.deaf
 
 -- ---- broadcasts
@@ -121,7 +121,7 @@ begun_in kept u = slice_index_or kept.begun.items u None
 -- those that have begun are kept
 pub record RecallsBroadcasts (s : Settings) (kept : KeptBroadcasts) (b : BegunBroadcasts) : Type 0 where
   pub size : length kept.begun.items ≡ length s.plan.units.items
-  pub begun : IsKeptAt kept.begun.items kept.open b.begun
+  pub begun : IsKeptAt kept.begun.items kept.is_open b.begun
   pub counted : AreCounted kept.late b.late
 
 -- ---- claims

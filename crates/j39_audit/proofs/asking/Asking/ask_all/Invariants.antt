@@ -6,7 +6,7 @@ use Rattle.j39_audit.proofs.asking.Asking.ask_all.Given as goal
 
 abbrev pub invariant-loop-unit : goal.invariant-loop-unit
 invariant-loop-unit l = record {
-  opened : l.self.open ≡ true;
+  opened : l.self.is_open ≡ true;
   deaf : l.self.deaf ≡ l.fn.self.deaf;
   size : length l.self.asked.items ≡ length l.fn.self.asked.items;
   before : (u : ℕ) → u < l.unit → request_in l.self u ≡ option_or (request_in l.fn.self u)
