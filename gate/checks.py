@@ -113,7 +113,8 @@ def own_reason(kind: str, more: str) -> str:
 
 def take_proved(library: str, kept: str) -> None:
     """Puts each module of a library as its proof has checked it into a folder of what checks keep, so that a check proves none again that
-    is as it was. The library has them in one file, by an index of names, places and sizes; the folder's name is that of the prover."""
+    is as it was. The library has them in one file, by an index of names, places and sizes; the folder's name is that of the prover. A
+    library that `rt ci` has built holds statements alone, all of other names, and gives nothing."""
     with open(f"{library}/format", encoding="utf-8") as lines:
         prover = re.search(r"^rattle-build (\S+)$", lines.read(), re.M)
     if prover is None:
