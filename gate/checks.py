@@ -20,6 +20,7 @@ import crates
 SECONDS, TRIES = 3600, 2
 # What the prover says of a proof that names what isn't there.
 GONE = re.compile(r"has no field|is not in scope|has no `|was not admitted")
+ONLY_GONE = "only since its proof names what the edit took away"
 
 
 def kit() -> str:
@@ -72,7 +73,7 @@ class Said:
         files = f"./proofs/{'/'.join(name.split('::')[1:])}/"
         found = [it for it in (re.match(r"\./proofs/(\S+): error: (.*)", line) for line in self.lines() if line.startswith(files)) if it]
         real = [it for it in found if not GONE.search(it[2])]
-        told = "" if real or not found else "only since its proof names what the edit took away, so change a value and keep the names: "
+        told = "" if real or not found else f"{ONLY_GONE}, so change a value and keep the names: "
         return next((f"{told}{it[1]}: {it[2][:100]}" for it in real or found), "")
 
     def proved(self) -> set[str]:

@@ -20,7 +20,8 @@ TEXT'. Its function is found by the place of the text that changes; a line 'func
 edit of a constant, a type or a definition. Such an edit is tried alone, and without that line in a check of the whole crate.
 
 What an edit comes to: 'refused' passes. 'PROVED': the whole crate is proved with it. 'BAD': it can't be applied, or can't be compiled.
-'NOT NAMED': its function was not refused by a goal of its own. 'NOT TRIED': its check was killed, or could not tell.
+'NOT NAMED': its function was not refused by a goal of its own, or only since its proof names what the edit took away. 'NOT TRIED': its check
+was killed, or could not tell.
 """
 
 from __future__ import annotations
@@ -38,7 +39,7 @@ sys.dont_write_bytecode = True
 import build
 import crates
 import kept
-from checks import Lab, Said
+from checks import ONLY_GONE, Lab, Said
 from places import Functions, place_of
 
 REFUSED, PROVED, BAD, UNNAMED, UNTRIED = "refused", "PROVED", "BAD", "NOT NAMED", "NOT TRIED"
@@ -200,8 +201,11 @@ class Trial:
                 own = self.functions.own(name)
                 reasons = [f"{it.partition('::')[2]}: {refusals[it]}" for it in sorted(own) if it in refusals]
                 called = {other for it in own for other in leaning.get(it, set()) if is_of(other, edited - own)}
-                if reasons and not called:
-                    edit.settle(edit.verdict or REFUSED, edit.why or reasons[0])
+                goals = [it for it in reasons if ONLY_GONE not in it]
+                if goals and not called:
+                    edit.settle(edit.verdict or REFUSED, edit.why or goals[0])
+                elif reasons and not called:
+                    edit.settle(UNNAMED, reasons[0])
                 elif name in proved and not reasons:
                     edit.settle(PROVED, name)
                 else:

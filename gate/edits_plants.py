@@ -27,6 +27,7 @@ PLANTS = (
     ("no_such_text", "", "    if there_is_no_such_text {", "    if holds {", r"BAD: it can't be applied: its text stands 0 times .*"),
     ("text_twice", "", "    Ok(())", "    Ok( ())", r"BAD: it can't be applied: its text stands [2-9] times .*"),
     ("changes_nothing", "", "    if holds {", "    if holds {", r"BAD: it can't be applied: it changes nothing"),
+    ("only_a_name_is_gone", "", PUSH, "        let _none = place;", r"NOT NAMED: rules::find_tested: only since its proof names what .*"),
     ("no_such_name", "", "        findings.push(finding)?;", "        findings.push(nobody)?;", r"BAD: it can't be compiled: src/rules\.rt:.*"),
     ("wrong_type", "", "    for (i, value) in values.iter().enumerate() {", "    for (i, value) in holds.iter().enumerate() {",
      r"BAD: it can't be compiled: src/rules\.rt:.*"),
