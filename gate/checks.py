@@ -19,7 +19,7 @@ import crates
 # How long a check may take, by the clock, and how often one is tried that was killed.
 SECONDS, TRIES = 3600, 2
 # What the prover says of a proof that names what isn't there.
-GONE = re.compile(r"has no field|is not in scope|has no `|was not admitted")
+GONE = re.compile(r"has no field|is not in scope|has no `|was not admitted|record `[^`]+` \(nearest: ")
 ONLY_GONE = "only since its proof names what the edit took away"
 
 
