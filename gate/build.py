@@ -26,6 +26,7 @@ sys.dont_write_bytecode = True
 import crates
 
 PROGRAM = "j39plan"
+BUILT = f"{crates.folder(PROGRAM)}/out/{PROGRAM}"
 ROOM = "j39plan-build-"
 MISSING, FAILED = 69, 70
 # The most processors that a check of one crate makes use of, and what one gets that is waited for less.
@@ -88,21 +89,37 @@ def stop(child: subprocess.Popen[Any]) -> None:
         child.wait()
 
 
-def is_built() -> bool:
-    """Returns whether the program is there and no source is newer."""
-    program = f"{crates.folder(PROGRAM)}/out/{PROGRAM}"
-    if not os.access(program, os.X_OK):
-        return False
-    made = os.path.getmtime(program)
-    files = [f"{crates.TOP}/crates.txt", *(it for name in crates.needed(PROGRAM) for it in crates.sources(name))]
-    return all(os.path.getmtime(it) <= made for it in files)
+def digest() -> str:
+    """Returns the digest of all that the program is built from, as it is now."""
+    words = [f"{crates.TOP}/program/find", "--digest"]
+    return subprocess.run(words, stdin=subprocess.DEVNULL, capture_output=True, text=True, check=True).stdout.strip()
+
+
+def note(program: str, sources: str) -> None:
+    """Notes beside a program the digest of the sources that it was built from, taken before they were read."""
+    with open(f"{program}.sources", "w", encoding="ascii") as file:
+        file.write(f"{sources}\n")
+
+
+def noted(program: str) -> str | None:
+    """Returns the digest of the sources that a program was built from, where both are there."""
+    try:
+        with open(f"{program}.sources", encoding="ascii") as file:
+            return file.read().strip() if os.access(program, os.X_OK) else None
+    except OSError:
+        return None
+
+
+def is_built(program: str) -> bool:
+    """Returns whether a program is there and of the sources as they are now."""
+    return noted(program) == digest()
 
 
 def copy(name: str, top: str) -> None:
     """Copies a crate and what it stands on into a folder: the sources, and what was built of the crates below."""
     named = crates.needed(name)
     with open(f"{crates.TOP}/crates.txt", encoding="utf-8") as lines:
-        kept = [it for it in lines if it.partition(":")[0].strip() in named]
+        kept = [it for it in lines if (it.partition("#")[0].partition(":")[0].split() or [""])[0] in named]
     with open(f"{top}/crates.txt", "w", encoding="utf-8") as file:
         file.writelines(kept)
     for it in named:
@@ -253,7 +270,8 @@ def main(words: list[str]) -> int:
         # what builds that were killed have left
         for it in glob.glob(f"{crates.TOP}/.git/{ROOM}*"):
             shutil.rmtree(it, ignore_errors=True)
-        if not is_built():
+        sources = digest()
+        if noted(BUILT) != sources:
             if missing := missing_bytes():
                 say(f"the build takes {DISK_BYTES / 1e9:.1f} GB of disk in {crates.TOP}, and {missing / 1e9:.1f} GB of that are missing")
                 return FAILED
@@ -270,8 +288,8 @@ def main(words: list[str]) -> int:
             if failed:
                 build.complain(failed)
                 return FAILED
+            note(BUILT, sources)
             say(f"built in {clock(build.start)}")
-        os.utime(f"{crates.folder(PROGRAM)}/out/{PROGRAM}")
     return 0
 
 

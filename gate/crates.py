@@ -42,7 +42,7 @@ def sources(name: str) -> list[str]:
     """Returns the files of code, definitions and proofs of a crate."""
     found = []
     for part in ("src", "specs", "proofs"):
-        for at, _, names in os.walk(f"{folder(name)}/{part}"):
+        for at, _, names in os.walk(f"{folder(name)}/{part}", followlinks=True):
             found += [f"{at}/{it}" for it in names if it.endswith((".rt", ".antt"))]
     return found
 

@@ -1,6 +1,8 @@
 #!/usr/bin/env python3
 """Runs the built program on the rows in rows/ where devices come short or fail and where files are damaged, and sees that each answer is as
-documented. The program of the environment's J39PLAN is taken, else the built one, with gate/fail_io.c in front of the C library.
+documented, and that all memory is given back. The program of the environment's J39PLAN is taken, else the built one, with gate/fail_io.c in front of
+its calls, in processes that go on (gate/in_process.py); the pieces of the small rows also, and all where these can't be built, with it in front of the
+C library, in a process each.
 
 usage: devices.py [--all] [PART..]    the parts of these names, else all:
 
@@ -17,6 +19,7 @@ The last line is 'N passed, M failed'.
 
 from __future__ import annotations
 
+import contextlib
 import errno
 import os
 import re
@@ -28,8 +31,10 @@ from concurrent.futures import ThreadPoolExecutor
 from dataclasses import dataclass
 
 sys.dont_write_bytecode = True
+import in_process
 import named
 import rows
+from in_process import InProcess
 from preloaded import Preloaded, Ran, compiler, counted
 from tally import DEVICE, DEVICE_STATUS, PROGRAM, TOO_LONG, Tally, is_built
 
@@ -44,6 +49,7 @@ MOST_CALLS, MOST_BYTES = 1_048_576, 16_777_216
 UP, CLAIM = b"up A\n", b"18EEFF00#0100000000000000\n"
 
 Faults = Iterator[str]
+Program = InProcess | Preloaded
 
 
 @dataclass
@@ -68,7 +74,7 @@ class Try:
     def stdin(self, files: list[str]) -> str:
         return "/dev/null" if self.words else files[0]
 
-    def run(self, program: Preloaded, files: list[str] | None = None, **how: int | str) -> Ran:
+    def run(self, program: Program, files: list[str] | None = None, **how: int | str) -> Ran:
         """Runs the program on the files, or on others in their place."""
         files = files or self.files
         return program.run(self.all_words(files), self.stdin(files), **how)
@@ -100,20 +106,20 @@ def tries(room: str) -> Iterator[Try]:
         yield Try(row.name, command, words, files, row.output, statuses[row.name])
 
 
-def pieces(program: Preloaded, row: Try, _: bool) -> Faults:
+def pieces(program: Program, row: Try, _: bool) -> Faults:
     """Tries a row in pieces."""
     complaint = DEVICE if row.status == DEVICE_STATUS else b""
     is_refused = row.status == DEVICE_STATUS or any(it.startswith(b"refused ") for it in row.output.split(b"\n"))
     for piece in PIECES:
         ran, wanted = row.run(program, PIECE=piece), row.wanted(piece)
         reads, writes = ran.told.replace("w", "").replace("e", ""), ran.told.count("w")
-        if (ran.status, ran.output, ran.complaint) != (row.status, row.output, complaint):
+        if (ran.status, ran.output, ran.complaint, ran.left) != (row.status, row.output, complaint, 0):
             yield f"in pieces of {piece}: {ran}"
         elif not wanted.startswith(reads) or reads != wanted and not is_refused or writes < -(-len(row.output) // piece):
             yield f"in pieces of {piece}: calls {counted(ran.told)}, and its files ask for {counted(wanted)}"
 
 
-def calls(program: Preloaded, row: Try, _: bool) -> Faults:
+def calls(program: Program, row: Try, _: bool) -> Faults:
     """Stops each call of a row in turn. What interrupts a call is tried on the small rows alone, in the largest pieces."""
     for piece in PIECES if row.is_small() else PIECES[-1:]:
         whole, has_interrupts = row.run(program, PIECE=piece).told, row.is_small() and piece == PIECES[-1]
@@ -121,7 +127,7 @@ def calls(program: Preloaded, row: Try, _: bool) -> Faults:
             for number, at in enumerate([at for at, letter in enumerate(whole) if letter == kind], 1):
                 ran = row.run(program, PIECE=piece, FAIL_KIND=kind, FAIL_CALL=number, FAIL_ERROR=error)
                 is_part = row.output.startswith(ran.output) and (len(ran.output) < len(row.output) or row.status == DEVICE_STATUS)
-                if (ran.status, ran.complaint, is_part, ran.told.rstrip("e")) != (DEVICE_STATUS, DEVICE, True, whole[: at + 1]):
+                if (ran.status, ran.complaint, is_part, ran.told.rstrip("e"), ran.left) != (DEVICE_STATUS, DEVICE, True, whole[: at + 1], 0):
                     yield f"in pieces of {piece}, call {number} of {kind} fails by {error}: {ran}"
 
 
@@ -132,7 +138,7 @@ def is_closing(command: str, line: bytes) -> bool:
     return line.startswith(b"frames ") if command == "read" else not line[:1].isdigit() and not line.startswith(b" ")
 
 
-def puts(program: Preloaded, row: Try, _: bool) -> Faults:
+def puts(program: Program, row: Try, _: bool) -> Faults:
     """Sees when a row's text is put: by then as much as the lines give that were read, which is what is written of them alone."""
     if not row.is_small() or row.command not in ("run", "read", "follow") or len(row.files) != 2:
         return
@@ -155,7 +161,7 @@ def damaged(text: bytes, place: int) -> Iterator[bytes]:
         yield text[:place] + byte + text[place + 1 :]
 
 
-def damage(program: Preloaded, row: Try, is_all: bool) -> Faults:
+def damage(program: Program, row: Try, is_all: bool) -> Faults:
     """Damages each file of a row, in copies that lie to each other as the files do. (A vehicle may name a plan from the root on, or none that is.)"""
     base, top = os.path.dirname(row.files[0]), f"{program.room.folder}/in/a/folder"
     there = [it for it in row.files if it.startswith(f"{base}/") and os.path.isfile(it)]
@@ -168,7 +174,7 @@ def damage(program: Preloaded, row: Try, is_all: bool) -> Faults:
             for number, other in enumerate(damaged(text, place)):
                 write(file, other)
                 ran = row.run(program, list(texts))
-                found = named.fault(row.command, ran.status, ran.output) or ran.complaint
+                found = named.fault(row.command, ran.status, ran.output) or ran.complaint or ran.left
                 if found and not (row.command == "vehicle" and is_other_plan(ran)):
                     yield f"{os.path.basename(file)}, damage {number} at byte {place}: {found!r}, {ran}"
         write(file, text)
@@ -188,7 +194,7 @@ def write(file: str, text: bytes) -> None:
         opened.write(text)
 
 
-def limits(program: Preloaded, tally: Tally) -> None:
+def limits(program: Program, tally: Tally) -> None:
     """Tries inputs of the most calls and bytes, and of one more, and schedules that turn out too long, or are refused before."""
     file, plan = f"{program.room.folder}/long", f"{rows.DATA}/{SMALL}two_flows.toml"
 
@@ -228,7 +234,22 @@ def largest_bus() -> tuple[bytes, bytes, bytes]:
     return plan_text, schedule_text, output
 
 
-PARTS: dict[str, Callable[[Preloaded, Try, bool], Faults]] = {"pieces": pieces, "calls": calls, "puts": puts, "damage": damage}
+PARTS: dict[str, Callable[[Program, Try, bool], Faults]] = {"pieces": pieces, "calls": calls, "puts": puts, "damage": damage}
+
+
+def faults_of(name: str, program: Program, row: Try, is_all: bool) -> list[str]:
+    """Returns what a part finds of a row."""
+    try:
+        return list(PARTS[name](program, row, is_all))
+    except in_process.Hung as hung:
+        return [str(hung)]
+
+
+def run_part(name: str, program: Program, each: list[Try], tally: Tally, is_all: bool) -> None:
+    """Counts what a part finds of each row."""
+    with ThreadPoolExecutor(os.cpu_count()) as pool:
+        for row, found in zip(each, pool.map(lambda row: faults_of(name, program, row, is_all), each)):
+            tally.count(f"{name} of {row.name}", not found, "; ".join(found[:3]))
 
 
 def main(words: list[str]) -> int:
@@ -239,18 +260,19 @@ def main(words: list[str]) -> int:
     if not is_built(PROGRAM):
         print(f"devices: there is no program {PROGRAM}\n0 passed, 1 failed")
         return 1
-    cc = compiler()
-    if not cc:
-        print("devices: skipped, since there is no C compiler\n0 passed, 0 failed")
-        return 0
     tally = Tally()
-    with tempfile.TemporaryDirectory(prefix="j39plan-devices-") as top, ThreadPoolExecutor(os.cpu_count()) as pool:
-        program = Preloaded("fail_io.c", cc, top)
+    with tempfile.TemporaryDirectory(prefix="j39plan-devices-") as top, contextlib.ExitStack() as stack:
+        inside, cc = in_process.started(top), compiler()
+        before = Preloaded("fail_io.c", cc, top) if cc else None
+        program = stack.enter_context(inside) if inside else before
+        if not program:
+            print("devices: skipped, since there is no C compiler\n0 passed, 0 failed")
+            return 0
         each = list(tries(f"{top}/rows"))
         for name in [it for it in PARTS if it in asked]:
-            part = PARTS[name]
-            for row, found in zip(each, pool.map(lambda row, part=part: list(part(program, row, "--all" in words)), each)):
-                tally.count(f"{name} of {row.name}", not found, "; ".join(found[:3]))
+            run_part(name, program, each, tally, "--all" in words)
+        if inside and before and "pieces" in asked:
+            run_part("pieces", before, [it for it in each if it.is_small()], tally, False)
         if "limits" in asked:
             limits(program, tally)
     return tally.end()

@@ -1,5 +1,5 @@
 #!/usr/bin/env python3
-"""Shows that gate/edits.py, and of edits gate/lint.py, tells what it has to tell: it plants edits in a copy of the crate j39_search, over
+"""Shows that gate/edits.py, and of edits and equality gate/lint.py, tells what it has to tell: it plants edits in a copy of the crate j39_search, over
 the library that was built, and compares the verdicts. It takes some minutes of processor. The last line is 'N passed, M failed'.
 """
 
@@ -43,6 +43,9 @@ LINTED = (
     ("text_twice", "", "    Ok(())", "    Ok( ())", r"its text stands [2-9] times in src/rules\.rt"),
     ("no_such_type", "", "    if holds {", "    if Nobody::holds() {", r"src/rules\.rt has no Nobody"),
 )
+# A type that derives equality, and isn't listed as one that is compared.
+EQUAL = "#[derive(Clone, Copy, PartialEq, Eq)]\npub struct Planted {\n}\n"
+EQUALITY = "import lint; print(*lint.unlike(lint.equalities('j39_search'), ['j39_search::Gone']), sep='; ')"
 LINT = "import edits, lint; print(*(it for edit in edits.edits_of('j39_search', edits.FOLDERS) for it in lint.faults_of(edit)), sep='\\n')"
 # Edits that a second run tries, by a prover that is killed, and one that says nothing of what it is asked.
 KILLED = "#!/bin/sh\nkill -9 $$\n"
@@ -126,13 +129,20 @@ def by_others(tally: Tally, top: str) -> None:
 
 
 def by_lint(tally: Tally, top: str) -> None:
-    """What lint says of edits."""
+    """What lint says of edits, and of a type that derives equality."""
     plant(top, LINTED)
     ran = subprocess.run([sys.executable, "-c", LINT], cwd=f"{top}/gate", capture_output=True, text=True, check=False)
     for name, _, _, _, wanted in LINTED:
         faults = [it for it in ran.stdout.split("\n") if it.startswith(f"{CRATE}/{name}: ")]
         is_said = re.fullmatch(f"{CRATE}/{name}: {wanted}", "; ".join(faults)) is not None if wanted else not faults
         tally.count(f"lint: {name}", ran.returncode == 0 and is_said, ran.stdout + ran.stderr)
+    path = f"{top}/crates/{CRATE}/src/planted.rt"
+    with open(path, "w", encoding="ascii") as file:
+        file.write(EQUAL)
+    ran = subprocess.run([sys.executable, "-c", EQUALITY], cwd=f"{top}/gate", capture_output=True, text=True, check=False)
+    os.remove(path)
+    wanted = f"{CRATE}::Planted derives equality, and isn't listed; {CRATE}::Gone is listed, and derives none"
+    tally.count("lint: equality", ran.stdout.strip() == wanted, ran.stdout + ran.stderr)
 
 
 def stale(tally: Tally, top: str) -> None:

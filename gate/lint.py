@@ -1,6 +1,6 @@
 #!/usr/bin/env python3
-"""Looks at what needs no proof: the format of the crates' sources, the libraries that they list, whether the edits that must fail can still be applied and what they
-name is there, scripts of the shell, names and types in Python. What a missing program keeps from being looked at is skipped and said. The last line is 'N passed, M
+"""Looks at what needs no proof: the format of the crates' sources, the libraries that they list, the types that derive equality, whether the edits that must fail can
+still be applied and what they name is there, scripts of the shell, names and types in Python. What a missing program keeps from being looked at is skipped and said. The last line is 'N passed, M
 failed'.
 """
 
@@ -21,6 +21,10 @@ from tally import Tally
 PARTS = ("src", "specs", "proofs", "edits")
 # What an edit has to find in its file: of a definition or a proof each name of two letters or more, of a source each type and module in front of '::'.
 LOGIC_NAMES, CODE_NAMES = re.compile(r"[A-Za-z_]\w+"), re.compile(r"(?<![\w:])[A-Z]\w*(?=::)")
+
+# The types whose values are compared, one a line. A derived equality is proved anew in each build, so no other type has one.
+COMPARED = f"{crates.TOP}/gate/compared.txt"
+EQUALITY = re.compile(r"#\[derive\([^)]*\bPartialEq\b[^)]*\)\]\s*(?:#\[[^\]]*\]\s*|//[^\n]*\s*)*(?:pub(?:\(crate\))? )?(?:struct|enum) (\w+)")
 
 
 def tracked() -> list[str]:
@@ -70,6 +74,17 @@ def unnamed(crate: str) -> list[str]:
     return [it for it in crates.listed()[crate] if not re.search(rf"\b{it}\b", code)]
 
 
+def equalities(crate: str) -> list[str]:
+    """The types of a crate that derive equality."""
+    return [f"{crate}::{it}" for path in crates.sources(crate) if path.endswith(".rt") for it in EQUALITY.findall(bytes_of(path).decode())]
+
+
+def unlike(derived: list[str], compared: list[str]) -> list[str]:
+    """How the types that derive equality differ from those that are compared."""
+    return [f"{it} derives equality, and isn't listed" for it in sorted(set(derived) - set(compared))] \
+        + [f"{it} is listed, and derives none" for it in sorted(set(compared) - set(derived))]
+
+
 def faults_of(edit: edits.Edit) -> list[str]:
     """Why an edit can't be applied to its crate, or compiled there: a file that isn't there, a text that doesn't stand in it once, a name that it doesn't have."""
     found = []
@@ -103,6 +118,8 @@ def main() -> int:
         print("format: skipped, since rt is missing")
     lacking = [f"{crate}: {', '.join(names)}" for crate in crates.listed() if (names := unnamed(crate))]
     tally.count("libraries", not lacking, f"listed in crates.txt and named nowhere: {'; '.join(lacking)}")
+    unequal = unlike([it for crate in crates.listed() for it in equalities(crate)], bytes_of(COMPARED).decode().split())
+    tally.count("equality", not unequal, f"gate/compared.txt: {'; '.join(unequal)}")
     astray = [fault for crate in crates.listed() for edit in edits.edits_of(crate, edits.FOLDERS) for fault in faults_of(edit)]
     tally.count("edits", not astray, "; ".join(astray))
     look(tally, "shellcheck", "scripts", ["shellcheck", "--severity=warning", *scripts()])

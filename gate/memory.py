@@ -1,12 +1,13 @@
 #!/usr/bin/env python3
 """Refuses each allocation of the built program in turn, counting upwards until a run asks for no allocation of that number: of each command,
-and of each row in rows/devices. The program of the environment's J39PLAN is taken, else the built one, with gate/fail_alloc.c in front of the
-C library.
+and of each row in rows/devices. The program of the environment's J39PLAN is taken, else the built one, with gate/fail_alloc.c in front of its
+calls, in processes that go on (gate/in_process.py), or where these can't be built in front of the C library, in a process each.
 
-A run must want memory (status 3) with nothing or a part of its text written, or answer as with enough memory. The last line is
+A run must want memory (status 3) with nothing or a part of its text written, or answer as with enough memory; and give all back. The last line is
 'N passed, M failed'.
 """
 
+import contextlib
 import os
 import sys
 import tempfile
@@ -15,6 +16,7 @@ from concurrent.futures import ThreadPoolExecutor
 sys.dont_write_bytecode = True
 import crates
 import devices
+import in_process
 from preloaded import Preloaded, Ran, compiler
 from tally import COMMANDS, MEMORY, MEMORY_STATUS, PROGRAM, Tally, is_built
 
@@ -28,20 +30,30 @@ Asked = tuple[str, list[bytes], str]
 
 def is_allowed(ran: Ran, enough: Ran) -> bool:
     """Whether a run ends as it does with enough memory, or wants memory since some was refused."""
+    if ran.left:
+        return False
     if (ran.status, ran.output, ran.complaint) == (enough.status, enough.output, enough.complaint):
         return True
-    return bool(ran.told) and (ran.status, ran.complaint) == (MEMORY_STATUS, MEMORY) and enough.output.startswith(ran.output)
+    return "x" in ran.told and (ran.status, ran.complaint) == (MEMORY_STATUS, MEMORY) and enough.output.startswith(ran.output)
 
 
-def refused(program: Preloaded, asked: Asked) -> tuple[int, str]:
+def refused(program: devices.Program, asked: Asked) -> tuple[int, str]:
     """Returns how many allocations were refused, and what is wrong with the first run that isn't allowed."""
+    try:
+        return refused_in(program, asked)
+    except in_process.Hung as hung:
+        return 0, str(hung)
+
+
+def refused_in(program: devices.Program, asked: Asked) -> tuple[int, str]:
+    """Does what `refused` does, where each order ends."""
     _, words, stdin = asked
     enough = program.run(words, stdin)
     for number in range(1, MOST):
         ran = program.run(words, stdin, FAIL_ALLOC=number)
         if not is_allowed(ran, enough):
             return number, f"allocation {number}: {ran}"
-        if not ran.told:
+        if "x" not in ran.told:
             return number - 1, "no allocation was asked for" if number == 1 else ""
     return MOST, "it asks for more and more"
 
@@ -57,15 +69,21 @@ def main() -> int:
     if not is_built(PROGRAM):
         print(f"memory: there is no program {PROGRAM}\n0 passed, 1 failed")
         return 1
-    cc = compiler()
-    if not cc:
-        print("memory: skipped, since there is no C compiler\n0 passed, 0 failed")
-        return 0
     os.chdir(f"{crates.TOP}/examples")
-    tally = Tally()
-    with tempfile.TemporaryDirectory(prefix="j39plan-memory-") as top, ThreadPoolExecutor(os.cpu_count()) as pool:
-        program = Preloaded("fail_alloc.c", cc, top)
-        each = all_asked(f"{top}/rows")
+    with tempfile.TemporaryDirectory(prefix="j39plan-memory-") as top, contextlib.ExitStack() as stack:
+        inside, cc = in_process.started(top), compiler()
+        if inside:
+            return refuse_all(stack.enter_context(inside), top)
+        if cc:
+            return refuse_all(Preloaded("fail_alloc.c", cc, top), top)
+    print("memory: skipped, since there is no C compiler\n0 passed, 0 failed")
+    return 0
+
+
+def refuse_all(program: devices.Program, top: str) -> int:
+    """Counts each run's refusals. Returns the exit status."""
+    tally, each = Tally(), all_asked(f"{top}/rows")
+    with ThreadPoolExecutor(os.cpu_count()) as pool:
         for asked, (count, found) in zip(each, pool.map(lambda it: refused(program, it), each)):
             tally.count(f"{asked[0]}, {count} refusals", not found, found)
             print(f"memory: {asked[0]}, {count} allocations refused in turn")

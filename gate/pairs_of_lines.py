@@ -16,9 +16,9 @@ def in_bounds(name: str, function: str, turns: tuple[Turn, ...]) -> Pair:
 
 
 PAIRS = (
-    in_bounds("a need that isn't met is no worse than none", "times::need_badness", (
-        Turn("specs/LineTimes.antt", "need_badness need.Unmet = of_degree 4 0", "need_badness need.Unmet = of_degree 0 0"),
-        Turn("src/times.rt", "NeedTime::Unmet => of_degree(4, 0),", "NeedTime::Unmet => of_degree(0, 0),"),
+    in_bounds("an old age is no worse than a young one", "times::need_badness", (
+        Turn("specs/LineTimes.antt", "need_badness (need.Age age youngest) = badness_known age", "need_badness (need.Age age youngest) = of_degree 1 0"),
+        Turn("src/times.rt", "NeedTime::Age(age, _) => badness_known(*age),", "NeedTime::Age(_, _) => of_degree(1, 0),"),
     )),
     in_bounds("a late flow is no worse than one in time", "times::delay_badness", (
         Turn("specs/LineTimes.antt", "delay_badness (Beyond bits) = of_degree 2 bits", "delay_badness (Beyond bits) = of_degree 1 bits"),

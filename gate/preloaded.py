@@ -35,15 +35,16 @@ def counted(letters: str) -> str:
 
 @dataclass
 class Ran:
-    """How a run ended: its status, what it wrote, and the letters of its calls."""
+    """How a run ended: its status, what it wrote, the letters of its calls, and how many blocks of memory it has kept, where that is seen."""
 
     status: int
     output: bytes
     complaint: bytes
     told: str
+    left: int = 0
 
     def __str__(self) -> str:
-        return f"status {self.status}, standard error {self.complaint!r:.100}, standard output {self.output!r:.200}, calls {counted(self.told)}"
+        return f"status {self.status}, standard error {self.complaint!r:.100}, standard output {self.output!r:.200}, calls {counted(self.told)}, blocks kept {self.left}"
 
 
 class Room(threading.local):

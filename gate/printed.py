@@ -1,9 +1,10 @@
 #!/usr/bin/env python3
-"""Writes what of the documentation is printed from the sources: printed.py proofs|map|options.
+"""Writes what of the documentation is printed from the sources: printed.py proofs|map|options|boxes.
 
 proofs   docs/reference/CONTRACTS.md: the public functions of each library, by their doc comments, clauses and premises
 map      docs/reference/MODULES.md: the modules of the crates and of the tools, by the first lines of their files
 options  docs/reference/OPTIONS.md: the options of the commands, by their --help, and the Python module, by its docstrings
+boxes    docs/reference/BOXES.md: the boxes by which the steps of `probe` are tested
 """
 
 from __future__ import annotations
@@ -267,7 +268,26 @@ def options() -> str:
     return "".join([*parts, "\n## The Python module\n\nWhat `import j39plan` hands out.\n\n", *module_items()])
 
 
-PAGES = {"proofs": ("CONTRACTS.md", proofs), "map": ("MODULES.md", module_map), "options": ("OPTIONS.md", options)}
+def boxes() -> str:
+    """The steps of `probe`, and the boxes by which they are tested."""
+    sys.path.insert(0, f"{crates.TOP}/tools")
+    from j39plan.probe.meanings import MEANINGS
+    from j39plan.probe.steps import STEPS
+    from tests.probe_boxes import FAULTY, LAWFUL, LINUX, LINUX_PASSES
+
+    plans = {"chooses": "may choose", "fixed": "fixed", "silent": "never claims"}
+    steps = "".join(f"| `{step.word}` | {step.sends} | {step.clause} | {MEANINGS[step.word].means} | {MEANINGS[step.word].ask} |\n" for step in STEPS)
+    faulty = "".join(f"| {box.about} | {plans[box.plan]} | {', '.join(f'`{word}`' for word in box.fails)} |\n" for box in FAULTY)
+    lawful = "".join(f"| {box.about} | {plans[box.plan]} | {box.note or '-'} |\n" for box in LAWFUL)
+    linux = "".join(f"| {about} | {', '.join(f'`{word}`' for word in words)} | {why} |\n" for about, words, why in LINUX)
+    return ("# Steps and boxes of `probe`\n\nThe steps of [`probe`](../guide/BENCH.md), and the boxes by which the tests try them, on a bus in memory.\n"
+            f"`./dev boxes` writes this page.\n\n## Steps\n\n| Step | Sends | Standard | That it fails means | Ask the supplier |\n|---|---|---|---|---|\n{steps}"
+            f"\n## Faulty boxes\n\n| Box | Its address | Fails |\n|---|---|---|\n{faulty}"
+            f"\n## Lawful oddities\n\nThey fail nothing.\n\n| Box | Its address | Part of a note |\n|---|---|---|\n{lawful}"
+            f"\n## Linux\n\n`can-j1939` of Linux 6.1 in a virtual machine without KVM (`tools/tests/linux_j1939.sh`), tried by hand.\nWith an application it passes {', '.join(f'`{word}`' for word in LINUX_PASSES)}. `rough` isn't told: the\nemulated machine is too slow for 200 requests a second. `crowd` and `power` want a second channel and a switch.\n\n| Box | Fails | Why |\n|---|---|---|\n{linux}")
+
+
+PAGES = {"proofs": ("CONTRACTS.md", proofs), "map": ("MODULES.md", module_map), "options": ("OPTIONS.md", options), "boxes": ("BOXES.md", boxes)}
 
 
 def main(words: list[str]) -> int:

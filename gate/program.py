@@ -5,7 +5,8 @@ usage: program.py          compares it with the program that was built and prove
                            to be the same file byte by byte; where it is of others, that is said. The last line is 'N passed, M failed'
        program.py write    refreshes program/ from the program that ./j39plan --build has built
 
-The record has the sums of the program and of its sources (program/find --digest), the toolchain, and the C library that it wants.
+The record has the sums of the program and of its sources (program/find --digest, as it was when the program was built), the toolchain, and
+the C library that it wants.
 """
 
 from __future__ import annotations
@@ -22,7 +23,6 @@ import build
 import crates
 from tally import Tally
 
-BUILT = f"{crates.folder(build.PROGRAM)}/out/{build.PROGRAM}"
 STORED = f"{crates.TOP}/program/{build.PROGRAM}-linux-x86_64"
 RECORD = f"{STORED}.txt"
 
@@ -43,8 +43,8 @@ def library_of(program: bytes) -> str:
 
 
 def record_of(program: bytes) -> dict[str, str]:
-    """Returns what the record of a program has, where it is built from the sources as they stand."""
-    return {"program": hashlib.sha256(program).hexdigest(), "sources": said_by(["program/find", "--digest"]),
+    """Returns what the record of a program has that was built here."""
+    return {"program": hashlib.sha256(program).hexdigest(), "sources": build.noted(build.BUILT) or "",
             "toolchain": said_by(["rt", "version"]), "library": library_of(program)}
 
 
@@ -55,11 +55,11 @@ def recorded() -> dict[str, str]:
 
 def write() -> int:
     """Refreshes both files."""
-    if not build.is_built():
-        build.say("the program isn't built, or a source is newer: ./j39plan --build")
+    if not build.is_built(build.BUILT):
+        build.say("the program isn't built, or it is of other sources: ./j39plan --build")
         return build.FAILED
     # made beside its place, since the old one may be running
-    shutil.copyfile(BUILT, f"{STORED}.new")
+    shutil.copyfile(build.BUILT, f"{STORED}.new")
     os.chmod(f"{STORED}.new", 0o755)
     os.replace(f"{STORED}.new", STORED)
     with open(RECORD, "w", encoding="utf-8") as file:
@@ -72,8 +72,9 @@ def compare(tally: Tally) -> None:
     if not os.path.isfile(STORED) or not os.path.isfile(RECORD):
         tally.count("the stored program", False, "program/ has none: ./dev program")
         return
-    told, stored, built = recorded(), bytes_of(STORED), bytes_of(BUILT)
+    told, stored, built = recorded(), bytes_of(STORED), bytes_of(build.BUILT)
     now = record_of(built)
+    tally.count("the built program", build.is_built(build.BUILT), "it is of other sources than these")
     tally.count("the sum of the stored program", told.get("program") == hashlib.sha256(stored).hexdigest(), "it is not the recorded one")
     tally.count("the library of the stored program", told.get("library") == library_of(stored), told.get("library"))
     if told.get("sources") != now["sources"]:

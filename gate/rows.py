@@ -13,7 +13,8 @@ values or those of its first variant; where `NAME.answer` stands beside it, `NAM
 Cases: a folder with `args`, a word a line, and where they are wanted `stdin`; `repeat`, how many times standard input has it; `room`, how many
 bytes standard output takes; `stdout`, `stderr`, and `status`, 0 where it is absent.
 
-The program is that of the environment's J39PLAN, else the built one. The last line is 'N passed, M failed'.
+The program is that of the environment's J39PLAN, else the built one. All rows run in processes that go on, where these can be built (gate/in_process.py),
+and those of `commands` and `devices` by a process each, too; else all by a process each. The last line is 'N passed, M failed'.
 """
 
 from __future__ import annotations
@@ -24,12 +25,13 @@ import signal
 import subprocess
 import sys
 import tempfile
-from collections.abc import Iterator
+from collections.abc import Callable, Iterator
 from concurrent.futures import ThreadPoolExecutor
 from dataclasses import dataclass
 
 sys.dont_write_bytecode = True
 import crates
+import in_process
 import tally
 
 DATA = f"{crates.TOP}/rows"
@@ -40,6 +42,8 @@ OF_INPUTS = {".run": (["run"], ".schedule"), ".read": (["read"], ".log"), ".foll
              ".audit": (["audit"], ".log"), ".part": (["audit", "--part"], ".log")}
 # How long a row may run: the longest inputs take the program that isn't proved minutes.
 SECONDS = 600
+# The rows that a process each runs in any case.
+BY_PROCESS = ("commands/", "devices/")
 # The endings of what rows are run on.
 GIVEN = {".toml", ".schedule", ".log", ".line", ".vehicle"}
 
@@ -148,13 +152,25 @@ def limit(room: int | None) -> None:
         resource.setrlimit(resource.RLIMIT_FSIZE, (room, room))
 
 
+# How a row is run: its status and what it wrote.
+Run = Callable[[Row], tuple[int, bytes, bytes]]
+
+
 def run(row: Row) -> tuple[int, bytes, bytes]:
-    """Runs the program, and returns its status and what it wrote."""
+    """Runs the program."""
     with tempfile.TemporaryFile() as output:
         ran = subprocess.run([tally.PROGRAM, *row.words], cwd=row.folder, input=row.input, stdout=output, stderr=subprocess.PIPE,
                              timeout=SECONDS, check=False, preexec_fn=lambda: limit(row.room))
         output.seek(0)
         return ran.returncode, output.read(), ran.stderr
+
+
+def run_within(program: in_process.InProcess) -> Run:
+    """Returns what runs a row in a process that goes on. Memory that isn't given back is told as a complaint."""
+    def run_row(row: Row) -> tuple[int, bytes, bytes]:
+        ran = program.order(row.folder, row.words, "", row.input, row.room, {})
+        return ran.status, ran.output, ran.complaint + (b"%d blocks of memory are kept\n" % ran.left if ran.left else b"")
+    return run_row
 
 
 def listed() -> dict[str, int]:
@@ -163,17 +179,25 @@ def listed() -> dict[str, int]:
         return {name: int(status) for name, status in (line.split(" ") for line in lines.read().splitlines())}
 
 
-def fault(row: Row, wanted: dict[str, int]) -> str:
+def fault(row: Row, wanted: dict[str, int], run_row: Run) -> str:
     """Returns how a run differs from its row, '' where it doesn't."""
     must = wanted.get(row.name) if row.status is None else row.status
     said = row.complaints or (tally.DEVICE if row.status is None and must == tally.DEVICE_STATUS else b"")
     try:
-        status, output, complaints = run(row)
+        status, output, complaints = run_row(row)
     except subprocess.TimeoutExpired:
         return f"not done after {SECONDS} s"
+    except in_process.Hung as hung:
+        return str(hung)
     if (output, complaints) != (row.output, said):
         return "other text"
     return "" if status == must else f"status {status}, not {must}"
+
+
+def faults_of(rows: list[Row], wanted: dict[str, int], run_row: Run) -> list[tuple[str, str]]:
+    """Returns the names of rows that aren't as shown, and why."""
+    with ThreadPoolExecutor(os.cpu_count()) as pool:
+        return [(row.name, it) for row, it in zip(rows, pool.map(lambda row: fault(row, wanted, run_row), rows)) if it]
 
 
 def main(words: list[str]) -> int:
@@ -181,23 +205,34 @@ def main(words: list[str]) -> int:
         print(f"{tally.PROGRAM} isn't built", file=sys.stderr)
         return 2
     with tempfile.TemporaryDirectory(prefix="j39plan-rows-") as room:
-        return run_all(list(all_rows(room)), words == ["--list"])
+        rows = list(all_rows(room))
+        return list_all(rows) if words == ["--list"] else run_all(rows, room)
 
 
-def run_all(rows: list[Row], is_list: bool) -> int:
-    """Runs the rows, and says what isn't as shown, or the status of each. Returns the exit status."""
+def list_all(rows: list[Row]) -> int:
+    """Prints the status of each row. Returns the exit status."""
     with ThreadPoolExecutor(os.cpu_count()) as pool:
-        if is_list:
-            for row, (status, _, _) in zip(rows, pool.map(run, rows)):
-                print(*([] if row.status is not None else [row.name, status]), end="" if row.status is not None else "\n")
-            return 0
-        wanted = listed()
-        faults = [(row.name, it) for row, it in zip(rows, pool.map(lambda row: fault(row, wanted), rows)) if it]
+        for row, (status, _, _) in zip(rows, pool.map(run, rows)):
+            print(*([] if row.status is not None else [row.name, status]), end="" if row.status is not None else "\n")
+    return 0
+
+
+def run_all(rows: list[Row], room: str) -> int:
+    """Runs the rows, and says what isn't as shown. Returns the exit status."""
+    wanted = listed()
+    program = in_process.started(room)
+    alone = [row for row in rows if program is None or row.name.startswith(BY_PROCESS)]
+    faults = faults_of(alone, wanted, run)
+    if program:
+        with program:
+            faults += [(name, f"in process, {it}") for name, it in faults_of(rows, wanted, run_within(program))]
+        print(f"{len(rows)} rows in processes that go on, {len(alone)} by a process each")
     gone = wanted.keys() - {row.name for row in rows}
     faults += [(name, "listed, and no row") for name in sorted(gone)] + [(name, "nothing is run on it") for name in unused(rows)]
     for name, it in faults:
         print(f"{name}: {it}")
-    print(f"{len(rows) - len(faults)} passed, {len(faults)} failed")
+    failed = len({name for name, _ in faults})
+    print(f"{len(rows) - failed} passed, {failed} failed")
     return 1 if faults else 0
 
 

@@ -34,6 +34,9 @@ PARTS = (
     ("memory", [sys.executable, "gate/memory.py"], 20),
     ("devices' plants", [sys.executable, "gate/devices_plants.py"], 10),
     ("program", [sys.executable, "gate/program.py"], 5),
+    ("host", [sys.executable, "gate/host.py"], 10),
+    ("windows", [sys.executable, "gate/windows.py"], 15),
+    ("page", [sys.executable, "gate/page.py"], 5),
 )
 COUNTS = re.compile(r"(\d+) passed, (\d+) failed")
 
@@ -91,8 +94,8 @@ def environment() -> str:
 
 def main(words: list[str]) -> int:
     print(environment(), flush=True)
-    ci = [sys.executable, "gate/times.py", "ci"] if "--timed" in words else ["rt", "ci"]
-    found = [timed("rt ci", ci)]
+    prove = [sys.executable, "gate/prove.py"]
+    found = [timed("rt ci", [sys.executable, "gate/times.py", "ci", *prove] if "--timed" in words else prove)]
     for name, part, minutes in PARTS:
         asked = ["--install"] if name == "tools" and "--install" in words else []
         asked += ["--anew"] if name == "edits" and "--timed" in words else []

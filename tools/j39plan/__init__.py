@@ -17,26 +17,30 @@ spell no frame, is a warning of the category `Notice`.
 from __future__ import annotations
 
 import importlib
+import importlib.util
 import sys
 from typing import TYPE_CHECKING
 
 from j39plan.program import MISSING
 
-if sys.version_info < (3, 11):
-    print("the tools of j39plan need Python 3.11 or later", file=sys.stderr)
+if sys.version_info < (3, 10):
+    print("the tools of j39plan need Python 3.10 or later", file=sys.stderr)
+    sys.exit(MISSING)
+if sys.version_info < (3, 11) and importlib.util.find_spec("tomli") is None:
+    print("with Python 3.10 the tools of j39plan need tomli: apt-get install python3-tomli", file=sys.stderr)
     sys.exit(MISSING)
 
 if TYPE_CHECKING:
     from j39plan.api import (
-        Acknowledgement, Age, Asking, Claim, Delay, Deviation, Drive, Finding, Flow, Forward, Frame, Gateway, Group, Load, Message, Need,
-        Notice, Plan, Reading, Readings, Refused, Request, Signal, Stand, Text, Unit, Vehicle, VehicleFinding, VehicleNeed, Who, deviations, drive,
-        follow, frame, read_plan, read_vehicle, signals,
+        Accused, Acknowledgement, Age, Asking, Audit, Claim, Code, Delay, Deviation, Drive, Finding, FirstPlan, Flow, Forward, Frame, Gateway, Group, Load,
+        Message, Need, Notice, Plan, Reading, Readings, Refused, Request, Signal, Stand, Text, Unit, Vehicle, VehicleFinding, VehicleNeed, Who, audit, codes,
+        deviations, drive, follow, frame, log2plan, read_plan, read_vehicle, signals,
     )
 
 __all__ = [
-    "Acknowledgement", "Age", "Asking", "Claim", "Delay", "Deviation", "Drive", "Finding", "Flow", "Forward", "Frame", "Gateway", "Group", "Load", "Message",
-    "Need", "Notice", "Plan", "Reading", "Readings", "Refused", "Request", "Signal", "Stand", "Text", "Unit", "Vehicle", "VehicleFinding",
-    "VehicleNeed", "Who", "deviations", "drive", "follow", "frame", "read_plan", "read_vehicle", "signals",
+    "Accused", "Acknowledgement", "Age", "Asking", "Audit", "Claim", "Code", "Delay", "Deviation", "Drive", "Finding", "FirstPlan", "Flow", "Forward", "Frame",
+    "Gateway", "Group", "Load", "Message", "Need", "Notice", "Plan", "Reading", "Readings", "Refused", "Request", "Signal", "Stand", "Text", "Unit", "Vehicle",
+    "VehicleFinding", "VehicleNeed", "Who", "audit", "codes", "deviations", "drive", "follow", "frame", "log2plan", "read_plan", "read_vehicle", "signals",
 ]
 
 if not TYPE_CHECKING:

@@ -1,4 +1,4 @@
-"""What the package hands out: a plan with what the program answers of it, and the reports, signals and deviations of a log."""
+"""What the package hands out: a plan with what the program answers of it, and what the tools tell of a log."""
 
 from __future__ import annotations
 
@@ -7,22 +7,25 @@ import importlib
 import io
 import json
 import os
+import re
 import subprocess
+import tempfile
 import warnings
-from collections.abc import Generator, Iterable, Iterator, Mapping
-from decimal import Decimal
+from collections.abc import Generator, Iterable, Iterator
 from typing import IO, TYPE_CHECKING, Any, NamedTuple
 
 from j39plan import program
 from j39plan.fleet import drives
 from j39plan.fleet.drives import Deviation, Drive
-from j39plan.log import message_lines, readings, reports
+from j39plan.log import message_lines, reports
+from j39plan.log.audit import Accused, Audit, audit_of
 from j39plan.log.data_frames import data_frame
-from j39plan.log.reports import Acknowledgement, Claim, Frame, Request, Who
+from j39plan.log.files import Log, OneInterface, whole
+from j39plan.log.reports import Who
+from j39plan.log.told import Acknowledgement, Claim, Frame, Message, Reading, Readings, Request, Told, told_of
 from j39plan.plan import answers
 from j39plan.plan.answers import Age, Delay, Finding, Load, Stand
 from j39plan.plan.files import text_of
-from j39plan.plan.measures import measure_of
 from j39plan.plan.parts import Source
 from j39plan.plan.tables import Flow, Group, Need, Signal, Tables, Text, Unit
 from j39plan.plan.tables import Request as Asking
@@ -37,61 +40,20 @@ if TYPE_CHECKING:
     import pandas
 
 __all__ = [
-    "Acknowledgement", "Age", "Asking", "Claim", "Delay", "Deviation", "Drive", "Finding", "Flow", "Forward", "Frame", "Gateway", "Group", "Load", "Message",
-    "Need", "Notice", "Plan", "Reading", "Readings", "Refused", "Request", "Signal", "Stand", "Text", "Unit", "Vehicle", "VehicleFinding",
-    "VehicleNeed", "Who", "deviations", "drive", "follow", "frame", "read_plan", "read_vehicle", "signals",
+    "Accused", "Acknowledgement", "Age", "Asking", "Audit", "Claim", "Code", "Delay", "Deviation", "Drive", "Finding", "FirstPlan", "Flow", "Forward", "Frame",
+    "Gateway", "Group", "Load", "Message", "Need", "Notice", "Plan", "Reading", "Readings", "Refused", "Request", "Signal", "Stand", "Text", "Unit", "Vehicle",
+    "VehicleFinding", "VehicleNeed", "Who", "audit", "codes", "deviations", "drive", "follow", "frame", "log2plan", "read_plan", "read_vehicle", "signals",
 ]
+
+# A log, and what several of one drive are.
+Name = str | os.PathLike[str]
+
+# How a tool names the interface to choose.
+INTERFACE = re.compile(r"--interface (\S+)")
 
 
 class Notice(UserWarning):
     """What a tool says on standard error of a log that it reads: lines that spell no frame, interfaces that weren't read, a clock that was set."""
-
-
-class Reading(NamedTuple):
-    """What a message has of a signal: the `state` (`value`, `absent`, `fault`, `text` ..); the `value` in the `unit` of measurement, exactly, None
-    where the state is another one; and what else is said, as the name of a value, the number of a fault, or a text."""
-
-    state: str
-    value: Decimal | None
-    unit: str
-    detail: str
-
-
-class Readings(Mapping[str, Reading]):
-    """The readings of a message by the labels of its signals and texts; of records with their numbers, as `SPN[2]`."""
-
-    def __init__(self, group: Group, lines: Iterable[str]) -> None:
-        self._units = {part.label: part.unit for part in group.signals}
-        self._said = {label: said for label, _, said in (line.strip().partition(" ") for line in lines)}
-
-    def __getitem__(self, label: str) -> Reading:
-        measure = measure_of(self._units.get(label.partition("[")[0], ""))
-        state, value, unit, detail = readings.reading_of(self._said[label], measure)
-        return Reading(state, Decimal(value) if value else None, unit, detail)
-
-    def __iter__(self) -> Iterator[str]:
-        return iter(self._said)
-
-    def __len__(self) -> int:
-        return len(self._said)
-
-    def __repr__(self) -> str:
-        return repr(dict(self))
-
-
-class Message(NamedTuple):
-    """A message of a planned group: the line of its last frame and its time; from whom to whom; the number of its flow, 0 where it has
-    none; the priority, where it came in one frame and that isn't the group's; its bytes as hex digits; and the readings of its signals."""
-
-    line: int
-    time: str
-    group: str
-    sender: Who
-    to: Who
-    flow: int
-    priority: int | None
-    data: str
-    signals: Readings
 
 
 class Plan:
@@ -145,8 +107,8 @@ class Plan:
 
         Raises `ValueError` where there is no such frame, and `Refused` as `follow` does."""
         log = message_lines.log_of(identifier, bytes.fromhex(data) if isinstance(data, str) else bytes(data))
-        with program.file_of(log) as name:
-            return next((report for report in follow(self, name) if isinstance(report, Message)), None)
+        with program.file_of(log) as name, contextlib.closing(follow(self, name)) as reports_of_it:
+            return next((report for report in reports_of_it if isinstance(report, Message)), None)
 
     def _answer(self, command: str) -> str:
         """What a command of the program writes of the plan."""
@@ -160,8 +122,14 @@ def read_plan(name: str | os.PathLike[str], variant: Iterable[str] | None = None
     Raises `Refused`, whose text begins with file and line, where the file is no plan; `OSError` where it can't be opened.
     """
     name = os.fspath(name)
-    with _with_program():
-        return Plan(name, text_of(name, None if variant is None else list(variant)))
+    try:
+        with _with_program():
+            return Plan(name, text_of(name, None if variant is None else list(variant)))
+    except Refused as refused:
+        if not str(refused).endswith(program.CHOICES):
+            raise
+        hint = f"read_plan({name!r}, variant=[..]) takes the plan of one vehicle, by the labels of its alternatives"
+        raise Refused(refused.status, f"{name}: {program.CHOICES}: {hint}") from None
 
 
 class VehicleFinding(NamedTuple):
@@ -216,36 +184,60 @@ def read_vehicle(name: str | os.PathLike[str]) -> Vehicle:
     return Vehicle(os.fspath(name))
 
 
-def follow(
-    plan: Plan, log: str | os.PathLike[str], *, all_frames: bool = False,
-) -> Generator[Message | Claim | Request | Acknowledgement | Frame, None, None]:
+def follow(plan: Plan, log: Name, *, all_frames: bool = False, interface: str | None = None) -> Generator[Told, None, None]:
     """The reports of a log of `candump -L`, one by one as `follow` writes them: messages of planned groups, claims, requests, and of a plan
-    with requests acknowledgements; where all frames are asked for, a `Frame` also of each other one, with its `pgn`, `priority` and `data`.
+    with requests acknowledgements; where all frames are asked for, a `Frame` also of each other one, with its `pgn`, `priority` and `data`. Of several
+    interfaces the one that is named is read, else the first.
 
-    Of each the `line`, from 1, and the `time` as the log spells it, in brackets; who sent it (`sender`, `to`) or claimed (`who`, and of a unit of any
-    serial number the `identity` of its box). A message has its `group`, the number of its `flow`, from 1 and 0 for none, its `data` as hex digits, and its `signals`, by their labels
-    the `Readings`.
+    Of each the `line`, from 1, and the `time` in seconds, None where the line has none; who sent it (`sender`, `to`) or claimed (`who`, and of a unit
+    of any serial number the `identity` of its box). A message has its `group`, the number of its `flow`, from 1 and 0 for none, its `data`, and its
+    `signals`, by their labels the `Readings`.
 
     Raises `Refused` where the plan has a group that can't be laid out, where the log has lines and no frame, and where the program fails in the
     midst; `OSError` where the log can't be opened.
     """
-    log, groups = os.fspath(log), {group.label: group for group in plan.groups}
-    with open(log, "rb"), _with_program(), program.file_of(plan.text) as copy:
-        words = [program.path(), "follow", *(["--all"] if all_frames else []), "--", copy, log]
-        with subprocess.Popen(words, stdin=subprocess.DEVNULL, stdout=subprocess.PIPE, stderr=subprocess.PIPE) as process:
-            assert process.stdout is not None and process.stderr is not None
-            ended, counts = _Ended(), reports.Counts()
-            for report in reports.reports_of(ended.passed(io.TextIOWrapper(process.stdout, "ascii")), plan.tables, counts):
-                yield Message(*report[:-1], Readings(groups[report.group], report.signals)) if isinstance(report, reports.Message) else report
-            said = process.stderr.read().decode(errors="replace").strip()
-        if process.returncode:
-            raise Refused(process.returncode, ended.refusal or f"{log}: {said}")
-    if counts.frames == 0 and counts.bad:
-        raise Refused(program.UNREADABLE, f"{log} has no frame, and {counts.bad} lines that spell none: {reports.CONVERTER}")
-    _notice(counts.told())
+    log, groups, counts, ended = os.fspath(log), {group.label: group for group in _plan(plan).groups}, reports.Counts(), _Ended()
+    with open(log, "rb"), _with_program(), program.file_of(plan.text) as copy, _followed(copy, log, all_frames, interface, counts) as process:
+        assert process.stdout is not None and process.stderr is not None
+        with io.TextIOWrapper(process.stdout, "ascii") as lines:
+            for report in reports.reports_of(ended.passed(lines), plan.tables, counts):
+                yield told_of(report, groups)
+        said = process.stderr.read().decode(errors="replace").strip()
+    if process.returncode:
+        raise Refused(process.returncode, ended.refusal or f"{log}: {said}")
+    if not os.path.isfile(log):  # a pipe, which is read
+        _notice(counts.told())
+        return
+    with Log([log], interface) as there:
+        if not counts.frames and (counts.bad or counts.elsewhere):
+            counts.refuse_without_frames(there)
+        told = list(counts.told(there))
+    _notice(told)
 
 
-def signals(plan: Plan, log: str | os.PathLike[str], names: str | Iterable[str] = ()) -> Iterator[dict[str, Any]]:
+@contextlib.contextmanager
+def _followed(plan: str, log: str, all_frames: bool, interface: str | None, counts: reports.Counts) -> Iterator[subprocess.Popen[bytes]]:
+    """The program as it follows a log, of which an interface may be chosen; it is ended where nobody wants its answer any more."""
+    words = [program.path(), "follow", *(["--all"] if all_frames else []), "--", plan, log if interface is None else program.INPUT]
+    source = subprocess.DEVNULL if interface is None else subprocess.PIPE
+    with subprocess.Popen(words, stdin=source, stdout=subprocess.PIPE, stderr=subprocess.PIPE) as process, contextlib.ExitStack() as opened:
+        writer = None
+        if interface is not None and process.stdin is not None:
+            part = OneInterface(opened.enter_context(whole(log)), interface)
+            writer = reports.Writer(reports.as_it_comes(part), process.stdin, False)
+            writer.start()
+        try:
+            yield process
+        except BaseException:
+            process.kill()
+            raise
+        finally:
+            if writer:
+                writer.close()
+                counts.pass_over(part)
+
+
+def signals(plan: Plan, log: Name, names: str | Iterable[str] = (), *, interface: str | None = None) -> Iterator[dict[str, Any]]:
     """The signals of a log, a row each: all, or those of `names`: a group, a signal or `GROUP.SIGNAL`, or several. `frame` has them for pandas.
 
     A row is an object that `j39plan-signals --json` writes: `time` (seconds, as a float), `line`, `from`, `to`, `group`, `signal`,
@@ -253,32 +245,49 @@ def signals(plan: Plan, log: str | os.PathLike[str], names: str | Iterable[str] 
     that tool has. A key is left out where there is nothing to say. Raises as `follow` does, and `Refused` for a name that the plan
     doesn't have.
     """
-    with _table(plan, log, names, "--json") as rows:
+    with _table(plan, log, names, "--json", interface) as rows:
         yield from map(json.loads, rows)
 
 
-def frame(plan: Plan, log: str | os.PathLike[str], names: str | Iterable[str] = ()) -> pandas.DataFrame:
+def frame(plan: Plan, log: Name, names: str | Iterable[str] = (), *, interface: str | None = None) -> pandas.DataFrame:
     """The signals of a log as a table of pandas, whose index is the time, in UTC: the columns of `j39plan-signals --csv`, texts as categories,
     addresses and lines as integers. It takes a tenth of the memory of `pandas.DataFrame(signals(..))`. Raises as `signals` does, and
     `ImportError` where pandas is missing."""
     importlib.import_module("pandas")  # before the log is read
-    with _table(plan, log, names, "--csv") as rows:
+    with _table(plan, log, names, "--csv", interface) as rows:
         return data_frame(rows)
 
 
+def _plan(plan: Plan) -> Plan:
+    """A plan, where it is one."""
+    if not isinstance(plan, Plan):
+        raise TypeError(f"{plan!r} is no plan: take read_plan({plan!r})" if isinstance(plan, str | os.PathLike) else f"{plan!r} is no plan, as read_plan answers it")
+    return plan
+
+
+def _options(interface: str | None) -> list[str]:
+    """The words by which a tool reads an interface."""
+    return [] if interface is None else ["--interface", interface]
+
+
+def _said(said: bytes) -> list[str]:
+    """What a tool says, without its name."""
+    return [line.partition(": ")[2] or line for line in said.decode(errors="replace").splitlines()]
+
+
 @contextlib.contextmanager
-def _table(plan: Plan, log: str | os.PathLike[str], names: str | Iterable[str], form: str) -> Iterator[IO[bytes]]:
+def _table(plan: Plan, log: Name, names: str | Iterable[str], form: str, interface: str | None) -> Iterator[IO[bytes]]:
     """What `j39plan-signals` writes of a log in a form."""
     log, chosen = os.fspath(log), [names] if isinstance(names, str) else list(names)
-    with open(log, "rb"), _with_program(), program.file_of(plan.text) as copy:
-        with program.started("signals", [form, "--", copy, log, *chosen]) as process:
+    with open(log, "rb"), _with_program(), program.file_of(_plan(plan).text) as copy:
+        with program.started("signals", [form, *_options(interface), "--", copy, log, *chosen]) as process:
             assert process.stdout is not None and process.stderr is not None
             fault: Exception | None = None
             try:
                 yield process.stdout
             except ValueError as why:  # of a table that ended before its heads
                 fault = why
-            said = [line.partition(": ")[2] or line for line in process.stderr.read().decode(errors="replace").splitlines()]
+            said = _said(process.stderr.read())
         if process.returncode:
             raise Refused(process.returncode, said[-1] if said else f"{log}: j39plan-signals ended with {process.returncode}")
     if fault:
@@ -286,27 +295,143 @@ def _table(plan: Plan, log: str | os.PathLike[str], names: str | Iterable[str], 
     _notice(said, 5)
 
 
+def _answered(tool: str, words: list[str]) -> tuple[str, list[str]]:
+    """What a tool writes, and what it says of what it reads."""
+    with _with_program(), program.started(tool, words) as process:
+        answer, errors = process.communicate()
+    if process.returncode:
+        said = _said(errors)
+        raise Refused(process.returncode, said[-1] if said else f"j39plan-{tool} ended with {process.returncode}")
+    return answer.decode(), [line.removeprefix(f"{tool}: ") for line in errors.decode(errors="replace").splitlines() if line.startswith(f"{tool}: ")]
+
+
 def _notice(told: Iterable[str], level: int = 3) -> None:
     """Warns of what tools say, at a place so many calls above."""
     for text in told:
-        warnings.warn(text, Notice, stacklevel=level)
+        warnings.warn(INTERFACE.sub(r'interface="\1"', text), Notice, stacklevel=level)
 
 
-def deviations(plan: Plan, log: str | os.PathLike[str], options: Iterable[str] = ()) -> list[Deviation]:
+def _logs(log: Name | Iterable[Name]) -> list[str]:
+    """The names of one log, or of several, each of which can be opened."""
+    names = [os.fspath(log)] if isinstance(log, str | os.PathLike) else [os.fspath(name) for name in log]
+    for name in names:
+        with open(name, "rb"):
+            pass
+    return names
+
+
+def deviations(plan: Plan, log: Name, options: Iterable[str] = (), *, interface: str | None = None) -> list[Deviation]:
     """Where a log isn't as the plan has it, as `j39plan-against --json` writes it: of each its `line`, None where it has none, its `text`, how many
     `times` it was met, its `kind`, the number of its `flow`, its `unit`, the `time` of the line in seconds, and the `value` that was measured.
     `options` are those of that tool, as `["--jitter", "2.5"]`. Raises as `follow` does."""
     log = os.fspath(log)
-    with open(log, "rb"), _with_program(), program.file_of(plan.text) as copy:
-        found, said, _ = drives.compared(copy, log, list(options))
+    with open(log, "rb"), _with_program(), program.file_of(_plan(plan).text) as copy:
+        found, said, _ = drives.compared(copy, log, [*options, *_options(interface)])
     _notice(said)
     return found
 
 
-def drive(plan: Plan, log: str | os.PathLike[str], options: Iterable[str] = ()) -> Drive:
+def drive(plan: Plan, log: Name, options: Iterable[str] = (), *, interface: str | None = None) -> Drive:
     """What `j39plan-fleet` takes of a log: a table with its deviations, counts, silences (in seconds), claims, and the least and greatest
     values of its signals. It raises nothing: a log that can't be read says so by `failed`."""
-    return drives.drive_of(plan.text, plan.shown, os.fspath(log), os.path.abspath(log), list(options))
+    return drives.drive_of(_plan(plan).text, plan.shown, os.fspath(log), os.path.abspath(log), [*options, *_options(interface)])
+
+
+def audit(plan: Plan, log: Name, *, part: bool = False, stamps: int | None = None, interface: str | None = None) -> Audit:
+    """What a log refutes of a plan, as `j39plan audit` answers: who is `accused` of what, how often each flow was `seen`, and how many lines the log has
+    of each kind. `part` says that it lacks frames of the bus, `stamps` by how many us its times differ from true ones at most (1000).
+
+    Raises `Refused` where the plan has findings, by which nobody can be accused, and else as `follow` does.
+    """
+    (log,) = _logs(log)
+    words = [*(["--part"] if part else []), *([] if stamps is None else ["--stamps", str(stamps)])]
+    with _with_program(), program.file_of(_plan(plan).text) as copy, _chosen(log, interface) as chosen:
+        status, answer = program.call(["audit", *words, "--", copy, chosen])
+    found = audit_of(answer)
+    if found is None:
+        first = answer.splitlines()[0] if answer else f"j39plan audit ended with {status}"
+        raise Refused(status or 1, f"{plan.name}: {first}: audit takes a plan without findings; plan.findings() has them")
+    if not found.frames + found.skipped and found.bad + found.elsewhere:
+        with Log([log], interface) as there:
+            counts = reports.Counts()
+            counts.bad, counts.elsewhere = found.bad, found.elsewhere
+            counts.refuse_without_frames(there)
+    return found
+
+
+@contextlib.contextmanager
+def _chosen(log: str, interface: str | None) -> Iterator[str]:
+    """The name of a log of one interface alone, whose lines keep their numbers; of a log as it is where none is named."""
+    if interface is None:
+        yield log
+        return
+    with whole(log) as file, tempfile.NamedTemporaryFile(suffix=".log") as copy:
+        copy.writelines(reports.as_it_comes(OneInterface(file, interface)))
+        copy.flush()
+        yield copy.name
+
+
+class Code(NamedTuple):
+    """A trouble code of a unit from when it `came` until it `went`, in seconds, None in a log without times: its SPN and FMI, of another conversion method
+    its `raw` number; the `name` of its signal; which codes these are (`state`: `active` ..); how it ended (`end`: `gone`; `silent`, where its unit sends
+    none any more; `open`, at the log's end); the first and the last occurrence count; its lamps; by whom it was cleared, with what; and its first line."""
+
+    line: int
+    unit: str
+    state: str
+    came: float | None
+    went: float | None
+    end: str
+    spn: int | None = None
+    fmi: int | None = None
+    raw: int | None = None
+    name: str = ""
+    first_count: int | None = None
+    last_count: int | None = None
+    lamps: tuple[str, ...] = ()
+    cleared_by: str = ""
+    cleared_with: str = ""
+
+
+def codes(plan: Plan, log: Name | Iterable[Name], *, interface: str | None = None) -> list[Code]:
+    """When each trouble code of a log, or of several of one drive, came and went, as `j39plan-codes` tells it. Raises as `follow` does, and `Refused` where the
+    plan has no signal of kind `dtc`."""
+    names = _logs(log)
+    with program.file_of(_plan(plan).text) as copy:
+        try:
+            answer, said = _answered("codes", ["--json", *_options(interface), "--", copy, *names])
+        except Refused as refused:
+            raise Refused(refused.status, str(refused).replace(copy, plan.name)) from None
+    _notice(said)
+    return [_code_of(json.loads(line)) for line in answer.splitlines()]
+
+
+def _code_of(row: dict[str, Any]) -> Code:
+    """A code of `j39plan-codes --json`, by the keys that it has."""
+    times: dict[str, Any] = {"came": None, "went": None, "lamps": tuple(row.pop("lamps", ()))}
+    return Code(**times | {key: value for key, value in row.items() if key in Code._fields})
+
+
+class FirstPlan(NamedTuple):
+    """A plan from a log: its `text`, with comments on what was seen and what is guessed; what `check` says of it at last; and `notes` on what isn't planned."""
+
+    text: str
+    check: str
+    notes: list[str]
+
+
+def log2plan(log: Name | Iterable[Name], *, groups: Iterable[Name] = (), dbc: Iterable[Name] = (), bitrate: int | None = None,
+             interface: str | None = None) -> FirstPlan:
+    """A first plan from a log, or from several of one drive, as `j39plan-log2plan` writes it; plans (`groups`) and DBC files name groups, signals and units.
+    Raises `Refused` where the log has no frame, or a file is none of its kind; `OSError` where the log can't be opened."""
+    names = _logs(log)
+    words = [word for option, files in (("--groups", groups), ("--dbc", dbc)) for file in files for word in (option, os.fspath(file))]
+    words += _options(interface) + ([] if bitrate is None else ["--bitrate", str(bitrate)])
+    with tempfile.NamedTemporaryFile("r", suffix=".toml", encoding="utf-8") as made:
+        answer, said = _answered("log2plan", ["--json", "-o", made.name, *words, "--", *names])
+        _notice(said)
+        found = json.loads(answer)
+        return FirstPlan(made.read(), found["check"], [f"{note['what']}: {note['why']}" for note in found["notes"]])
 
 
 class _Ended:

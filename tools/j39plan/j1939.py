@@ -19,6 +19,19 @@ IDENTITY_BITS, IDENTITY_DIGITS = 21, 6
 NULL_ADDRESS, GLOBAL_ADDRESS = 254, 255
 POOL = range(128, 248)
 
+# The addresses that SAE J1939 gives to functions of the first 128, by the number of the function: the engine's, the transmission's, and so on.
+PREFERRED_ADDRESSES = {
+    0: (0, 1), 3: (3, 4), 5: (5, 6), 6: (7,), 7: (8,), 8: (9, 10), 9: (11,), 10: (12,), 11: (13, 14), 12: (15,), 13: (16,), 14: (17,), 15: (18,),
+    16: (19,), 17: (20,), 18: (21, 22), 19: (23,), 20: (24,), 21: (25, 58), 22: (27,), 23: (28,), 24: (29,), 26: (33,), 27: (36,), 28: (37,),
+    29: (38,), 30: (39,), 32: (42,), 34: (46,), 35: (47, 64), 36: (48,), 37: (49, 50), 38: (51,), 39: (52, 53), 40: (54,), 41: (55,),
+}
+
+# The groups of trouble codes, of which a message has as many as there are (J1939-73).
+TROUBLE_CODES = {65226: "DM1", 65227: "DM2", 65231: "DM6", 65236: "DM12", 64949: "DM23"}
+
+# The addresses of service tools (J1939), which aren't there in each drive.
+SERVICE_TOOLS = (249, 250)
+
 # Groups by which the network runs (J1939-21, -81) that `check` finds as F4.
 ACKNOWLEDGEMENT, REQUEST = 59392, 59904
 DATA_TRANSFER, CONNECTION_MANAGEMENT = 60160, 60416

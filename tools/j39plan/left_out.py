@@ -29,11 +29,14 @@ class Note(NamedTuple):
 
 class Notes:
     """What could not be carried over as it is, each with its reason, on standard error. `file` is the one that is looked at, where
-    there are several; with `are_new` what was said already isn't said again."""
+    there are several; with `are_new` what was said already isn't said again. `places` has where in a sheet things stand, by what they are called,
+    and `left_out` what the plan is to say of it in comments."""
 
     def __init__(self) -> None:
         self.file, self.are_new = "", False
         self.said: list[Note] = []
+        self.places: dict[str, str] = {}
+        self.left_out: list[str] = []
 
     @property
     def count(self) -> int:
@@ -42,7 +45,8 @@ class Notes:
 
     def say(self, what: str, why: object) -> None:
         """Lists a thing with its reason."""
-        note = Note(plain(self.file), plain(what), plain(why))
+        at = f"{self.places[what]}, " if what in self.places else ""
+        note = Note(plain(self.file), plain(f"{at}{what}"), plain(why))
         if self.are_new and note in self.said:
             return
         self.said.append(note)

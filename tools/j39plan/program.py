@@ -4,6 +4,7 @@ import argparse
 import contextlib
 import functools
 import io
+import itertools
 import os
 import shutil
 import signal
@@ -12,9 +13,12 @@ import sys
 import tempfile
 import traceback
 from collections.abc import Callable, Iterable, Iterator, Sequence
-from typing import IO, Any, NoReturn
+from typing import IO, TYPE_CHECKING, Any, NoReturn
 
 from j39plan.left_out import Notes
+
+if TYPE_CHECKING:
+    from j39plan.inside import Inside
 
 # Exit statuses (docs/guide/TOOLS.md has all of them); those below 5 are the program's own.
 UNREADABLE, MEMORY, DEVICE, TOO_LONG, MISSING, FAULT = 2, 3, 4, 5, 69, 70
@@ -25,15 +29,30 @@ INPUT_MOST = 16_777_216
 # What commands that want the plan of one vehicle answer to one with choices, and what is said behind that.
 CHOICES, ONE_VEHICLE = "refused plan Choices", "  (--variant LABEL,.. takes the plan of one vehicle)"
 
+# What keeps modules of the folder in which a tool is started out of it, where Python can.
+SAFE = ["-P"] if sys.version_info >= (3, 11) else []
+
 # The name of standard input.
 INPUT = "/dev/stdin"
 
 # The folder of this package.
 PACKAGE = os.path.dirname(os.path.realpath(__file__))
 
-# In a checkout: what prints the program that lies in it, where that is of its sources; and the program that was built there.
-FIND = os.path.join(PACKAGE, "..", "..", "program", "find")
-BUILT = os.path.join(PACKAGE, "..", "..", "crates", "j39plan", "out", "j39plan")
+# In a checkout: what prints the program that lies in it, where that is of its sources; the program that was built there; and what runs the first of
+# these on Windows, as a package for it has it, too.
+TOP = os.path.normpath(os.path.join(PACKAGE, "..", ".."))
+FIND = os.path.join(TOP, "program", "find")
+BUILT = os.path.join(TOP, "crates", "j39plan", "out", "j39plan")
+ON_WINDOWS, STORED = os.path.join(TOP, "program", "j39plan.exe"), "j39plan-linux-x86_64"
+
+# The variable by which orders run by processes (0) or inside this one (1: or not at all); how many run by processes before the library is loaded, which
+# costs as much; and where it is, in a package and in a checkout.
+SWITCH, BY_PROCESSES = "J39PLAN_IN_PROCESS", 12
+LIBRARIES = (os.path.normpath(os.path.join(TOP, "..", "..", "lib", "j39plan", "libj39plan.so")), os.path.join(TOP, "host", "out", "libj39plan.so"))
+LIBRARIES_ON_WINDOWS = (os.path.join(TOP, "host", "out", "windows", "j39plan.dll"),)
+
+# In a package, whose tools are in share/j39plan/tools: the program.
+INSTALLED = os.path.join(PACKAGE, "..", "..", "..", "..", "lib", "j39plan", "j39plan")
 
 
 class Refused(Exception):
@@ -44,9 +63,17 @@ class Refused(Exception):
         self.status = status
 
 
+def is_windows() -> bool:
+    """Whether this is Windows: there is no /dev/stdin, a file is opened by one process alone, and an interrupt is no signal."""
+    return sys.platform == "win32"
+
+
 @functools.lru_cache(maxsize=None)
 def repository_program() -> str | None:
-    """The program of this repository, as its launcher takes it: the one that lies in it, where it is of its sources, else the built one."""
+    """The program of this repository, as its launcher takes it: the one that lies in it, where it is of its sources, else the built one. On Windows,
+    what runs the one that lies in it."""
+    if is_windows():
+        return ON_WINDOWS if os.path.exists(ON_WINDOWS) else None
     if os.access(FIND, os.X_OK):
         found = subprocess.run([FIND], stdin=subprocess.DEVNULL, stdout=subprocess.PIPE, stderr=subprocess.DEVNULL, text=True, check=False)
         if found.returncode == 0:
@@ -54,12 +81,18 @@ def repository_program() -> str | None:
     return BUILT if os.path.exists(BUILT) else None
 
 
+def installed_program() -> str | None:
+    """The program that was installed with this tool: where a package of the system has it, else beside the tool's command."""
+    beside = os.path.join(os.path.dirname(os.path.abspath(sys.argv[0])), "j39plan")
+    return next((name for name in (INSTALLED, beside) if os.path.isfile(name) and os.access(name, os.X_OK)), None)
+
+
 def path() -> str:
-    """The program: the one that J39PLAN names, else this repository's, else the one on the PATH."""
+    """The program: the one that J39PLAN names, else this repository's, else the one that was installed with this tool, else the one on the PATH."""
     named = os.environ.get("J39PLAN")
     if named:
         return named
-    found = repository_program() or shutil.which("j39plan")
+    found = repository_program() or installed_program() or shutil.which("j39plan")
     if found is None:
         print("j39plan isn't there: build it by ./j39plan, put it on the PATH, or name it by J39PLAN (the one without proofs: "
               "export J39PLAN=$PWD/unproved/j39plan)", file=sys.stderr)
@@ -67,9 +100,52 @@ def path() -> str:
     return found
 
 
+_ORDERS = itertools.count()
+
+
+def is_worthwhile() -> bool:
+    """Whether an order, which is counted, is to run inside this process where it can: so many came before it, or that is asked for."""
+    return os.environ.get(SWITCH) == "1" or next(_ORDERS) >= BY_PROCESSES
+
+
+@functools.lru_cache(maxsize=None)
+def inside(name: str) -> "Inside | None":
+    """The program of this name inside this process, None where orders run by processes: the library isn't there, or doesn't know such a program."""
+    asked = os.environ.get(SWITCH)
+    library = next(filter(os.path.exists, LIBRARIES_ON_WINDOWS if is_windows() else LIBRARIES), None)
+    if asked == "0" or library is None and asked != "1":
+        return None
+    from j39plan import inside  # pylint: disable=import-outside-toplevel  # what it imports is for this alone
+    stored = os.path.join(os.path.dirname(name), STORED) if is_windows() else name
+    try:
+        if library is None:
+            raise inside.Unusable("the library isn't there: make -C host")
+        # program/find has compared what it finds
+        return inside.Inside(library, stored, recorded(stored) if is_windows() or os.environ.get("J39PLAN") else None)
+    except inside.Unusable as why:
+        if asked != "1":
+            return None
+        raise Refused(MISSING, f"{name} can't be run inside this process ({SWITCH}=1): {why}") from None
+
+
+def recorded(name: str) -> str | None:
+    """The digest that the record beside a program has of it, None where there is no record."""
+    try:
+        with open(f"{name}.txt", encoding="utf-8") as lines:
+            return next((line.split()[1] for line in lines if line.startswith("program ")), None)
+    except OSError:
+        return None
+
+
 def call(words: Sequence[str]) -> tuple[int, str]:
     """What the program answers: its exit status and standard output. Its standard error goes where ours does."""
     name = path()
+    within = inside(name) if is_worthwhile() else None
+    if within:
+        status, out, errors = within.run(words)
+        with contextlib.suppress(OSError):
+            os.write(2, errors)
+        return status, out.decode()
     try:
         ended = subprocess.run([name, *words], stdin=subprocess.DEVNULL, stdout=subprocess.PIPE, check=False)
     except OSError as fault:
@@ -104,10 +180,8 @@ def shown(plan: str) -> str:
 
 def run(plan: str, steps: Iterable[str]) -> list[str]:
     """The lines that the program answers to a schedule of these steps, which the bus of a plan doesn't refuse."""
-    with tempfile.NamedTemporaryFile("w", suffix=".schedule") as schedule:
-        schedule.writelines(f"{step}\n" for step in steps)
-        schedule.flush()
-        status, answer = call(["run", "--", plan, schedule.name])
+    with temporary(lambda file: file.writelines(f"{step}\n".encode() for step in steps), ".schedule") as schedule:
+        status, answer = call(["run", "--", plan, schedule])
     lines = answer.splitlines()
     if status != 0:
         refusal = next((line for line in lines if line.startswith("refused ")), "")
@@ -121,22 +195,34 @@ def labels_of(plan: str) -> list[str]:
 
 
 @contextlib.contextmanager
-def copied(name: str) -> Iterator[str]:
-    """The name of a copy of a file: what a pipe or a device gives comes only once, and a tool hands its plan to the program several
-    times. Of a file that is too long a byte more is copied than the program takes."""
-    with open(name, "rb") as file, tempfile.NamedTemporaryFile() as copy:
-        copy.write(file.read(INPUT_MOST + 1))
-        copy.flush()
-        yield copy.name
+def temporary(write: Callable[[IO[bytes]], object], suffix: str = "") -> Iterator[str]:
+    """The name of a file as long as it is needed, into which this has written. It is closed, since on Windows nobody else could open it."""
+    with tempfile.NamedTemporaryFile(suffix=suffix, delete=False) as file:
+        pass
+    try:
+        with open(file.name, "wb") as opened:
+            write(opened)
+        yield file.name
+    finally:
+        os.unlink(file.name)
+
+
+def place_of(name: str) -> str | int:
+    """By what a file that is read is opened: its name, and on Windows, which has no name for standard input, a descriptor of that."""
+    return os.dup(0) if name == INPUT and is_windows() else name
 
 
 @contextlib.contextmanager
-def file_of(text: str) -> Iterator[str]:
+def copied(name: str) -> Iterator[str]:
+    """The name of a copy of a file: what a pipe or a device gives comes only once, and a tool hands its plan to the program several
+    times. Of a file that is too long a byte more is copied than the program takes."""
+    with open(place_of(name), "rb") as file, temporary(lambda copy: copy.write(file.read(INPUT_MOST + 1))) as copy:
+        yield copy
+
+
+def file_of(text: str) -> contextlib.AbstractContextManager[str]:
     """The name of a file that has this text as long as it is needed."""
-    with tempfile.NamedTemporaryFile(suffix=".toml") as file:
-        file.write(text.encode())
-        file.flush()
-        yield file.name
+    return temporary(lambda file: file.write(text.encode()), ".toml")
 
 
 class Version(argparse.Action):
@@ -182,9 +268,10 @@ def alternatives(text: str) -> list[str]:
     return [label for label in text.split(",") if label]
 
 
-def variant_option(words: argparse.ArgumentParser) -> None:
-    """The option by which a tool takes one vehicle of a plan with choices."""
-    words.add_argument("--variant", metavar="LABEL,..", type=alternatives, help="of a plan with choices: the first vehicle that is built with these alternatives")
+def variant_option(words: argparse.ArgumentParser, more: str = "") -> None:
+    """The option by which a tool takes one vehicle of a plan with choices, with what more it takes."""
+    words.add_argument("--variant", metavar="LABEL,..", type=alternatives,
+                       help=f"of a plan with choices: the first vehicle that is built with these alternatives{more}")
 
 
 def same(text: str) -> tuple[str, str]:
@@ -240,9 +327,10 @@ def device_fault(fault: OSError) -> int:
 
 
 def interrupted() -> NoReturn:
-    """Ends by the signal of an interrupt, so that a shell knows of it."""
-    signal.signal(signal.SIGINT, signal.SIG_DFL)
-    os.kill(os.getpid(), signal.SIGINT)
+    """Ends by the signal of an interrupt, so that a shell knows of it; on Windows, where a process can't, by the status that a shell makes of it."""
+    if not is_windows():
+        signal.signal(signal.SIGINT, signal.SIG_DFL)
+        os.kill(os.getpid(), signal.SIGINT)
     sys.exit(128 + signal.SIGINT)
 
 
@@ -292,5 +380,5 @@ def started(tool: str, words: Sequence[str], errors: IO[bytes] | int = subproces
     """Another tool of this package, run with these words in a process of its own, whose output is read by a pipe, and standard error too unless
     it goes to a file; it reads nothing, or, of None, what this one would."""
     path = os.pathsep.join(filter(None, (os.path.dirname(PACKAGE), os.environ.get("PYTHONPATH"))))
-    return subprocess.Popen([sys.executable, "-P", "-m", f"j39plan.cli.{tool}", *words], stdin=source, stdout=subprocess.PIPE,
+    return subprocess.Popen([sys.executable, *SAFE, "-m", f"j39plan.cli.{tool}", *words], stdin=source, stdout=subprocess.PIPE,
                             stderr=errors, env={**os.environ, "PYTHONPATH": path})

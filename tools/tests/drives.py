@@ -39,10 +39,14 @@ class Drive:
     def _queue(self, at: float, identifier: int, data: bytes) -> None:
         heapq.heappush(self._heap, (at, next(self._number), identifier, data))
 
+    def _lasts(self, flow: Flow) -> int:
+        """How long a message of a flow is on its way at most."""
+        longest = min(self._groups[flow.group].most, self._groups[flow.group].length + LONGER)
+        return (-(-longest // 7) + 1) * GAP if longest > 8 else 0
+
     def _sends(self, flow: Flow) -> None:
         """The messages of a flow in its period."""
-        longest = min(self._groups[flow.group].most, self._groups[flow.group].length + LONGER)
-        lasts = (-(-longest // 7) + 1) * GAP if longest > 8 else 0
+        lasts = self._lasts(flow)
         period = flow.period or USUAL + 10 * lasts
         at = BEGIN + self._random.random() * period
         while at + lasts < self._end:
@@ -64,14 +68,15 @@ class Drive:
     def _message(self, at: float, flow: Flow) -> None:
         """A message of a flow, frame by frame."""
         group, to = self._groups[flow.group], GLOBAL_ADDRESS if flow.to == "all" else self._units[flow.to].address
+        apart = GAP if to == GLOBAL_ADDRESS else QUICK
         if group.most > 8:  # a unit sends one of them at a time
             at = max(at, self._busy.get((flow.sender, flow.to), 0))
-            self._busy[flow.sender, flow.to] = at + (-(-min(group.most, group.length + LONGER) // 7) + 1) * GAP
+            self._busy[flow.sender, flow.to] = at + (-(-min(group.most, group.length + LONGER) // 7) + (1 if apart == GAP else 4)) * apart
         identifier = identifier_of(group.priority, group.pgn, self._units[flow.sender].address, to)
         if group.most > 8 and group.pgn >> 8 & 0xFF >= 240:
             identifier = identifier & ~0xFF00 | (group.pgn & 0xFF) << 8
         for number, (frame, data) in enumerate(self._frames(identifier, to, self._data(group))):
-            self._queue(at + number * (GAP if to == GLOBAL_ADDRESS else QUICK), frame, data)
+            self._queue(at + number * apart, frame, data)
 
     def _frames(self, identifier: int, to: int, data: bytes) -> Iterator[tuple[int, bytes]]:
         """The frames of a message; one of more than 8 bytes to one receiver is announced to it, whatever its number."""

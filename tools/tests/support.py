@@ -1,7 +1,9 @@
 """What the tests share."""
 
+import contextlib
 import functools
 import importlib.util
+import io
 import os
 import re
 import subprocess
@@ -109,6 +111,17 @@ def run(tool: str, *words: str, text: str | None = None) -> tuple[int, str, str]
         input=text, capture_output=True, text=True, check=False, env={**os.environ, "J39PLAN": program.path()},
     )
     return ended.returncode, ended.stdout, ended.stderr
+
+
+def answered(main: Callable[[list[str]], int], *words: str) -> tuple[int, str, str]:
+    """Runs a tool's main in this process; its exit status, standard output and standard error."""
+    with (tempfile.NamedTemporaryFile("w", encoding="utf-8") as told, contextlib.redirect_stdout(told),
+          contextlib.redirect_stderr(io.StringIO()) as said):
+        try:
+            status = main(list(words))
+        except SystemExit as ended:
+            status = int(ended.code or 0)
+        return status, text_of(told.name), said.getvalue()
 
 
 def without_times(answer: str) -> str:

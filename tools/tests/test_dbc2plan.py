@@ -97,17 +97,17 @@ class Units(WithDbc):
             plan, told = self.plan(*words)
             self.assertEqual(plan["unit"], numbered)
             self.assertNotIn("left away", " ".join(told))
-        self.assertIn("unit TOOL: no address is given", said)
+        self.assertIn("unit TOOL: left out: no address is given", said)
         self.assertIn("unit RETARDER, NmJ1939ManufacturerCode: 3000 is outside 0..2047", said)
 
     def test_an_address_by_the_frames(self) -> None:
         plan, said = self.plan(data='BU_: A B\nBO_ 2364539909 EEC1: 8 A\n SG_ S : 0|8@1+ (1,0) [0|0] "" B\n')
         self.assertEqual([(unit["label"], unit["address"]) for unit in plan["unit"]], [("A", 5)])
-        self.assertEqual((plan["unit"][0]["name"], said), ({}, ["unit B: no address is given", "1 units 1 groups 1 flows, notes 1"]))
+        self.assertEqual((plan["unit"][0]["name"], said), ({}, ["unit B: left out: no address is given", "1 units 1 groups 1 flows, notes 1"]))
 
     def test_frames_from_several_addresses(self) -> None:
         _, said = self.plan(data=NODES + message(FROM_0, "EEC1", "ENGINE") + message(0x18FEEE17, "ET1", "ENGINE"))
-        self.assertIn("unit ENGINE: its frames come from several addresses", said)
+        self.assertIn("unit ENGINE: left out: its frames come from several addresses", said)
 
     def test_a_default_is_no_identity_and_no_address(self) -> None:
         """Nodes that have only defaults of the file would all be one unit. A version that asks for a number gets a free one."""
@@ -158,7 +158,7 @@ class Groups(WithDbc):
                                  ("MAKER", 65296, 6, 8)])
         self.assertEqual([group["label"] for group in self.plan()[0]["group"] if group.get("private")], ["MAKER"])
         self.assertNotIn("MAKER", [group["label"] for group in self.plan("--version", "2")[0]["group"]])
-        self.assertIn("group MAKER: PGN 65296 is proprietary", self.plan("--version", "2")[1])
+        self.assertIn("group MAKER: left out: PGN 65296 is proprietary", self.plan("--version", "2")[1])
 
     def test_flows(self) -> None:
         plan, _ = self.plan()
@@ -170,11 +170,11 @@ class Groups(WithDbc):
     def test_what_is_left_out(self) -> None:
         _, said = self.plan()
         for line in [
-            "signal MOTOROLA of ODD: its most significant byte comes first",
-            "signal WIDE of ODD: it has 40 bits, more than 32",
-            "signal FALLING of ODD: factor -1 is no step of 1 to 1000000",
-            "group CLAIM: PGN 60928 can't be planned",
-            "group SHORT: its identifier has 11 bits",
+            "signal MOTOROLA of ODD: left out: its most significant byte comes first (Motorola)",
+            "signal WIDE of ODD: left out: it has 40 bits, more than 32",
+            "signal FALLING of ODD: left out: factor -1 is no step of 1 to 1000000",
+            "group CLAIM: left out: PGN 60928 can't be planned",
+            "group SHORT: left out: its identifier has 11 bits",
         ]:
             self.assertIn(line, said)
         self.assertIn("group ET1_OTHER: its length is 7, that of ET1 is 8", self.plan("--version", "3")[1])
@@ -191,7 +191,7 @@ class Groups(WithDbc):
         (group,) = plan["group"]
         self.assertEqual((group["length"], group["most"]), (2, 12))
         self.assertEqual([(signal["label"], signal.get("optional", False)) for signal in group["signal"]], [("A", False), ("B", True), ("C", True)])
-        self.assertEqual([line for line in said if "length" in line or " D " in line], ["signal D of EEC1: it lies outside of the 5 bytes"])
+        self.assertEqual([line for line in said if "length" in line or " D " in line], ["signal D of EEC1: left out: it lies outside of the 5 bytes"])
         self.assertEqual(program.call(["check", self.path("plan.toml")]), (0, "ok 2 units 1 groups 2 flows\n"))
         with open(self.path("plan.toml"), encoding="utf-8") as file:
             self.assertIn("# message EEC1_B, 2 bytes", file.read())
@@ -207,7 +207,7 @@ class Groups(WithDbc):
             data = NODES + message(FROM_0, "EEC1", "ENGINE", text) + message(FROM_15, "EEC1_B", "RETARDER", length=2)
             plan, said = self.plan(data=data + told.format(FROM_0 | 1 << 31, "T"))
             self.assertEqual(len(plan["group"][0].get("text", [])), is_kept)
-            self.assertEqual("signal T of EEC1: it is text that begins after the 2 bytes of the shortest message" in said, not is_kept)
+            self.assertEqual("signal T of EEC1: left out: it is text that begins after the 2 bytes of the shortest message" in said, not is_kept)
 
     def test_no_destination_from_the_null_address(self) -> None:
         """Identifiers that stand for a group alone have the source 254, and at the destination's place what means nothing."""
@@ -331,7 +331,7 @@ class Multiplexed(WithDbc):
         more = "".join(f"SG_MUL_VAL_ {FROM_0 | 1 << 31} {one};\n" for one in ("LEFT AXLE 1-1", "PAGE AXLE 3-3", "DEEP PAGE 4-4"))
         shown, said = self.groups(AXLE, LEFT, *DEEP, more=more)
         self.assertEqual(shown, [("EEC1_m1", 1, ["AXLE", "LEFT"]), ("EEC1_m3", 3, ["AXLE", "PAGE"])])
-        self.assertEqual(said, ["signal DEEP of EEC1: it is multiplexed by PAGE, which not each message has"])
+        self.assertEqual(said, ["signal DEEP of EEC1: left out: it is multiplexed by PAGE, which not each message has"])
 
     def test_multiplexors_that_can_not_be(self) -> None:
         for selector, why in (
@@ -342,7 +342,7 @@ class Multiplexed(WithDbc):
             shown, said = self.groups(selector, LEFT)
             self.assertEqual([(label, value) for label, value, _ in shown], [("EEC1", None)], why)
             self.assertIn(f"group EEC1: {why}", said)
-            self.assertIn("signal LEFT of EEC1: it is multiplexed", said)
+            self.assertIn("signal LEFT of EEC1: left out: it is multiplexed", said)
 
     def test_a_value_that_the_bits_do_not_hold(self) -> None:
         shown, said = self.groups(AXLE, LEFT, RIGHT.replace("m2", "m16"))
@@ -373,7 +373,7 @@ class Multiplexed(WithDbc):
 
     def test_what_is_left_out_is_said_once(self) -> None:
         _, said = self.groups(AXLE, LEFT, RIGHT, 'BIG : 32|16@0+ (1,0) [0|0] "" RETARDER')
-        self.assertEqual(said, ["signal BIG of EEC1: its most significant byte comes first"])
+        self.assertEqual(said, ["signal BIG of EEC1: left out: its most significant byte comes first (Motorola)"])
 
     def test_its_cycle_time(self) -> None:
         more = f'BA_DEF_ BO_ "GenMsgCycleTime" INT 0 65535;\nBA_ "GenMsgCycleTime" BO_ {FROM_0 | 1 << 31} 100;\n'
@@ -407,7 +407,7 @@ class Signals(WithDbc):
         self.assertEqual([older[key] for key in ("unit", "group", "flow")], [newer[key] for key in ("unit", "group", "flow")])
         self.assertEqual(signals["SPN190"], {"label": "SPN190", "byte": 4, "bits": 16, "kind": "measured", "unit": "1/8 rpm"})
         self.assertEqual((signals["SPN175"]["offset"], signals["SPN175"]["unit"]), (-8736, "1/32 degC"))
-        self.assertIn("signal SIGNED of ODD: it is signed", said)
+        self.assertIn("signal SIGNED of ODD: left out: it is signed", said)
         states, _ = self.plan("--version", "2", data=STATES)
         self.assertEqual({signal["kind"] for signal in states["group"][0]["signal"]}, {"raw", "discrete"})
 
@@ -416,7 +416,7 @@ class Signals(WithDbc):
         plan, said = self.plan()
         needs = [("RETARDER", "EEC1"), ("RETARDER", "ET1"), ("ENGINE", "TSC1"), ("RETARDER", "ODD"), ("RETARDER", "MAKER"), ("ENGINE", "EEC1")]
         self.assertEqual([(need.pop("unit"), need.pop("group"), need) for need in plan["need"]], [(*need, {}) for need in needs])
-        self.assertEqual(said[-1], "2 units 5 groups 7 flows 6 needs, notes 9")
+        self.assertEqual(said[-1], "2 units 5 groups 7 flows 6 needs, notes 12")
         for words in (("--no-needs",), ("--version", "3"), ("--version", "2")):
             less, said = self.plan(*words)
             self.assertEqual(("need" in less, "needs" in said[-1]), (False, False), words)
@@ -437,8 +437,8 @@ class Signals(WithDbc):
     def test_what_is_left_out_of_a_group_of_a_maker(self) -> None:
         _, said = self.plan(data=NODES + message(FROM_0, "EEC1", "ENGINE") + message(0x18FF1000, "ONE", "ENGINE") + (
             message(0x18FF1000, "TWO", "ENGINE", length=7) + message(0x18FF11FE, "THREE", "Vector__XXX")))
-        self.assertIn("group TWO: ONE has the same PGN 65296 from the same unit to the same receiver, and is another group", said)
-        self.assertIn("group THREE: PGN 65297 is proprietary, and no unit in the plan sends it to another one", said)
+        self.assertIn("group TWO: left out: ONE has the same PGN 65296 from the same unit to the same receiver, and is another group", said)
+        self.assertIn("group THREE: left out: PGN 65297 is proprietary, and no unit in the plan sends it to another one", said)
 
     def test_a_version_that_there_is_not(self) -> None:
         for version in ("1", "5", "x"):
@@ -479,21 +479,21 @@ class Signals(WithDbc):
             'SECOND m1M : 8|8@1+ (1,0) [0|0] "" RETARDER'))
         self.assertEqual(plan["group"][0]["signal"], [{"label": "PAGE", "byte": 1, "bits": 8, "kind": "raw"}])
         for name in ("FIRST", "SECOND"):
-            self.assertIn(f"signal {name} of EEC1: it is multiplexed", said)
+            self.assertIn(f"signal {name} of EEC1: left out: it is multiplexed", said)
 
     def test_places_that_a_group_does_not_have(self) -> None:
         data = NODES + message(
             FROM_0, "EEC1", "ENGINE", 'FIRST : 0|16@1+ (1,0) [0|0] "" RETARDER', 'OVER : 14|2@1+ (1,0) [0|0] "" RETARDER',
             'NEXT : 16|8@1+ (1,0) [0|0] "" RETARDER', 'BEHIND : 56|16@1+ (1,0) [0|0] "" RETARDER',
             'LAST : 63|1@1+ (1,0) [0|0] "" RETARDER')
-        places = ("signal OVER of EEC1: it overlaps FIRST", "signal BEHIND of EEC1: it lies outside of the 8 bytes")
+        places = ("signal OVER of EEC1: left out: it overlaps FIRST", "signal BEHIND of EEC1: left out: it lies outside of the 8 bytes")
         plan, said = self.plan(data=data)
         self.assertEqual([signal["label"] for signal in plan["group"][0]["signal"]], ["FIRST", "NEXT", "LAST"])
         self.assertEqual([line for line in said if line.startswith("signal ")], list(places))
         plan, said = self.plan("--strict", data=data)
         labels = [signal["label"] for signal in plan["group"][0]["signal"]]
         self.assertEqual(labels, ["FIRST", "OVER", "NEXT", "BEHIND", "LAST"])
-        kept = [*places, "signal LAST of EEC1: it overlaps BEHIND"]
+        kept = [*(place.replace("left out: ", "") for place in places), "signal LAST of EEC1: it overlaps BEHIND"]
         self.assertEqual([line for line in said if line.startswith("signal ")], [f"{line}, and is kept" for line in kept])
 
     def test_numbers_of_any_size(self) -> None:
@@ -506,9 +506,9 @@ class Signals(WithDbc):
         ):
             signal = f'SPN1 : 0|1@1+ ({factor},{offset}) [0|0] "" RETARDER'
             _, said = self.plan(data=NODES + message(FROM_0, "EEC1", "ENGINE", signal))
-            self.assertIn(f"signal SPN1 of EEC1: {why}", said)
+            self.assertIn(f"signal SPN1 of EEC1: left out: {why}", said)
         _, said = self.plan(data=NODES + message(FROM_0, "EEC1", "ENGINE", 'SPN1 : 0|0@1+ (1,0) [0|0] "" RETARDER'))
-        self.assertIn("signal SPN1 of EEC1: it has no bits", said)
+        self.assertIn("signal SPN1 of EEC1: left out: it has no bits", said)
 
     def test_units_of_measurement(self) -> None:
         for spelled, written in (("°C", "degC"), ("日本", "??"), ("\\m³", "\\m3"), ("k" * 40, "k" * 32), ("µg\tl", "ug l")):
@@ -595,7 +595,7 @@ class Texts(InFolder):
         self.assertEqual((name.header, name.keys), ("group.text", {"label": "NAME", "byte": 2, "bytes": 7}))
         self.assertEqual((over.header, over.keys), ("group.text", {"label": "OVER", "byte": 1, "bytes": 2}))
         self.assertEqual([table.keys["label"] for table in older], ["COUNT"])
-        for line in ("signal ODD of VI: it is text, and not of whole bytes", "signal FAR of VI: it lies outside of the 8 bytes"):
+        for line in ("signal ODD of VI: left out: it is text, and not of whole bytes", "signal FAR of VI: left out: it lies outside of the 8 bytes"):
             self.assertIn(line, said.getvalue().splitlines())
 
 
@@ -693,7 +693,8 @@ class Whole(WithDbc):
             needed += len(plan.needs)
             self.checked(text_of(plan.tables(), "random", version))
             _, answer = program.call(["check", self.path("plan.toml")])
-            self.assertNotRegex(answer, r"(?m)^(?:F[4-9]|F1[013]) ")
+            self.assertNotRegex(answer, r"(?m)^(?:F[4-79]|F1[013]) ")
+            self.assertEqual("F8 " in answer, any("shares bits with" in note.why for note in network.notes.said))
             flows += len(plan.flows)
         self.assertGreater(flows, 10)
         self.assertGreater(needed, 5)
@@ -705,8 +706,8 @@ class Whole(WithDbc):
         self.assertLess(processor_seconds() - begin, 5)
         self.assertEqual(status, 0)
         self.assertEqual(len(tomllib.loads(plan)["group"]), 256)
-        self.assertIn("group WFI: a plan has at most 256 groups: choose some by --sender or --group", said)
-        self.assertIn("signal AETC_Speed_Value of AETC: it overlaps AETC_Data_Collection_Standard", said)
+        self.assertIn("group WFI: left out: a plan has at most 256 groups: choose some by --sender or --group", said)
+        self.assertIn("signal AETC_Speed_Value of AETC: left out: it overlaps AETC_Data_Collection_Standard", said)
         name = self.write("plan.toml", plan)
         self.assertEqual(program.call(["check", name]), (0, "ok 0 units 256 groups 0 flows\n"))
         log = self.write("drive.log", "0CF00400#F07D87E02EF00F87\n")

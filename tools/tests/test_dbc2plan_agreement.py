@@ -150,7 +150,7 @@ class Agreement(WithDbc):
     def test_an_absurd_width_ends_at_once(self) -> None:
         plan, said = self.of("BU_: EMS\n" + message(CCVS, "CCVS", "EMS", MODE, 'S : 0|99999999999@1+ (1,0) [0|0] "" Vector__XXX'))
         self.assertEqual([signal["label"] for signal in plan["group"][0]["signal"]], ["Mode"])
-        self.assertEqual(said[:-1], ["signal S of CCVS: it has 99999999999 bits, more than 32"])
+        self.assertEqual(said[:-1], ["signal S of CCVS: left out: it has 99999999999 bits, more than 32"])
 
     def test_another_name_at_the_same_bits(self) -> None:
         plan, said = self.of("BU_: EMS\n" + message(CCVS, "CCVS", "EMS", SPEED.format(8)),

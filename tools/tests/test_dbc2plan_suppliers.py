@@ -104,7 +104,7 @@ class Suppliers(WithFiles):
     def test_a_file_that_is_none(self) -> None:
         none = self.write("none.txt", "hello")
         missing = self.path("missing.dbc")
-        ending = "it is none of .dbc, .arxml, .kcd and .sym by its ending: name its kind by --kind"
+        ending = "it is none of .dbc, .arxml, .kcd, .sym, .csv, .xlsx and .ods by its ending: name its kind by --kind"
         self.assertEqual(run("dbc2plan.py", ENGINE, none)[::2], (2, f"dbc2plan: {none}: {ending}\n"))
         self.assertEqual(run("dbc2plan.py", ENGINE, missing)[::2], (4, f"dbc2plan: {missing}: No such file or directory\n"))
         empty = self.write("empty.dbc", "")
@@ -124,7 +124,7 @@ class Suppliers(WithFiles):
         third = self.write("third.dbc", "BU_: ENGINE\n" + message(0x18FF1000, "OTHER", "ENGINE", state.format("D", 24)))
         plan, _, said = self.joined(first, second, third)
         self.assertEqual(self.signals_of(plan, "STATE"), ["A", "B", "C"])
-        self.assertIn(f"{third}: group OTHER: STATE has the same PGN 65296 from the same unit to the same receiver, and is another group", said)
+        self.assertIn(f"{third}: group OTHER: left out: STATE has the same PGN 65296 from the same unit to the same receiver, and is another group", said)
 
 
 @needs("canmatrix", "python3-canmatrix")
@@ -207,8 +207,8 @@ class WhatAFileSays(WithFiles):
         self.assertEqual([(signal["label"], signal["kind"]) for signal in plan["group"][0]["signal"]], [("CODE", "dtc"), ("LEVEL", "measured")])
         self.assertEqual([line for line in said if line.startswith("signal ")], [])
         older, said = self.plan("--version", "2", data=data)
-        self.assertEqual([signal["label"] for signal in older["group"][0]["signal"]], ["CODE", "LEVEL"])
-        self.assertIn("signal VIN of VI: it is text", said)
+        self.assertEqual([signal["label"] for signal in older["group"][0]["signal"]], ["CODE", "LEVEL", "SHORT", "MADE", "MADE_2"])  # VIN is too wide to be held
+        self.assertIn("signal VIN of VI: left out: it is text", said)
 
     def test_ranges_of_makers_own_groups(self) -> None:
         """One that goes to all ones says that each number is a value; in the standard's groups it doesn't."""

@@ -119,12 +119,20 @@ class Units(Deviations):
         self.assertEqual(self.told(*lost, (9.91, moves), (10.16, asks), plan=BOTH_AT_128), [])
         self.assertEqual(self.told((1, SPRAYER), (9.8, asks.replace("8D#", "8C#")), (9.9, moves), (10.1, asks), plan=BOTH_AT_128), [f"L:4: {early}"])
 
+    def test_a_frame_that_was_queued_before_a_move(self) -> None:
+        """HITCH takes 128 from SPRAYER, which moves to 141: what leaves 128 up to 50 ms later may be SPRAYER's; 60 ms later it is HITCH's."""
+        asks, moves = "18EAFF80#ECFE00", SPRAYER.replace("EEFF8C", "EEFF8D")
+        begin = [(1, SPRAYER_AT_128), (9.8, asks), (9.9, HITCH), (9.91, moves)]
+        for at, early in ((9.917, []), (9.96, []), (9.961, ["L:5: HITCH sends before 250 ms have passed after its claim of address 128"])):
+            found = self.told(*begin, (at, asks), plan=BOTH_AT_128)
+            self.assertEqual([line for line in found if "before 250 ms" in line], early)
+
     def test_a_restart(self) -> None:
         """A claim of an address that its unit holds, more than 1,250 ms after a request; a repeated one 100 ms later is of the same start."""
         text = "HITCH claims address 128, which it holds, and nobody asked: has it restarted?"
-        self.assertEqual(self.told((1, HITCH), (5, HITCH), (5.1, HITCH), (9, HITCH)), [f"L:2: {text}  (2 times)"])
+        self.assertEqual(self.told((1, HITCH), (5, HITCH), (5.1, HITCH), (9, HITCH)), [f"L:2: {text} (not heard for 4000 ms before)  (2 times)"])
         self.assertEqual(self.told((1, HITCH), (4, "18EAFFFE#00EE00"), (5.25, HITCH)), [])
-        self.assertEqual(self.told((1, HITCH), (4, "18EAFFFE#00EE00"), (5.251, HITCH)), [f"L:3: {text}"])
+        self.assertEqual(self.told((1, HITCH), (4, "18EAFFFE#00EE00"), (5.251, HITCH)), [f"L:3: {text} (not heard for 4251 ms before)"])
 
     def test_a_name_that_displaces_a_unit(self) -> None:
         """HITCH moves, can't, or does nothing though it is on; where it defends the address it isn't displaced."""
@@ -225,7 +233,7 @@ class Buses(Deviations):
         """Any identifier counts there: four frames that go behind EBC1 within its bound of BRAKES, which sends any first."""
         plan = PLAN.replace("version = 4", "version = 4\ntiming = { bitrate = 250000, unplanned = 1 }").split("[[group]]\nlabel = \"VI\"")[0]
         plan += PLAN[PLAN.index('[[flow]]'):].split('[[flow]]\ngroup = "VI"')[0]
-        strange = [(2 + number / 2000, "1CFFFF0B#0000000000000000") for number in range(4)]
+        strange = [(2 + number / 2000, f"1CFFFF0B#000000000000000{number}") for number in range(4)]
         self.assertNotIn("no flow has came", "".join(self.told((1, EBC1), *strange, plan=plan)))
         found = self.told((1, EBC1), *strange, plan=plan.replace('address = 11\n', 'address = 11\nqueue = "any"\n'))
         self.assertTrue(any(line.startswith("L:5: 4 frames that no flow has came within ") for line in found), found)
@@ -253,7 +261,7 @@ class Buses(Deviations):
 class Transfers(Deviations):
     def whole(self, *frames: str, last: float = 9.0) -> list[str]:
         """What is told of long messages, of frames from 2 s on, each 10 ms after the one before."""
-        log = [(1, HITCH), (1, BRAKES), *[(2 + number / 100, frame) for number, frame in enumerate(frames)], (last, BRAKES.replace("0B#", "0B#"))]
+        log = [(1, HITCH), (1, BRAKES), *[(2 + number / 100, frame) for number, frame in enumerate(frames)], (last, EBC1)]
         return [line for line in self.told(*log, (last, "18EAFFFE#00EE00")) if " VI " in line]
 
     def test_by_their_cause(self) -> None:
@@ -262,7 +270,7 @@ class Transfers(Deviations):
         self.assertEqual(self.whole(RTS), [text + "no clear to send"])
         self.assertEqual(self.whole(RTS, CLEAR), [text + "packet 1 of 3 didn't come"])
         self.assertEqual(self.whole(RTS, CLEAR, PACKETS[0], PACKETS[2]), [text + "packet 2 of 3 didn't come"])
-        self.assertEqual(self.whole(RTS.replace("110003", "110004")), [text + "its announcement breaks the rules"])
+        self.assertEqual(self.whole(RTS.replace("110003", "110004")), ["L:3: VI from BRAKES to HITCH: 17 bytes are announced in 4 packets, by the standard in 3"])
         given_up = self.whole(RTS, "1CEC0B80#FF03FFFFFFECFE00")
         self.assertEqual(given_up, ["L:4: VI from BRAKES to HITCH: given up by HITCH, reason 3 (timeout)"])
 
@@ -320,7 +328,7 @@ class Forms(Deviations):
             "text": "flow 2, EBC1 from BRAKES to all: 50 ms after the one before, its period is 100 ms",
             "what": "flow 2, EBC1 from BRAKES to all: .. ms after the one before, its period is 100 ms", "times": 2,
             "all": [{"log": self.log, "line": 3, "time": 1.15, "value": 50}, {"log": self.log, "line": 5, "time": 1.34, "value": 90}]})
-        self.assertEqual((rows[1]["kind"], rows[1]["flow"], "line" in rows[1]), ("never-sent", 1, False))
+        self.assertEqual((rows[1]["kind"], rows[1]["unit"], "line" in rows[1]), ("absent", "HITCH", False))
         self.assertEqual((whole.pop("requests"), len(whole.pop("units"))), ([], 3))
         self.assertEqual(whole, {"deviations": len(rows), "begin": 1.0, "end": 1.34, "duration": 0.34, "worst": 800, "worst_second": 1, "explained": 0})
 
@@ -337,7 +345,7 @@ class Forms(Deviations):
             there(process.stdin).write(lines[4])
             there(process.stdin).close()
             last = there(process.stdout).read().splitlines()
-            self.assertEqual((last[0].partition(": ")[2], last[-1], len(last)), ("flow 1, HSTAT from HITCH to all: never sent", "deviations 5", 5))
+            self.assertEqual((last[0].partition(": ")[2], last[-1], len(last)), ("unit HITCH: neither claimed an address nor sent anything", "deviations 3", 3))
 
     def test_live_as_json(self) -> None:
         """An object as a deviation is met, without how often; with --all each time, with what was measured there. Then what --json has besides."""

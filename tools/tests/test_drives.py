@@ -16,7 +16,7 @@ class Claims(Deviations):
         text = "BRAKES sends, and never claims an address, as 2 other units do before they send"
         begin = [(1, HITCH), (1.1, SPRAYER), (2, EBC1), (2.1, EBC1)]
         self.assertEqual(self.told(*begin), [f"L:3: {text}"])
-        self.assertEqual(self.told(*begin, (3, BRAKES)), [])
+        self.assertEqual(self.told(*begin, (3, BRAKES)), ["L:3: BRAKES sends for 1000 ms before it claims an address, which 2 other units do first"])
         self.assertEqual(self.told(*begin, plan=PLAN.replace("address = 11\n", "address = 11\nclaims = false\n")), [])
         self.assertEqual(self.told(*begin[1:]), [])  # one may be plugged in later
         self.assertEqual(self.told((0.9, EBC1), *begin), [])  # BRAKES may have claimed before the log began
@@ -110,7 +110,7 @@ class Ignition(Deviations):
         late = [(19.0, SPRAYER), (25.0, SPRAYER)]
         drive = [line for line in self.drive(10, 30) if line[1] != SPRAYER]
         found = self.told(*self.drive(1, 3), *drive, *late, plan=self.PLAN, words=())
-        restart = "SPRAYER claims address 140, which it holds, and nobody asked: has it restarted?"
+        restart = "SPRAYER claims address 140, which it holds, and nobody asked: has it restarted? (not heard for 6000 ms before)"
         self.assertEqual([line.partition(": ")[2] for line in found[1:]], [restart])
         self.assertTrue(found[0].endswith("(2 units)"), found)
 
@@ -120,7 +120,7 @@ class Ignition(Deviations):
         found = self.told(*self.drive(1, 3), *second, plan=self.PLAN, words=())
         self.assertEqual([line.partition(": ")[2] for line in found], [
             "nothing at all came for 7110 ms before: the bus, the log or its clock stood still; distances begin anew",
-            "BRAKES claims address 11, which it holds, and nobody asked: has it restarted?"])
+            "BRAKES claims address 11, which it holds, and nobody asked: has it restarted? (not heard for 7110 ms before)"])
 
     def test_addresses_that_change_hands_in_two_starts(self) -> None:
         """In each start SPRAYER claims 128 first and gives way: two changes, and no third one in between."""
@@ -196,7 +196,7 @@ class Refused(Deviations):
     def test_answers_that_do_not_fit(self) -> None:
         """A clear to send for more packets than the announcement allows, an acknowledgement of another size."""
         two_at_once, three = RTS.replace("110003FF", "11000302"), "L:4: VI from BRAKES to HITCH: cleared to send 3 packets at once, its announcement allows 2"
-        self.assertEqual(self.told_of_vi((3, two_at_once), (3.01, CLEAR), (5, EBC1)), [three, "L:3: VI from BRAKES to HITCH: announced, and not carried whole: packet 1 of 3 didn't come"][::-1])
+        self.assertEqual(self.told_of_vi((3, two_at_once), (3.01, CLEAR), (5, EBC1)), [three])
         self.assertEqual(self.told_of_vi((3, two_at_once), (3.01, CLEAR.replace("110301", "110201")), (3.02, PACKETS[0]), (3.03, PACKETS[1]), (3.04, CLEAR.replace("110301", "110103")),
                                          (3.05, PACKETS[2]), (3.06, WHOLE)), [])
         other = WHOLE.replace("13110003", "13120003")

@@ -5,6 +5,7 @@ import math
 import random
 import subprocess
 import unittest
+from collections import Counter
 from itertools import chain
 from typing import NamedTuple
 
@@ -82,10 +83,25 @@ class Lines(InFolder):
         self.assertEqual(together, one_by_one)
         self.assertLessEqual({"near", "gap"}, {found.kind for found in together[0]})
 
+    def test_frames_of_no_planned_group(self) -> None:
+        """Two of three frames are such, of units and of a stranger, until a claim comes, and behind it: each line by itself tells what all do in one go."""
+        plan, lines = example("truck_queues.toml"), list[str]()
+        for count, line in enumerate(log_of(plan, 3).splitlines(keepends=True)):
+            at = float(line[1:line.index(")")])
+            others = [f"({at + more:.6f}) can0 18FDA{count % 4}{source}#{count:016X}\n" for more, source in ((0.0001, "00"), (0.0002, "C8"))]
+            lines += [line, *others, *["(1700000001.5) can0 18EEFFC8#0700000000000080\n"] * (count == 700)]
+        words = [program.path(), "follow", "--all", "--", plan, self.write("drive.log", "".join(lines))]
+        answer = subprocess.run(words, stdout=subprocess.PIPE, text=True, check=True).stdout.splitlines(keepends=True)
+        together, one_by_one = compared(plan, answer, None, False), compared(plan, answer, 1, False)
+        self.assertEqual(together, one_by_one)
+        told = Counter(found.kind for found in together[0])
+        self.assertEqual((told["no-group"], sum(found.times for found in together[0] if found.kind == "no-group")), (12, len(lines) // 3 * 2))
+        self.assertEqual(told["unplanned"], 1)
 
-def compared(plan: str, answer: list[str], most: int | None) -> tuple[list[Deviation], list[tuple[str, ...]]]:
+
+def compared(plan: str, answer: list[str], most: int | None, keeps_all: bool = True) -> tuple[list[Deviation], list[tuple[str, ...]]]:
     """What is told of what `follow` writes of a log, of which so many lines are taken at once, and the table of its flows."""
-    found, lines, settings = Found(True), iter(answer), Settings(Tolerance(0, 0, ""), Rule(SILENCE, frozenset(), False))
+    found, lines, settings = Found(keeps_all), iter(answer), Settings(Tolerance(0, 0, ""), Rule(SILENCE, frozenset(), False))
     comparison = Comparison(TABLES, bounds_of(plan, TABLES), settings, found)
     reader = Reader(comparison, Feed(TABLES.timing), TABLES, Counts())
     for line in lines:

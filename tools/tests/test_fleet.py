@@ -352,7 +352,7 @@ class OnACluster(Fleets):
         """No scheduler, a worker without the package, one without the program."""
         status, answer, said = self.fleet("--scheduler", "tcp://127.0.0.1:9", [self.early])
         self.assertEqual((status, answer), (4, ""))
-        self.assertRegex(said, r"^fleet: tcp://127\.0\.0\.1:9: no scheduler with a worker answers")
+        self.assertRegex(said, r"^fleet: tcp://127\.0\.0\.1:9: no scheduler listens there, within 5 s: .*refused\n$")
         with self.cluster(1, PYTHONPATH="/nowhere") as address:
             status, answer, said = self.fleet("--scheduler", address, [self.early])
             self.assertEqual((status, answer), (69, ""))

@@ -40,7 +40,7 @@ FURTHER = [
     "9: also key foo isn't listed",
     "13: also priority = 9: integer 0..7",
     f'19: also kind = "measurd": {KINDS}; did you mean measured?',
-    "20: also key factor isn't listed: step and per",
+    "20: also key factor isn't listed: step and per: step = 1, per = 8",
     '21: also values = { 0 = "idle", 1 = "low idle" }: ' + NAMES + '; "low idle" is no label, as "low_idle" is: letters, digits and _, at most 32',
     "22: also key period isn't there, which a deadline needs: integer 1..65535",
 ]

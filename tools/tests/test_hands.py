@@ -13,7 +13,7 @@ class Hands(Compared):
 
     def test_without_claims_the_smallest_name_has_an_address(self) -> None:
         self.assertEqual(self.compared(RIVALS % "PUMP", [ET1]), ["P: unit VALVE: neither claimed an address nor sent anything"])
-        self.assertEqual(self.compared(RIVALS % "VALVE", [ET1])[0], "P: flow 1, ET1 from VALVE to all: never sent")
+        self.assertEqual(self.compared(RIVALS % "VALVE", [ET1])[0], "P: unit VALVE: neither claimed an address nor sent anything")
 
     def test_a_claim_elsewhere_leaves_an_address_to_the_next(self) -> None:
         """PUMP claims 129, so that VALVE is the one of those that prefer 128 of which no claim came. PUMP has the smaller NAME, and so never has to move."""
@@ -98,7 +98,8 @@ class Hands(Compared):
 
         begin = [("9.0", VALVE_CLAIMS), ("10.4", PUMP_CLAIMS), ("10.4006", ET1)]
         self.assertEqual(early(*begin, ("10.403", "18EEFF81#0200000000000080")), [])
-        self.assertEqual(len(early(*begin, ("10.403", "18EEFF81#0200000000000080"), ("10.404", ET1))), 1)
+        for at, count in (("10.404", 0), ("10.453", 0), ("10.454", 1)):  # ET1 goes behind a claim: up to 50 ms later it may have been queued before
+            self.assertEqual(len(early(*begin, ("10.403", "18EEFF81#0200000000000080"), (at, ET1))), count)
 
     def test_who_sends_too_soon_behind_a_claim(self) -> None:
         """A claim of one of the addresses that may be chosen may be contested for 250 ms, unless the unit holds it already."""
@@ -120,7 +121,7 @@ class Hands(Compared):
             return [line.replace(name, "L") for line in answer.splitlines() if "restarted" in line]
         live = PLAN.replace("version = 1", "version = 4\nlive = true")
         begin = [("1.0", CLAIMS[0]), ("5.0", FLOWS[0]), ("5.5", CLAIMS[0])]
-        restart = "L:3: ENGINE claims address 0, which it holds, and nobody asked: has it restarted?"
+        restart = "L:3: ENGINE claims address 0, which it holds, and nobody asked: has it restarted? (not heard for 500 ms before)"
         said = "announces a long message {} ms after it restarted: others may hold a session with it for 1650 ms after it went off"
         self.assertEqual(told(live, *begin, ("6.6495", VI[0])), [restart, f"L:4: ENGINE {said.format('1149.5')}"])
         self.assertEqual(told(live, *begin, ("6.65", VI[0])), [restart])

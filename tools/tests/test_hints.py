@@ -4,7 +4,8 @@ import json
 import re
 import unittest
 
-from tests.support import InFolder, example, run
+from j39plan.cli import where
+from tests.support import InFolder, answered, example, run
 
 UNIT = '[[unit]]\nlabel = "{}"\naddress = {}\nname = {{ identity = {} }}\n'
 
@@ -13,7 +14,7 @@ class Hints(InFolder):
     def answer(self, text: str) -> tuple[int, list[str]]:
         """What `where` answers of a plan, without the file's name."""
         name = self.write("plan.toml", text)
-        status, answer, _ = run("where.py", name)
+        status, answer, _ = answered(where.main, name)
         return status, [line for line in answer.replace(name + ":", "").splitlines() if not re.search(r"\d: also ", line)]
 
     def test_keys_of_other_formats(self) -> None:
@@ -22,8 +23,8 @@ class Hints(InFolder):
         signal = head + '[[group.signal]]\nlabel = "S"\nbyte = 1\nbits = 8\nkind = "raw"\n'
         flow = head + '[[flow]]\ngroup = "G"\nfrom = "A"\nto = "all"\n'
         for text, key, place, meant in (
-            (signal, "factor = 0.5", "group 1 signal 1", "factor isn't listed: step and per"),
-            (signal, "startbit = 8", "group 1 signal 1", "startbit isn't listed: byte and bit, counted from 1"),
+            (signal, "factor = 0.5", "group 1 signal 1", "factor isn't listed: step and per: step = 1, per = 2"),
+            (signal, "startbit = 8", "group 1 signal 1", "startbit isn't listed: byte and bit, counted from 1: byte = 2, bit = 1"),
             (signal, "min = 0", "group 1 signal 1", "min isn't listed: kind says which numbers are values"),
             (flow, 'sender = "A"', "flow 1", "sender isn't listed: from"), (flow, "cycle_time = 10", "flow 1", "cycle_time isn't listed: period, in ms"),
             ("version = 4\n", '[[signal]]\nlabel = "S"', "top", "signal: write [[group.signal]]"),
@@ -45,8 +46,8 @@ class Hints(InFolder):
             ('[[unit]]\nlabel = "GEARBOX\naddress = 3\n', 2, '" isn\'t closed'),
             ("[unit.name]\narbitrary = True\n", 2, "arbitrary = True: write true"), ("[unit.name]\narbitrary = no\n", 2, "arbitrary = no: write false"),
             ("[[group]]\npgn = FEEE\n", 2, "pgn = FEEE: a hexadecimal number is 0xFEEE"), ("[[group]]\npgn = 0XFEEE\n", 2, "pgn = 0XFEEE: a hexadecimal number is 0xFEEE"),
-            ("[[unit]]\naddress = 03\n", 2, "address = 03: a number has no 0 in front: 3"), ("[[flow]]\nperiod = 10ms\n", 2, "period = 10ms: an integer is wanted"),
-            ("[[group]]\npgn = 65,262\n", 2, "after a value the line ends"), ("[[group]]\npgn: 65262\n", 2, "a key and its value have = between them"),
+            ("[[unit]]\naddress = 03\n", 2, "address = 03: a number has no 0 in front: 3"), ("[[flow]]\nperiod = 10ms\n", 2, "period = 10ms: an integer is wanted: 10"),
+            ("[[group]]\npgn = 65,262\n", 2, "a number has no , in it: 65262"), ("[[group]]\npgn: 65262\n", 2, "a key and its value have = between them"),
             ("[[group]]\npgn =\n", 2, "key pgn: one = and then a value"),
             ("[[unit]]\nname = { identity = 1\n[[group]]\n", 2, "{ isn't closed"), ("keep_free = [200, 201\n[[unit]]\nlabel = 'A'\n", 1, "[ isn't closed"),
             ("name = { identity = 1, identity = 2 }\n", 1, "key identity stands there twice"),
@@ -83,7 +84,7 @@ class Hints(InFolder):
         plan = ('version = 4\n[[group]]\nlabel = "G"\npgn = 65262\npriority = 6\nlength = 8\n'
                 '[[group.signal]]\nlabel = "S"\nbyte = 1\nbits = {}\nkind = "{}"\n')
         for bits, kind, line, hint in (
-            (1, "discrete", 10, "bits: a discrete signal has 2"), (12, "measured", 10, "bits: a measured signal has 8, 16 or 32"),
+            (1, "discrete", 10, "bits: a discrete signal has 2"), (12, "measured", 10, 'bits: a measured signal has 8, 16 or 32; kind = "raw" has all widths'),
             (64, "measured", 10, "bits: a measured signal has 8, 16 or 32; write it as 2 signals"), (40, "raw", 10, "bits: a raw signal has 1 to 32; write it as 2 signals"),
             (9, "states", 10, "bits: a signal of states has 2 to 8"), (1, "signed", 10, "bits: a signed signal has 2 to 32"),
             (16, "dtc", 10, "bits: a dtc has 32"), (32, 'dtc"\nbit = 2 # "', 12, "bit: a dtc begins at bit 1"),
@@ -107,14 +108,14 @@ class Hints(InFolder):
         plan = "version = 1\n" + UNIT.format("A", 0, 1) + UNIT.format("B", 0, 2)
         name = self.write("plan.toml", plan)
         status, answer, said = run("where.py", "--json", "--lint", name)
-        hints = [{"line": 3, "hint": "unit A: no flow is from it or to it alone"}, {"line": 7, "hint": "unit B: no flow is from it or to it alone"}]
+        hints = [{"line": line, "hint": f"unit {label}: no flow is from it or to it alone", "name": "idle"} for line, label in ((3, "A"), (7, "B"))]
         found = {"finding": "F2", "name": "SameFixedAddress", "unit": "A", "other": "B", "address": 0, "text": "F2 SameFixedAddress A B 0", "line": 8,
                  "hint": "key address: the same as of A at line 4", "steps": ["up B", "up A", "give A B", "give B A"]}
         self.assertEqual((status, json.loads(answer), said), (1, {"plan": name, "status": 1, "findings": [found], "hints": hints}, ""))
         refused = {"cause": "Range", "place": "unit 1", "key": "address", "text": "refused Range unit 1 key address", "line": 4,
-                   "hint": "address = 254: integer 0..253"}
+                   "hint": "address = 254: integer 0..253; 254 is that of a unit without an address"}
         name = self.write("plan.toml", plan.replace("= 0", "= 254"))
-        further = [{"line": 8, "hint": "address = 254: integer 0..253"}]
+        further = [{"line": 8, "hint": "address = 254: integer 0..253; 254 is that of a unit without an address"}]
         told = json.loads(run("where.py", "--json", "--lint", name)[1])
         self.assertEqual((told.pop("further", further), told), (further, {"plan": name, "status": 2, "refused": refused}))
         clean = example("first_plan.toml")

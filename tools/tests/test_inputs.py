@@ -28,8 +28,8 @@ FORMS = (
     "mkfifo fifo; cat {file} > fifo & {before} fifo {behind}",
     "ln -s /dev/stdin link; {before} link {behind} < {file}",
 )
-# Such names, as they are and in the title of a page.
-OTHER_NAME = re.compile(r"/dev/(?:stdin|fd/\d+)|\b(?:fifo|link)\b|(?<=>Plan )(?:stdin|\d+)(?=<)")
+# Such names, as they are, and in the title and the last line of a page.
+OTHER_NAME = re.compile(r"/dev/(?:stdin|fd/\d+)|\b(?:fifo|link)\b|(?<=>Plan )(?:stdin|\d+)(?=<)|(?<=SHA-256 of <code>)(?:stdin|\d+)(?=</code>)")
 
 RANDOM = random.Random(33).randbytes(20000)
 
@@ -53,7 +53,8 @@ class NoRegularFiles(InFolder):
     def is_judged_alike(self, before: str, file: str, behind: str = "") -> None:
         """A file is judged alike however it is given."""
         status, answer = self.answer(f"{before} {file} {behind}")
-        answer = answer.replace(file, "F").replace(f">Plan {os.path.basename(file)}<", ">Plan F<")
+        name = os.path.basename(file)
+        answer = answer.replace(file, "F").replace(f">Plan {name}<", ">Plan F<").replace(f"<code>{name}</code>", "<code>F</code>")
         self.assertNotIn(status, (program.DEVICE, program.FAULT))
         for form in FORMS:
             other_status, other = self.answer(form.format(before=before, file=file, behind=behind))

@@ -74,11 +74,11 @@ class Live(InFolder):
             self.assertNotIn("no unit has it", there(process.stdout).read())
 
     def test_a_request_that_is_not_answered(self) -> None:
-        """1,250 ms behind it, and not at the end alone."""
+        """1,250 ms behind it, and not at the end alone, of a unit that is on."""
         with open(self.plan, "a", encoding="utf-8") as file:
             file.write('[[request]]\nfrom = "HITCH"\nto = "BRAKES"\ngroup = "EBC1"\n')
         with self.begun("--silence", "0") as process:
-            there(process.stdin).write(lines_of((0.5, HITCH), (0.6, BRAKES), (1, "18EA0B80#01F000"), (2.251, HSTAT), (2.3, HSTAT)))
+            there(process.stdin).write(lines_of((0.5, HITCH), (0.6, BRAKES), (1, "18EA0B80#01F000"), (2, "18FF100B#00"), (2.251, HSTAT), (2.3, HSTAT)))
             self.assertIn("request 1, EBC1 from HITCH to BRAKES: no answer within 1250 ms", there(process.stdout).readline())
             there(process.stdin).close()
             there(process.stdout).read()

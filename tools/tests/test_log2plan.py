@@ -9,8 +9,11 @@ from collections import Counter
 from j39plan import program
 from j39plan.log.clock import MILLISECOND
 from j39plan.log.to_plan.measures import Sent
+from j39plan.log.to_plan.selectors import Selector, selector_of
+from j39plan.log.to_plan.survey import Seen
 from j39plan.log.to_plan.times import rounded, times_of
-from j39plan.plan.tables import Tables
+from j39plan.plan.tables import Flow, Tables
+from tests import harvest
 from tests.drives import log_of
 from tests.support import InFolder, example, needs, plans, run, text_of
 
@@ -147,23 +150,32 @@ class Times(unittest.TestCase):
         self.assertEqual({distance: rounded(round(distance * MILLISECOND)) for distance in told}, told)
 
     def test_keys(self) -> None:
-        """The jitter is how much nearer messages come than the period, and the pause with the jitter how far apart."""
-        self.assertEqual(times_of(self.sent(100, 100, 100), 0, 0).keys, {"period": 100, "pause": 100})
-        self.assertEqual(times_of(self.sent(100, 97.5, 103.2, 99.9), 0, 0).keys, {"period": 100, "jitter": 3, "pause": 101})
-        self.assertEqual(times_of(self.sent(100, 100, 100), 140 * MILLISECOND, 0).keys, {"period": 100, "pause": 140})
+        """The jitter is how much nearer messages come than the period and half of that, a hundredth of it at least; the pause with the jitter is what a missing
+        message breaks, and longer than what was seen by a twentieth of the period."""
+        self.assertEqual(times_of(self.sent(100, 100, 100), 0, 0).keys, {"period": 100, "pause": 150})
+        self.assertEqual(times_of(self.sent(100, 97.5, 103.2, 99.9), 0, 0).keys, {"period": 100, "jitter": 4, "pause": 150})
+        self.assertEqual(times_of(self.sent(1000, 999, 1001, 1000), 0, 0).keys, {"period": 1000, "jitter": 10, "pause": 1500})
+        self.assertEqual(times_of(self.sent(100, 100, 100), 150 * MILLISECOND, 0).keys, {"period": 100, "pause": 155})
 
     def test_rows(self) -> None:
         """A period is no longer than the mean, since messages run ahead of a longer one; what runs ahead for a while is jitter, and what falls behind a pause."""
-        self.assertEqual(times_of(self.sent(*[99.4, 99.8] * 50), 0, 0).keys, {"period": 99, "pause": 100})
-        self.assertEqual(times_of(self.sent(*[98] * 5, *[102] * 5, *[100] * 30), 0, 0).keys, {"period": 100, "jitter": 10, "pause": 100})
-        self.assertEqual(times_of(self.sent(*[100, 101] * 50), 0, 0).keys, {"period": 100, "pause": 101})
+        self.assertEqual(times_of(self.sent(*[99.4, 99.8] * 50), 0, 0).keys, {"period": 99, "pause": 148})
+        self.assertEqual(times_of(self.sent(*[98] * 5, *[102] * 5, *[100] * 30), 0, 0).keys, {"period": 100, "jitter": 15, "pause": 150})
+        self.assertEqual(times_of(self.sent(*[100, 101] * 50), 0, 0).keys, {"period": 100, "pause": 150})
 
     def test_few_that_are_apart(self) -> None:
         """Of many a few that are far from the period aren't covered, and told; of few each one counts."""
         many = times_of(self.sent(*[100] * 200, 500, 2), 0, 0)
-        self.assertEqual(many.keys, {"period": 100, "pause": 100})
+        self.assertEqual(many.keys, {"period": 100, "pause": 150})
         self.assertIn("not covered: 2 ms, 500 ms", many.seen)
-        self.assertEqual(times_of(self.sent(*[100] * 10, 150), 0, 0).keys, {"period": 100, "pause": 150})
+        self.assertEqual(times_of(self.sent(*[100] * 10, 150), 0, 0).keys, {"period": 100, "pause": 155})
+
+    def test_events(self) -> None:
+        """What is silent for more than five periods has no pause, however seldom that is; a drive of events has their least distance."""
+        for distances in ([*[10] * 200, 9612], [*[10] * 40, 9612] * 3, [*[10] * 30, 51]):
+            times = times_of(self.sent(*distances), 0, 0)
+            self.assertEqual(times.keys, {"period": 10})
+            self.assertTrue(times.seen.endswith("; no pause: it may be sent on events"), times.seen)
 
     def test_no_period(self) -> None:
         for distances, why in (((), "sent once"), ((100, 100), "too few for a period"), ((5, 900, 40, 7000, 300), "too irregular for a period")):
@@ -190,6 +202,75 @@ class Requests(FromLogs):
         self.assertIn("; 1 were asked for", text)
 
 
+class Selectors(unittest.TestCase):
+    def seen(self, *moments: tuple[float, int]) -> Seen:
+        """What came on a way: when, in ms, and with which first byte."""
+        seen = Seen()
+        for at, first in moments:
+            seen.take((first, 8, 6), f"({at / 1000 + 10:.6f})")
+        return seen
+
+    def row(self, first: int, begin: float, period: float, until: float = 20_000) -> list[tuple[float, int]]:
+        """Messages with a first byte, in a period, in ms."""
+        return [(begin + period * number, first) for number in range(int((until - begin) / period))]
+
+    def test_what_comes_regularly_by_the_first_byte(self) -> None:
+        """Two of one period, of several, and by half of the byte, where the other one is that of a counter."""
+        self.assertEqual(selector_of([self.seen(*self.row(1, 0, 2000), *self.row(2, 773, 2000))]), Selector(1, 8))
+        self.assertEqual(selector_of([self.seen(*self.row(0x20, 0, 100), *self.row(0x21, 37, 500))]), Selector(1, 8))
+        self.assertEqual(selector_of([self.seen(*self.row(0x20, 0, 100), *self.row(0x21, 30, 4000))]), Selector(1, 8))
+        halves = [*self.row(1, 0, 1000), *self.row(2, 300, 1000)]
+        self.assertEqual(selector_of([self.seen(*((at, number * 16 % 256 + half) for number, (at, half) in enumerate(halves)))]), Selector(1, 4))
+        self.assertEqual(selector_of([self.seen(*((at, 16 * half + number * 7 % 16) for number, (at, half) in enumerate(halves)))]), Selector(5, 4))
+
+    def test_what_is_no_selector(self) -> None:
+        """A value that changes, a counter, also of messages that vary and with one missing; a mode for a while; events."""
+        grid = [100.0 * number for number in range(200)]
+        ragged = [at + 31 * (number * 7 % 5) / 5 for number, at in enumerate(grid)]
+        firsts = [[number % 4 for number in range(200)], [number // 100 for number in range(200)], [number * number % 11 for number in range(200)], [7] * 200]
+        for times in (grid, ragged, ragged[:80] + ragged[81:], [at * at / 1000 for at in grid]):
+            for first in firsts:
+                self.assertIsNone(selector_of([self.seen(*zip(times, first))]))
+        self.assertIsNone(selector_of([self.seen((0, 1), (300, 2), (1000, 1))]))
+
+
+class Harvested(FromLogs):
+    def test_beside_the_true_plan(self) -> None:
+        """Of a drive of 36 s the plan has each flow of the true one and no other; of 32 periods 31 within 2 %; no finding; events have no pause. The next
+        drive has no deviation from it but silences of what is sent on events."""
+        with program.file_of(harvest.plan()) as name:
+            planned = Tables.of(name)
+        log, made = self.write("drive.log", harvest.log_of(36, 1)), self.path("made.toml")
+        self.assertIn("check: ok 15 units", run("log2plan.py", log, "-o", made)[2])
+        tables = Tables.of(made)
+        true, found = self.ways(planned), self.ways(tables)
+        self.assertEqual(set(found), set(true))
+        self.assertEqual((len(true), {way for way, flow in true.items() if flow.on_request}), (39, {way for way, flow in found.items() if flow.on_request}))
+        within = [way for way, flow in true.items() if (flow.group, flow.sender, flow.to, flow.period, flow.jitter) in harvest.FLOWS
+                  and abs((found[way].period or 0) - (flow.period or 0)) <= 0.02 * (flow.period or 0)]
+        self.assertGreaterEqual((len(within), len(harvest.FLOWS)), (31, 32))
+        events = [found[way] for way, flow in true.items() if (flow.group, flow.sender, flow.to, flow.period) in harvest.EVENTS]
+        self.assertEqual([flow.pause for flow in events], [None] * len(harvest.EVENTS))
+        words = [word for flow in events for word in ("--events", str(flow.number))]
+        for seed in (1, 2):
+            self.assertEqual(run("against.py", made, self.write("next.log", harvest.log_of(36, seed)), *words)[:2], (0, "deviations 0\n"))
+
+    def ways(self, tables: Tables) -> dict[object, Flow]:
+        """The flows by what a log shows of them: number, value of the selector, source and destination."""
+        groups, addresses = {group.label: group for group in tables.groups}, {unit.label: unit.address for unit in tables.units}
+        return {(groups[flow.group].pgn, groups[flow.group].when, addresses[flow.sender], addresses.get(flow.to)): flow for flow in tables.flows}
+
+    def test_answers_of_one_frame(self) -> None:
+        """They are for who asks, where longer ones name a receiver, also where no long one came: else the request had no answer there. Asked of all,
+        they are to all."""
+        asks = ["18EA00F9#DAFE00", "18FEDA00#01414243", "18EA00FA#DAFE00", "18FEDA00#01414243"]
+        known = self.write("known.toml", 'version = 4\n[[group]]\nlabel = "SOFT"\npgn = 65242\npriority = 6\nlength = 3\nmost = 40\n')
+        for frames, to in ((asks[:2], ["TOOL_249"]), (asks, ["TOOL_250", "TOOL_249"]), ([frame.replace("EA00", "EAFF") for frame in asks[:2]], ["all"])):
+            tables, _, said = self.plan(self.log(*frames * 3, step=0.05), "--groups", known)
+            self.assertIn("check: ok", said)
+            self.assertEqual(sorted((flow.what, flow.on_request) for flow in tables.flows), sorted((f"SOFT from ECU_0 to {name}", True) for name in to))
+
+
 class Whole(FromLogs):
     def test_round_trip(self) -> None:
         """Of a drive by each example the plan differs from it in what a log can't show; and the log has no deviation from it."""
@@ -210,7 +291,8 @@ class Whole(FromLogs):
         for flow in tables.flows:
             other = found.pop((flow.group, flow.sender, flow.to), None)
             if other and flow.period and other.period:
-                self.assertEqual((other.period, other.jitter <= flow.jitter + 3), (flow.period, True), flow.what)
+                most = max(1.5 * flow.jitter, flow.period / 100) + 3
+                self.assertEqual((other.period, other.jitter <= most), (flow.period, True), flow.what)
             self.assertTrue(other or flow.on_request, flow.what)
         self.assertEqual(found, {})
         self.changes(run("compare.py", plan, made)[1], {flow.group for flow in tables.flows if flow.on_request})
@@ -264,6 +346,18 @@ class Whole(FromLogs):
         self.assertEqual((status, answer), (2, ""))
         self.assertIn("has no frame", said)
         self.assertEqual(run("log2plan.py", self.path("none.log"))[0], 4)
+        for text in ("", "(1.0) can0 123#00\n(1.1) can0 124#0011\n"):
+            log = self.write("other.log", text)
+            self.assertEqual(run("log2plan.py", log, "-o", self.path("p.toml")),
+                             (2, "", f"log2plan: {log}: no frame has an identifier of 29 bits, so there is nothing to plan\n"))
+            self.assertFalse(os.path.exists(self.path("p.toml")))
+
+    def test_a_log_that_is_cut(self) -> None:
+        """Its last line isn't counted as a frame; the rest gives a plan."""
+        *lines, last = text_of(self.log(*["18FEEE00#7DFFFFFFFFFFFFFF"] * 4)).splitlines(keepends=True)
+        for left in (1, 15, 22, last.index("#") + 4):
+            _, text, _ = self.plan(self.write("drive.log", "".join([*lines, last[:left]])))
+            self.assertIn("2 distances of 100 ms: too few for a period", text)
 
 
 if __name__ == "__main__":

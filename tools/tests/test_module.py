@@ -1,5 +1,6 @@
 """The Python module: what it hands out is what the tools write, and it is in nobody's way."""
 
+import gc
 import importlib.util
 import inspect
 import json
@@ -159,8 +160,10 @@ class Logs(InFolder):
         plan = j39plan.read_plan(example("two_units_one_address.toml"))
         reports: list[Any] = list(j39plan.follow(plan, example("two_units_one_address.drive.log")))
         self.assertEqual([type(report).__name__ for report in reports], ["Message", "Claim", "Message", "Claim", "Claim", "Message", "Message"])
-        self.assertEqual((reports[1].who.label, reports[1].who.address, reports[1].time), ("RIGHT", 128, "(10.010)"))
-        self.assertEqual((reports[0].group, reports[0].flow, reports[0].data), ("EEC1", 1, "FFFFFFE02EFFFFFF"))
+        self.assertEqual((reports[1].who.label, reports[1].who.address, reports[1].time), ("RIGHT", 128, 10.01))
+        self.assertEqual((reports[0].group, reports[0].flow, reports[0].data), ("EEC1", 1, bytes.fromhex("FFFFFFE02EFFFFFF")))
+        without = self.write("drive.log", "can0 0CF00400#FFFFFFE02EFFFFFF\n")
+        self.assertEqual([report.time for report in j39plan.follow(plan, without)], [None])
         some = j39plan.follow(plan, example("two_units_one_address.drive.log"))
         self.assertEqual(next(some).line, 1)
         some.close()
@@ -222,9 +225,7 @@ class Logs(InFolder):
         log = self.write("drive.log", text_of(LOG) + "(1764230402.000000) can1 0CF00400#FFFFFF0019FFFFFF\nno frame\n")
         calls: list[Callable[..., Iterable[object]]] = [j39plan.follow, j39plan.signals, j39plan.deviations]
         for call in calls + [j39plan.frame] * (importlib.util.find_spec("pandas") is not None):
-            elsewhere = "can0 is read, the first of the log; 1 lines of can1 are passed over: --interface can1"
-            if call is j39plan.follow:
-                elsewhere = "the first interface is read; 1 lines of others are passed over"
+            elsewhere = 'can0 is read, the first of the log; 1 lines of can1 are passed over: interface="can1"'
             for name, told in ((log, ["1 lines spell no frame", elsewhere]), (LOG, [])):
                 with warnings.catch_warnings(record=True) as caught:
                     warnings.simplefilter("always", j39plan.Notice)
@@ -232,6 +233,79 @@ class Logs(InFolder):
                 said = [warning for warning in caught if warning.category is j39plan.Notice]
                 self.assertEqual([str(warning.message) for warning in said], told, call)
                 self.assertEqual({os.path.basename(warning.filename) for warning in said}, {"test_module.py"} if told else set())
+
+    def test_one_interface(self) -> None:
+        """Each call takes the one that is named, and says which there are where it isn't there."""
+        log = self.write("drive.log", text_of(LOG) + "(1764230402.000000) can1 0CF00400#FFFFFF0032FFFFFF\n")
+        chosen = {"interface": "can1"}
+        self.enterContext(warnings.catch_warnings(action="ignore", category=j39plan.Notice))
+        message, = j39plan.follow(self.plan, log, interface="can1")
+        assert isinstance(message, j39plan.Message)
+        self.assertEqual((message.line, message.time, message.signals["SPN190"].value), (text_of(LOG).count("\n") + 1, 1764230402.0, 1600))
+        row, = j39plan.signals(self.plan, log, "SPN190", interface="can1")
+        self.assertEqual((row["line"], row["value"]), (message.line, 1600))
+        self.assertEqual(j39plan.deviations(self.plan, log, **chosen), j39plan.deviations(self.plan, log, ["--interface", "can1"]))
+        self.assertEqual(j39plan.drive(self.plan, log, **chosen)["counts"]["frames"], 1)
+        found = j39plan.audit(j39plan.read_plan(example("first_plan.toml")), log, interface="can1")
+        self.assertEqual((found.frames, found.elsewhere), (1, 0))
+        calls: list[Callable[..., Iterable[object]]] = [j39plan.follow, j39plan.signals, j39plan.deviations]
+        for call in calls:
+            with self.assertRaisesRegex(j39plan.Refused, "has no frame of can7; it has can0, can1"):
+                list(call(self.plan, log, interface="can7"))
+        some = j39plan.follow(self.plan, log, interface="can0")
+        self.assertEqual(next(some).line, 1)
+        some.close()
+
+    def test_what_a_log_refutes(self) -> None:
+        """By hand: five messages of the engine, and one from an address at which no unit may be; of a plan with findings nobody is accused."""
+        plan = j39plan.read_plan(example("first_plan.toml"))
+        frames = [f"({10 + number:.6f}) can0 18FEEE00#7DFFFFFFFFFFFFFF\n" for number in range(5)]
+        found = j39plan.audit(plan, self.write("drive.log", "".join(frames) + "(15.100000) can0 18FEEE55#FFFFFFFFFFFFFFFF\n"))
+        self.assertEqual([(one.word, one.address, one.times, one.first, one.ask) for one in found.accused],
+                         [("nobody", 0x55, 1, 6, "which unit has this source address")])
+        self.assertEqual((found.frames, found.bad, found.seen[1]), (6, 0, 5))
+        with self.assertRaisesRegex(j39plan.Refused, "F10 FlowToSelf 1: audit takes a plan without findings"):
+            j39plan.audit(j39plan.read_plan(example("findings/f10_flow_to_self.toml")), LOG)
+        with self.assertRaisesRegex(j39plan.Refused, "has no frame, and 1 lines that spell none"):
+            j39plan.audit(plan, self.write("none.log", "no frame\n"))
+        with self.assertRaises(FileNotFoundError):
+            j39plan.audit(plan, self.path("missing.log"))
+
+    def test_trouble_codes(self) -> None:
+        """The drive of the page: SPN 110 came at 1.0 s, was cleared by the tool at 249, and had gone at 2.0 s."""
+        log = self.write("drive.log", "(1.0) can0 18FECA00#04FF6E000003FFFF\n(1.5) can0 18EA00F9#D3FE00\n(2.0) can0 18FECA00#00FF00000000FFFF\n"
+                         "(6.0) can0 18FECA00#00FF00000000FFFF\n")
+        plan = j39plan.read_plan(example("trouble_codes.toml"))
+        code, = j39plan.codes(plan, log)
+        self.assertEqual((code.line, code.unit, code.spn, code.fmi, code.raw, code.came, code.went, code.lamps, code.cleared_by, code.cleared_with),
+                         (1, "ENGINE", 110, 0, None, 1.0, 2.0, ("amber",), "249", "DM11"))
+        more = self.write("more.log", "(7.0) can0 18FECA00#00FF00000000FFFF\n")
+        self.assertEqual(j39plan.codes(plan, [log, more]), [code])
+        with self.assertRaisesRegex(j39plan.Refused, r"first_plan\.toml has no trouble codes"):
+            j39plan.codes(j39plan.read_plan(example("first_plan.toml")), log)
+        with self.assertRaises(FileNotFoundError):
+            j39plan.codes(plan, self.path("missing.log"))
+
+    def test_a_first_plan(self) -> None:
+        """It is what the tool writes, and can be read; notes and what is no frame are said."""
+        log = self.write("drive.log", "(1.0) can0 18FEEE00#7DFFFFFFFFFFFFFF\n(1.1) can0 18EA00F9#DDFE00\nno frame\n")
+        with self.assertWarnsRegex(j39plan.Notice, "^1 lines spell no frame"):
+            made = j39plan.log2plan(log, groups=[PLAN])
+        self.assertEqual(made.text, run("log2plan.py", log, "--groups", PLAN)[1])
+        self.assertEqual((made.check, len(made.notes)), ("ok 2 units 1 groups 1 flows", 1))
+        self.assertEqual([group.label for group in j39plan.read_plan(self.write("made.toml", made.text)).groups], ["ET1"])
+        self.assertIn("bitrate = 500000", j39plan.log2plan([self.write("first.log", text_of(log).replace("no frame\n", ""))], bitrate=500000).text)
+        with self.assertRaisesRegex(j39plan.Refused, "has no frame"):
+            j39plan.log2plan(PLAN)
+
+    def test_errors_say_what_to_do(self) -> None:
+        """A name in place of a plan, and a plan of a line."""
+        calls: list[Callable[..., Any]] = [j39plan.follow, j39plan.signals, j39plan.deviations, j39plan.drive, j39plan.audit, j39plan.codes]
+        for call in calls:
+            with self.assertRaisesRegex(TypeError, r"'plan\.toml' is no plan: take read_plan\('plan\.toml'\)"):
+                list(call("plan.toml", LOG))
+        with self.assertRaisesRegex(j39plan.Refused, r"line\.toml: refused plan Choices: read_plan\('.*line\.toml', variant=\[\.\.\]\) takes the plan of one vehicle"):
+            j39plan.read_plan(example("line.toml"))
 
     def test_signals_by_their_labels(self) -> None:
         """Of a message, with exact values; a code and a fault by their parts."""
@@ -248,6 +322,11 @@ class Logs(InFolder):
             self.assertEqual((message.group, message.sender.label, message.signals["SPN190"].value), ("EEC1", "ENGINE", 800))
         self.assertEqual(there(self.plan.decode(0x0CF00400, "FFFFFFFFFEFFFFFF")).signals["SPN190"].state, "fault")
         self.assertIsNone(self.plan.decode(0x18FEDF00, "FF" * 8))
+        with warnings.catch_warnings(record=True) as caught:
+            warnings.simplefilter("always", ResourceWarning)
+            self.plan.decode(0x0CF00400, "FFFFFF0019FFFFFF")
+            gc.collect()
+        self.assertEqual([str(warning.message) for warning in caught if warning.category is ResourceWarning], [])
         for identifier, data in ((1 << 29, "00"), (0x0CF00400, "00" * 1786), (0x0CF00400, "0")):
             with self.assertRaises(ValueError):
                 self.plan.decode(identifier, data)
@@ -259,7 +338,7 @@ class Logs(InFolder):
         flow = next(flow for flow in plan.flows if flow.group == group.label)
         source = next(unit.address for unit in plan.units if unit.label == flow.sender)
         message = there(plan.decode(identifier_of(6, group.pgn, source), b"A" * group.length))
-        self.assertEqual((message.group, message.sender.label, message.data), (group.label, flow.sender, "41" * group.length))
+        self.assertEqual((message.group, message.sender.label, message.data), (group.label, flow.sender, b"A" * group.length))
         self.assertIn("text", {reading.state for reading in message.signals.values()})
         text = ("version = 1\n" + "".join(f'[[unit]]\nlabel = "{label}"\naddress = {at}\nname = {{ identity = {at} }}\n' for label, at in (("A", 1), ("B", 2)))
                 + '[[group]]\nlabel = "G"\npgn = 0xD400\npriority = 6\nlength = 20\n[[group.signal]]\nlabel = "S"\nbyte = 20\nbits = 8\nkind = "raw"\n'

@@ -3,6 +3,7 @@
 import contextlib
 import glob
 import gzip
+import hashlib
 import importlib.util
 import os
 import re
@@ -13,6 +14,7 @@ import tarfile
 import tempfile
 import tomllib
 import unittest
+import zipfile
 from concurrent.futures import ThreadPoolExecutor
 from typing import Any
 
@@ -22,7 +24,7 @@ from tests.support import TOOLS, TOP, InFolder, run, text_of, there
 PACKAGE = os.path.join(TOOLS, "package")
 COMMANDS = ["show", "variant", "check", "addresses", "load", "run", "read", "follow", "audit", "frame", "vehicle", "help"]
 INSTALLED = ["where", "answer", "startup", "dbc2plan", "log2plan", "plan2dbc", "join", "forwards", "compare", "variant", "mend", "against", "drift", "fleet", "table", "report", "signals", "codes", "plot", "tolog",
-             "cut", "restbus", "check-plans"]
+             "cut", "restbus", "probe", "lsp", "check-plans"]
 PAGE = text_of(os.path.join(TOP, "docs", "guide", "TOOLS.md"))
 
 # Whose package it is in these tests.
@@ -49,11 +51,13 @@ def built(folder: str, umask: int = 0o022) -> list[str]:
 class Built(InFolder):
     dist: str
     packages: list[str]
+    installed: list[str]
 
     @classmethod
     def setUpClass(cls) -> None:
         cls.dist = cls.enterClassContext(tempfile.TemporaryDirectory())
         cls.packages = built(cls.dist)
+        cls.installed = [it for it in cls.packages if not it.endswith(".zip")]
 
     def package(self, ending: str) -> str:
         """The package of this ending."""
@@ -67,7 +71,7 @@ class Built(InFolder):
                 self.assertEqual(left.read(), right.read(), one)
 
     def test_what_is_installed_works(self) -> None:
-        for package in self.packages:
+        for package in self.installed:
             if os.path.basename(package).startswith("python3-"):
                 continue
             root = self.path("root" + package[-3:])
@@ -88,6 +92,15 @@ class Built(InFolder):
                          ["ok 2 units 1 groups 1 flows"])
         self.assertEqual(lines_of("j39plan-where", f"{examples}/first_plan.toml", env=environment),
                          ["ok 2 units 1 groups 1 flows"])
+        for words in (["j39plan", "where"], [f"{prefix}/bin/j39plan", "where"], [f"{prefix}/bin/j39plan-where"]):
+            # by the first word, and where the programs aren't on the PATH
+            path = environment if words[0] == "j39plan" else {"PATH": "/usr/bin:/bin"}
+            self.assertEqual(lines_of(*words, f"{examples}/first_plan.toml", env=path), ["ok 2 units 1 groups 1 flows"], words)
+        missing = subprocess.run(["j39plan", "check", "/none"], env=environment, capture_output=True, text=True, check=False)
+        self.assertEqual((missing.returncode, missing.stdout, missing.stderr), (4, "", "j39plan: device fault\nj39plan: /none: No such file or directory\n"))
+        if shutil.which("gcc"):
+            self.assertEqual(lines_of("j39plan-where", f"{examples}/first_plan.toml", env={**environment, program.SWITCH: "1"}),
+                             ["ok 2 units 1 groups 1 flows"])
         self.assertEqual(lines_of("j39plan-startup", f"{examples}/first_plan.toml", env=environment)[1:],
                          ["up ENGINE", "up CLUSTER", "give CLUSTER ENGINE"])
         self.assertIn("--strict", " ".join(lines_of("j39plan-dbc2plan", "--help", env=environment)))
@@ -111,16 +124,33 @@ class Built(InFolder):
             self.assertTrue(os.path.exists(f"{prefix}/share/man/man1/j39plan{tool}.1.gz"), tool)
             self.assertTrue(os.path.exists(f"{prefix}/share/bash-completion/completions/j39plan{tool}"), tool)
             self.assertTrue(os.path.exists(f"{prefix}/share/fish/vendor_completions.d/j39plan{tool}.fish"), tool)
+        for name in ("neovim.lua", "emacs.el", "helix.toml", "vscode/[Content_Types].xml", "vscode/extension/extension.js"):
+            self.assertTrue(os.path.exists(f"{prefix}/share/j39plan/editors/{name}"), name)
         self.does_the_jobs_of_the_page(environment)
         for schema in ("plan", "vehicle"):
             self.assertIn(f"/usr/share/j39plan/tools/{schema}.schema.json", PAGE)
             self.assertTrue(os.path.exists(f"{prefix}/share/j39plan/tools/{schema}.schema.json"))
 
+    def test_the_zip_for_windows(self) -> None:
+        """It has what runs the program, the program and its sum, and tools that find it."""
+        with zipfile.ZipFile(self.package(".zip")) as file:
+            file.extractall(self.folder)
+        top = self.path("j39plan-0.1.0-windows-x86_64")
+        with open(program.path(), "rb") as one, open(f"{top}/program/{program.STORED}", "rb") as other:
+            text = other.read()
+            self.assertEqual(one.read(), text)
+        self.assertEqual(text_of(f"{top}/program/{program.STORED}.txt"), f"program {hashlib.sha256(text).hexdigest()}\n")
+        with open(os.path.join(TOP, "program", "j39plan.exe"), "rb") as one, open(f"{top}/program/j39plan.exe", "rb") as other:
+            self.assertEqual(one.read(), other.read())
+        script = "import sys; sys.path.insert(0, 'tools'); from j39plan import program; sys.platform = 'win32'; print(program.repository_program())"
+        self.assertEqual(lines_of(sys.executable, "-c", script, cwd=top), [f"{os.path.realpath(top)}/program/j39plan.exe"])
+        self.assertTrue(all(os.path.exists(f"{top}/{it}") for it in ("README.md", "tools/where.py", "examples/first_plan.toml", "docs/guide/TOOLS.md")))
+
     def test_the_python_module_is_found(self) -> None:
         """Where its package puts it, and where the tarball has it; without the commands beside it."""
         root, tar = self.path("root"), self.path("tar")
         os.mkdir(tar)
-        for package in self.packages:
+        for package in self.installed:
             if package.endswith(".deb"):
                 subprocess.run(["dpkg-deb", "-x", package, root], check=True)
             else:
@@ -136,9 +166,10 @@ class Built(InFolder):
         """What docs/guide/TOOLS.md has jobs of CI do, on a plan that has to be mended."""
         os.makedirs(self.path("plans"), exist_ok=True)
         plan = self.write("plans/first.toml", "version = 5\n")
-        jobs = re.findall(r"CHECK=.* j39plan-check-plans plans/\*\.toml", PAGE)
+        jobs = re.findall(r"CHECK=.* j39plan-check-plans .*plans/\*\.toml", PAGE)
         refused = "refused Range top key version"
-        for job, shown in zip(jobs, (f"plans/first.toml:1: {refused}", f"::error file=plans/first.toml,line=1::{refused}"), strict=True):
+        in_a_line, annotated = f"plans/first.toml:1: {refused}", f"::error file=plans/first.toml,line=1::{refused}"
+        for job, shown in zip(jobs, (in_a_line, annotated, in_a_line, in_a_line), strict=True):
             done = subprocess.run(["sh", "-c", job], cwd=self.folder, env=environment, capture_output=True, text=True, check=False)
             self.assertEqual(done.returncode, 1, done.stderr)
             self.assertTrue(done.stdout.splitlines()[1].startswith(shown), done.stdout)
@@ -169,7 +200,7 @@ class Built(InFolder):
     @unittest.skipUnless(shutil.which("strip"), "strip isn't there: apt-get install binutils")
     def test_the_program_has_no_symbols(self) -> None:
         with tarfile.open(self.package(".tar.gz")) as files:
-            member = next(name for name in files.getnames() if name.endswith("/bin/j39plan"))
+            member = next(name for name in files.getnames() if name.endswith("/lib/j39plan/j39plan"))
             self.assertNotIn(b".symtab", there(files.extractfile(member)).read())
 
     @unittest.skipUnless(shutil.which("lintian"), "lintian isn't there: apt-get install lintian")
@@ -299,7 +330,7 @@ class Completions(InFolder):
             self.assertIn("--help", shown)
             self.assertEqual(self.complete_bash(f"j39plan-{tool}", "-"), shown)
         self.assertEqual(self.complete_bash("j39plan-where", "--g"), ["--github", "--gitlab"])
-        self.assertEqual(self.complete_bash("j39plan-dbc2plan", "--kind", ""), ["dbc", "arxml", "kcd", "sym"])
+        self.assertEqual(self.complete_bash("j39plan-dbc2plan", "--kind", ""), ["dbc", "arxml", "kcd", "sym", "csv", "xlsx", "ods"])
         self.assertEqual(self.complete_bash("j39plan-answer", "l"), ["load"])
         self.assertEqual(self.complete_bash("j39plan-answer", "v"), ["vehicle"])
         self.assertEqual(self.complete_bash("j39plan-report", "plan.toml", "-o", "where."), ["where.py"])

@@ -29,6 +29,9 @@ class Printed(unittest.TestCase):
         with mock.patch.dict(os.environ, J39PLAN=program.path()):
             self.is_as_printed("options")
 
+    def test_boxes(self) -> None:
+        self.is_as_printed("boxes")
+
     def test_each_kind_of_a_deviation_is_said(self) -> None:
         self.assertEqual(set(kinds.MEANINGS), set(deviations.KINDS))
 

@@ -82,10 +82,10 @@ class End(InFolder):
 
     def test_another_python(self) -> None:
         for words in CALLS:
-            older = f"import runpy, sys; sys.version_info = (3, 10, 0); sys.path.insert(0, {TOOLS!r}); sys.modules['tomllib'] = None; "
+            older = f"import runpy, sys; sys.version_info = (3, 9, 0); sys.path.insert(0, {TOOLS!r}); sys.modules['tomllib'] = None; "
             script = older + f"runpy.run_path({os.path.join(TOOLS, words[0])!r}, run_name='__main__')"
             self.assertEqual(self.ended(["-c", script], stdout=subprocess.PIPE),
-                             (69, "the tools of j39plan need Python 3.11 or later\n"), words)
+                             (69, "the tools of j39plan need Python 3.10 or later\n"), words)
 
     def test_what_the_program_says_is_passed_on(self) -> None:
         missing, refused = self.path("none.toml"), self.write("plan.toml", "version = 5\n")

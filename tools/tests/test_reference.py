@@ -1,9 +1,16 @@
 """A plan against a reference: of each SPN the place, the scale, the unit, the PGN, the priority and the length."""
 
+import importlib.util
 import json
+import os
+import tomllib
 import unittest
+from unittest import mock
 
-from tests.support import InFolder, example, needs, run
+from j39plan.cli import dbc2plan, where
+from tests.support import InFolder, answered, example, needs, run
+
+CANMATRIX_J1939 = "/usr/lib/python3/dist-packages/canmatrix/j1939.dbc"
 
 PLAN = """version = 4
 
@@ -123,6 +130,37 @@ class Compared(InFolder):
                                   (self.path("missing.dbc"), 4, "No such file"), (self.write("bad.toml", "x"), 2, "bad.toml:1: refused Text")):
             ended, _, said = run("where.py", "--reference", name, plan)
             self.assertEqual((ended if status else 0, why in said), (status, True), (name, said))
+
+
+@unittest.skipUnless(importlib.util.find_spec("canmatrix") and os.path.isfile(CANMATRIX_J1939), "canmatrix's j1939.dbc isn't there")
+class Shipped(InFolder):
+    """Engine speed, SPN 190, lies at byte 4 of EEC1, PGN 61444 (SAE J1939-71)."""
+
+    def test_it_is_taken_where_no_file_is_named(self) -> None:
+        plan = self.write("plan.toml", PLAN.replace("byte = 4", "byte = 5"))
+        for words in (["--reference", plan], [plan, "--reference"], ["--lint", "--reference", "--", plan]):
+            status, told, said = answered(where.main, *words)
+            self.assertEqual(status, 1)  # OWN has F13
+            self.assertRegex(told, r"plan.toml:11: hint SPN 190 EEC1.Speed: 5.1, 16 bits; in \S+j1939.dbc 4.1, 16 bits\n")
+            self.assertRegex(said, r"the reference is \S+j1939.dbc, which has no scales and no priorities\n")
+            self.assertNotIn("1/8", told)
+
+    def test_a_group_of_it(self) -> None:
+        status, told, said = answered(dbc2plan.main, "--group", "EEC1")
+        self.assertEqual(status, 0)
+        (group,) = tomllib.loads(told)["group"]
+        self.assertEqual(group["pgn"], 61444)
+        self.assertEqual([(signal["byte"], signal["bits"]) for signal in group["signal"] if signal.get("spn") == 190 or "Engine_Speed" == signal["label"]], [(4, 16)])
+        self.assertIn("which has no scales and no priorities", said)
+
+    def test_it_is_not_there(self) -> None:
+        plan = self.write("plan.toml", PLAN)
+        with mock.patch("importlib.util.find_spec", return_value=None):
+            status, told, said = answered(where.main, plan, "--reference")
+        self.assertEqual((status, told), (69, ""))
+        self.assertIn("no reference is there: apt-get install python3-canmatrix, or name a file", said)
+        for main in (where.main, dbc2plan.main):
+            self.assertEqual(answered(main)[:2], (2, ""))
 
 
 if __name__ == "__main__":

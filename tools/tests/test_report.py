@@ -127,12 +127,9 @@ class Report(InFolder):
         for plan in plans():
             self.page(plan)
 
-    def test_a_plan_with_choices_has_none(self) -> None:
-        self.assertEqual(run("report.py", example("line.toml")), (1, "", "report: refused plan Choices  (--variant LABEL,.. takes the plan of one vehicle)\n"))
-
     def test_plans_in_other_words_have_one_page(self) -> None:
         pages = [run("report.py", self.write("plan.toml", text))[1] for text in (NEWER, MARKED)]
-        self.assertEqual(pages[0], pages[1])
+        self.assertEqual(*(page.partition("<footer>")[0] for page in pages))
         self.assertIn("Addresses that no unit may choose: 201, 202.", pages[0])
 
     def test_units_stand_as_addresses_says(self) -> None:
@@ -331,8 +328,8 @@ length = 20
         """Its own bits of a second beside the load of all, and the delay beside its limit; neither is called by the other's name."""
         rows = self.page(example("axle.toml")).rows
         self.assertIn(["Flow", "Group", "From", "To", "Period", "Bus load", "On the bus within", "Limit", "Of its limit"], rows)
-        self.assertIn(["1", "TSC1", "RETARDER", "ENGINE", "10 ms", "6.4 %", "1.28 ms", "10 ms", "12.8 %"], rows)
-        self.assertIn(["3", "ET1", "ENGINE", "all", "1000 ms", "0.1 %", "3.2 ms", "50 ms", "6.4 %"], rows)
+        self.assertIn(["1", "TSC1", "RETARDER", "ENGINE", "10 ms", "6.40 %", "1.28 ms", "10 ms", "12.8 %"], rows)
+        self.assertIn(["3", "ET1", "ENGINE", "all", "1000 ms", "0.06 %", "3.2 ms", "50 ms", "6.4 %"], rows)
 
     def test_what_the_times_rest_on(self) -> None:
         """What else comes on the bus, who keeps no order, and by how much flows are late or pause; by default where the plan is silent."""
@@ -355,9 +352,9 @@ length = 20
         text = text_of(example("axle.toml"))
         text_of_long = text.replace("pgn = 65262\npriority = 6\nlength = 8", "pgn = 65262\npriority = 6\nlength = 39")
         long = self.page(self.write("long.toml", text_of_long.replace('group = "ET1"\nfrom = "ENGINE"\nto = "all"', 'group = "ET1"\nfrom = "ENGINE"\nto = "RETARDER"')))
-        self.assertIn(["3", "ET1", "ENGINE", "RETARDER", "1000 ms", "–", "no bound: 9 frames a message", "–", "–"], long.rows)
+        self.assertIn(["3", "ET1", "ENGINE", "RETARDER", "1000 ms", "0.58 %", "no bound: 9 frames a message", "–", "–"], long.rows)
         unfinished = self.page(example("findings/f16_no_period.toml"))
-        self.assertIn(["1", "EEC1", "ENGINE", "all", "10 ms", "6.4 %", "1.28 ms", "10 ms", "12.8 %"], unfinished.rows)
+        self.assertIn(["1", "EEC1", "ENGINE", "all", "10 ms", "6.40 %", "1.28 ms", "10 ms", "12.8 %"], unfinished.rows)
         self.assertIn(["2", "ET1", "ENGINE", "all", "–", "–", "no period", "–", "–"], unfinished.rows)
         twice = self.write("twice.toml", text.replace("pgn = 65262", "pgn = 61444"))
         self.page(twice)

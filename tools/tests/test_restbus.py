@@ -177,8 +177,7 @@ class Simulated(InFolder):
         bench = self.bench(without=("SEAT",))
         bench.runs(5)
         self.assertEqual((bench.of(60928, 130), [data for _, data in bench.of(60416, 249) if data[5:] == b"\x00\xdc\x00"]), ([], []))
-        self.assertEqual(self.deviations(bench, "--jitter", "2"), [f"{self.path('plan.toml')}: flow 3, SETTINGS from TOOL to SEAT: never sent",
-                                                  f"{self.path('plan.toml')}: unit SEAT: neither claimed an address nor sent anything"])
+        self.assertEqual(self.deviations(bench, "--jitter", "2"), [f"{self.path('plan.toml')}: unit SEAT: neither claimed an address nor sent anything"])
 
     def test_a_unit_that_gives_its_address_back(self) -> None:
         """Nothing is sent to it then."""
@@ -257,6 +256,35 @@ class Simulated(InFolder):
         given_up = [at for at, data in bench.of(60416, 249) if data[0] == 255]
         self.assertTrue(abs(given_up[0] - asked[0] - 1.25) < 0.01)
         self.assertEqual(bench.rest.transport.tally.given_up, len(given_up))
+
+
+    def test_an_acknowledgement_of_what_was_not_sent(self) -> None:
+        """It ends a message, which counts as given up."""
+        bench = self.bench(without=("SEAT",))
+        bench.other(0.1, 0x18EEFF82, name(5, 400, 60, True))
+        bench.other(1.45, 0x18ECF982, bytes((19, 30, 0, 5, 255, 0x00, 0xDC, 0)))  # announced between 0.4 and 1.4 s, and waited for 1.25 s
+        bench.runs(1.5)
+        self.assertEqual((bench.rest.transport.tally.sent, bench.rest.transport.tally.given_up), (0, 1))
+
+    def test_a_packet_that_is_too_short(self) -> None:
+        """It isn't taken: the message goes on by a whole one."""
+        bench = self.bench()
+        bench.other(1.0, 0x18EC8205, bytes((16, 9, 0, 2, 255, 0x00, 0xDC, 0)))
+        bench.other(1.1, 0x18EB8205, bytes((1,)) + b"123")
+        bench.other(1.2, 0x18EB8205, bytes((1,)) + b"1234567")
+        bench.other(1.3, 0x18EB8205, bytes((2,)) + b"89\xff\xff\xff\xff\xff")
+        bench.runs(3)
+        self.assertEqual([(round(at, 1), data[0]) for at, identifier, data in bench.lines if identifier == 0x1CEC0582], [(1.0, 17), (1.3, 19)])
+
+    def test_a_session_of_somebody_else(self) -> None:
+        """With an address that is spared no unit here begins a session or takes one up, nor asks it; one agenda is enough for all."""
+        bench = self.bench(without=("ENGINE",))
+        bench.rest.transport.spared = frozenset((0, 130))
+        bench.other(0.1, 0x18EEFF00, name(1, 310, 0, False))
+        bench.other(1.0, 0x18EC8200, bytes((16, 9, 0, 2, 255, 0x00, 0xDC, 0)))
+        bench.runs(5)
+        self.assertEqual((bench.of(60416, 130), bench.of(60416, 249), [data for _, data in bench.of(59904, 249)]), ([], [], []))
+        self.assertIs(Rest(bench.tables, [], Settings(), bench.values, bench._put, bench.rest.agenda).agenda, bench.rest.agenda)
 
 
 class Carried(InFolder):

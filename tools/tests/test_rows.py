@@ -4,7 +4,8 @@ import unittest
 from collections.abc import Iterable
 
 from j39plan.log.checks.deviations import Found
-from j39plan.log.checks.distances import SILENCE, Distances, Heard, Rule, Tolerance
+from j39plan.log.checks.distances import SILENCE, Distances, Rule, Tolerance
+from j39plan.log.checks.tracks import Heard
 from j39plan.log.clock import MILLISECOND
 from j39plan.plan.tables import Flow
 
@@ -16,7 +17,7 @@ def distances(found: Found, wait: float, jitter: str, pause: int | None = None, 
               free: dict[str, int] | None = None) -> Distances:
     """Those of a flow of 100 ms that may wait so long on the bus, in ms."""
     flow = Flow("CCVS", "ENGINE", "all", 100, own, pause, place=PLACE)
-    heard = Heard(first or {}, free or {})
+    heard = Heard(first or {}, free or {}, {}, {})
     return Distances([flow], Tolerance.of(jitter), Rule(SILENCE, frozenset(), False), {1: int(wait * MILLISECOND)}, heard, found)
 
 
@@ -109,18 +110,18 @@ class AsTimeGoesBy(unittest.TestCase):
         looked.watch()
         for line in range(1, 4):
             looked.sent(1, line, line * 100 * MILLISECOND)
-            looked.goes_by(line * 100 * MILLISECOND, lambda way: False)
-        looked.goes_by(820 * MILLISECOND, lambda way: False)
+            looked.goes_by(line * 100 * MILLISECOND, lambda way, at: False)
+        looked.goes_by(820 * MILLISECOND, lambda way, at: False)
         self.assertEqual(list(found.all()), [])
-        looked.goes_by(821 * MILLISECOND, lambda way: way == ("CCVS", "ENGINE", "all"))  # it is announced
+        looked.goes_by(821 * MILLISECOND, lambda way, at: way == ("CCVS", "ENGINE", "all"))  # it is announced
         self.assertEqual(list(found.all()), [])
         for _ in range(2):
-            looked.goes_by(1822 * MILLISECOND, lambda way: is_under_way)
+            looked.goes_by(1822 * MILLISECOND, lambda way, at: is_under_way)
             stopped = [(one.kind, one.place.line, one.told, one.times) for one in found.all()]
             self.assertEqual(stopped, [("stopped", 3, FLOW + "not sent any more, its period is 100 ms", 1)])
         looked.sent(1, 4, 2000 * MILLISECOND)
         self.assertEqual([(one.kind, one.place.value) for one in found.all()], [("silent", 1700 * MILLISECOND)])
-        looked.goes_by(2520 * MILLISECOND, lambda way: False)
-        looked.goes_by(2521 * MILLISECOND, lambda way: False)
+        looked.goes_by(2520 * MILLISECOND, lambda way, at: False)
+        looked.goes_by(2521 * MILLISECOND, lambda way, at: False)
         looked.end(9000 * MILLISECOND)
         self.assertEqual([one.kind for one in found.all()], ["silent", "stopped"])

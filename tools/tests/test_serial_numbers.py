@@ -127,7 +127,7 @@ class Against(Numbers):
     def test_boxes_of_one_unit_are_two(self) -> None:
         """A box that claims what another one of its unit holds has not restarted; two at two addresses both hold theirs."""
         found = self.told(of_type(), (1, engine(5)), (5, engine(6)), (9, engine(6)))
-        self.assertEqual([line for line in found if "holds" in line], ["L:3: ENGINE claims address 0, which it holds, and nobody asked: has it restarted?"])
+        self.assertEqual([line for line in found if "holds" in line], ["L:3: ENGINE claims address 0, which it holds, and nobody asked: has it restarted? (not heard for 4000 ms before)"])
         found = self.told(of_type("PUMP"), (1, pump(5)), (1.5, ET1_OF_PUMP), (5, pump(6, 129)), (6, ET1_OF_PUMP), (7, "18FEEE81#7DFFFFFFFFFFFFFF"))
         self.assertEqual(found, ["L:3: PUMP claims address 129, planned is 128, where it stays",
                                  "L:3: PUMP has identity 5 and 6: a box was exchanged, or there are two", "  L:1:", "  L:3:"])
@@ -187,7 +187,7 @@ to = "all"
         """The smaller NAME claims: what comes until RIGHT is heard elsewhere may be RIGHT's."""
         begin = (5, pump(3)), (6, ET1_OF_PUMP), (10.4, pump(2)), (10.4006, ET1_OF_PUMP)
         self.assertEqual(self.early(*begin, (10.403, pump(3, 129)), right=128), [])
-        self.assertEqual(len(self.early(*begin, (10.403, pump(3, 129)), (10.41, ET1_OF_PUMP), right=128)), 1)
+        self.assertEqual(len(self.early(*begin, (10.403, pump(3, 129)), (10.46, ET1_OF_PUMP), right=128)), 1)
 
 
 class ManyTools(InFolder):

@@ -137,7 +137,7 @@ class Tables(InFolder):
         lines = self.table("needs").splitlines()
         self.assertEqual(lines, ["need  unit     group  signal  within ms  met by flows  age ms  line", "   1  CLUSTER  EEC1   SPN190         30             1   21.28    62"])
         told = json.loads(self.table("--json"))
-        self.assertEqual(list(told), ["units", "groups", "signals", "flows", "needs", "requests"])
+        self.assertEqual(list(told), ["units", "groups", "signals", "flows", "needs", "requests", "plan"])
         self.assertEqual((told["units"][0]["arbitrary"], told["signals"][0]["factor"], "spn" in told["signals"][1]), (False, 0.125, False))
 
     @needs("openpyxl", "python3-openpyxl")
@@ -147,10 +147,10 @@ class Tables(InFolder):
 
         self.table("--xlsx", self.path("plan.xlsx"))
         book = load_workbook(self.path("plan.xlsx"))
-        self.assertEqual(book.sheetnames, ["units", "groups", "signals", "flows", "needs", "requests"])
+        self.assertEqual(book.sheetnames, ["units", "groups", "signals", "flows", "needs", "requests", "plan"])
         rows = list(book["flows"].iter_rows(values_only=True))
         self.assertEqual(rows[1][:7], (1, "EEC1", 61444, 3, "ENGINE", "all", 10))
-        self.assertEqual((book["units"].freeze_panes, book["units"].auto_filter.ref), ("B2", "A1:S3"))
+        self.assertEqual((book["units"].freeze_panes, book["units"].auto_filter.ref), ("B2", "A1:U3"))
 
     def test_all_examples(self) -> None:
         """Of a plan with findings too; of one whose addresses have some nobody knows who stays."""
@@ -161,7 +161,7 @@ class Tables(InFolder):
     def test_what_cannot_be_done(self) -> None:
         plan = self.write("plan.toml", PLAN)
         for words, why in (((plan, "cars"), "no table is called cars"), ((self.write("bad.toml", "x"),), "bad.toml:1: refused Text"),
-                           ((self.write("empty.toml", "version = 4\n"), "--xlsx", self.path("x.xlsx")), "has none of these tables")):
+                           ((self.write("empty.toml", "version = 4\n"), "units", "--xlsx", self.path("x.xlsx")), "has none of these tables")):
             status, answer, said = run("table.py", *words)
             self.assertEqual((status, answer, why in said), (2, "", True), said)
 

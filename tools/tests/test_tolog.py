@@ -97,6 +97,55 @@ class Converted(InFolder):
             f"{at:>7} {at:13.3f} DT {bus:>2} 0CF00400 Rx - 1 {at:02X}\n" for at, bus in ((1, 1), (2, 2))))
         self.assertEqual([line.split()[1:] for line in run("tolog.py", file)[1].splitlines()], [["can0", "0CF00400#01"], ["can1", "0CF00400#02"]])
 
+    def test_times_from_line_to_line(self) -> None:
+        """Of an ASC with relative times each line counts from the one before, whatever it has: 0.1 s and 0.25 s behind a statistic."""
+        asc = ("date Mon Nov 30 09:00:00.000 2026\nbase hex  timestamps relative\nno internal events logged\n"
+               "   0.100000 1  CF00400x        Rx   d 2 FF 01\n   0.250000 1  Statistic: D 1 R 0 XD 0 XR 0 E 0 O 0 B 0.01%\n"
+               "   0.100000 1  CF00400x        Rx   d 2 FF 02\n   0.000001 2  CF00400x        Tx   d 2 FF 03\n")
+        lines = ["(0000000000.100000) can0 0CF00400#FF01", "(0000000000.450000) can0 0CF00400#FF02", "(0000000000.450001) can1 0CF00400#FF03"]
+        self.assertEqual(run("tolog.py", self.write("drive.asc", asc))[:2], (0, "".join(f"{line}\n" for line in lines)))
+        absolute = run("tolog.py", self.write("drive.asc", asc.replace("relative", "absolute")))[1].splitlines()
+        self.assertEqual([line.split()[0] for line in absolute], ["(0000000000.100000)", "(0000000000.100000)", "(0000000000.000001)"])
+
+    def test_messages_beside_their_packets(self) -> None:
+        """They are counted: the packets are in the log."""
+        asc = ("date Mon Nov 30 09:00:00.000 2026\nbase hex  timestamps absolute\nno internal events logged\n"
+               "  20.204671 2  18EBFF00x       Rx   d 8 01 A0 0F A6 60 3B D1 40\n"
+               "  20.248887 2  J1939TP FEE3p   6 0 0 - Rx   d 23 A0 0F A6 60 3B D1 40 1F DE 80 25 DF C0 2B E1 00 4B FF FF 3C 0F 00 4B\n")
+        status, answer, said = run("tolog.py", self.write("drive.asc", asc))
+        self.assertEqual((status, answer), (0, "(0000000020.204671) can1 18EBFF00#01A00FA6603BD140\n"))
+        self.assertEqual(said, "tolog: 1 lines J1939TP, messages beside their packets, are left out\n")
+
+    def test_versions_of_trc(self) -> None:
+        """1.3 and 2.0, as PEAK's description of the format has them: buses from 1, remote and status lines left out, columns in the order that is said."""
+        old = (";$FILEVERSION=1.3\n;$STARTTIME=40365.6427836807\n;   Message Number\n"
+               "     1)      1059.900 1  Rx        0300 -  7    00 00 00 00 04 00 00\n     2)      1283.231 2  Tx    0CF00400 -  2    FF 1A\n"
+               "     3)      1298.945 1  RTR   18EA00F9 -  3    RTR\n     4)      1323.201 1  Rx    18FEEE00 -  0\n")
+        lines = ["(0000000001.059900) can0 300#00000000040000", "(0000000001.283231) can1 0CF00400#FF1A", "(0000000001.323201) can0 18FEEE00#"]
+        self.assertEqual(run("tolog.py", "--channel", "0", "--channel", "1", self.write("old.trc", old)), (0, "".join(f"{line}\n" for line in lines), ""))
+        new = (";$FILEVERSION=2.0\n;$STARTTIME=43008.920986006946\n;$COLUMNS=N,O,T,I,d,l,D\n"
+               "      1      1059.900 DT     0300 Rx 7  00 00 00 00 04 00 00\n      2      1283.231 DT 0CF00400 Tx 2  FF 1A \n"
+               "      3      1334.416 ST          Rx 00 00 00 04\n      4      1323.201 DT 18FEEE00 Rx 0\n")
+        lines[1] = lines[1].replace("can1", "can0")
+        self.assertEqual(run("tolog.py", self.write("new.trc", new)), (0, "".join(f"{line}\n" for line in lines), ""))
+        other = new.replace("      3      1334.416 ST          Rx 00 00 00 04\n", "").replace("N,O,T,I,d,l,D", "N,O,I,T,d,l,D").replace("DT     0300", "0300 DT").replace("DT 0CF00400", "0CF00400 DT").replace("DT 18FEEE00", "18FEEE00 DT")
+        self.assertEqual(run("tolog.py", self.write("other.trc", other))[1], "".join(f"{line}\n" for line in lines))
+
+    def test_a_csv_of_savvycan(self) -> None:
+        """Times in us, identifiers of 11 and 29 bits, buses, also without a direction; rows that are no frames are refused by their line."""
+        text = ("Time Stamp,ID,Extended,Dir,Bus,LEN,D1,D2,D3,D4,D5,D6,D7,D8\n166064000,0000021A,false,Rx,0,8,FE,36,12,FE,69,05,07,AD,\n"
+                "166064250,0CF00400,true,Tx,1,2,FF,1A,,,,,,,\n")
+        lines = "(0000000166.064000) can0 21A#FE3612FE690507AD\n(0000000166.064250) can1 0CF00400#FF1A\n"
+        status, answer, said = run("tolog.py", self.write("drive.csv", text))
+        self.assertEqual((status, answer, "has several channels" in said, "has no channels" in said), (0, lines, True, False))
+        older = text.replace("Dir,", "").replace("Rx,", "").replace("Tx,", "")
+        self.assertEqual(run("tolog.py", self.write("drive.csv", older))[1], lines)
+        file = self.write("drive.csv", text + "166064300,0CF00400,true,Tx,1,9,FF\n")
+        self.assertEqual(run("tolog.py", file), (2, lines, f"tolog: {file}: can't be read after 2 frames: line 4 is no frame\n"))
+        for cut in (len(text) - 3, len(text) - 1):
+            self.assertEqual(run("tolog.py", self.write("drive.csv", text[:cut])),
+                             (2, lines.splitlines(True)[0], f"tolog: {file}: can't be read after 1 frames: its last line is cut\n"))
+
     def test_a_log_is_one_already(self) -> None:
         """Its error frames would become frames of TSC1."""
         error = "(1.000000) can0 20000004#0004000000000000\n"

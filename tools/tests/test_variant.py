@@ -1,5 +1,7 @@
 """The plan of one variant of a line of vehicles, as a file."""
 
+import contextlib
+import io
 import json
 import math
 import os
@@ -7,6 +9,7 @@ import unittest
 
 import j39plan
 from j39plan import program
+from j39plan.cli import variant
 from j39plan.plan.answer_objects import check_object
 from j39plan.plan.answer_places import placed
 from j39plan.plan.hints.full import several
@@ -14,7 +17,7 @@ from j39plan.plan.hints.lint import Lint
 from j39plan.plan.hints.variants import nowhere
 from j39plan.plan.parts import Source
 from j39plan.plan.variants import Line, line_of, variant_text
-from tests.support import TOP, InFolder, example, run, text_of
+from tests.support import TOP, InFolder, answered, example, run, text_of
 
 # Where plans stand with what check answers.
 CHECKS = os.path.join(TOP, "rows", "checks")
@@ -122,9 +125,21 @@ class Written(InFolder):
         self.assertEqual(run("variant.py", example("truck.toml"))[:2], (0, text_of(example("truck.toml"))))
 
     def test_what_is_not_built_is_refused(self) -> None:
-        for labels, why in ((["RETARDER", "EATON"], "Never"), (["CUMMINS", "DETROIT"], "Repeated"), (["VOITH"], "UnknownLabel")):
-            status, _, error = run("variant.py", example("line.toml"), *labels)
-            self.assertEqual((status, error), (1, f"variant: refused variant {why}\n"))
+        """The label that no choice has, the two of one choice, and the never that forbids it are named."""
+        never = "Never  (the never at line 13 forbids RETARDER with ALLISON or EATON)"
+        for labels, why in ((["RETARDER", "EATON"], never), (["CUMMINS", "DETROIT"], "Repeated  (CUMMINS and DETROIT are of one choice)"),
+                            (["ZF", "ZF"], "Repeated  (ZF stands there twice)"), (["VOITH"], "UnknownLabel  (no choice has VOITH)"),
+                            (["RETARDR"], "UnknownLabel  (no choice has RETARDR; did you mean RETARDER?)")):
+            status, _, error = answered(variant.main, example("line.toml"), *labels)
+            self.assertEqual((status, error.partition(": ")[2]), (1, f"refused variant {why}\n"))
+
+    def test_ends_of_lines_stay(self) -> None:
+        """Those of Windows, with which the file was written: also behind a with that is taken away."""
+        text = text_of(example("line.toml")).replace("\n", "\r\n")
+        with contextlib.redirect_stdout(io.StringIO()) as written:
+            self.assertEqual(variant.main([self.write("line.toml", text), "DETROIT", "RETARDER"]), 0)
+        unix = answered(variant.main, example("line.toml"), "DETROIT", "RETARDER")[1]
+        self.assertEqual(written.getvalue(), unix.replace("\n", "\r\n"))
 
 
 class Lines(InFolder):
@@ -204,7 +219,7 @@ class Found(unittest.TestCase):
 class Taken(InFolder):
     def test_a_plan_with_choices_is_refused_by_what_wants_one_plan(self) -> None:
         line = example("line.toml")
-        for words in (["plan2dbc.py", line], ["compare.py", line, line], ["mend.py", line], ["table.py", line]):
+        for words in (["startup.py", line, "C"], ["against.py", line, self.write("drive.log", DETROIT)]):
             status, answer, error = run(*words)
             self.assertEqual((status, answer), (1, ""), words)
             self.assertTrue(error.endswith("refused plan Choices  (--variant LABEL,.. takes the plan of one vehicle)\n"), error)
@@ -212,7 +227,8 @@ class Taken(InFolder):
     def test_the_plan_of_one_vehicle_is_taken(self) -> None:
         line = example("line.toml")
         self.assertEqual(run("where.py", line, "--variant", "DETROIT,RETARDER")[:2], (0, "ok 2 units 3 groups 3 flows\n"))
-        self.assertEqual(run("where.py", line, "--variant", "RETARDER,EATON")[::2], (1, "where: refused variant Never\n"))
+        self.assertEqual(run("where.py", line, "--variant", "RETARDER,EATON")[::2], (1, "where: refused variant Never  "
+                                                                                    "(the never at line 13 forbids RETARDER with ALLISON or EATON)\n"))
         status, dbc, _ = run("plan2dbc.py", line, "--variant", "DETROIT")
         self.assertEqual((status, "BU_: _D\n" in dbc), (0, True))
         self.assertEqual(run("startup.py", line, "--variant", "CUMMINS")[1].splitlines()[1:], ["up C"])
@@ -236,7 +252,7 @@ class Taken(InFolder):
     def test_its_page_has_the_choices(self) -> None:
         status, page, _ = run("report.py", example("line.toml"), "--variant", "RETARDER")
         self.assertEqual((status, "<h1>Plan line.toml (CUMMINS, RETARDER, ZF)</h1>" in page), (0, True))
-        self.assertIn('<tr><th scope="row">1</th><td>DETROIT</td><td>no</td><td>unit D, need 1 of R (EEC1)</td></tr>', page)
+        self.assertIn('<tr><th scope="row">1</th><td>DETROIT</td><td>no</td><td>4</td><td>unit D, need 1 of R (EEC1)</td></tr>', page)
         self.assertIn("Never built: RETARDER, ALLISON or EATON", page)
 
     def test_the_module_takes_it(self) -> None:
@@ -257,7 +273,37 @@ class Taken(InFolder):
         both = DETROIT + "(5.0) can0 18EEFF00#0000C02600000000\n(5.5) can0 18EEFF09#0000000000000000\n"
         status, answer, _ = run("variant.py", line, "--json", "--log", self.write("both.log", both))
         self.assertEqual((status, json.loads(answer)), (1, {
-            "units": ["C", "D", "R"], "others": ["0000000000000000"], "silent": [], "choices": [], "first": []}))
+            "units": ["C", "D", "R"], "others": ["0000000000000000"], "silent": [], "sends": [], "choices": [], "first": []}))
+
+    def test_who_sends_without_a_claim_is_there(self) -> None:
+        """One of the units at this address; who claims from somewhere else isn't taken for it, and other interfaces don't count."""
+        line = example("line.toml")
+        sent = "(1.0) can0 0CF00400#FFFFFFFFFFFFFFFF\n(1.1) can0 18F0000F#FFFFFFFFFFFFFFFF\n(1.2) can1 18F00021#FFFFFFFFFFFFFFFF\n"
+        status, answer, _ = run("variant.py", line, "--log", self.write("sent.log", sent))
+        self.assertEqual((status, answer.splitlines()), (0, [
+            "claims of no unit", "sends C or D", "sends R", "the log may begin behind other claims: who doesn't claim may be there",
+            "choice 1 CUMMINS or DETROIT", "choice 2 RETARDER", "choice 3 ZF", "first CUMMINS,RETARDER,ZF"]))
+        status, answer, _ = run("variant.py", line, "--log", self.write("sent.log", "(0.9) can0 18EEFF00#0000E02600000000\n" + sent))
+        self.assertEqual(answer.splitlines(), ["claims D", "sends R", "the log may begin behind other claims: who doesn't claim may be there",
+                                               "choice 1 DETROIT", "choice 2 RETARDER", "choice 3 ZF", "first DETROIT,RETARDER,ZF"])
+
+    def test_against_takes_the_one_that_the_log_shows(self) -> None:
+        """It says which, and compares as with that variant; where none or several fit there is one line, and so it is of what is no log."""
+        line, log = example("line.toml"), self.write("drive.log", DETROIT)
+        named, shown = (run("against.py", line, log, "--variant", variant) for variant in ("DETROIT,RETARDER,ZF", "log"))
+        self.assertEqual((shown[0], shown[1]), named[:2])
+        self.assertIn("against: --variant DETROIT,RETARDER,ZF\n", shown[2])
+        both = DETROIT + "(5.0) can0 18EEFF00#0000C02600000000\n(5.5) can0 0CF00400#FFFFFFFFFFFFFFFF\n"
+        cut = DETROIT[:DETROIT.index("(1.1)") + 30]
+        several = "the log can be of several vehicles, with {}: name one, as --variant {}"
+        for text, why in ((both, "the log is of no vehicle of the line: it has C, D, R"),
+                          (cut, several.format("NO_RETARDER or RETARDER, and ZF or ALLISON or EATON", "DETROIT,NO_RETARDER,ZF")),
+                          ("", several.format("CUMMINS or DETROIT, and NO_RETARDER or RETARDER, and ZF or ALLISON or EATON", "CUMMINS,NO_RETARDER,ZF"))):
+            self.assertEqual(run("against.py", line, self.write("other.log", text), "--variant", "log"), (2, "", f"against: {line}: {why}\n"))
+        self.assertEqual(run("against.py", example("truck.toml"), log, "--variant", "log"), (2, "", f"against: {example('truck.toml')} has no choices\n"))
+        self.assertEqual(run("against.py", line, self.path("none.log"), "--variant", "log"), (4, "", f"against: {self.path('none.log')}: No such file or directory\n"))
+        piped = run("against.py", line, "-", "--variant", "log", text=DETROIT)
+        self.assertEqual(piped, (2, "", "against: --variant log takes regular files, which are read twice\n"))
 
 
 class Joined(InFolder):

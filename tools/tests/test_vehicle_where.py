@@ -162,7 +162,7 @@ class Forwards(OfVehicles):
             ("its spn is 3, and that of SPN190 190", swapped(rpm, ("per = 8\n", "per = 8\nspn = 3\n"))),
             ("RPM is a dtc, and SPN190 none", swapped(rpm, ("bits = 16", "bits = 32"), ("per = 8\n", ""), ('"measured"', '"dtc"'))),
             ("RPM has a bit of the key when of B.EEC1", swapped(rpm, ("length = 8", "length = 8\nwhen = { byte = 4, bits = 8, value = 1 }"))),
-            (f"RPM has 12 bits: a measured signal has 8, 16 or 32{nearest}", swapped(rpm, ("bits = 16", "bits = 12"))),
+            (f"RPM has 12 bits: a measured signal has 8, 16 or 32; kind = \"raw\" has all widths{nearest}", swapped(rpm, ("bits = 16", "bits = 12"))),
         ):
             v = swapped(more(INTO_RPM), ('signal = "SPN190"', 'signal = "RPM"'))
             self.says(18, f"G6 SignalDiffers 1 RPM  (SPN190 into RPM of B.EEC1: {said})", v, p, b)
@@ -347,10 +347,10 @@ class Forms(OfVehicles):
 
     def test_hints(self) -> None:
         """Those of each plan, but for units that the vehicle names."""
-        _, lines = self.where(self.vehicle(b=B + UNIT.format("X", 5, 5)), "--lint")
+        _, lines = self.where(self.vehicle(b=B + UNIT.format("X", 5, 5)), "--lint", "-measure", "-address", "+drift", "+live")
         hints = [line for line in lines if ": hint " in line]
-        drifts = [f"{file}:2: hint drift 0: no two clocks agree for ever" for file in ("p.toml", "b.toml")]
-        self.assertEqual([line for line in hints if "live" not in line], [*drifts, "b.toml:31: hint unit X: no flow is from it or to it alone"])
+        drifts = [f"{file}:2: hint drift 0: no two clocks agree for ever  (drift)" for file in ("p.toml", "b.toml")]
+        self.assertEqual([line for line in hints if "live" not in line], [*drifts, "b.toml:31: hint unit X: no flow is from it or to it alone  (idle)"])
         self.assertEqual([line.split(":")[0] for line in hints if "live" in line], ["p.toml", "b.toml"])
 
 

@@ -1,7 +1,6 @@
 """Where the answers of `check` belong."""
 
 import glob
-import json
 import os
 import re
 import subprocess
@@ -11,8 +10,10 @@ import unittest
 from j39plan import program
 from j39plan.cli import where
 from j39plan.plan import answer_places
+from j39plan.plan.hints.lint import Lint as LintOf
+from j39plan.plan.hints.names import NAMES
 from j39plan.plan.parts import Source
-from tests.support import InFolder, MARKED, NEWER, TOOLS, TOP, example, plans, run, shown_refusals, signal, text_of, there
+from tests.support import InFolder, MARKED, NEWER, TOOLS, TOP, answered, example, plans, run, shown_refusals, signal, text_of, there
 
 CASES = os.path.join(TOP, "rows")
 
@@ -83,6 +84,7 @@ HINTS = [
     "32: hint group SHORT: 7 bytes; a group of one frame has 8, unused ones filled with ones",
     "34: hint group UNSENT: no flow sends it",
 ]
+MAKERS = [f"{line}: hint unit {label}: its NAME has no manufacturer, and no maker has the number 0" for line, label in ((10, "B"), (15, "C"))]
 # That a plan of version 4 could be live.
 MAY_BE_LIVE = "1: hint live = true adds no finding: then what check promises holds while units claim, and go off in mid-message"
 
@@ -93,7 +95,7 @@ class SerialNumbers(InFolder):
         text = f"version = {version}\n" + "".join(f'[[unit]]\nlabel = "{label}"\naddress = {at}\nname = {{ {name} }}\n'
                                                   for label, at, name in zip("AB", (0, 3), names))
         name = self.write("plan.toml", text)
-        return run("where.py", name)[1].replace(f"{name}:", "").splitlines()
+        return answered(where.main, name)[1].replace(f"{name}:", "").splitlines()
 
     def test_units_that_may_have_one_name(self) -> None:
         """Both, or one of them, without a number: at most the serial numbers of their boxes tell them apart."""
@@ -115,15 +117,42 @@ class SerialNumbers(InFolder):
 
 class Lint(InFolder):
     def lines(self, text: str, *words: str) -> tuple[int, list[str]]:
+        """What `where --lint -maker` answers of a plan, without the file's name and the names of hints, and its status."""
+        status, lines = self.named(text, "-maker", *words)
+        return status, [line if re.search(r": F\d", line) else re.sub(r"  \([a-z]+\)$", "", line) for line in lines]
+
+    def named(self, text: str, *words: str) -> tuple[int, list[str]]:
         """What `where --lint` answers of a plan, without the file's name, and its status."""
         name = self.write("plan.toml", text)
-        status, answer, said = run("where.py", "--lint", *words, name)
+        status, answer, said = answered(where.main, "--lint", *words, name)
         self.assertEqual(said, "")
         return status, answer.replace(f"{name}:", "").replace(f"file={name},", "").splitlines()
 
+    def test_names(self) -> None:
+        """Each hint has one, by which it is silenced on the command line, by a comment on a line of its own, or at its line by one behind it."""
+        names = ["pool", "maker", "maker", "idle", "identity", "urgent", "short", "unsent"]
+        lines = self.named(LINTED)[1]
+        self.assertEqual([line.rpartition("  (")[2].rstrip(")") for line in lines[:-1]], names)
+        self.assertLessEqual({*names, "lint"}, {*NAMES})
+        self.assertEqual(self.named(LINTED, "-maker", "-idle", "-pool")[1], [lines[at] for at in (4, 5, 6, 7, 8)])
+        silent = LINTED.replace("version = 2\n", "version = 2\n# lint: maker, idle urgent\n").replace("length = 7", "length = 7 # lint: short")
+        self.assertEqual([line.rpartition("  (")[2].rstrip(")") for line in self.named(silent)[1][:-1]], ["pool", "identity", "unsent"])
+        elsewhere = LINTED.replace("length = 8", "length = 8 # lint: short", 1)
+        self.assertEqual(self.named(elsewhere)[1], lines)
+        self.assertIn("26: hint lint: no hint is called shrt; did you mean short?  (lint)", self.named(LINTED.replace("priority = 2", "priority = 2 # lint: shrt", 1))[1])
+
+    def test_a_name_that_no_hint_has(self) -> None:
+        name = self.write("plan.toml", LINTED)
+        status, answer, said = answered(where.main, "--lint", "-shrt", name)
+        self.assertEqual((status, answer, said.partition(": ")[2]), (2, "", "no hint is called shrt; did you mean short?\n"))
+
+    def test_each_name_has_its_hints(self) -> None:
+        source = Source(LINTED.replace("[[group]]", '[[choice]]\nof = ["X", "Y"]\n[[group]]', 1))
+        self.assertEqual({*LintOf(source).found(), "lint"}, {*NAMES})
+
     def test_units_without_numbers_are_not_compared_by_them(self) -> None:
         status, lines = self.lines(re.sub(r"version = \d", "version = 4", LINTED, count=1).replace("identity = 7, ", ""))
-        self.assertEqual((status, lines), (0, [MAY_BE_LIVE, *(hint for hint in HINTS if "identity" not in hint), "ok 4 units 4 groups 3 flows"]))
+        self.assertEqual((status, lines), (0, [*(hint for hint in HINTS if "identity" not in hint), "ok 4 units 4 groups 3 flows"]))
 
     def test_each_hint(self) -> None:
         self.assertEqual(self.lines(LINTED), (0, [*HINTS, "ok 4 units 4 groups 3 flows"]))
@@ -134,16 +163,51 @@ class Lint(InFolder):
         request = '[[request]]\ngroup = "UNSENT"\nfrom = "IDLE"\nto = "A"\n'
         plan = LINTED.replace("version = 2", "version = 4") + flow
         hint = f"{plan.count(chr(10))}: hint flow 4, UNSENT from A to all: it is sent only as an answer, and no request of the plan asks for it"
-        self.assertEqual(self.lines(plan)[1], [MAY_BE_LIVE, *HINTS[:5], hint, "ok 4 units 4 groups 4 flows"])
-        self.assertEqual(self.lines(plan + request)[1], [MAY_BE_LIVE, HINTS[0], *HINTS[2:5], "ok 4 units 4 groups 4 flows"])
+        self.assertEqual(self.lines(plan)[1], [*HINTS[:5], hint, "ok 4 units 4 groups 4 flows"])
+        self.assertEqual(self.lines(plan + request)[1], [HINTS[0], *HINTS[2:5], "ok 4 units 4 groups 4 flows"])
 
     def test_a_plan_that_may_be_live(self) -> None:
-        """One of version 4 whose flows go between units that are alone; not one that is live, nor where F28 would be, nor without flows."""
+        """One of version 4 that has no further finding if it is live, where that is asked for; not one that is live, nor where F28 would be, nor without
+        flows."""
         plan = LINTED.replace("version = 2", "version = 4")
-        self.assertEqual(self.lines(plan)[1][0], MAY_BE_LIVE)
+        self.assertEqual((self.lines(plan, "+live")[1][0], MAY_BE_LIVE in self.lines(plan)[1]), (MAY_BE_LIVE, False))
+        self.assertEqual(self.lines(plan.replace("version = 4", "version = 4 # the last\nlive = false"), "+live")[1][0], MAY_BE_LIVE)
         beside = plan.replace("address = 202", "address = 0")
         for other in (LINTED, plan.replace("version = 4", "version = 4\nlive = true"), beside, plan.partition("[[flow]]")[0]):
-            self.assertNotIn("hint live", "".join(self.lines(other)[1]))
+            self.assertNotIn("hint live", "".join(self.lines(other, "+live")[1]))
+
+    def test_claims_of_a_live_bus_count(self) -> None:
+        """A frame of 640 us behind one that has begun is within 1,280 us. On a live bus claims of both units go before it too: with 2 ms it is late
+        there alone, with 9 ms, some 14 frames, it isn't."""
+        plan = "version = 4\ntiming = { bitrate = 250000, unplanned = 0 }\n" + UNIT.format("A", 0, 1) + UNIT.format("B", 3, 2) + (
+            '[[group]]\nlabel = "ET1"\npgn = 65262\npriority = 6\nlength = 8\n[[flow]]\ngroup = "ET1"\nfrom = "A"\nto = "all"\nperiod = 100\ndeadline = 2\n')
+        self.assertEqual((self.lines(plan)[0], "hint live = true" in "".join(self.lines(plan, "+live")[1])), (0, False))
+        self.assertIn("hint live = true", "".join(self.lines(plan.replace("deadline = 2", "deadline = 9"), "+live")[1]))
+
+    def test_an_answer_to_its_receiver(self) -> None:
+        """A flow that answers a request of the unit that it goes to isn't unused."""
+        plan = LINTED.replace("version = 2", "version = 4") + '[[need]]\nunit = "B"\ngroup = "ET1"\n'
+        hint = "54: hint flow 3, TSC1 from C to A: no need of A takes it"
+        self.assertIn(hint, self.lines(plan)[1])
+        self.assertNotIn(hint, self.lines(plan + '[[request]]\ngroup = "TSC1"\nfrom = "A"\nto = "C"\n')[1])
+
+    def test_what_may_be_left_out(self) -> None:
+        """A scale without a unit of measurement, room for one trouble code alone, and an address that SAE J1939 gives to another function."""
+        head = 'version = 4\n[[unit]]\nlabel = "BODY"\naddress = {}\nname = {{ function = {} }}\n'
+        group = '[[group]]\nlabel = "DM1"\npgn = {}\npriority = 6\nlength = 8\n{}'
+        scaled = signal("TEMP", 1, 8, "measured", "offset = -40\n")
+        codes = "10: hint group DM1: DM1 has four bytes a trouble code, and 8 hold one: several want most and every = 4  (codes)"
+        at = "4: hint unit BODY: 51 is the address of function 38 by SAE J1939, and its function 26 has 33"
+        for plan, line, is_told in (
+            (head.format(51, 26), f"{at}  (address)", True), (head.format("0x33", 26), f"{at}; 0x33 is 51: write 33  (address)", True),
+            (head.format(33, 26), "address)", False), (head.format(51, 38), "address)", False), (head.format(60, 26), "address)", False),
+            (head.format(33, 26) + group.format(65226, ""), codes, True), (head.format(33, 26) + group.format(65226, "most = 64\n"), "codes)", False),
+            (head.format(33, 26) + group.format(65262, scaled), "16: hint signal DM1.TEMP: a scale, and no unit of measurement  (measure)", True),
+            (head.format(33, 26) + group.format(65262, scaled + 'unit = "degC"\n'), "measure)", False),
+        ):
+            lines = self.named(plan)[1]
+            self.assertEqual(line in lines if is_told else any(line in other for other in lines), is_told, lines)
+        self.assertEqual([line for line in self.named(LINTED)[1] if "maker" in line and "manufacturer" in line], [f"{line}  (maker)" for line in MAKERS])
 
     def test_units_that_prefer_one_address(self) -> None:
         """Of two that may choose one moves; beside a fixed one the other does, in whichever order they stand."""
@@ -222,7 +286,8 @@ class Lint(InFolder):
         hint = "2: hint drift 0: no two clocks agree for ever"
         for text, told in ((plan, [hint]), (plan.replace("unplanned = 0", "unplanned = 0, drift = 500"), []), (plan.replace("version = 4", "version = 3"), []),
                            (plan.replace("timing =", "#"), [])):
-            self.assertEqual([line for line in self.lines(text)[1] if "drift" in line], told)
+            self.assertEqual([line for line in self.lines(text, "+drift")[1] if "drift" in line], told)
+            self.assertFalse([line for line in self.lines(text)[1] if "drift" in line])
 
     def test_hints_at_broadcasts(self) -> None:
         """Those that take longer than their period, at the gap of the plan; to one unit, and without timing, there are none."""
@@ -277,8 +342,8 @@ class Lint(InFolder):
         """Hints come before what is answered without them."""
         hints = 0
         for plan in plans():
-            status, answer, _ = run("where.py", plan)
-            linted = run("where.py", "--lint", plan)
+            status, answer, _ = answered(where.main, plan)
+            linted = answered(where.main, "--lint", plan)
             self.assertEqual((linted[0], linted[1].endswith(answer)), (status, True), plan)
             hints += linted[1].count(": hint ")
         self.assertGreater(hints, 3)
@@ -293,7 +358,7 @@ class Where(InFolder):
     def answer(self, text: str, *words: str) -> tuple[int, list[str]]:
         """What `where` answers of a plan, without the file's name."""
         name = self.write("plan.toml", text)
-        status, answer, _ = run("where.py", *words, name)
+        status, answer, _ = answered(where.main, *words, name)
         return status, first_of(answer.replace(name + ":", ""))
 
     def test_a_plan_without_findings_is_passed_on(self) -> None:
@@ -301,7 +366,7 @@ class Where(InFolder):
 
     def test_the_answers_themselves_stay(self) -> None:
         for plan in plans():
-            _, answer, _ = run("where.py", plan)
+            _, answer, _ = answered(where.main, plan)
             lines = [line.split(": ", 1)[-1].split("  (")[0] for line in answer.splitlines()]
             self.assertEqual("".join(f"{line}\n" for line in lines), text_of(plan[:-5] + ".check"), plan)
 
@@ -396,7 +461,7 @@ class Where(InFolder):
         self.assertEqual(self.answer(head.replace("250000", "125000")), (2, [wrong]))
         alone = "14: refused Missing flow 1 key period  (key period isn't there, which a deadline needs: integer 1..65535)"
         self.assertEqual(self.answer(f"{head}{group}{flow}deadline = 5\n"), (2, [alone]))
-        missing = "2: refused Missing timing key unplanned  (key unplanned isn't there: integer 0..1000)"
+        missing = "2: refused Missing timing key unplanned  (key unplanned isn't there: integer 0..1000; a guess: a claim of each unit, and three more: 4)"
         self.assertEqual(self.answer(head.replace("unplanned = 0\n", "")), (2, [missing]))
 
     def test_needs(self) -> None:
@@ -442,6 +507,8 @@ class Where(InFolder):
         for length, most in (("length = 9", 9), ("length = 8\nmost = 1730", 1730)):
             text = plan.replace("length = 8", length) + flow.format("A") + "pause = 20\n"
             hint = f"G by B: key within: its messages have up to {most} bytes, and those of more than 8 have no age"
+            key = "most" if "most" in text else "length"
+            hint += f" ({key} at line {text[:text.index(key + ' =')].count(chr(10)) + 1})"
             at = text.count("\n") + 4
             self.assertEqual(self.answer(text + need), (1, [f"{at}: F20 NeedTooOld 1  ({hint})", "findings 1"]))
 
@@ -560,7 +627,7 @@ class Where(InFolder):
              "value = 16: integer 0..4294967295, which the bits hold"),
             ("when = { byte = 1, value = 1 }", "refused Missing group 2 when key bits", 13, "key bits isn't there: integer 1..32"),
             ("when = { byte = 1, bits = 1, valeu = 1 }", "refused UnknownKey group 2 when", 13, "key valeu; did you mean value?"),
-            ("when = 1", "refused WrongType group 2 key when", 13, "when = 1: a table"),
+            ("when = 1", "refused WrongType group 2 key when", 13, "when = 1: a table, as { byte = 1, bits = 8, value = 1 }"),
         ):
             (placed,) = answer_places.placed(plan.format(4, other).encode(), answer + "\n")
             self.assertEqual((placed.line, placed.text), (line, f"{answer}  ({hint})"))
@@ -572,7 +639,7 @@ class Where(InFolder):
             '[[group.signal]]\nlabel = "S"\nbyte = 13\nbits = 8\nkind = "raw"\noptional = true\n'
         )
         behind = ("11: F7 SignalOutside G S 104  (key byte: the signal ends after the group's length, or, where it is optional, "
-                  "after its longest messages)")
+                  "after its longest messages; with 8 bits it begins at byte = 12 at the latest)")
         self.assertEqual(self.answer(plan), (1, [behind, "findings 1"]))
         self.assertEqual(self.answer(plan.replace("byte = 13", "byte = 12")), (0, ["ok 0 units 1 groups 0 flows"]))
         both = "14: refused Range group 1 signal 1 key optional  (optional = true: the signal is repeated)"
@@ -597,7 +664,7 @@ class Where(InFolder):
             refused = text_of(plan[:-5] + ".check").strip()
             with open(plan, "rb") as file:
                 lines = file.read().decode(errors="replace").split("\n")
-            status, answer, said = run("where.py", plan)
+            status, answer, said = answered(where.main, plan)
             self.assertEqual((status, said), (2, ""), plan)
             found = re.fullmatch(rf"{re.escape(plan)}:(\d+): {re.escape(refused)}  \((.+)\)", "\n".join(first_of(answer)))
             self.assertIsNotNone(found, answer)
@@ -647,7 +714,7 @@ class Where(InFolder):
             status, answer = self.answer(signal + keys)
             self.assertEqual((status, answer[0].split(": ", 1)[0]), (2, str(line)), answer)
             self.assertTrue(answer[0].endswith(f"; {hint})"), (keys, answer))
-        for keys in ("step = nan\n", "step = '1'\n", "step = true\n", "step = 1e999\n", f"step = 0.{'1' * 400}\n"):
+        for keys in ("step = nan\n", "step = true\n", "step = 1e999\n", f"step = 0.{'1' * 400}\n"):
             status, answer = self.answer(signal + keys)
             self.assertEqual((status, "; " in answer[0]), (2, False), answer)
 
@@ -673,7 +740,7 @@ class Where(InFolder):
 
     def test_carriage_returns(self) -> None:
         plan = "version = 1\r\n\r\n" + UNIT.format("A", 254, 1).replace("\n", "\r\n")
-        self.assertEqual(self.answer(plan)[1], ["5: refused Range unit 1 key address  (address = 254: integer 0..253)"])
+        self.assertEqual(self.answer(plan)[1], ["5: refused Range unit 1 key address  (address = 254: integer 0..253; 254 is that of a unit without an address)"])
 
     def test_too_many(self) -> None:
         plan = "version = 1\n" + "".join(UNIT.format(f"U{n}", n % 100, n) for n in range(129))
@@ -704,7 +771,7 @@ class Where(InFolder):
         self.assertEqual(self.answer("version = 3\nstrangers = 1\n"), (2, [f"2: refused UnknownKey top  {hint}"]))
 
     def test_live_buses(self) -> None:
-        self.assertEqual(self.answer("version = 4\nlive = 1\n"), (2, ["2: refused WrongType top key live  (live = 1: true or false)"]))
+        self.assertEqual(self.answer("version = 4\nlive = 1\n"), (2, ["2: refused WrongType top key live  (live = 1: true or false; write true)"]))
         hint = "(key live: only from version = 4 on: write version = 4)"
         self.assertEqual(self.answer("version = 3\nlive = true\n"), (2, [f"2: refused UnknownKey top  {hint}"]))
 
@@ -738,9 +805,9 @@ class Where(InFolder):
             ("version = 2\n" + signal.format("states"),
              f'11: refused Range {place} key kind  (kind = "states": only from version = 3 on: write version = 4)'),
             ("version = 3\n" + signal.format("text"), f'11: refused Range {place} key kind  (kind = "text": '
-             '"measured" or "discrete" or "raw" or "states" or "signed" or "dtc")'),
+             '"measured" or "discrete" or "raw" or "states" or "signed" or "dtc"; a text is no signal: write [[group.text]])'),
             ("version = 3\n" + signal.format("raw") + "per = 3\n",
-             f"12: refused Range {place} key per  (per = 3: integer 1..10000000, a product of 2s and 5s)"),
+             f"12: refused Range {place} key per  (per = 3: integer 1..10000000, a product of 2s and 5s; 1/3 goes into the unit: per = 1, unit = \"1/3\")"),
             ("version = 3\n" + signal.format("dtc") + "step = 2\n", f"12: refused Range {place} key step  (step = 2: a dtc has no step)"),
             ("version = 3\n" + signal.format("raw") + "step = 0.125\noffset = -0.5\n", f"12: refused WrongType {place} key step  "
              "(step = 0.125: integer 1..1000000; the fraction goes into per: step = 1, offset = -4, per = 8)"),
@@ -760,7 +827,7 @@ class Where(InFolder):
 
     def test_a_byte_order_mark(self) -> None:
         plan = "\ufeffversion = 1\n\n" + UNIT.format("A", 254, 1)
-        self.assertEqual(self.answer(plan), (2, ["5: refused Range unit 1 key address  (address = 254: integer 0..253)"]))
+        self.assertEqual(self.answer(plan), (2, ["5: refused Range unit 1 key address  (address = 254: integer 0..253; 254 is that of a unit without an address)"]))
         status, answer = self.answer(plan.replace("254", "x"))
         self.assertEqual((status, answer), (2, ["5: refused Text  (address = x: an integer is wanted)"]))
 
@@ -801,7 +868,7 @@ class Where(InFolder):
         with open(self.path("plan.toml"), "wb") as file:
             file.write(b'version = 1\n[[unit]]\nlabel = "\xb0"\n')
         status, answer, _ = run("where.py", self.path("plan.toml"))
-        self.assertEqual((status, answer.split(":", 1)[1]), (2, "3: refused Text  (byte B0 is no UTF-8)\n"))
+        self.assertEqual((status, answer.split(":", 1)[1]), (2, "3: refused Text  (byte B0 is no UTF-8, ° by Windows-1252: save the file as UTF-8)\n"))
 
     def test_annotations(self) -> None:
         name = self.write("plan.toml", "version = 5\n")
@@ -842,16 +909,6 @@ class Where(InFolder):
         )
         said = f"j39plan can't be run: {self.path('j39plan')}: No such file or directory\n"
         self.assertEqual((ended.returncode, ended.stdout, ended.stderr), (69, "", said))
-
-    def test_the_pattern_for_editors(self) -> None:
-        """What docs/guide/TOOLS.md gives VS Code finds file, line and text of each answer with a place, and no other."""
-        task = json.loads(there(re.search(r"```json\n(.*?)```", text_of(os.path.join(TOP, "docs", "guide", "TOOLS.md")), re.DOTALL)).group(1))
-        pattern = task["tasks"][0]["problemMatcher"]["pattern"]["regexp"]
-        plan = example("findings/several.toml")
-        *findings, count = run("where.py", plan)[1].splitlines()
-        self.assertIsNone(re.match(pattern, count))
-        for line in findings:
-            self.assertEqual(there(re.match(pattern, line)).group(1), plan)
 
     def test_a_missing_file(self) -> None:
         status, answer, said = run("where.py", self.path("none.toml"))

@@ -1,5 +1,5 @@
 -- Streams: messages whose moments are a step apart at least, and how long behind its moment one may be queued, or sent.
-use Rattle.std.specs.Prelude.{ℕ, ◌+◌, ◌-◌, ◌*◌, ◌/◌, nat_le, nat_lt, ◌==◌, ◌||◌, ◌&&◌, not, Bool, true, false, if◌then◌else◌, List, [], ◌∷◌, Option, Some, None}
+use Rattle.std.specs.Prelude.{ℕ, ◌+◌, ◌-◌, ◌*◌, ◌/◌, nat_le, nat_lt, ◌==◌, ◌&&◌, not, Bool, true, false, if◌then◌else◌, List, [], ◌∷◌, Option, Some, None}
 use Rattle.std.specs.Int.{div_ceil}
 use Rattle.std.specs.List.{slice_get}
 use Rattle.std.specs.Option.{option_and_then, option_map}
@@ -74,19 +74,16 @@ flow_pace s n = option_and_then (λ (flow : FlowPlan). flow.pace) (slice_get s.p
 abbrev pub group_in_flow : Settings → ℕ → Option GroupPlan
 group_in_flow s n = option_and_then (λ (flow : FlowPlan). slice_get s.plan.groups.items flow.group) (slice_get s.plan.flows.items n)
 
--- the messages of a group are single frames, or none is
-abbrev pub are_of_one_sort : GroupPlan → Bool
-are_of_one_sort group = nat_le group.most frame_bytes || nat_lt frame_bytes group.length
-
 -- its one receiver, where it has one, claims
 abbrev pub is_claiming_there : Settings → To → Bool
 is_claiming_there s ToAll = true
 is_claiming_there s (ToOne v) = is_claiming s v
 
--- the silence of a flow is seen: no frame is missing, its messages aren't answers, all are of one sort, and who claims is there
+-- the silence of a flow is seen: no frame is missing, its messages aren't answers, each is a single frame, and who claims is there; long ones wait for the
+-- others of their unit, and for a receiver that holds them
 abbrev pub shows_silence : Settings → FlowPlan → GroupPlan → Bool
 shows_silence s flow group =
-    not s.part && (not flow.on_request && (are_of_one_sort group && (is_claiming s flow.sender && is_claiming_there s flow.to)))
+    not s.part && (not flow.on_request && (nat_le group.most frame_bytes && (is_claiming s flow.sender && is_claiming_there s flow.to)))
 
 -- by that time behind a message's moment, in microseconds, the next one has its own
 abbrev pub flow_pause_of : Settings → Timing → ℕ → FlowPlan → GroupPlan → Pace → ℕ → Option FlowPause
@@ -94,7 +91,7 @@ flow_pause_of s t n flow group pace pause =
     if shows_silence s flow group
     then Some (record {
       pause = longest_us t pause;
-      slack = slack_by s.bound (response_of s n) (longest_us t (latest_ms pace (nat_le group.most frame_bytes)));
+      slack = slack_by s.bound (response_of s n) (longest_us t pace.jitter);
     })
     else None
 

@@ -16,7 +16,7 @@ use j39_network::FlowPlan;
 use j39_tp::Packet;
 
 /// What a packet announces to all: how many bytes of this number.
-#[derive(Clone, Copy, PartialEq, Eq)]
+#[derive(Clone, Copy)]
 pub struct Announcement {
     pub size: usize,
     pub number: u32,

@@ -28,7 +28,7 @@ use std::alloc::{AllocError, Global};
 const LONGEST_ANSWER_MS: u32 = 250;
 
 /// A request for claims: when it ended at the latest, and its line.
-#[derive(Clone, Copy, PartialEq, Eq)]
+#[derive(Clone, Copy)]
 pub struct ClaimRequest {
     pub moment: u64,
     pub line: u64,

@@ -25,7 +25,7 @@ use j39_network::Timing;
 use std::alloc::{AllocError, Global};
 
 /// A planned broadcast: how many of its packets are left, when the frame before these ended at the latest, and its line.
-#[derive(Clone, Copy, PartialEq, Eq)]
+#[derive(Clone, Copy)]
 pub struct BegunBroadcast {
     pub left: usize,
     pub moment: u64,

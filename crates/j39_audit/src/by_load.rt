@@ -7,7 +7,7 @@ use j39_network::{Plan, Timing};
 use std::alloc::{AllocError, Global};
 
 /// By what it is known how early the moment of a message may have been.
-#[derive(Clone, Copy, PartialEq, Eq)]
+#[derive(Clone, Copy)]
 pub enum Bound {
     /// By the last bit before it that the log shows as idle.
     Bus,

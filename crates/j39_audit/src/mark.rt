@@ -2,7 +2,7 @@
 ghost use Rattle.std.specs.Prelude.{◌≡◌};
 
 /// What is said of a line or a frame. The first nine accuse, and the last eight.
-#[derive(Clone, Copy, PartialEq, Eq)]
+#[derive(Clone, Copy)]
 pub enum Word {
     /// A line of an 11-bit identifier.
     Short,
@@ -90,7 +90,7 @@ impl Word {
 
 /// What is counted: a word, the address or the place from 0 of what it speaks of, and that of a group where it names
 /// one.
-#[derive(Clone, Copy, PartialEq, Eq)]
+#[derive(Clone, Copy)]
 pub struct Mark {
     pub word: Word,
     pub subject: usize,

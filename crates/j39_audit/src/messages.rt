@@ -34,7 +34,7 @@ pub(crate) struct UnitMessage<'a> {
 }
 
 /// What a group of a unit is asked for.
-#[derive(Clone, Copy, PartialEq, Eq)]
+#[derive(Clone, Copy)]
 pub enum Test {
     /// That the length and the bytes fit.
     Fitting,

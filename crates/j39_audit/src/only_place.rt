@@ -4,7 +4,7 @@ ghost use Rattle.j39_audit.specs.inside.Singling.{is_somewhere, meant_more, near
 ghost use Rattle.j39_audit.specs.declared.only_place.OnlyPlace.TheVariants.{Nowhere};
 
 /// The place from 0 at which a list passes a test, where there is one alone.
-#[derive(Clone, Copy, PartialEq, Eq)]
+#[derive(Clone, Copy)]
 pub enum OnlyPlace {
     Nowhere,
     At(usize),
@@ -39,7 +39,7 @@ impl OnlyPlace {
 }
 
 /// Of all that a message may be meant for, and of those whose receivers may be at its destination.
-#[derive(Clone, Copy, PartialEq, Eq)]
+#[derive(Clone, Copy)]
 pub struct Meant {
     pub all: OnlyPlace,
     pub near: OnlyPlace,

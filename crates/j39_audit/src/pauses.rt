@@ -18,7 +18,7 @@ const FLOWS: usize = 512;
 const UNITS: usize = 128;
 
 /// Of a flow with a pause: the latest moment of its newest message, and its line.
-#[derive(Clone, Copy, PartialEq, Eq)]
+#[derive(Clone, Copy)]
 pub struct Newest {
     pub moment: u64,
     pub line: u64,
@@ -26,14 +26,14 @@ pub struct Newest {
 
 /// The last frame that counted for a unit: its line, and since when all was queued, or by load has ended, that comes from
 /// there on.
-#[derive(Clone, Copy, PartialEq, Eq)]
+#[derive(Clone, Copy)]
 pub struct LastFrame {
     pub line: u64,
     pub since: Option<u64>,
 }
 
 /// Whose pauses end.
-#[derive(Clone, Copy, PartialEq, Eq)]
+#[derive(Clone, Copy)]
 pub enum Ending {
     /// None does.
     Nothing,

@@ -9,7 +9,7 @@ use crate::known::Known;
 use j39_id::addresses::is_in_pool;
 
 /// Who sends from an address.
-#[derive(Clone, Copy, PartialEq, Eq)]
+#[derive(Clone, Copy)]
 pub enum SureSender {
     /// The unit at this place, from 0.
     Unit(usize),

@@ -4,7 +4,7 @@ ghost use Rattle.std.specs.Option.{option_and_then, option_copied, option_map};
 ghost use Rattle.j39_id.specs.Ident.{pgn_of};
 ghost use Rattle.j39_audit.specs.Looking.{is_single as is_single_number};
 ghost use Rattle.j39_audit.specs.MessageStreams.{flow_stream, is_in_stream, latest_ms, longest_us, paced_request, paced_stream, asked_stream, shortest_us};
-ghost use Rattle.j39_audit.specs.MessageStreams.{are_of_one_sort, flow_pause, flow_pause_of, is_claiming_there, stream_pause, shows_silence, sighted_stream, slack_by};
+ghost use Rattle.j39_audit.specs.MessageStreams.{flow_pause, flow_pause_of, is_claiming_there, stream_pause, shows_silence, sighted_stream, slack_by};
 ghost use Rattle.j39_audit.specs.inside.Recalling.{settings_of};
 
 use crate::basis::Basis;
@@ -26,7 +26,7 @@ const MILLION: u64 = 1_000_000;
 /// How near the moments of a stream's messages come, how far behind its moment lies what bounds one, where that is known,
 /// how long behind one another's moments they come at most, where that is seen, all in microseconds, and by which mark it
 /// is reported.
-#[derive(Clone, Copy, PartialEq, Eq)]
+#[derive(Clone, Copy)]
 pub struct MessageStream {
     pub mark: Mark,
     pub step: u64,
@@ -36,7 +36,7 @@ pub struct MessageStream {
 
 /// By what time behind a message's moment the next one of a flow has its own, and how far behind its moment lies what
 /// bounds one, in microseconds.
-#[derive(Clone, Copy, PartialEq, Eq)]
+#[derive(Clone, Copy)]
 pub struct FlowPause {
     pub pause: u64,
     pub slack: Option<u64>,
@@ -92,13 +92,6 @@ fn is_in_stream(group: &GroupPlan, single: bool) -> bool
     }
 }
 
-// Whether the messages of a group are single frames, or none is.
-fn are_of_one_sort(group: &GroupPlan) -> bool
-    ensures { result ≡ are_of_one_sort group.now }
-{
-    group.most <= FRAME_BYTES || group.length > FRAME_BYTES
-}
-
 // Whether the one receiver, where there is one, claims.
 fn is_claiming_there(basis: &Basis<'_>, to: To) -> bool
     ensures { result ≡ is_claiming_there (settings_of basis.now) to }
@@ -115,7 +108,7 @@ fn shows_silence(basis: &Basis<'_>, flow: &FlowPlan, group: &GroupPlan) -> bool
 {
     !basis.part
         && !flow.on_request
-        && are_of_one_sort(group)
+        && group.most <= FRAME_BYTES
         && is_claiming(basis, flow.sender)
         && is_claiming_there(basis, flow.to)
 }
@@ -136,7 +129,7 @@ fn flow_pause_of(
     if !shows_silence(basis, flow, group) {
         return None;
     }
-    let jitter = longest_us(timing, latest_ms(pace, group.most <= FRAME_BYTES));
+    let jitter = longest_us(timing, u32::from(pace.jitter));
     Some(FlowPause {
         pause: longest_us(timing, u32::from(pause)),
         slack: slack_by(basis.bound, basis.response(place), jitter),

@@ -11,7 +11,7 @@ use std::collections::HashMap;
 
 /// How often something was found, the number of the first line, a number that belongs to it there, the greatest such
 /// number, and the first line to which this belongs.
-#[derive(Clone, Copy, PartialEq, Eq)]
+#[derive(Clone, Copy)]
 pub struct Occurrences {
     pub times: u64,
     pub first: u64,
@@ -29,7 +29,7 @@ const NEVER: Occurrences = Occurrences {
 };
 
 /// Of which flow and of which request a frame is seen, and for which unit it counts, by their places from 0.
-#[derive(Clone, Copy, PartialEq, Eq)]
+#[derive(Clone, Copy)]
 pub struct Sighting {
     pub flow: Option<usize>,
     pub request: Option<usize>,

@@ -21,6 +21,7 @@ use Rattle.j39_network.specs.declared.plan.to.To.TheVariants.{All as ToAll, One 
 use Rattle.j39_tp.specs.declared.packet.Packet.{Packet}
 use Rattle.j39_timing.specs.TimedFrames.{Schedule}
 use Rattle.j39_timing.specs.Traffic.{IsQueuedAt}
+use Rattle.j39_load.specs.BusTimes.{with_claims}
 use Rattle.j39_load.specs.KeepsBroadcasts.{IsMessageToAll}
 use Rattle.j39_load.specs.SentFrames.{Announcing, Asking, Broadcasts, Carrying, ClearToSend, EndAcknowledged, First, FrameSources, Held, InSession, IsFrameOf, IsSentByUnit, Packet as CarriedPacket, Part, RequestToSend, Single, Source, goes_to, part_identifier, IsBroadcastFrame, IsRequestFrame, IsSessionFrame}
 use Rattle.j39_log_laws.specs.HolderReports.{HaveOwnNumbers}
@@ -34,6 +35,7 @@ use Rattle.j39_audit.specs.Settings.{Settings}
 use Rattle.j39_audit_laws.specs.FoundLines.{IsFrameAt}
 use Rattle.j39_audit_laws.specs.KeptParts.{CarriesPlanned, IsGroupAnnounced, IsGroupMessage, KeepersAreNotAccused, KeptPlansAreNotAccused, KeepsBesidePlan, KeepsOwnFrames, ShowsFrames, WireFrames, OfFlowsGroup}
 use Rattle.j39_audit_laws.specs.OwnPart.{ClaimsAddresses, GoesAsPlanned, IsByThePlan, IsItsAddress, IsItsNumber, IsOfFlowPlanned, LooksAsPlanned, SentBy}
+use Rattle.j39_audit_laws.proofs.PlanTiming.{planned_timing}
 use Rattle.j39_audit_laws.proofs.Own.{can_claim, claim_number, claims_its_own, flows_are_planned, layouts_are_planned, priorities_are_planned, waits_for_planned}
 use Rattle.j39_audit_laws.proofs.RunMessages.{other_none, priority_as, sent_message}
 
@@ -394,10 +396,15 @@ keepers s log timing bus wire place planned sent held u moving own timed shows i
       no_flow = flows_are_planned s log sent_by u moving its looks;
       priority = priorities_are_planned s log sent_by u moving its looks;
       urgent = waits_for_planned s log sent_by u moving its (λ number claims f packet at by t there above.
-          (let same : timing ≡ t = same_Some timing t (sym timed ∙ there) in
+          (let same : timing ≡ with_claims s.plan t = counted t there in
           subst (λ (x : Timing). IsByThePlan s x u f) same
           ((fine number claims f packet at by).waits (subst (λ (x : Timing). f.ident.priority < x.unplanned_priority) (sym same) above))));
     }
+  where
+    counted : (t : Timing) → s.plan.timing ≡ Some t → timing ≡ with_claims s.plan t
+    counted t there =
+        let (planned, at, same) = planned_timing s.plan timing timed in
+        sym same ∙ ap (with_claims s.plan) (same_Some planned t (sym at ∙ there))
 
 -- ---- a bus that keeps to its plan
 

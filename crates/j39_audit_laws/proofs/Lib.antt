@@ -27,6 +27,7 @@ pub mod OneReading
 pub mod Own
 pub mod PauseFrames
 pub mod PauseSteps
+pub mod PlanTiming
 pub mod Planned
 pub mod RunAudits
 pub mod RunFrames
@@ -47,4 +48,5 @@ pub mod SureWords
 pub mod Occurrences
 pub mod Walk
 pub mod WholeLogs
+pub mod WithStrangers
 pub mod Written

@@ -16,6 +16,7 @@ use Rattle.j39_network.specs.declared.plan.pace.Pace.{Pace}
 use Rattle.j39_network.specs.declared.plan.timing.Timing.{Timing}
 use Rattle.j39_network.specs.declared.plan.unit_plan.UnitPlan.{UnitPlan}
 use Rattle.j39_timing.specs.TimedFrames.{Schedule}
+use Rattle.j39_load.specs.BusTimes.{timing_of, with_claims}
 use Rattle.j39_load.specs.Clocks.{bit_time}
 use Rattle.j39_load.specs.KeptTimes.{IsReportedBound}
 use Rattle.j39_load.specs.LoadFindings.{AsksOfBus}
@@ -41,16 +42,20 @@ use Rattle.j39_audit_laws.specs.MarkRecords.{KeepsTime}
 use Rattle.j39_audit_laws.specs.PauseLines.{FrameLine, time_there}
 use Rattle.j39_audit_laws.proofs.NearFrames as frames
 use Rattle.j39_audit_laws.proofs.NearWalk.{AreItsMessages, IsSoFar, as_lines, by_message, by_other, first_so_far, same_so_far}
+use Rattle.j39_audit_laws.proofs.PlanTiming.{planned_timing}
 use Rattle.j39_audit_laws.proofs.ReportedTimes.{none_near_by_load}
 use Rattle.j39_audit_laws.proofs.Walk.{IsFrameNext, IsNext, at_end, load_with}
 
 -- ---- a log
 
-module _ (s : Settings) (log : List Line) (timing : Timing) (timed : s.plan.timing ≡ Some timing) (delays : List (Option Delay))
-    (responses : s.responses ≡ map (response timing) delays) (bus : Schedule) (planned : ℕ → Bool) (sent : FrameSources)
-    (none_near : IsNoneNear s.plan timing delays bus planned sent) (clock place : ℕ → ℕ) (n bits ms : ℕ) (is_message : ℕ → Bool)
-    (keeps : KeepsTime (bit_time timing.bitrate) clock) (is_log : IsLogOfBus s log bus clock place) (stated : IsReportedBound delays n bits)
+module _ (s : Settings) (log : List Line) (t : Timing) (timed : s.plan.timing ≡ Some t) (delays : List (Option Delay))
+    (responses : s.responses ≡ map (response (with_claims s.plan t)) delays) (bus : Schedule) (planned : ℕ → Bool) (sent : FrameSources)
+    (none_near : IsNoneNear s.plan (with_claims s.plan t) delays bus planned sent) (clock place : ℕ → ℕ) (n bits ms : ℕ) (is_message : ℕ → Bool)
+    (keeps : KeepsTime (bit_time t.bitrate) clock) (is_log : IsLogOfBus s log bus clock place) (stated : IsReportedBound delays n bits)
     (period : HasPeriodMs s.plan n ms) (of_flow : AreOfFlow planned sent n is_message) (seen : AreSeenAs s log place n is_message) where
+  abbrev timing : Timing
+  timing = with_claims s.plan t
+
   abbrev b : Settings
   b = judged_by_load s
 
@@ -79,7 +84,7 @@ module _ (s : Settings) (log : List Line) (timing : Timing) (timed : s.plan.timi
       ap (λ (l : List (Option ℕ)). slice_index_or l n None) responses
       ∙ get_or_from_slice_get all n (Some slack) None at
 
-  its_stream : (f : Frame) (x : MessageStream) → flow_stream b timing f n ≡ Some x → (x.step ≡ step) × (x.slack ≡ Some slack)
+  its_stream : (f : Frame) (x : MessageStream) → flow_stream b t f n ≡ Some x → (x.step ≡ step) × (x.slack ≡ Some slack)
   unfolding flow_stream
   its_stream f x e =
       option_and_then_some _ (flow_pace b n) x e (λ pace paced e1. option_and_then_some _ (group_in_flow b n) x e1 (λ group _ e2.
@@ -88,7 +93,7 @@ module _ (s : Settings) (log : List Line) (timing : Timing) (timed : s.plan.timi
       let is = of_group group pace e2 in
       (is.0 ∙ ap (λ (p : Pace). shortest_us timing p.period) of_pace ∙ ap (shortest_us timing) period.is, is.1 ∙ its_response)))
     where
-      of_group : (group : GroupPlan) (pace : Pace) → paced_stream b timing f n group pace (stream_pause b timing n) ≡ Some x
+      of_group : (group : GroupPlan) (pace : Pace) → paced_stream b t f n group pace (stream_pause b t n) ≡ Some x
           → (x.step ≡ shortest_us timing pace.period) × (x.slack ≡ response_of b n)
       of_group group pace is = elim (cases_Bool (is_in_stream group (is_single (pgn_of f.ident)))) [
         | inl inside ↦
@@ -112,10 +117,10 @@ module _ (s : Settings) (log : List Line) (timing : Timing) (timed : s.plan.timi
       (as_lines s log place is_message IsUpper IsLower bus clock is_log number count line windows are) (record { upper = are.upper; lower = are.lower })
 
   abbrev IsKept : ℕ → Moments → Type 0
-  IsKept number m = IsSoFar s log place is_message IsUpper IsLower b timing timed n step none_of_these number m
+  IsKept number m = IsSoFar s log place is_message IsUpper IsLower b t timed n step none_of_these number m
 
-  kept_on : (number : ℕ) (m new : Moments) → frames.IsAsNear b timing timed n m new → IsKept number m → IsKept (number + 1) new
-  kept_on number m new same is = same_so_far s log place is_message IsUpper IsLower b timing timed n step none_of_these number m new same.earliest same.noted is
+  kept_on : (number : ℕ) (m new : Moments) → frames.IsAsNear b t timed n m new → IsKept number m → IsKept (number + 1) new
+  kept_on number m new same is = same_so_far s log place is_message IsUpper IsLower b t timed n step none_of_these number m new same.earliest same.noted is
 
   -- ---- a line
 
@@ -129,23 +134,23 @@ module _ (s : Settings) (log : List Line) (timing : Timing) (timed : s.plan.timi
     abbrev with_frame : Option ℕ → Moments
     with_frame time = moments_behind b there.broken there.anew time one.f one.at.past.number there.notes there.ending past.by_load
 
-    by_other_frame : (new : Moments) → frames.IsOtherFrame b timing timed n there past.by_load new
+    by_other_frame : (new : Moments) → frames.IsOtherFrame b t timed n there past.by_load new
         → IsKept (number + 1) new
     by_other_frame new other =
-        by_other s log place is_message IsUpper IsLower b timing timed n step none_of_these number past.by_load so_far there
+        by_other s log place is_message IsUpper IsLower b t timed n step none_of_these number past.by_load so_far there
         new other
 
     by_time : (time : ℕ) → time_there l ≡ Some time → IsKept (number + 1) (with_frame (Some time))
     by_time time at =
         let new : Moments = with_frame (Some time) in
-        let (since, kind) = frames.timed_frame b timing timed n there time past.by_load in
+        let (since, kind) = frames.timed_frame b t timed n there time past.by_load in
         elim kind [
           | inl other ↦ by_other_frame new other
           | inr near ↦
               let (step_is, slack_is) = its_stream one.f near.stream near.stream_is in
               let lower : (moment_window b near.stream.slack time new.since).lower ≡ Some (earliest_end b time - slack) =
               ap (λ (o : Option ℕ). lower_bound o new.since) slack_is ∙ ap (lower_bound (Some slack)) since.0 in
-              by_message s log place is_message IsUpper IsLower b timing timed n step none_of_these number past.by_load so_far there time new near step_is l (seen (number + 1) l near.seen) (time_shifted time at)
+              by_message s log place is_message IsUpper IsLower b t timed n step none_of_these number past.by_load so_far there time new near step_is l (seen (number + 1) l near.seen) (time_shifted time at)
               (λ x is. end_shifted time at x (same_Some x (earliest_end b time - slack) (sym is ∙ lower)))
         ]
       where
@@ -170,7 +175,7 @@ module _ (s : Settings) (log : List Line) (timing : Timing) (timed : s.plan.timi
         ∙ ap (λ (p : AuditPast). moments_with_frame b s one.at.past (line_time s.plan one.at.time) one.f one.packet p.by_load) one.past_is in
         subst (IsKept (number + 1)) (sym load) (elim (time_there l) as (λ o. time_there l ≡ o → IsKept (number + 1) (with_frame o)) [
           | None ↦ λ _. by_other_frame (with_frame None)
-              (frames.timeless_frame b timing timed n there past.by_load)
+              (frames.timeless_frame b t timed n there past.by_load)
           | Some time ↦ λ at. by_time time at
         ] refl)
 
@@ -191,26 +196,34 @@ module _ (s : Settings) (log : List Line) (timing : Timing) (timed : s.plan.timi
   more number past next is (count, inr (inr (inl bad))) =
       let all : Moments = all_pauses_ended b past.by_load in
       subst (IsKept (number + 1)) (sym (ap (λ (p : AuditPast). p.by_load) bad.next_is))
-      (with_gap (number + 1) all (kept_on number past.by_load all (frames.all_near b timing timed n past.by_load) is))
+      (with_gap (number + 1) all (kept_on number past.by_load all (frames.all_near b t timed n past.by_load) is))
   more number past next is (count, inr (inr (inr one))) = by_frame number past next one is
 
   pub never_stated : (end : AuditPast) → AuditsLines s nothing_read log end → (look_at (log_ended s end) (mark_at NearOrLate n 0)).times ≡ 0
   unfolding reported_at
   never_stated end read =
-      let first = first_so_far s log place is_message IsUpper IsLower b timing timed n step none_of_these nothing_read.by_load refl refl in
+      let first = first_so_far s log place is_message IsUpper IsLower b t timed n step none_of_these nothing_read.by_load refl refl in
       let is = at_end s log Holds more end first read in
-      ap (λ (l : List Noted). (occurrences_of l).times) ((frames.all_near b timing timed n end.by_load).noted ∙ is.none)
+      ap (λ (l : List Noted). (occurrences_of l).times) ((frames.all_near b t timed n end.by_load).noted ∙ is.none)
 
-pub logs_not_near : (s : Settings) (timing : Timing) (stays : UnitPlan → Bool) (delays : List (Option Delay)) → Clean s.plan
-    → AsksOfBus s.plan timing stays delays → s.plan.timing ≡ Some timing → timing.drift ≡ 0 → s.responses ≡ map (response timing) delays
-    → AreLogsNotNear s timing delays
-logs_not_near s timing stays delays clean asks timed none responses =
-    let kept = none_near_by_load s.plan timing stays delays clean asks none in
+logs_counted : (s : Settings) (t : Timing) (stays : UnitPlan → Bool) (delays : List (Option Delay)) → Clean s.plan → s.plan.timing ≡ Some t
+    → AsksOfBus s.plan (with_claims s.plan t) stays delays → t.drift ≡ 0 → s.responses ≡ map (response (with_claims s.plan t)) delays
+    → AreLogsNotNear s (with_claims s.plan t) delays
+logs_counted s t stays delays clean timed asks none responses =
+    let kept = none_near_by_load s.plan (with_claims s.plan t) stays delays clean asks none in
     record {
       in_order = λ order bus planned sent held legal keeps log clock place n bits ms is_message end ticks is_log stated period of_flow seen read.
-          never_stated s log timing timed delays responses bus planned sent (kept.in_order order bus planned sent held legal keeps)
+          never_stated s log t timed delays responses bus planned sent (kept.in_order order bus planned sent held legal keeps)
           clock place n bits ms is_message ticks is_log stated period of_flow seen end read;
       in_any_order = λ bus controllers planned sent held legal keeps queues log clock place n bits ms is_message end ticks is_log stated period of_flow seen read.
-          never_stated s log timing timed delays responses bus planned sent (kept.in_any_order bus controllers planned sent held legal keeps queues)
+          never_stated s log t timed delays responses bus planned sent (kept.in_any_order bus controllers planned sent held legal keeps queues)
           clock place n bits ms is_message ticks is_log stated period of_flow seen end read;
     }
+
+pub logs_not_near : (s : Settings) (timing : Timing) (stays : UnitPlan → Bool) (delays : List (Option Delay)) → Clean s.plan
+    → AsksOfBus s.plan timing stays delays → timing_of s.plan ≡ Some timing → timing.drift ≡ 0 → s.responses ≡ map (response timing) delays
+    → AreLogsNotNear s timing delays
+logs_not_near s timing stays delays clean asks timed none responses =
+    let (t, at, same) = planned_timing s.plan timing timed in
+    subst (λ (x : Timing). AsksOfBus s.plan x stays delays → x.drift ≡ 0 → s.responses ≡ map (response x) delays → AreLogsNotNear s x delays) same
+    (λ asked still counted. logs_counted s t stays delays clean at asked still counted) asks none responses

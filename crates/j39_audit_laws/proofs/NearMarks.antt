@@ -15,6 +15,7 @@ use Rattle.j39_network.specs.declared.plan.pace.Pace.{Pace}
 use Rattle.j39_network.specs.declared.plan.timing.Timing.{Timing}
 use Rattle.j39_timing.specs.Messages.{frame_end}
 use Rattle.j39_timing.specs.TimedFrames.{Schedule}
+use Rattle.j39_load.specs.BusTimes.{timing_of, with_claims}
 use Rattle.j39_load.specs.Clocks.{bit_time}
 use Rattle.j39_audit.specs.AuditText.{AuditPast, AuditsLines, look_at, log_ended, mark_at, broadcasts_there, counted_for, moments_with_frame, nothing_read}
 use Rattle.j39_audit.specs.Counting.{Noted, key_of, reported_at, occurrences_of}
@@ -48,16 +49,20 @@ use Rattle.j39_audit_laws.specs.PauseLines.{IsPassedOver}
 use Rattle.j39_audit_laws.specs.MarkRecords.{AreFew, ShowsIdle, longest_reach}
 use Rattle.j39_audit_laws.proofs.ExactClocks.{exact_clocks}
 use Rattle.j39_audit_laws.proofs.OnLogs.{not_near}
+use Rattle.j39_audit_laws.proofs.PlanTiming.{planned_timing}
 use Rattle.j39_audit_laws.proofs.ReportedTimes.{behind}
 use Rattle.j39_audit_laws.proofs.NearClocks.{fast, packet_mark, same_bit, within_ms}
 
 -- ---- a log
 
-module _ (s : Settings) (log : List Line) (timing : Timing) (timed : s.plan.timing ≡ Some timing) (by_bus : s.bound ≡ Bus) (none : timing.drift ≡ 0)
+module _ (s : Settings) (log : List Line) (t : Timing) (timed : s.plan.timing ≡ Some t) (by_bus : s.bound ≡ Bus) (none : t.drift ≡ 0)
     (bus : Schedule) (damaged : Damaged) (held : Held) (release clock place : ℕ → ℕ) (n ms : ℕ) (is_message : ℕ → Bool)
-    (keeps : KeepsTime (bit_time timing.bitrate) clock) (errors : IsBusWithErrors bus damaged) (short : (p : ℕ) → p < bus.count → bus.bits p ≤ 160)
-    (few : AreFew damaged (damaged_at_once timing)) (part : KeepsItsPeriod s.plan timing bus held n ms release is_message)
+    (keeps : KeepsTime (bit_time t.bitrate) clock) (errors : IsBusWithErrors bus damaged) (short : (p : ℕ) → p < bus.count → bus.bits p ≤ 160)
+    (few : AreFew damaged (damaged_at_once t)) (part : KeepsItsPeriod s.plan (with_claims s.plan t) bus held n ms release is_message)
     (is_log : IsLogOfBus s log bus clock place) (whole : IsWholeLog s log bus place) (seen : AreSeenAs s log place n is_message) where
+  abbrev timing : Timing
+  timing = with_claims s.plan t
+
   abbrev us : ℕ
   us = bit_time timing.bitrate
 
@@ -69,7 +74,7 @@ module _ (s : Settings) (log : List Line) (timing : Timing) (timed : s.plan.timi
 
   -- the clock counts from a moment long before the zero of the log
   abbrev logs : Lines
-  logs = record { us = us; few = damaged_at_once timing; within = logger_error s; clock = λ t. clock t + 1000 * long_before }
+  logs = record { us = us; few = damaged_at_once t; within = logger_error s; clock = λ t. clock t + 1000 * long_before }
 
   keeps_from : KeepsTime us logs.clock
   keeps_from x y order = (let is = keeps x y order in let least = is.0 in let most = is.1 in (omega (arith, least), omega (arith, most)))
@@ -98,7 +103,7 @@ module _ (s : Settings) (log : List Line) (timing : Timing) (timed : s.plan.timi
         (is.release_first, within_ms timing.bitrate timing.drift (is.pace.period + is.pace.jitter) (release p) (bus.queued p) none is.jitter_at_most))
   ]
 
-  its_stream : (f : Frame) (x : MessageStream) → flow_stream s timing f n ≡ Some x → (x.step ≡ step) × (x.slack ≡ Some (1001 * jitter))
+  its_stream : (f : Frame) (x : MessageStream) → flow_stream s t f n ≡ Some x → (x.step ≡ step) × (x.slack ≡ Some (1001 * jitter))
   unfolding flow_stream
   its_stream f x e =
       option_and_then_some _ (flow_pace s n) x e (λ pace paced e1. option_and_then_some _ (group_in_flow s n) x e1 (λ group grouped e2.
@@ -109,7 +114,7 @@ module _ (s : Settings) (log : List Line) (timing : Timing) (timed : s.plan.timi
       let is = of_stream group pace e2 in (
         is.0 ∙ ap (λ (p : Pace). shortest_us timing p.period) of_pace ∙ ap (shortest_us timing) part.period.is,
         is.1 ∙ ap Some (ap (λ (p : Pace). longest_us timing (latest_ms p (nat_le group.most 8))) of_pace
-            ∙ ap (λ (g : GroupPlan). longest_us timing (latest_ms part.period.pace (nat_le g.most 8))) of_group ∙ (exact_clocks timing none).longest jitter),
+            ∙ ap (λ (g : GroupPlan). longest_us timing (latest_ms part.period.pace (nat_le g.most 8))) of_group ∙ (exact_clocks t none).longest jitter),
       )))
     where
       -- the stream has single frames where these are all
@@ -117,7 +122,7 @@ module _ (s : Settings) (log : List Line) (timing : Timing) (timed : s.plan.timi
       of_sort group true inside = sym inside
       of_sort group false inside = sym (lt-leb group.most 8 (ltb-true 8 group.most inside))
 
-      of_stream : (group : GroupPlan) (pace : Pace) → paced_stream s timing f n group pace (stream_pause s timing n) ≡ Some x
+      of_stream : (group : GroupPlan) (pace : Pace) → paced_stream s t f n group pace (stream_pause s t n) ≡ Some x
           → (x.step ≡ shortest_us timing pace.period) × (x.slack ≡ Some (longest_us timing (latest_ms pace (nat_le group.most 8))))
       of_stream group pace is =
           let one : Bool = is_single (pgn_of f.ident) in
@@ -141,7 +146,7 @@ module _ (s : Settings) (log : List Line) (timing : Timing) (timed : s.plan.timi
   none_of_these : (number count : ℕ) (line : ℕ → ℕ) (windows : ℕ → Window) → AreItsMessages s log place is_message IsUpper IsLower number count line windows
       → (j : ℕ) → j < count → is_too_near step windows j ≡ false
   none_of_these number count line windows are j inside =
-      subst (λ (k : ℕ). is_too_near k windows j ≡ false) (sym ((exact_clocks timing none).shortest ms))
+      subst (λ (k : ℕ). is_too_near k windows j ≡ false) (sym ((exact_clocks t none).shortest ms))
       (not_near bus damaged logs ms jitter count is_message release (λ k. place (line k)) windows (fast timing.bitrate) keeps_from errors short few
       (λ p in_p message. (its_frame p in_p message).0) (λ p in_p message. (its_frame p in_p message).1)
       (λ p q in_p in_q differ one other. elim (part.apart p q in_p in_q differ one other) [
@@ -153,7 +158,7 @@ module _ (s : Settings) (log : List Line) (timing : Timing) (timed : s.plan.timi
   -- ---- what holds behind each line
 
   abbrev IsKept : ℕ → Moments → Type 0
-  IsKept number m = IsSoFar s log place is_message IsUpper IsLower s timing timed n step none_of_these number m
+  IsKept number m = IsSoFar s log place is_message IsUpper IsLower s t timed n step none_of_these number m
 
   -- the last frame, with nothing behind it that counts, has this time
   abbrev IsLastAt : ℕ → ℕ → Type 0
@@ -168,8 +173,8 @@ module _ (s : Settings) (log : List Line) (timing : Timing) (timed : s.plan.timi
     one : ℕ
     before : ℕ
     time : ℕ
-    shows : ShowsIdle bus us (damaged_at_once timing) (logger_error s) bytes logs.clock one (place line) before time
-    is : q ≡ time - (longest_reach us bytes (damaged_at_once timing) + logger_error s)
+    shows : ShowsIdle bus us (damaged_at_once t) (logger_error s) bytes logs.clock one (place line) before time
+    is : q ≡ time - (longest_reach us bytes (damaged_at_once t) + logger_error s)
 
   record IsHeld (number : ℕ) (m : Moments) : Type 0 where
     kept : IsKept number m
@@ -189,8 +194,8 @@ module _ (s : Settings) (log : List Line) (timing : Timing) (timed : s.plan.timi
     is = is.is;
   }
 
-  kept_on : (number : ℕ) (m new : Moments) → frames.IsAsNear s timing timed n m new → IsKept number m → IsKept (number + 1) new
-  kept_on number m new same is = same_so_far s log place is_message IsUpper IsLower s timing timed n step none_of_these number m new same.earliest same.noted is
+  kept_on : (number : ℕ) (m new : Moments) → frames.IsAsNear s t timed n m new → IsKept number m → IsKept (number + 1) new
+  kept_on number m new same is = same_so_far s log place is_message IsUpper IsLower s t timed n step none_of_these number m new same.earliest same.noted is
 
   with_gap : (number : ℕ) (m : Moments) → IsKept number m → IsKept number (behind_gap m)
   with_gap number m is =
@@ -248,26 +253,26 @@ module _ (s : Settings) (log : List Line) (timing : Timing) (timed : s.plan.timi
     -- what was known before it was so before the frame, if times go on
     start_last : (τ : ℕ) → start.before ≡ Some τ → IsLastAt number τ
     start_last τ e = elim (cases_Bool there.anew) [
-      | inl begins ↦ absurd (none-some τ (sym (frames.begun_marks s timing timed n there m begins).0 ∙ e))
-      | inr on ↦ far.last τ (sym (frames.goes_on s timing timed n there m on).0 ∙ e)
+      | inl begins ↦ absurd (none-some τ (sym (frames.begun_marks s t timed n there m begins).0 ∙ e))
+      | inr on ↦ far.last τ (sym (frames.goes_on s t timed n there m on).0 ∙ e)
     ]
 
     start_mark : (q : ℕ) → start.since ≡ Some q → IsShownMark number q
     start_mark q e = elim (cases_Bool there.anew) [
-      | inl begins ↦ absurd (none-some q (sym (frames.begun_marks s timing timed n there m begins).1 ∙ e))
-      | inr on ↦ far.mark q (sym (frames.goes_on s timing timed n there m on).1 ∙ e)
+      | inl begins ↦ absurd (none-some q (sym (frames.begun_marks s t timed n there m begins).1 ∙ e))
+      | inr on ↦ far.mark q (sym (frames.goes_on s t timed n there m on).1 ∙ e)
     ]
 
-    reach : reach_back timing bytes ≡ longest_reach us bytes (damaged_at_once timing)
-    reach = (exact_clocks timing none).reach bytes ∙ ap (λ (k : ℕ). longest_reach k bytes (damaged_at_once timing)) (same_bit timing.bitrate)
+    reach : reach_back t bytes ≡ longest_reach us bytes (damaged_at_once t)
+    reach = (exact_clocks t none).reach bytes ∙ ap (λ (k : ℕ). longest_reach k bytes (damaged_at_once t)) (same_bit timing.bitrate)
 
     -- the frame and the one before it don't touch
-    shown : (time : ℕ) → time_there l ≡ Some time → is_apart (logger_error s) timing bytes time start.before ≡ true
-        → IsShownMark (number + 1) (idle_mark s timing bytes time)
+    shown : (time : ℕ) → time_there l ≡ Some time → is_apart (logger_error s) t bytes time start.before ≡ true
+        → IsShownMark (number + 1) (idle_mark s t bytes time)
     shown time at is = by_last start.before refl is
       where
-        by_last : (o : Option ℕ) → start.before ≡ o → is_apart (logger_error s) timing bytes time o ≡ true
-            → IsShownMark (number + 1) (idle_mark s timing bytes time)
+        by_last : (o : Option ℕ) → start.before ≡ o → is_apart (logger_error s) t bytes time o ≡ true
+            → IsShownMark (number + 1) (idle_mark s t bytes time)
         by_last None e test = absurd (true≢false (sym test))
         by_last (Some τ) e test =
             let (a, k, timed_at, below, over) = start_last τ e in
@@ -278,7 +283,7 @@ module _ (s : Settings) (log : List Line) (timing : Timing) (timed : s.plan.timi
             let to_low = to.0 in
             let to_high = to.1 in
             let same = reach in
-            let less = ltb-true (τ + (reach_back timing bytes + 2 * logger_error s)) time test in
+            let less = ltb-true (τ + (reach_back t bytes + 2 * logger_error s)) time test in
             record {
               line = number + 1;
               there = l;
@@ -299,38 +304,38 @@ module _ (s : Settings) (log : List Line) (timing : Timing) (timed : s.plan.timi
             }
 
     -- the idle mark behind the frame
-    mark_there : (time q : ℕ) → time_there l ≡ Some time → since_behind s timing there.broken bytes time start.before start.since ≡ Some q → IsShownMark (number + 1) q
+    mark_there : (time q : ℕ) → time_there l ≡ Some time → since_behind s t there.broken bytes time start.before start.since ≡ Some q → IsShownMark (number + 1) q
     mark_there time q at e =
-        let idle : idle_behind s timing there.broken bytes time start.before start.since ≡ Some q =
-        sym (ap (λ (x : Bound). since_by x (idle_behind s timing there.broken bytes time start.before start.since) (earliest_end s time)) by_bus) ∙ e in
-        let test : Bool = shows_idle s timing there.broken bytes time start.before in
+        let idle : idle_behind s t there.broken bytes time start.before start.since ≡ Some q =
+        sym (ap (λ (x : Bound). since_by x (idle_behind s t there.broken bytes time start.before start.since) (earliest_end s time)) by_bus) ∙ e in
+        let test : Bool = shows_idle s t there.broken bytes time start.before in
         elim (cases_Bool test) [
           | inl shows ↦
-              let rest = (and_parts (not s.part) (not there.broken && (leaves_idle timing && is_apart (logger_error s) timing bytes time start.before)) shows).1 in
-              let more = (and_parts (not there.broken) (leaves_idle timing && is_apart (logger_error s) timing bytes time start.before) rest).1 in
-              let apart = (and_parts (leaves_idle timing) (is_apart (logger_error s) timing bytes time start.before) more).1 in
-              let same : idle_mark s timing bytes time ≡ q =
-              same_Some (idle_mark s timing bytes time) q (sym (cond-true test (Some (idle_mark s timing bytes time)) start.since shows) ∙ idle) in
+              let rest = (and_parts (not s.part) (not there.broken && (leaves_idle t && is_apart (logger_error s) t bytes time start.before)) shows).1 in
+              let more = (and_parts (not there.broken) (leaves_idle t && is_apart (logger_error s) t bytes time start.before) rest).1 in
+              let apart = (and_parts (leaves_idle t) (is_apart (logger_error s) t bytes time start.before) more).1 in
+              let same : idle_mark s t bytes time ≡ q =
+              same_Some (idle_mark s t bytes time) q (sym (cond-true test (Some (idle_mark s t bytes time)) start.since shows) ∙ idle) in
               subst (IsShownMark (number + 1)) same (shown time at apart)
-          | inr not ↦ later_mark number q (start_mark q (sym (cond-false test (Some (idle_mark s timing bytes time)) start.since not) ∙ idle))
+          | inr not ↦ later_mark number q (start_mark q (sym (cond-false test (Some (idle_mark s t bytes time)) start.since not) ∙ idle))
         ]
 
-    by_other_frame : (new : Moments) → frames.IsOtherFrame s timing timed n there m new → IsKept (number + 1) new
+    by_other_frame : (new : Moments) → frames.IsOtherFrame s t timed n there m new → IsKept (number + 1) new
     by_other_frame new other =
-        by_other s log place is_message IsUpper IsLower s timing timed n step none_of_these number m far.kept there
+        by_other s log place is_message IsUpper IsLower s t timed n step none_of_these number m far.kept there
         new other
 
     by_time : (time : ℕ) → time_there l ≡ Some time → IsHeld (number + 1) (with_frame (Some time))
     by_time time at =
         let new : Moments = with_frame (Some time) in
-        let (marks, kind) = frames.timed_frame s timing timed n there time m in
+        let (marks, kind) = frames.timed_frame s t timed n there time m in
         let mark : (q : ℕ) → new.since ≡ Some q → IsShownMark (number + 1) q = λ q e. mark_there time q at (sym marks.0 ∙ e) in
         record {
           kept = elim kind [
             | inl other ↦ by_other_frame new other
             | inr near ↦
                 let (step_is, slack_is) = its_stream one.f near.stream near.stream_is in
-                by_message s log place is_message IsUpper IsLower s timing timed n step none_of_these number m far.kept there time new near step_is l (seen (number + 1) l near.seen) (time_shifted time at)
+                by_message s log place is_message IsUpper IsLower s t timed n step none_of_these number m far.kept there time new near step_is l (seen (number + 1) l near.seen) (time_shifted time at)
                 (λ x is. bound_by (number + 1) x new.since l mark (sym (ap (λ (o : Option ℕ). lower_bound o new.since) slack_is) ∙ is))
           ];
           last = λ τ e.
@@ -348,21 +353,21 @@ module _ (s : Settings) (log : List Line) (timing : Timing) (timed : s.plan.timi
 
     by_no_time : time_there l ≡ None → IsHeld (number + 1) (with_frame None)
     by_no_time none_there =
-        let marks = frames.timeless_marks s timing timed n there m
+        let marks = frames.timeless_marks s t timed n there m
         (ap (λ (o : Option ℕ). begins_anew s.stamps one.at.past.newest o) none_there) in
         record {
-          kept = by_other_frame (with_frame None) (frames.timeless_frame s timing timed n there m);
+          kept = by_other_frame (with_frame None) (frames.timeless_frame s t timed n there m);
           last = λ τ e. absurd (none-some τ (sym marks.0 ∙ e));
           mark = λ q e. absurd (none-some q (sym marks.1 ∙ e));
         }
 
     -- and with a packet of a broadcast
-    with_stream_of : (time : Option ℕ) (line : ℕ) (o : Option MessageStream) (new : Moments) → ((x : MessageStream) → o ≡ Some x → x.mark ≢ frames.mark s timing timed n)
+    with_stream_of : (time : Option ℕ) (line : ℕ) (o : Option MessageStream) (new : Moments) → ((x : MessageStream) → o ≡ Some x → x.mark ≢ frames.mark s t timed n)
         → IsHeld (number + 1) new → IsHeld (number + 1) (with_packet_stream s time line o new)
     with_stream_of None line o new other is = is
     with_stream_of (Some time) line None new other is = is
     with_stream_of (Some time) line (Some x) new other is =
-        let same = frames.other_message s timing timed n x (moment_window s x.slack time new.since) line new (other x refl) in
+        let same = frames.other_message s t timed n x (moment_window s x.slack time new.since) line new (other x refl) in
         record {
           kept = record {
             none = same.noted ∙ is.kept.none;
@@ -376,7 +381,7 @@ module _ (s : Settings) (log : List Line) (timing : Timing) (timed : s.plan.timi
           mark = is.mark;
         }
 
-    packet_apart : (u : ℕ) → stream_mark NearPackets u ≢ frames.mark s timing timed n
+    packet_apart : (u : ℕ) → stream_mark NearPackets u ≢ frames.mark s t timed n
     packet_apart u e = (let never : 19 ≡ 15 = ap (λ (k : Mark). (key_of k).0) e in absurd (omega (arith, never)))
 
     by_frame : IsHeld (number + 1) next.moments
@@ -400,7 +405,7 @@ module _ (s : Settings) (log : List Line) (timing : Timing) (timed : s.plan.timi
 
   more : (number : ℕ) (past next : AuditPast) → Holds number past → IsNext s log (number + 1) past next → Holds (number + 1) next
   more number past next is (count, inl passed) =
-      let same : frames.IsAsNear s timing timed n past.moments past.moments = record { earliest = refl; noted = refl; since = refl; before = refl } in
+      let same : frames.IsAsNear s t timed n past.moments past.moments = record { earliest = refl; noted = refl; since = refl; before = refl } in
       subst (IsHeld (number + 1)) (sym passed.moments_are) (record {
         kept = kept_on number past.moments past.moments same is.kept;
         last = λ τ e.
@@ -417,25 +422,30 @@ module _ (s : Settings) (log : List Line) (timing : Timing) (timed : s.plan.timi
         mark = λ q e. later_mark number q (is.mark q e);
       })
   more number past next is (count, inr (inl gap)) =
-      let same : frames.IsAsNear s timing timed n past.moments past.moments = record { earliest = refl; noted = refl; since = refl; before = refl } in
+      let same : frames.IsAsNear s t timed n past.moments past.moments = record { earliest = refl; noted = refl; since = refl; before = refl } in
       subst (IsHeld (number + 1)) (sym gap.moments_are) (gap_held (number + 1) past.moments (kept_on number past.moments past.moments same is.kept))
   more number past next is (count, inr (inr (inl bad))) =
       let all : Moments = all_pauses_ended s past.moments in
       subst (IsHeld (number + 1)) (sym (ap (λ (p : AuditPast). p.moments) bad.next_is))
-      (gap_held (number + 1) all (kept_on number past.moments all (frames.all_near s timing timed n past.moments) is.kept))
+      (gap_held (number + 1) all (kept_on number past.moments all (frames.all_near s t timed n past.moments) is.kept))
   more number past next is (count, inr (inr (inr one))) = by_frame number past next one is
 
   pub never_near : (end : AuditPast) → AuditsLines s nothing_read log end → (look_at (log_ended s end) (mark_at NearFlow n 0)).times ≡ 0
   unfolding reported_at
   never_near end read =
       let first : Holds 0 nothing_read = record {
-        kept = first_so_far s log place is_message IsUpper IsLower s timing timed n step none_of_these nothing_read.moments refl refl;
+        kept = first_so_far s log place is_message IsUpper IsLower s t timed n step none_of_these nothing_read.moments refl refl;
         last = λ τ e. absurd (none-some τ e);
         mark = λ q e. absurd (none-some q e);
       } in
       let is = at_end s log Holds more end first read in
-      ap (λ (l : List Noted). (occurrences_of l).times) ((frames.all_near s timing timed n end.moments).noted ∙ is.kept.none)
+      ap (λ (l : List Noted). (occurrences_of l).times) ((frames.all_near s t timed n end.moments).noted ∙ is.kept.none)
 
 pub periods_not_near : PeriodsAreNotNear
 periods_not_near s log timing bus damaged held release clock place n ms is_message end timed by_bus none keeps errors short few part is_log whole seen read =
-    never_near s log timing timed by_bus none bus damaged held release clock place n ms is_message keeps errors short few part is_log whole seen end read
+    let (t, at, same) = planned_timing s.plan timing timed in
+    subst (λ (x : Timing). x.drift ≡ 0 → KeepsTime (bit_time x.bitrate) clock → AreFew damaged (damaged_at_once x)
+    → KeepsItsPeriod s.plan x bus held n ms release is_message → (look_at (log_ended s end) (mark_at NearFlow n 0)).times ≡ 0) same
+    (λ still ticks rare its.
+    never_near s log t at by_bus still bus damaged held release clock place n ms is_message ticks errors short rare its is_log whole seen end read)
+    none keeps few part

@@ -12,6 +12,7 @@ use Rattle.j39_network.specs.declared.plan.unit_plan.UnitPlan.{UnitPlan}
 use Rattle.j39_timing.specs.Errors.{Damaged, IsBusWithErrors}
 use Rattle.j39_timing.specs.Sums.{total}
 use Rattle.j39_timing.specs.TimedFrames.{IsOnBusAt, Schedule, Waits}
+use Rattle.j39_load.specs.BusTimes.{timing_of}
 use Rattle.j39_load.specs.KeepsPlan.{IsSingleFlow, KeepsToPlan}
 use Rattle.j39_load.specs.LoadFindings.{AsksOfBus}
 use Rattle.j39_load.specs.SentFrames.{Announcing, Asking, Broadcasts, Carrying, First, FrameSources, HasPeriodMs, Held, InSession, IsFrameOf, IsSentEvery, Single, Source}
@@ -82,7 +83,7 @@ short_planned plan timing bus held b (Asking r) release p is = (let long = is.le
 short_planned plan timing bus held b (Announcing u m) release p is = is.length
 short_planned plan timing bus held b (Carrying u m k) release p is = is.0.length
 
-module _ (s : Settings) (timing : Timing) (timed : s.plan.timing ≡ Some timing) (by_bus : s.bound ≡ Bus) (none : timing.drift ≡ 0) (delays : List (Option Delay))
+module _ (s : Settings) (timing : Timing) (timed : timing_of s.plan ≡ Some timing) (by_bus : s.bound ≡ Bus) (none : timing.drift ≡ 0) (delays : List (Option Delay))
     (bus : Schedule) (planned : ℕ → Bool) (sent : FrameSources) (held : Held) (legal : IsBusWithErrors bus no_damage)
     (keeps : KeepsToPlan s.plan timing bus planned sent held) (late : IsNoneNearInLogs s timing delays bus planned sent) where
   short : (p : ℕ) → p < bus.count → bus.bits p ≤ 160
@@ -114,7 +115,7 @@ module _ (s : Settings) (timing : Timing) (timed : s.plan.timing ≡ Some timing
       (late log clock place n bits ms is_message end ticks is_log stated period of_flow seen read)
 
 pub whole_logs_not_near : (s : Settings) (timing : Timing) (stays : UnitPlan → Bool) (delays : List (Option Delay)) → Clean s.plan
-    → AsksOfBus s.plan timing stays delays → s.plan.timing ≡ Some timing → timing.drift ≡ 0 → s.responses ≡ map (response timing) delays → s.bound ≡ Bus
+    → AsksOfBus s.plan timing stays delays → timing_of s.plan ≡ Some timing → timing.drift ≡ 0 → s.responses ≡ map (response timing) delays → s.bound ≡ Bus
     → AreWholeLogsNotNear s timing delays
 whole_logs_not_near s timing stays delays clean asks timed none responses by_bus =
     let late = logs_not_near s timing stays delays clean asks timed none responses in

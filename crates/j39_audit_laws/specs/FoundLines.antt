@@ -1,5 +1,5 @@
 -- What is found at which line of a log, in terms of the log alone.
-use Rattle.std.specs.Prelude.{◌≡◌, ◌≢◌, ◌⊎◌, ◌↔◌, ℕ, ◌+◌, ◌<◌, min, true, false, List, ◌∷◌, ◌++◌, length, Contains, Option, Some, None}
+use Rattle.std.specs.Prelude.{◌≡◌, ◌≢◌, ◌⊎◌, ◌↔◌, ℕ, ◌+◌, ◌<◌, min, true, false, List, [], ◌∷◌, ◌++◌, length, Contains, Option, Some, None}
 use Rattle.std.specs.List.{AllPairs}
 use Rattle.j39_id.specs.Addresses.{is_address, null_address}
 use Rattle.j39_id.specs.FrameLine.{HasLineFault, Spells}
@@ -10,7 +10,7 @@ use Rattle.j39_id.specs.declared.line_error.LineError.TheVariants.{ShortIdent}
 use Rattle.j39_follow.specs.LogLines.{IsElsewhere, IsReadPart, IsTimeText, NamesInterface}
 use Rattle.j39_follow.specs.Who.{unit_of_name}
 use Rattle.j39_tp.specs.declared.packet.Packet.{Packet}
-use Rattle.j39_audit.specs.AuditText.{AuditPast, AuditsLines, claims_before, groups_named, look_at, nothing_read, subjects, with_next_number}
+use Rattle.j39_audit.specs.AuditText.{AuditPast, AuditsLines, claims_before, groups_named, look_at, nothing_read, subjects, with_next_number, word_lines}
 use Rattle.j39_audit.specs.Breaks.{line_time}
 use Rattle.j39_audit.specs.Claiming.{HeardClaims, is_address_of, knowledge, sender_at}
 use Rattle.j39_audit.specs.Counting.{most_times}
@@ -147,3 +147,8 @@ IsListed s m = (m.subject < subjects s m.word) × (m.group < groups_named s m.wo
 
 abbrev pub FoundAreListed : Type 0
 FoundAreListed = (s : Settings) (log : List Line) (number : ℕ) (m : Mark) → IsFoundAt s log number m → IsListed s m
+
+-- where strangers may come, no frame is accused of being one's, nor of being nobody's
+abbrev pub NobodyIsUnplanned : Type 0
+NobodyIsUnplanned = (s : Settings) (log : List Line) (end : AuditPast) → AuditsLines s nothing_read log end → 0 < s.plan.strangers
+    → (word_lines s (look_at end) Stranger ≡ []) × (word_lines s (look_at end) NobodyThere ≡ [])

@@ -1,21 +1,23 @@
 -- What a whole log reports of a bus that keeps to its plan, by load.
 use Rattle.std.specs.Prelude.{◌≡◌, ◌≢◌, ◌⊎◌, ℕ, ◌+◌, ◌*◌, ◌<◌, ◌≤◌, Bool, true, List, length, Option, Some}
 use Rattle.std.specs.List.{slice_get}
+use Rattle.std.specs.Option.{option_map_or}
 use Rattle.j39_id.specs.Lines.{Line}
 use Rattle.j39_network.specs.declared.plan.Plan.{Plan}
 use Rattle.j39_network.specs.declared.plan.group_plan.GroupPlan.{GroupPlan}
+use Rattle.j39_network.specs.declared.plan.timing.ErrorRate.{ErrorRate}
 use Rattle.j39_network.specs.declared.plan.timing.Timing.{Timing}
 use Rattle.j39_timing.specs.AnyOrder.{Controllers, IsLegalInAnyOrder}
 use Rattle.j39_timing.specs.Errors.{Damaged, IsBusWithErrors}
 use Rattle.j39_timing.specs.Messages.{frame_end}
 use Rattle.j39_timing.specs.TimedFrames.{IsLegal, Schedule}
+use Rattle.j39_load.specs.BusTimes.{timing_of}
 use Rattle.j39_load.specs.Clocks.{bit_time}
 use Rattle.j39_load.specs.KeepsPlan.{KeepsAllOrder, KeepsQueues, KeepsToPlan}
 use Rattle.j39_load.specs.KeptTimes.{IsReportedBound}
 use Rattle.j39_load.specs.SentFrames.{FrameSources, HasPeriodMs, Held, IsMsBehind, IsSessionFrame, IsSingleFrame, RequestToSend}
 use Rattle.j39_load.specs.declared.waits.delay.Delay.{Delay}
 use Rattle.j39_audit.specs.AuditText.{AuditPast, AuditsLines, log_ended, look_at, mark_at, nothing_read}
-use Rattle.j39_audit.specs.Moments.{damaged_at_once}
 use Rattle.j39_audit.specs.Settings.{Settings, logger_error}
 use Rattle.j39_audit.specs.declared.by_load.Bound.TheVariants.{Bus}
 use Rattle.j39_audit.specs.declared.mark.Word.TheVariants.{NearFlow, NearOrLate}
@@ -78,8 +80,8 @@ pub record KeepsItsPeriod (plan : Plan) (timing : Timing) (bus : Schedule) (held
 -- whatever others do, on a bus with no more damage than the plan reports, in a whole log no such flow is reported as too near
 abbrev pub PeriodsAreNotNear : Type 0
 PeriodsAreNotNear = (s : Settings) (log : List Line) (timing : Timing) (bus : Schedule) (damaged : Damaged) (held : Held) (release clock place : ℕ → ℕ) (n ms : ℕ)
-    (is_message : ℕ → Bool) (end : AuditPast) → s.plan.timing ≡ Some timing → s.bound ≡ Bus → timing.drift ≡ 0
+    (is_message : ℕ → Bool) (end : AuditPast) → timing_of s.plan ≡ Some timing → s.bound ≡ Bus → timing.drift ≡ 0
     → KeepsTime (bit_time timing.bitrate) clock → IsBusWithErrors bus damaged → ((p : ℕ) → p < bus.count → bus.bits p ≤ 160)
-    → AreFew damaged (damaged_at_once timing) → KeepsItsPeriod s.plan timing bus held n ms release is_message
+    → AreFew damaged (option_map_or (λ (e : ErrorRate). e.count) timing.errors 0) → KeepsItsPeriod s.plan timing bus held n ms release is_message
     → IsLogOfBus s log bus clock place → IsWholeLog s log bus place → AreSeenAs s log place n is_message → AuditsLines s nothing_read log end
     → (look_at (log_ended s end) (mark_at NearFlow n 0)).times ≡ 0

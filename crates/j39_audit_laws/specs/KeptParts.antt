@@ -14,6 +14,7 @@ use Rattle.j39_network.specs.declared.plan.timing.Timing.{Timing}
 use Rattle.j39_tp.specs.Packets.{bam_control, pgn_in, rts_control, size_in}
 use Rattle.j39_tp.specs.declared.packet.Packet.{Packet}
 use Rattle.j39_timing.specs.TimedFrames.{Schedule}
+use Rattle.j39_load.specs.BusTimes.{timing_of}
 use Rattle.j39_load.specs.KeepsBroadcasts.{IsMessageToAll}
 use Rattle.j39_load.specs.KeepsPlan.{KeepsToPlan}
 use Rattle.j39_load.specs.SentFrames.{Announcing, Asking, Broadcasts, Carrying, ClearToSend, EndAcknowledged, First, FrameSources, Held, InSession, IsFrameOf, IsSentByUnit, Packet as CarriedPacket, RequestToSend, Single, Source}
@@ -118,7 +119,7 @@ pub record IsNotAccused (s : Settings) (log : List Line) (u : ℕ) : Type 0 wher
 -- on each bus, of any log of it, also one that lacks frames, where frames of an address at which the unit alone may be, and claims of its NAMEs, are its own
 abbrev pub KeepersAreNotAccused : Type 0
 KeepersAreNotAccused = (s : Settings) (log : List Line) (timing : Timing) (bus : Schedule) (wire : WireFrames) (place : ℕ → ℕ) (planned : ℕ → Bool)
-    (sent : FrameSources) (held : Held) (u : ℕ) → AreMoving s.plan s.moving → HaveOwnNumbers s.plan → s.plan.timing ≡ Some timing
+    (sent : FrameSources) (held : Held) (u : ℕ) → AreMoving s.plan s.moving → HaveOwnNumbers s.plan → timing_of s.plan ≡ Some timing
     → ShowsFrames s log bus wire place → AreItsOwn s log (λ number. wire.unit (place number)) u
     → KeepsOwnFrames s.plan timing bus wire planned sent held u → IsNotAccused s log u
 
@@ -136,7 +137,7 @@ pub record CarriesPlan (plan : Plan) (bus : Schedule) (wire : WireFrames) (plann
 -- on such a bus no unit is accused
 abbrev pub KeptPlansAreNotAccused : Type 0
 KeptPlansAreNotAccused = (s : Settings) (log : List Line) (timing : Timing) (bus : Schedule) (wire : WireFrames) (place : ℕ → ℕ) (planned : ℕ → Bool)
-    (sent : FrameSources) (held : Held) → AreMoving s.plan s.moving → HaveOwnNumbers s.plan → s.plan.timing ≡ Some timing
+    (sent : FrameSources) (held : Held) → AreMoving s.plan s.moving → HaveOwnNumbers s.plan → timing_of s.plan ≡ Some timing
     → ((p : ℕ) → p < bus.count → bus.queued p ≤ bus.start p) → KeepsToPlan s.plan timing bus planned sent held
     → CarriesPlan s.plan bus wire planned sent held → ShowsFrames s log bus wire place
     → (u : ℕ) → AreItsOwn s log (λ number. wire.unit (place number)) u → IsNotAccused s log u

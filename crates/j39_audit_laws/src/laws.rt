@@ -17,7 +17,7 @@ ghost use Rattle.j39_audit_laws.specs.AuditedRuns.{ArePartsKept, IsNotWrittenOf}
 ghost use Rattle.j39_audit_laws.specs.ByLoad.{IsNoneNearByLoad, IsNoneSilentByLoad};
 ghost use Rattle.j39_audit_laws.specs.ExactClocks.{ExactClocks};
 ghost use Rattle.j39_audit_laws.specs.FoundForSure.{FoundAreWritten, NoneIsUnsure, UnsureIsNone};
-ghost use Rattle.j39_audit_laws.specs.FoundLines.{FoundAreListed, LinesAreOfLog};
+ghost use Rattle.j39_audit_laws.specs.FoundLines.{FoundAreListed, LinesAreOfLog, NobodyIsUnplanned};
 ghost use Rattle.j39_audit_laws.specs.InTurn.{IsInTurn, NotesTheLate};
 ghost use Rattle.j39_audit_laws.specs.KeptLogs.{AreLogsNotNear, PeriodsAreNotNear};
 ghost use Rattle.j39_audit_laws.specs.KeptParts.{KeepersAreNotAccused, KeptPlansAreNotAccused};
@@ -34,6 +34,7 @@ ghost use Rattle.j39_audit_laws.specs.WholeLogs.{AreWholeLogsNotNear};
 ghost use Rattle.j39_audit.specs.declared.by_load.Bound.TheVariants.{Bus};
 ghost use Rattle.j39_audit.specs.Responses.{response};
 ghost use Rattle.j39_findings.specs.Findings.{Clean};
+ghost use Rattle.j39_load.specs.BusTimes.{timing_of};
 ghost use Rattle.j39_load.specs.LoadFindings.{AsksOfBus};
 ghost use Rattle.j39_load.specs.declared.waits.delay.Delay.{Delay as Delays};
 ghost use Rattle.j39_id.specs.Lines.{Line as ALine};
@@ -63,6 +64,11 @@ pub fn lines_are_of_the_log()
 /// first of them, and the verdict is that there are findings.
 pub fn what_is_found_is_written()
     ensures { FoundAreWritten }
+{}
+
+/// Where the plan allows strangers, no line `stranger` and no line `nobody` is written, whatever the log has.
+pub fn nobody_is_accused_where_strangers_come()
+    ensures { NobodyIsUnplanned }
 {}
 
 /// Where no unit may move, no two are planned at one address, no others come, and each claim is of its unit's own address,
@@ -238,14 +244,14 @@ pub fn kept_plans_are_not_near_by_load()
 /// frames are missing in the log, and however it was cut.
 pub fn logs_of_kept_plans_are_not_near_by_load()
     ensures { (s : Settings) (timing : Timings) (stays : PlannedUnits → Bool) (delays : List (Option Delays)) → Clean s.plan
-        → AsksOfBus s.plan timing stays delays → s.plan.timing ≡ Some timing → timing.drift ≡ 0 → s.responses ≡ map (response timing) delays
+        → AsksOfBus s.plan timing stays delays → timing_of s.plan ≡ Some timing → timing.drift ≡ 0 → s.responses ≡ map (response timing) delays
         → AreLogsNotNear s timing delays }
 {}
 
 /// And in a whole log of such a bus, without damage, neither `near` nor `near_or_late` is written of it.
 pub fn whole_logs_of_kept_plans_are_not_near()
     ensures { (s : Settings) (timing : Timings) (stays : PlannedUnits → Bool) (delays : List (Option Delays)) → Clean s.plan
-        → AsksOfBus s.plan timing stays delays → s.plan.timing ≡ Some timing → timing.drift ≡ 0 → s.responses ≡ map (response timing) delays
+        → AsksOfBus s.plan timing stays delays → timing_of s.plan ≡ Some timing → timing.drift ≡ 0 → s.responses ≡ map (response timing) delays
         → s.bound ≡ Bus → AreWholeLogsNotNear s timing delays }
 {}
 

@@ -7,7 +7,7 @@ use std::alloc::AllocError;
 use thiserror::Error;
 
 /// Which frames of a log are reported.
-#[derive(Clone, Copy, PartialEq, Eq)]
+#[derive(Clone, Copy)]
 pub enum Frames {
     /// The frames of planned groups.
     Planned,
@@ -62,7 +62,7 @@ pub enum Order {
 }
 
 /// Why words are no order.
-#[derive(Clone, Copy, Debug, PartialEq, Eq, Error)]
+#[derive(Clone, Copy, Debug, Error)]
 pub enum WordsFault {
     /// The words are no command with its values.
     #[error("bad command line")]

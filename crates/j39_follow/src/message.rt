@@ -78,7 +78,7 @@ pub(crate) fn ended_message(frame: &Frame) -> Arrival<'_>
 }
 
 /// What a message counts as.
-#[derive(Clone, Copy, PartialEq, Eq)]
+#[derive(Clone, Copy)]
 pub enum Sort {
     /// Of the group at this place, with the place of its flow.
     Grouped(usize, Option<usize>),

@@ -28,7 +28,7 @@ use Rattle.j39_full_variant_laws.proofs.NeedsInPlan.{IsNeedInPlan, move_need, ne
 use Rattle.j39_full_variant_laws.proofs.OldNeeds.{source_too}
 use Rattle.j39_full_variant_laws.proofs.Sources.{meets_back, of_file}
 use Rattle.j39_full_variant_laws.proofs.TooOld.{come, covered_by, met_here, met_there, some_of}
-use Rattle.j39_full_bound_laws.proofs.Badness.{known_no_worse}
+use Rattle.j39_full_bound_laws.proofs.Badness.{known_no_worse, nothing_less}
 use Rattle.j39_full_bound_laws.proofs.FilePlaces.{found_at, is_found_at, passes_test}
 use Rattle.j39_full_bound_laws.proofs.FlowTimes.{asks_here, asks_there, bus, is_part, p}
 
@@ -43,21 +43,21 @@ module _ (line : ProductLine) (v : List ℕ) (times : LineTimes) (are : AreVaria
 
   pub not_asked : is_need_asked_for line v d ≡ false → of_need ≡ need.NoVariant
   not_asked none = ap (λ b. if b
-      then option_map_or age_of_need (option_and_then (slice_get are.plan.needs.items) (place_in_variant are.there.needs.items d)) need.Unmet
+      then option_map_or age_of_need (option_and_then (slice_get are.plan.needs.items) (place_in_variant are.there.needs.items d)) need.NoVariant
       else need.NoVariant) none
 
   asked_is : is_need_asked_for line v d ≡ true
-      → of_need ≡ option_map_or age_of_need (option_and_then (slice_get are.plan.needs.items) (place_in_variant are.there.needs.items d)) need.Unmet
+      → of_need ≡ option_map_or age_of_need (option_and_then (slice_get are.plan.needs.items) (place_in_variant are.there.needs.items d)) need.NoVariant
   asked_is asked = ap (λ b. if b
-      then option_map_or age_of_need (option_and_then (slice_get are.plan.needs.items) (place_in_variant are.there.needs.items d)) need.Unmet
+      then option_map_or age_of_need (option_and_then (slice_get are.plan.needs.items) (place_in_variant are.there.needs.items d)) need.NoVariant
       else need.NoVariant) asked
 
   -- what it is for isn't there
-  pub without_source : is_need_asked_for line v d ≡ true → is_source_there line v d ≡ false → of_need ≡ need.Unmet
+  pub without_source : is_need_asked_for line v d ≡ true → is_source_there line v d ≡ false → of_need ≡ need.NoVariant
   without_source asked none = asked_is asked ∙ go (place_in_variant are.there.needs.items d) refl
     where
       go : (o : Option ℕ) → place_in_variant are.there.needs.items d ≡ o
-          → option_map_or age_of_need (option_and_then (slice_get are.plan.needs.items) o) need.Unmet ≡ need.Unmet
+          → option_map_or age_of_need (option_and_then (slice_get are.plan.needs.items) o) need.NoVariant ≡ need.NoVariant
       go None is_o = refl
       go (Some k) is_o =
           let stands = ap (λ l. slice_get l k) (sym are.is_there.has_needs) ∙ found_at are.there.needs.items k d is_o in
@@ -70,28 +70,8 @@ module _ (line : ProductLine) (v : List ℕ) (times : LineTimes) (are : AreVaria
   with_source asked x its =
       let (k, is_k, at_k) = is_found_at are.there.needs.items its.k d its.stands in
       let same : k ≡ its.k = one_need_place line v are.there are.is_there k its.k d at_k its.stands in
-      asked_is asked ∙ ap (λ o. option_map_or age_of_need (option_and_then (slice_get are.plan.needs.items) o) need.Unmet) (is_k ∙ ap Some same)
-      ∙ ap (λ o. option_map_or age_of_need o need.Unmet) its.at
-
--- ---- what a need is for is there where a flow meets it
-
-source_of : (line : ProductLine) (v : List ℕ) (d : ℕ) (x : NeedPlan) → slice_get line.plan.needs.items d ≡ Some x → (f : ℕ) → MeetsIn line v x f
-    → is_source_there line v d ≡ true
-source_of line v d x at_d f its =
-    let (group, others) = and_parts (its.flow.group == x.group) _ its.brings in
-    let (other, rest) = and_parts (not (its.flow.sender == x.unit)) _ others in
-    let (from, reaches) = and_parts (is_from x.from its.flow.sender) _ rest in
-    let there = sym (ap (λ o. option_map_or (λ (flow : FlowPlan). is_in_at v line.lists.flows.items f && (is_group_there line v flow.group
-    && (is_unit_there line v flow.sender && is_receiver_there line v flow.to))) o false) its.flow_is) ∙ its.there in
-    let (own, named) = and_parts (is_in_at v line.lists.flows.items f) _ there in
-    let (group_there, ends) = and_parts (is_group_there line v its.flow.group) _ named in
-    let (sender_there, receiver) = and_parts (is_unit_there line v its.flow.sender) _ ends in
-    ap (λ o. option_map_or (λ (n : NeedPlan). is_group_there line v n.group && is_sender_there line v n.from) o false) at_d
-    ∙ and_from _ _ (ap (is_group_there line v) (sym (eqb-true its.flow.group x.group group)) ∙ group_there) (sender x.from its.flow.sender from sender_there)
-  where
-    sender : (o : Option ℕ) (s : ℕ) → is_from o s ≡ true → is_unit_there line v s ≡ true → is_sender_there line v o ≡ true
-    sender None s from there = refl
-    sender (Some u) s from there = ap (is_unit_there line v) (sym (eqb-true s u from)) ∙ there
+      asked_is asked ∙ ap (λ o. option_map_or age_of_need (option_and_then (slice_get are.plan.needs.items) o) need.NoVariant) (is_k ∙ ap Some same)
+      ∙ ap (λ o. option_map_or age_of_need o need.NoVariant) its.at
 
 -- ---- in both
 
@@ -108,37 +88,10 @@ module _ (line : ProductLine) (v w : List ℕ) (is_v : IsVariant line.choices.it
   abbrev there : NeedTime
   there = need_time line w also.there also.plan also.timing also.delays d
 
-  unmet_worst : there ≡ need.Unmet → is_less_bad (need_badness there) (need_badness here) ≡ false
-  unmet_worst unmet = ap (λ t. is_less_bad (need_badness t) (need_badness here)) unmet ∙ go here
-    where
-      known : (o : Option ℕ) → is_less_bad (of_degree 4 0) (badness_known o) ≡ false
-      known None = refl
-      known (Some n) = refl
-
-      go : (t : NeedTime) → is_less_bad (of_degree 4 0) (need_badness t) ≡ false
-      go need.NoVariant = refl
-      go (need.Age age youngest) = known age
-      go need.Unmet = refl
-
-  -- what the need is for isn't there in the one: no flow meets it in the other
-  without : is_source_there line v d ≡ false → there ≡ need.Unmet
-  without none = elim (cases_Bool (is_source_there line w d)) [
-    | inr none_there ↦ without_source line w reported also d asked_there none_there
-    | inl source ↦
-        let its = need_in_plan line w also.there also.is_there also.plan also.is_plan d x at_d asked_there source in
-        with_source line w reported also d asked_there x its ∙ go its.value its.made (is_unmet also.plan.requests.items also.plan.flows.items its.value) refl
-  ]
-    where
-      go : (f : NeedPlan) → move_need line w x ≡ Some f → (b : Bool) → is_unmet also.plan.requests.items also.plan.flows.items f ≡ b
-          → age_here also.there.flows.items also.plan also.timing also.delays f ≡ need.Unmet
-      go f made true unmet = ap (λ b. if b then need.Unmet
-          else need.Age (least_age also.timing also.plan.requests.items also.plan.flows.items also.delays f)
-          (youngest_here also.there.flows.items also.plan also.timing also.delays f)) unmet
-      go f made false met =
-          let one = any_at (meets also.plan.requests.items f) also.plan.flows.items (some_of (meets also.plan.requests.items f) also.plan.flows.items (ap not met)) in
-          let (k, meets_there, place) = of_file line w also.plan also.is_plan x f made one.i one.value one.value_is one.passes in
-          let meets_here = meets_back line v w is_v is_w d covered asked_there x at_d k meets_there in
-          absurd (true≢false (sym (source_of line v d x at_d k meets_here) ∙ none))
+  -- no age here
+  none_here : here ≡ need.NoVariant → is_less_bad (need_badness there) (need_badness here) ≡ false
+  none_here none =
+      ap (λ t. is_less_bad (need_badness there) (need_badness t)) none ∙ nothing_less (need_badness there).degree (need_badness there).time
 
   -- it is in both
   module _ (e f : NeedPlan) (made : move_need line v x ≡ Some e) (made_there : move_need line w x ≡ Some f) where
@@ -157,15 +110,6 @@ module _ (line : ProductLine) (v w : List ℕ) (is_v : IsVariant line.choices.it
           absurd (false≢true (sym (ap not unmet) ∙ some))
     ]
 
-    unmet_too : is_unmet are.plan.requests.items are.plan.flows.items e ≡ true → is_unmet also.plan.requests.items also.plan.flows.items f ≡ true
-    unmet_too unmet = elim (cases_Bool (is_unmet also.plan.requests.items also.plan.flows.items f)) [
-      | inl is ↦ is
-      | inr met ↦
-          let some = met_here line v w is_v is_w d covered asked_there are.there also.there are.is_there also.is_there are.plan also.plan are.is_plan also.is_plan x at_d
-          e f made made_there (ap not met) in
-          absurd (false≢true (sym (ap not unmet) ∙ some))
-    ]
-
     its_age : (n : ℕ) → least_age also.timing also.plan.requests.items also.plan.flows.items also.delays f ≡ Some n
         → (m : ℕ) × (least_age are.timing are.plan.requests.items are.plan.flows.items are.delays e ≡ Some m) × (m ≤ n)
     its_age n is_n =
@@ -180,18 +124,16 @@ module _ (line : ProductLine) (v w : List ℕ) (is_v : IsVariant line.choices.it
 
     age_no_worse : (b : Bool) → is_unmet are.plan.requests.items are.plan.flows.items e ≡ b → is_less_bad (need_badness age_there) (need_badness age) ≡ false
     age_no_worse true unmet =
-        ap (λ t. is_less_bad (need_badness t) (need_badness age)) (ap (λ b. if b then need.Unmet
-        else need.Age (least_age also.timing also.plan.requests.items also.plan.flows.items also.delays f)
-        (youngest_here also.there.flows.items also.plan also.timing also.delays f)) (unmet_too unmet))
-        ∙ ap (λ t. is_less_bad (of_degree 4 0) (need_badness t)) (ap (λ b. if b then need.Unmet
+        ap (λ t. is_less_bad (need_badness age_there) (need_badness t)) (ap (λ b. if b then need.NoVariant
         else need.Age (least_age are.timing are.plan.requests.items are.plan.flows.items are.delays e)
         (youngest_here are.there.flows.items are.plan are.timing are.delays e)) unmet)
+        ∙ nothing_less (need_badness age_there).degree (need_badness age_there).time
     age_no_worse false met =
-        ap (λ t. is_less_bad (need_badness t) (need_badness age)) (ap (λ b. if b then need.Unmet
+        ap (λ t. is_less_bad (need_badness t) (need_badness age)) (ap (λ b. if b then need.NoVariant
         else need.Age (least_age also.timing also.plan.requests.items also.plan.flows.items also.delays f)
         (youngest_here also.there.flows.items also.plan also.timing also.delays f)) (met_too met))
         ∙ ap (λ t. is_less_bad (badness_known (least_age also.timing also.plan.requests.items also.plan.flows.items also.delays f)) (need_badness t))
-        (ap (λ b. if b then need.Unmet
+        (ap (λ b. if b then need.NoVariant
         else need.Age (least_age are.timing are.plan.requests.items are.plan.flows.items are.delays e)
         (youngest_here are.there.flows.items are.plan are.timing are.delays e)) met)
         ∙ known_no_worse (least_age are.timing are.plan.requests.items are.plan.flows.items are.delays e)
@@ -199,7 +141,7 @@ module _ (line : ProductLine) (v w : List ℕ) (is_v : IsVariant line.choices.it
 
   no_worse_here : is_less_bad (need_badness there) (need_badness here) ≡ false
   no_worse_here = elim (cases_Bool (is_source_there line v d)) [
-    | inr none ↦ unmet_worst (without none)
+    | inr none ↦ none_here (without_source line v times are d asked none)
     | inl source ↦
         let its = need_in_plan line v are.there are.is_there are.plan are.is_plan d x at_d asked source in
         let those = need_in_plan line w also.there also.is_there also.plan also.is_plan d x at_d asked_there (source_too line v w by d source) in

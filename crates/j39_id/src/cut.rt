@@ -1,7 +1,7 @@
 //! What a cutter answers.
 
 /// What a cutter answers to a byte or to the end.
-#[derive(Clone, Copy, PartialEq, Eq)]
+#[derive(Clone, Copy)]
 pub enum Cut {
     /// No line ends here.
     More,

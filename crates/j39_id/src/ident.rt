@@ -13,7 +13,7 @@ const PRIORITY_SIZE: u64 = 1 << 26;
 ///
 /// `priority` has 3 bits, `edp` (extended data page) and `dp` (data page) one each, and `pf` (PDU format), `ps` (PDU
 /// specific) and `sa` (source address) eight each, from the highest bit down.
-#[derive(Clone, Copy, PartialEq, Eq)]
+#[derive(Clone, Copy)]
 pub struct Ident {
     pub priority: u8,
     pub edp: u8,

@@ -2,7 +2,7 @@
 use thiserror::Error;
 
 /// Why a line spells no frame: the first that holds, in this order. The text of each is its name.
-#[derive(Clone, Copy, Debug, PartialEq, Eq, Error)]
+#[derive(Clone, Copy, Debug, Error)]
 pub enum LineError {
     /// The line has no word.
     #[error("Empty")]

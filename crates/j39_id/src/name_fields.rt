@@ -8,7 +8,7 @@ use thiserror::Error;
 ///
 /// `identity` has 21 bits, `manufacturer` 11, `ecu` 3, `function_instance` 5, `function` 8, `reserved` 1, `system` 7,
 /// `system_instance` 4, `industry` 3 and `arbitrary` 1. A value above that range makes no NAME.
-#[derive(Clone, Copy, PartialEq, Eq)]
+#[derive(Clone, Copy)]
 pub struct NameFields {
     pub identity: u32,
     pub manufacturer: u16,
@@ -23,7 +23,7 @@ pub struct NameFields {
 }
 
 /// A field of a NAME.
-#[derive(Clone, Copy, Debug, PartialEq, Eq)]
+#[derive(Clone, Copy, Debug)]
 pub enum NameField {
     Identity,
     Manufacturer,
@@ -38,7 +38,7 @@ pub enum NameField {
 }
 
 /// Why fields make no NAME.
-#[derive(Clone, Copy, Debug, PartialEq, Eq, Error)]
+#[derive(Clone, Copy, Debug, Error)]
 pub enum NameError {
     /// The first field that is out of its range.
     #[error("{0:?} is out of range")]

@@ -42,8 +42,6 @@ module _ (line : ProductLine) (reported times : Times) (are : AreNoWorse line ti
     whole = λ f below w v a is is_known here.
         known (time_reported w) (time_reported v) a is_known
         (of_both flow_badness (time_of_flow reported f) (time_of_flow times f) (flow.Reported (Some (Whole w))) (flow.Reported (Some (Whole v))) is here (are.flows f below));
-    met = λ d below a y is here.
-        true≢false (of_both need_badness (time_of_need reported d) (time_of_need times d) (need.Age (Some a) y) need.Unmet is here (are.needs d below));
     ages = λ d below a age y x is here.
         known (Some a) age a refl
         (of_both need_badness (time_of_need reported d) (time_of_need times d) (need.Age (Some a) y) (need.Age age x) is here (are.needs d below));

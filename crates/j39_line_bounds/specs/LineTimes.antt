@@ -17,7 +17,6 @@ use Rattle.j39_network.specs.declared.plan.unit_plan.UnitPlan.{UnitPlan}
 use Rattle.j39_variants.specs.VariantPlans.{IsVariantPlan}
 use Rattle.j39_variants.specs.declared.line.ProductLine.{ProductLine}
 use Rattle.j39_line_findings.specs.AllVariants.{IsOneOf}
-use Rattle.j39_line_findings.specs.PossibleVariants.{IsPossible}
 use Rattle.j39_line_findings.specs.MissedNeeds.{is_need_asked_for}
 use Rattle.j39_line_findings.specs.There.{IsWhatIsThere, place_in_file}
 use Rattle.j39_line_findings.specs.declared.there.WhatIsThere.{WhatIsThere}
@@ -59,11 +58,11 @@ flow_badness flow.NoVariant = of_degree 0 0
 flow_badness (flow.Reported None) = of_degree 1 0
 flow_badness (flow.Reported (Some delay)) = delay_badness delay
 
--- what isn't met is the worst
+-- of ages alone: that a need is unmet is found of the line, and of no variant's times
 abbrev pub need_badness : NeedTime → Badness
 need_badness need.NoVariant = of_degree 0 0
 need_badness (need.Age age youngest) = badness_known age
-need_badness need.Unmet = of_degree 4 0
+need_badness need.Unmet = of_degree 0 0
 
 -- the worse of two, the first where none is
 abbrev pub worse : {T : Type 0} → (T → Badness) → T → T → T
@@ -84,16 +83,16 @@ abbrev pub youngest_here : List ℕ → Plan → Timing → List (Option Delay) 
 youngest_here flows plan timing delays needed = if has_several plan.requests.items plan.flows.items needed
     then option_map (place_in_file flows) (youngest_flow timing plan.requests.items plan.flows.items delays needed) else None
 
--- the age of what a need of the variant's plan is for: that it isn't met; or how old it is at most
+-- the age of what a need of the variant's plan is for, where a flow meets it: how old it is at most
 abbrev pub age_here : List ℕ → Plan → Timing → List (Option Delay) → NeedPlan → NeedTime
 age_here flows plan timing delays needed =
-    if is_unmet plan.requests.items plan.flows.items needed then need.Unmet
+    if is_unmet plan.requests.items plan.flows.items needed then need.NoVariant
     else need.Age (least_age timing plan.requests.items plan.flows.items delays needed) (youngest_here flows plan timing delays needed)
 
--- of a need of the file: none asks for it; what it is for isn't there; or this
+-- of a need of the file: this, where the variant asks for it and what it is for is there
 abbrev pub need_time : ProductLine → List ℕ → WhatIsThere → Plan → Timing → List (Option Delay) → ℕ → NeedTime
 need_time line variant there plan timing delays d = if is_need_asked_for line variant d
-    then option_map_or (age_here there.flows.items plan timing delays) (option_and_then (slice_get plan.needs.items) (place_in_variant there.needs.items d)) need.Unmet
+    then option_map_or (age_here there.flows.items plan timing delays) (option_and_then (slice_get plan.needs.items) (place_in_variant there.needs.items d)) need.NoVariant
     else need.NoVariant
 
 -- what is reported of a variant, of each flow and need of the file, in order
@@ -172,16 +171,12 @@ pub record BoundEachOf (These : List ℕ → Type 0) (line : ProductLine) (repor
       → (time_of_need reported d ≡ need.NoVariant) ⊎ IsOfSomeVariant These line (λ times. time_of_need times d) (time_of_need reported d)
   pub load : (reported.load ≡ 0) ⊎ IsOfSomeVariant These line (λ times. times.load) reported.load
 
--- of each possible variant
-abbrev pub BoundEachVariant : ProductLine → LineTimes → Type 0
-BoundEachVariant line = BoundEachOf (IsPossible line) line
-
 abbrev pub TimesBoundThese : Type 0
 TimesBoundThese = (line : ProductLine) (variants : List (List ℕ)) (reported : LineTimes) → AreTimesAmong line variants reported
     → BoundEachOf (IsOneOf variants) line reported
 
 -- where a number is reported, that of one variant is no more: a flow within so many bits is never late, and waits for no more; one that is late
--- with so many isn't late with more, nor with none; long messages are whole in as many; a need is met, and what it is for is no older
+-- with so many isn't late with more, nor with none; long messages are whole in as many; what a need is for is no older
 pub record BoundNumbers (line : ProductLine) (reported times : LineTimes) : Type 0 where
   pub never_late : (f : ℕ) → f < length line.plan.flows.items → (bits : ℕ) → time_of_flow reported f ≡ flow.Reported (Some (Within bits))
       → time_of_flow times f ≢ flow.Reported (Some Late)
@@ -195,8 +190,6 @@ pub record BoundNumbers (line : ProductLine) (reported times : LineTimes) : Type
       → time_of_flow times f ≡ flow.Reported (Some (Beyond here)) → here ≤ bits
   pub whole : (f : ℕ) → f < length line.plan.flows.items → (of_reported here : WholeTime) (bits : ℕ) → time_of_flow reported f ≡ flow.Reported (Some (Whole of_reported))
       → time_reported of_reported ≡ Some bits → time_of_flow times f ≡ flow.Reported (Some (Whole here)) → (fewer : ℕ) × (time_reported here ≡ Some fewer) × (fewer ≤ bits)
-  pub met : (d : ℕ) → d < length line.plan.needs.items → (us : ℕ) (youngest : Option ℕ) → time_of_need reported d ≡ need.Age (Some us) youngest
-      → time_of_need times d ≢ need.Unmet
   pub ages : (d : ℕ) → d < length line.plan.needs.items → (us : ℕ) (age youngest other : Option ℕ) → time_of_need reported d ≡ need.Age (Some us) youngest
       → time_of_need times d ≡ need.Age age other → (fewer : ℕ) × (age ≡ Some fewer) × (fewer ≤ us)
 

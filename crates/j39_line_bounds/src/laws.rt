@@ -21,7 +21,7 @@ pub fn times_bound_these()
 {}
 
 /// Where a number is reported, a variant whose times are no worse has no larger one of its kind: where a flow is reported to be in
-/// time or a need to be met, it is in this variant.
+/// time, it is in this variant.
 pub fn reported_numbers_bound_times()
     ensures { ReportedNumbersBoundTimes }
 {}

@@ -14,7 +14,7 @@ use j39_variants::{ProductLine, plan_of};
 use std::alloc::{AllocError, Global};
 
 /// What is reported of a unit of a line, in some of its variants.
-#[derive(Clone, Copy, PartialEq, Eq)]
+#[derive(Clone, Copy)]
 pub enum LineStanding {
     /// None of them has it.
     NoVariant,

@@ -16,7 +16,7 @@ use j39_variants::{ProductLine, plan_of};
 use std::alloc::{AllocError, Global};
 
 /// What is reported of a flow of a line, in some of its variants.
-#[derive(Clone, Copy, PartialEq, Eq)]
+#[derive(Clone, Copy)]
 pub enum FlowTime {
     /// None of them has it.
     NoVariant,
@@ -25,11 +25,11 @@ pub enum FlowTime {
 }
 
 /// What is reported of a need of a line that asks for an age, in some of its variants.
-#[derive(Clone, Copy, PartialEq, Eq)]
+#[derive(Clone, Copy)]
 pub enum NeedTime {
-    /// None of them asks for it.
+    /// In none of them that asks for it a flow meets it.
     NoVariant,
-    /// In one of them that asks for it no flow meets it.
+    /// In a possible variant that asks for it no flow meets it: a finding of the line, which no variant's times have.
     Unmet,
     /// How old what is needed is at most, in microseconds, where that is known; and the place of the flow that brings
     /// it, where several do.
@@ -132,9 +132,8 @@ fn need_badness(time: &NeedTime) -> Badness
     ensures { result ≡ need_badness time.now }
 {
     match time {
-        NeedTime::NoVariant => of_degree(0, 0),
+        NeedTime::NoVariant | NeedTime::Unmet => of_degree(0, 0),
         NeedTime::Age(age, _) => badness_known(*age),
-        NeedTime::Unmet => of_degree(4, 0),
     }
 }
 
@@ -195,7 +194,7 @@ impl VariantLoad<'_> {
         ensures { result ≡ age_here self.now.there.now.flows.items self.now.plan.now self.now.timing self.now.delays.now need.now }
     {
         if !is_met(&self.plan.requests, &self.plan.flows, need) {
-            return NeedTime::Unmet;
+            return NeedTime::NoVariant;
         }
         let age = least_age(
             self.timing,
@@ -215,10 +214,10 @@ impl VariantLoad<'_> {
             return NeedTime::NoVariant;
         }
         match place_in_variant(&self.there.needs, place) {
-            None => NeedTime::Unmet,
+            None => NeedTime::NoVariant,
             Some(found) => match self.plan.needs.get(found) {
                 Some(need) => self.age_of(need),
-                None => NeedTime::Unmet,
+                None => NeedTime::NoVariant,
             },
         }
     }

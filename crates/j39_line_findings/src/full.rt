@@ -57,7 +57,7 @@ fn do_keep(lists: &[Vec<Alternative>], one: &Alternative, other: &Alternative) -
 }
 
 /// Whether the boxes of what isn't built count.
-#[derive(Clone, Copy, PartialEq, Eq)]
+#[derive(Clone, Copy)]
 pub enum LineNevers {
     Kept,
     /// The line is taken for one that has none.

@@ -9,7 +9,7 @@ use j39_findings::Finding;
 use j39_load::LoadFinding;
 
 /// One thing that is wrong with the plan of a variant, named by places in the file of its line.
-#[derive(Clone, Copy, PartialEq, Eq)]
+#[derive(Clone, Copy)]
 pub enum LineFinding {
     /// With what the plan says.
     OfPlan(Finding),

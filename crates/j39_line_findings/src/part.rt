@@ -9,7 +9,7 @@ use j39_network::To;
 use j39_variants::{Alternative, ProductLine};
 
 /// What stands at a place of the file.
-#[derive(Clone, Copy, PartialEq, Eq)]
+#[derive(Clone, Copy)]
 pub enum LinePart {
     Unit(usize),
     Group(usize),

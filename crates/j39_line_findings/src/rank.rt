@@ -3,7 +3,7 @@ ghost use Rattle.std.specs.Prelude.{◌≡◌};
 ghost use Rattle.j39_line_findings.specs.InFile.{is_below, is_below_places};
 
 /// By what a finding is reported: its number, and the places that it names, and 0 for those that it doesn't name.
-#[derive(Clone, Copy, PartialEq, Eq)]
+#[derive(Clone, Copy)]
 pub struct Rank {
     pub number: u8,
     pub first: usize,

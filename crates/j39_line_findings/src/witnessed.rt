@@ -11,7 +11,7 @@ use crate::rank::{Rank, is_below};
 use std::alloc::AllocError;
 
 /// A finding, and a variant that has it.
-#[derive(Clone, Copy, PartialEq, Eq)]
+#[derive(Clone, Copy)]
 pub struct Witnessed {
     pub finding: LineFinding,
     /// Its place among all variants.

@@ -1,3 +1,4 @@
 pub mod CertifiedVariants
 pub mod LineTimings
 pub mod NothingHides
+pub mod UnmetNeeds

@@ -1,10 +1,10 @@
 -- Which times of a line of vehicles are written, where some are of variants that may not be built.
-use Rattle.std.specs.Prelude.{◌≡◌, ℕ, ◌==◌, List, Bool, false, if◌then◌else◌, length, map, slice_index_or}
-use Rattle.std.specs.List.{list_any, range_with_len}
+use Rattle.std.specs.Prelude.{◌≡◌, ◌↔◌, ℕ, ◌<◌, ◌==◌, List, Bool, true, false, if◌then◌else◌, length, map, slice_index_or}
+use Rattle.std.specs.List.{Contains, list_any, range_with_len}
 use Rattle.j39_findings.specs.declared.checking.finding.Finding.{Finding}
 use Rattle.j39_findings.specs.declared.checking.finding.Finding.TheVariants.{NeedUnmet}
 use Rattle.j39_variants.specs.declared.line.ProductLine.{ProductLine}
-use Rattle.j39_line_bounds.specs.LineTimes.{time_of_flow, time_of_need}
+use Rattle.j39_line_bounds.specs.LineTimes.{AreTimesAmong, time_of_flow, time_of_need}
 use Rattle.j39_line_bounds.specs.declared.times.FlowTime.{FlowTime}
 use Rattle.j39_line_bounds.specs.declared.times.FlowTime.TheVariants as flow
 use Rattle.j39_line_bounds.specs.declared.times.LineTimes.{LineTimes}
@@ -46,3 +46,16 @@ pub record AreShownTimes (line : ProductLine) (times : LineTimes) (reported : Li
   pub flows : shown.flows.items ≡ map (shown_flow possible_flows times) (range_with_len 0 (length times.flows.items))
   pub needs : shown.needs.items ≡ map (shown_need possible_needs times reported) (range_with_len 0 (length times.needs.items))
   pub load : shown.load ≡ times.load
+
+-- ---- a law
+
+-- that a need is unmet is found of the line
+abbrev pub IsFoundUnmet : List ReportedFinding → ℕ → Type 0
+IsFoundUnmet reported d = (t : ReportedFinding) × Contains reported t × (t.finding ≡ OfPlan (NeedUnmet d))
+
+-- of a need for which a possible variant asks it is written that it is unmet exactly where this is found of the line, whichever of the variants looked at
+-- can be built
+abbrev pub UnmetIsFound : Type 0
+UnmetIsFound = (line : ProductLine) (variants : List (List ℕ)) (times shown : LineTimes) (reported : List ReportedFinding)
+    → AreTimesAmong line variants times → (are : AreShownTimes line times reported shown) → (d : ℕ) → d < length line.plan.needs.items
+    → (time_of_need shown d ≡ need.Unmet) ↔ ((slice_index_or are.possible_needs d false ≡ true) × IsFoundUnmet reported d)

@@ -7,7 +7,7 @@ use j39_line_findings::LineFinding;
 use j39_plan_text::hides_times;
 
 /// What is asked of a line.
-#[derive(Clone, Copy, PartialEq, Eq)]
+#[derive(Clone, Copy)]
 pub(crate) enum Asked {
     /// Which of its units stay.
     Addresses,

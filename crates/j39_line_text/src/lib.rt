@@ -5,6 +5,7 @@ mod addresses;
 mod certificate;
 mod check;
 mod hindrances;
+mod laws;
 mod line_report;
 mod load;
 mod possible_places;
@@ -15,4 +16,5 @@ mod witness_lines;
 
 pub use addresses::addresses_line_text;
 pub use check::check_line_text;
+pub use laws::unmet_is_written_where_it_is_found;
 pub use load::load_line_text;

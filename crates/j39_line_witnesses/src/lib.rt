@@ -24,4 +24,4 @@ pub use laws::{boxes_are_exact, witnessed_are_exact};
 pub use order::is_earlier;
 pub use possible::possible_parts;
 pub use presence::Presence;
-pub use witness::{first_witness, is_any_variant_possible};
+pub use witness::is_any_variant_possible;

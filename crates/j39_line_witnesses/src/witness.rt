@@ -73,19 +73,6 @@ pub(crate) fn first_having(
     first_of_any(alloc, line, holes, &conditions)
 }
 
-/// The first possible variant that meets one of the finding's conditions, as the places of the alternatives that it takes,
-/// choice by choice.
-pub fn first_witness(
-    alloc: Global,
-    line: &ProductLine,
-    finding: LineFinding,
-) -> Result<Option<Vec<usize>>, AllocError>
-    ensures { IfOk result (IsWitnessOf line.now (conditions_of line.now finding)) }
-{
-    let mut holes = never_holes(alloc, line)?;
-    first_having(alloc, line, &mut holes, finding)
-}
-
 /// Whether some variant of the line is possible.
 pub fn is_any_variant_possible(alloc: Global, line: &ProductLine) -> Result<bool, AllocError>
     ensures { IfOk result (λ found. MatchBool found ((v : List ℕ) × IsPossible line.now v) ((v : List ℕ) → IsPossible line.now v → ⊥)) }

@@ -6,7 +6,7 @@ use j39_id::LineError;
 use j39_text::{TextBuffer, WriteResult};
 
 /// How many lines of a log there are of each sort. A line without a word is of none.
-#[derive(Clone, Copy, PartialEq, Eq)]
+#[derive(Clone, Copy)]
 pub struct LineCounts {
     /// Lines that are read as frames.
     pub frames: u64,

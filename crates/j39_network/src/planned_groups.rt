@@ -10,7 +10,7 @@ use j39_signal::{Layout, LayoutError};
 use std::alloc::Global;
 
 /// Why a planned group has no layout.
-#[derive(Clone, Copy, PartialEq, Eq)]
+#[derive(Clone, Copy)]
 pub enum GroupFault {
     /// Its number is no group's, its signals don't lay out its payloads, or its selector ends outside.
     Refused,

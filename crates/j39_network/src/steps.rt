@@ -1,7 +1,7 @@
 //! The steps of a schedule.
 
 /// A step of a bus. Units are named by their places from 0.
-#[derive(PartialEq, Eq, Drop)]
+#[derive(Drop)]
 pub enum Step {
     /// The unit is switched on and claims the address that it prefers.
     Up(usize),

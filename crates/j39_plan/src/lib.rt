@@ -12,6 +12,6 @@ pub use laws::{
     a_file_describes_one_plan, older_versions_know_what_they_knew, plans_without_later_keys,
 };
 pub use reading::{
-    Cause, FileError, Key, LaterArrays, PlanError, PlanFault, Table, TopTable, Version, read_plan,
-    read_top, top,
+    Cause, FileError, Key, LaterArrays, PlanError, PlanFault, Table, TopTable, Version, read_top,
+    top,
 };

@@ -2,7 +2,7 @@
 use thiserror::Error;
 
 /// Why a line of a schedule can't be read: the first that holds, in this order. The text is the cause's name.
-#[derive(Clone, Copy, Debug, PartialEq, Eq, Error)]
+#[derive(Clone, Copy, Debug, Error)]
 pub enum LineFault {
     /// More than 8,192 bytes stand before its end.
     #[error("LongLine")]

@@ -2,7 +2,7 @@
 use crate::line_fault::LineFault;
 
 /// Why a line isn't read.
-#[derive(Clone, Copy, PartialEq, Eq)]
+#[derive(Clone, Copy)]
 pub enum Unread {
     /// It can't be read, whatever memory there is.
     Fault(LineFault),

@@ -1,7 +1,7 @@
 //! Kinds of signals.
 
 /// What the raw numbers of a signal mean (SAE J1939-71, transmitted signal ranges).
-#[derive(Clone, Copy, PartialEq, Eq)]
+#[derive(Clone, Copy)]
 pub enum Kind {
     /// A scaled value of 8, 16 or 32 bits, whose greatest numbers are reserved for states.
     Measured,

@@ -3,7 +3,7 @@ ghost use Rattle.std.specs.Prelude.{◌≤◌, ◌<◌, ◌^◌};
 
 /// Bits of a payload, and the number that they have in each message of a group: a command byte, by which groups of one
 /// number are distinguished.
-#[derive(Clone, Copy, PartialEq, Eq)]
+#[derive(Clone, Copy)]
 pub struct Selector {
     /// The place of the lowest bit, counted from 0.
     pub start: u16,

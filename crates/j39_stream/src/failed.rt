@@ -1,5 +1,5 @@
 //! Calls of sources and sinks that fail.
 
 /// A call of a source or a sink failed.
-#[derive(Clone, Copy, PartialEq, Eq)]
+#[derive(Clone, Copy)]
 pub struct Failed;

@@ -1,7 +1,7 @@
 //! How much of an input may be read.
 
 /// How much of an input may be read.
-#[derive(Clone, Copy, PartialEq, Eq)]
+#[derive(Clone, Copy)]
 pub struct Limits {
     /// The most bytes that it may have.
     pub bytes: u64,

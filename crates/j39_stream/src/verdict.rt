@@ -1,7 +1,7 @@
 //! What a command found.
 
 /// What a command found.
-#[derive(Clone, Copy, PartialEq, Eq)]
+#[derive(Clone, Copy)]
 pub enum Verdict {
     /// The command did what it was asked.
     Done,

@@ -4,7 +4,7 @@
 /// bits apart, which isn't 0, and each frame is queued at most `jitter` bits after the release of its message (release
 /// and jitter of Davis and others 2007): 0 where all are queued with it, a period where a message of several frames has
 /// ended before the next one begins.
-#[derive(Clone, Copy, PartialEq, Eq)]
+#[derive(Clone, Copy)]
 pub struct Stream {
     pub frames: u16,
     pub period: u32,

@@ -7,7 +7,7 @@ use crate::lines::Line;
 
 /// Messages of at most `frames` frames that are wanted again and again. The releases of two are at least `period` bits
 /// apart, which isn't 0, and each is wanted at most `jitter` bits after its release.
-#[derive(Clone, Copy, PartialEq, Eq)]
+#[derive(Clone, Copy)]
 pub struct Want {
     pub frames: u16,
     pub period: u32,

@@ -5,7 +5,7 @@ ghost use Rattle.j39_toml.specs.declared.file_error.FileError.TheVariants.{Memor
 use std::alloc::{AllocError, AllocFailed};
 
 /// Why a file could not be read.
-#[derive(Clone, Copy, PartialEq, Eq)]
+#[derive(Clone, Copy)]
 pub enum FileError<F> {
     /// The bytes aren't UTF-8, or they aren't TOML.
     Text,

@@ -5,7 +5,7 @@ use j39_id::Label;
 use j39_network::Plan;
 
 /// An alternative that a list names.
-#[derive(Clone, Copy, PartialEq, Eq)]
+#[derive(Clone, Copy)]
 pub struct Alternative {
     /// The place of its choice among those of the plan, from 0.
     pub choice: usize,

@@ -3,7 +3,7 @@ ghost use Rattle.std.specs.Prelude.{◌≡◌};
 
 /// One thing that is wrong with what the gateways of a vehicle send on, named by places from 0. Findings are in order
 /// by their number, then by their places.
-#[derive(Clone, Copy, PartialEq, Eq)]
+#[derive(Clone, Copy)]
 pub enum VehicleFinding {
     /// G1: no flow is an input of the forward.
     NoInput(usize),

@@ -54,7 +54,7 @@ fn is_timed_bus(vehicle: &Vehicle, bus: usize) -> bool
 }
 
 /// Where a direct forward begins and ends: the place of its first input, and the plans of this and of its first output.
-#[derive(Clone, Copy, PartialEq, Eq)]
+#[derive(Clone, Copy)]
 pub struct Ends {
     pub at: FlowAt,
     pub input: FlowPlan,

@@ -3,7 +3,7 @@ ghost use Rattle.std.specs.Prelude.{◌≡◌};
 
 /// One thing that is wrong with the times of what the gateways of a vehicle send on, named by places from 0. Findings
 /// are in order by their number, then by their places.
-#[derive(Clone, Copy, PartialEq, Eq)]
+#[derive(Clone, Copy)]
 pub enum TimeFinding {
     /// G10: what the direct forward hears may come more often than its output may be sent.
     TooOften(usize),

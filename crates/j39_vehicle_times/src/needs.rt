@@ -14,7 +14,7 @@ use j39_vehicle_findings::{FlowAt, Point, Routes, flows_on};
 
 /// A flow that brings a need's unit what it needs, by its place on the unit's bus, and how old that is where it is
 /// received, in microseconds, at most, where this is known.
-#[derive(Clone, Copy, PartialEq, Eq)]
+#[derive(Clone, Copy)]
 pub struct NeedFlow {
     pub flow: usize,
     pub age: Option<u64>,

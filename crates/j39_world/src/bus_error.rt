@@ -2,7 +2,7 @@
 use thiserror::Error;
 
 /// Why a plan has no bus: the first cause that holds, in this order. The text is the cause's name.
-#[derive(Clone, Copy, Debug, PartialEq, Eq, Error)]
+#[derive(Clone, Copy, Debug, Error)]
 pub enum BusError {
     /// There isn't one chooser for each unit.
     #[error("ChooserCount")]

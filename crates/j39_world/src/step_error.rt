@@ -2,7 +2,7 @@
 use thiserror::Error;
 
 /// Why a step is refused, in the order of the checks. The text is the cause's name.
-#[derive(Clone, Copy, Debug, PartialEq, Eq, Error)]
+#[derive(Clone, Copy, Debug, Error)]
 pub enum StepError {
     /// A unit that the step names is none of the plan.
     #[error("UnknownUnit")]

@@ -51,11 +51,13 @@ def numbered(tables: Tables, settings: Settings) -> list[Box]:
 
 
 class Rest:
-    """The units on the bench. `put` hands a frame to the bus; what others send is `heard`, and what is due is done by `wake`."""
+    """The units on the bench. `put` hands a frame to the bus; what others send is `heard`, and what is due is done by `wake` of the agenda, which may be one
+    that others have too."""
 
-    def __init__(self, tables: Tables, kept: Iterable[int], settings: Settings, values: Values, put: Callable[[int, bytes], None]) -> None:
+    def __init__(self, tables: Tables, kept: Iterable[int], settings: Settings, values: Values, put: Callable[[int, bytes], None],
+                 agenda: Agenda | None = None) -> None:
         self._tables, self._values, self._out, self._period = tables, values, put, settings.period
-        self._chance, self.agenda = random.Random(settings.seed), Agenda()
+        self._chance, self.agenda = random.Random(settings.seed), agenda or Agenda()
         self.boxes = numbered(tables, settings)
         self._here = {box.unit.label: box for box in self.boxes}
         others = [unit for unit in tables.units if unit.label not in self._here]
@@ -68,6 +70,7 @@ class Rest:
         self.sent: Counter[int] = Counter()  # of each flow by its number
         self.skipped: Counter[int] = Counter()
         self.answered = self.refused = 0
+        self.silent: set[int] = set()  # flows that aren't sent, by their numbers
         self._next: dict[int, float] = {}  # when each flow is due that has a period
         self._begin, self._is_ending = 0.0, False
 
@@ -145,7 +148,7 @@ class Rest:
     def _message(self, flow: Flow) -> None:
         """A message of a flow."""
         box, group = self._here[flow.sender], self._groups[flow.group]
-        if self._is_ending and group.most > FRAME_BYTES:
+        if self._is_ending and group.most > FRAME_BYTES or flow.number in self.silent:
             return
         if not box.is_ready(self.agenda.now) or box.address is None:
             self.skipped[flow.number] += 1
@@ -169,7 +172,8 @@ class Rest:
     def _asks(self, request: Request) -> None:
         """A unit here asks for a group."""
         box, to = self._here[request.sender], GLOBAL_ADDRESS if request.to == "all" else self.claims.address_of(request.to)[0]
-        if box.is_ready(self.agenda.now) and box.address is not None and to is not None:
+        is_spared = to in self.transport.spared or to == GLOBAL_ADDRESS and bool(self.transport.spared)
+        if box.is_ready(self.agenda.now) and box.address is not None and to is not None and not is_spared:
             self._put(identifier_of(ASKING, REQUEST, box.address, to), self._groups[request.group].pgn.to_bytes(3, "little"))
         if request.period:
             self.agenda.after(request.period / 1000 + LATE, self._asks, request)

@@ -1,11 +1,11 @@
 """Messages of more than 8 bytes by the transport protocol of SAE J1939-21: broadcasts, and sessions with one receiver, both ways."""
 
 from collections import deque
-from collections.abc import Callable
+from collections.abc import Callable, Collection
 from dataclasses import dataclass, field
 
 from j39plan.bench.agenda import Agenda
-from j39plan.j1939 import CONNECTION_MANAGEMENT, DATA_TRANSFER, GLOBAL_ADDRESS, PACKET_BYTES, WAIT, identifier_of
+from j39plan.j1939 import CONNECTION_MANAGEMENT, DATA_TRANSFER, FRAME_BYTES, GLOBAL_ADDRESS, PACKET_BYTES, WAIT, identifier_of
 from j39plan.log.checks.transfers import ABORT, BAM, CLEAR, RTS, SIZES, WHOLE
 
 # How long who sends waits for a CTS (T3), for more after a CTS of none (T4), and who receives for a packet (T1) and behind a CTS (T2), in seconds.
@@ -90,6 +90,7 @@ class Transport:
         self._sending: dict[Ends, Sending] = {}
         self._receiving: dict[Ends, Receiving] = {}
         self._broadcasts: dict[int, Broadcasts] = {}
+        self.spared: frozenset[int] = frozenset()  # addresses with which no unit here begins a session, or takes one up: somebody else does
         self.tally = Tally()
 
     def _manage(self, source: int, to: int, data: bytes, pgn: int) -> None:
@@ -129,6 +130,10 @@ class Transport:
         """Whether no message is under way."""
         return not (self._sending or self._receiving or any(queue.is_busy for queue in self._broadcasts.values()))
 
+    def has(self, addresses: Collection[int]) -> bool:
+        """Whether a session with one of these addresses is under way."""
+        return any(address in ends for ends in (*self._sending, *self._receiving) for address in addresses)
+
     def stop(self, address: int) -> None:
         """Whoever was at an address isn't any more: its messages end without a word."""
         self._broadcasts.pop(address, None)
@@ -136,8 +141,8 @@ class Transport:
         self._receiving = {ends: one for ends, one in self._receiving.items() if address not in ends}
 
     def send(self, source: int, to: int, pgn: int, data: bytes, done: Callable[[bool], None]) -> bool:
-        """A unit asks to send a message to one receiver; not while it has another one for this."""
-        if (source, to) in self._sending:
+        """A unit asks to send a message to one receiver; not while it has another one for this, or that is spared."""
+        if (source, to) in self._sending or to in self.spared:
             return False
         one = self._sending[source, to] = Sending(pgn, data, done)
         self._manage(source, to, bytes((RTS, *one.about)), pgn)
@@ -174,7 +179,7 @@ class Transport:
         elif data[0] == CLEAR and one and one.pgn == pgn:
             self._cleared((to, source), one, data[1], data[2])
         elif data[0] == WHOLE and one and one.pgn == pgn:
-            self._ends((to, source), True)
+            self._ends((to, source), one.next > one.count)  # what wasn't sent can't have come
         elif data[0] == ABORT:
             if one and one.pgn == pgn:
                 self._ends((to, source), False)
@@ -207,7 +212,7 @@ class Transport:
     def _asked(self, source: int, to: int, data: bytes, pgn: int) -> None:
         """Somebody asks to send a message to an address: the unit here clears packets."""
         size, count = int.from_bytes(data[1:3], "little"), data[3]
-        if self._window_of(to) is None:
+        if self._window_of(to) is None or source in self.spared:
             return
         if size not in SIZES or count != -(-size // PACKET_BYTES):
             self._agenda.after(PROMPT, self._abort, to, source, TOO_MANY, pgn)
@@ -245,7 +250,7 @@ class Transport:
         """A packet is heard."""
         ends = source, to
         came = self._receiving.get(ends)
-        if came is None or not data or data[0] < came.next:
+        if came is None or len(data) != FRAME_BYTES or data[0] < came.next:
             return
         if data[0] > came.next or data[0] > came.last:
             self._gives_up(ends, came, WRONG_NUMBER)

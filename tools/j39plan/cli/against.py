@@ -27,13 +27,14 @@ from j39plan.log.checks.summary import requests_of, summary_tables, units_of
 from j39plan.log.checks.unplanned import bounds_of
 from j39plan.log.checks.watch import watched
 from j39plan.log.clock import SECOND, ends_of, nanoseconds
+from j39plan.log.expected import expected_options, pass_over_absent, refuse_unknown
 from j39plan.log.files import Log, interface_option
 from j39plan.log.reports import Counts, lines_of, tables_of
 from j39plan.log.serial_numbers import by_kind
+from j39plan.log.variants import opened_by
 from j39plan.plan.cut import bare
-from j39plan.plan.files import opened
 from j39plan.plan.tables import Tables
-from j39plan.vehicle.drives import bus_option, drives_of, events_on, refuse_buses, refuse_variant, vehicle_in
+from j39plan.vehicle.drives import bus_option, drives_of, named_on, refuse_buses, refuse_variant, vehicle_in
 from j39plan.vehicle.files import Vehicle
 
 
@@ -53,8 +54,7 @@ def words_of(words: list[str] | None) -> argparse.Namespace:
                         "ms, as 2.5, or a share of these, as 10%% (0)")
     parser.add_argument("--silence", metavar="N", type=periods_of, default=SILENCE,
                         help=f"after how many periods without a message a flow without a pause is silent; 0: such silences aren't reported ({SILENCE})")
-    parser.add_argument("--events", metavar="FLOW", action="append", default=[],
-                        help="a group, or a flow by its number, that is sent when something happens: no silence of it is reported; may be given several times")
+    expected_options(parser)
     parser.add_argument("--part", action="store_true", help="the log lacks frames of the bus: a filter took them out, or the logger lost some")
     parser.add_argument("--ask", action="store_true", help="below a deviation what to ask the supplier of the unit, where that is known")
     parser.add_argument("--table", action="store_true", help="tables first: how often each flow was sent, and how far apart; when each unit was heard; "
@@ -64,7 +64,7 @@ def words_of(words: list[str] | None) -> argparse.Namespace:
                         "only the whole log shows")
     parser.add_argument("--json", action="store_true", help="as JSON objects, each on a line; the last one is of the whole log")
     requirement_options(parser)
-    program.variant_option(parser)
+    program.variant_option(parser, "; log: the only one that the log can be of, by who claims or sends in it")
     interface_option(parser)
     bus_option(parser)
     parser.add_argument("plan", metavar="PLAN", type=program.input_name, help="the name of a plan file, or of a vehicle file")
@@ -171,7 +171,8 @@ def compare_live(reader: Reader, comparison: Comparison, lines: Iterator[str]) -
 def compared(given: argparse.Namespace) -> int:
     """Writes the deviations of a log from a plan; how many there are."""
     counts = Counts()
-    with opened(given.plan, given.variant) as plan, Log(given.logs, given.interface) as log, by_kind(plan, tables_of(plan), log.still, given.interface) as (known, tables, others):
+    with opened_by(given.plan, given.variant, given.logs, given.interface) as plan, Log(given.logs, given.interface) as log, by_kind(plan, tables_of(plan), log.still, given.interface) as (known, tables, others):
+        refuse_unknown(given.spare, tables)
         output, meter = Output(given, log), Meter() if given.json else None
         found = Found(given.all, output.live if given.live else None)
         settings = Settings(given.jitter, Rule(given.silence, events_of(given.events, tables), given.table), others)
@@ -187,6 +188,9 @@ def compared(given: argparse.Namespace) -> int:
             audit.end()
         for noted in feed.unheard(math.inf):
             comparison.unheard(noted)
+    if feed.twice.first:
+        text = "a frame stands twice in the log, nearer than its bits take on the bus: the second one is passed over"
+        found.tell("twice", text, *feed.twice.first, times=feed.twice.count)
     counts.bad -= comparison.damage.frames + comparison.odd
     counts.refuse_without_frames(log)
     counts.refuse_a_guess(log)
@@ -194,6 +198,7 @@ def compared(given: argparse.Namespace) -> int:
     comparison.clock.say(log)
     say_what_is_left(given, comparison.distances)
     comparison.ends(nanoseconds(feed.last_time), counts.frames > 0)
+    pass_over_absent(given.spare, tables, found)
     if audit.findings:
         program.say(f"the plan has findings, as {audit.findings}: until they are mended audit judges nobody, and what follow says is told")
     accused = [line for line in audit.lines if not (is_coming and kind_of(line) in FOLLOWED)]
@@ -212,7 +217,7 @@ def of_vehicle(given: argparse.Namespace, vehicle: Vehicle) -> int:
     count = 0
     for drive in drives_of(vehicle, given.logs, given.bus):
         words = {**vars(given), "plan": drive.plan, "logs": drive.logs, "interface": drive.interface or given.interface,
-                 "events": events_on(vehicle, drive.bus, given.events)}
+                 "events": named_on(vehicle, drive.bus, given.events, "flow"), "spare": named_on(vehicle, drive.bus, given.spare, "unit")}
         print(json.dumps({"bus": drive.bus, "plan": drive.plan}) if given.json else f"bus {drive.bus}", flush=True)
         count += compared(argparse.Namespace(**words))
     print(json.dumps({"vehicle": given.plan, "deviations": count}) if given.json else f"deviations {count}")

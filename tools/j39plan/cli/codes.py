@@ -79,7 +79,7 @@ def spelled(moment: Moment) -> str:
     seconds, rest = divmod(moment.time, SECOND)
     if seconds < CALENDAR:
         return f"{seconds}.{rest // 10**6:03}"
-    return f"{datetime.datetime.fromtimestamp(seconds, datetime.UTC):%Y-%m-%d %H:%M:%S}.{rest // 10**6:03}"
+    return f"{datetime.datetime.fromtimestamp(seconds, datetime.timezone.utc):%Y-%m-%d %H:%M:%S}.{rest // 10**6:03}"
 
 
 def end_in_words(episode: Episode, log: Log) -> str:

@@ -1,17 +1,23 @@
 """Compares two plans, as of two model years, by what they mean: what is otherwise, and what breaks where a unit keeps the old one.
 
-A receiver that keeps the old plan reads by it what the others send by the new one.
+A receiver that keeps the old plan reads by it what the others send by the new one. Of two lines of vehicles it is said too how many vehicles are built no
+more and newly, with one of each; what breaks is looked for in few vehicles in which each two units are together.
 """
 
+import argparse
 import json
 import sys
 from collections.abc import Iterator
+from typing import Any
 
 from j39plan import program
 from j39plan.plan.breaks import Break, Breaks
 from j39plan.plan.differences import Answers, Change, Matched, changes_of
 from j39plan.plan.files import of_one_vehicle, sources_of
+from j39plan.plan.line_breaks import LineBreak, breaks_of
+from j39plan.plan.line_pairs import Counts, LinePair, Vehicle
 from j39plan.plan.parts import Source
+from j39plan.plan.variants import Line
 
 
 def answers_of(source: Source) -> Answers:
@@ -64,42 +70,77 @@ def broken_words(found: Break, who: str) -> str:
     }[found.kind]
 
 
-def lines_of(changes: list[Change], broken: list[Break], matched: Matched) -> Iterator[str]:
-    """The comparison as lines."""
-    old, new = matched.old, matched.new
-    for change in changes:
-        yield change_line(change, old, new)
-    for found in broken:
-        others = sum(before is not None and now is not None and before.label != found.sender for before, now in matched.units)
-        yield break_line(found, old, new, others)
-    yield f"changes {len(changes)} breaks {len(broken)}"
+def others_of(matched: Matched, sender: str, pair: LinePair | None) -> int:
+    """How many units both plans have beside a sender, of lines those that are in a vehicle with it."""
+    labels = [before.label for before, now in matched.units if before is not None and now is not None and before.label != sender]
+    return sum(pair is None or pair.are_together(sender, label) for label in labels)
 
 
-@program.command
-def main(words: list[str] | None = None) -> int:
-    """Writes what is otherwise; 1 where something breaks."""
+def vehicle_lines(counts: Counts, vehicles: list[Vehicle]) -> Iterator[str]:
+    """How many vehicles two lines have, and in how many of both was looked for what breaks."""
+    yield f"vehicles {counts.new}, it was {counts.old}; compared {len(vehicles)}"
+    for word, number, first in (("no longer", counts.gone, counts.gone_first), ("newly", counts.built, counts.built_first)):
+        yield f"{word} built {number}" + (f", as {' '.join(first)}" if number else "")
+
+
+class Compared:
+    """Two plans of one vehicle, or two of lines of vehicles, compared."""
+
+    def __init__(self, old: Source, new: Source) -> None:
+        self.matched = Matched(old, new)
+        answers = answers_of(old), answers_of(new)
+        self.changes = list(changes_of(self.matched, *answers))
+        self.pair = LinePair(Line.of(old), Line.of(new)) if old["choice"] and new["choice"] else None
+        self.vehicles = self.pair.vehicles() if self.pair else []
+        self.broken = (breaks_of(self.matched, answers, self.vehicles) if self.pair
+                       else [LineBreak(found, []) for found in Breaks(self.matched, *answers).found()])
+
+    def lines(self) -> Iterator[str]:
+        """The comparison as lines; what breaks in a vehicle of a line with its alternatives."""
+        old, new = self.matched.old, self.matched.new
+        for change in self.changes:
+            yield change_line(change, old, new)
+        for found, vehicle in self.broken:
+            yield break_line(found, old, new, others_of(self.matched, found.sender, self.pair)) + (f" in {' '.join(vehicle)}" if vehicle else "")
+        if self.pair:
+            yield from vehicle_lines(self.pair.counts(), self.vehicles)
+        yield f"changes {len(self.changes)} breaks {len(self.broken)}"
+
+    def object(self) -> dict[str, Any]:
+        """The comparison as JSON has it."""
+        breaks = [{**found._asdict(), **({"vehicle": vehicle} if vehicle else {})} for found, vehicle in self.broken]
+        of_lines = {"vehicles": {**self.pair.counts()._asdict(), "compared": [vehicle._asdict() for vehicle in self.vehicles]}} if self.pair else {}
+        return {"old": self.matched.old.name, "new": self.matched.new.name, "changes": [change._asdict() for change in self.changes], "breaks": breaks, **of_lines}
+
+
+def words_of(words: list[str] | None) -> argparse.Namespace:
+    """The words of the command line."""
     parser = program.parser(__doc__)
     parser.epilog = "example: %(prog)s truck_2025.toml truck_2026.toml"
     parser.add_argument("old", metavar="OLD", type=program.input_name, help="the name of a plan file")
     parser.add_argument("new", metavar="NEW", type=program.input_name, help="the name of the plan file that takes its place")
     program.variant_option(parser)
-    parser.add_argument("--json", action="store_true", help="as a JSON object with the arrays changes and breaks")
-    given = parser.parse_args(words)
-    old, new = map(of_one_vehicle, sources_of([given.old, given.new], given.variant))
+    parser.add_argument("--json", action="store_true", help="as a JSON object with the arrays changes and breaks, of lines also with vehicles")
+    return parser.parse_args(words)
+
+
+@program.command
+def main(words: list[str] | None = None) -> int:
+    """Writes what is otherwise; 1 where something breaks."""
+    given = words_of(words)
+    old, new = sources_of([given.old, given.new], given.variant)
+    if not (old["choice"] and new["choice"]):
+        old, new = map(of_one_vehicle, (old, new))
     if old.text == new.text:
         program.say(f"{new.name}: the same plan as {old.name}")
-    matched = Matched(old, new)
-    answers = answers_of(old), answers_of(new)
-    changes, broken = list(changes_of(matched, *answers)), Breaks(matched, *answers).found()
+    compared = Compared(old, new)
     if given.json:
-        told = {"old": old.name, "new": new.name, "changes": [change._asdict() for change in changes],
-                "breaks": [found._asdict() for found in broken]}
-        json.dump(told, sys.stdout, indent=1)
+        json.dump(compared.object(), sys.stdout, indent=1)
         print()
     else:
-        for line in lines_of(changes, broken, matched):
+        for line in compared.lines():
             print(line)
-    return 1 if broken else 0
+    return 1 if compared.broken else 0
 
 
 if __name__ == "__main__":

@@ -16,6 +16,7 @@ from j39plan.fleet.drift import Difference, Drift
 from j39plan.fleet.drives import Drive
 from j39plan.fleet.table import duration_of, load_text, moment_of
 from j39plan.fleet.team import Task, team
+from j39plan.log import expected
 from j39plan.log.files import interface_option
 from j39plan.plan.tables import Tables
 from j39plan.text_tables import aligned
@@ -43,13 +44,14 @@ def words_of(words: list[str] | None) -> argparse.Namespace:
     parser.add_argument("--share", type=share_of, default=share_of(SHARE), metavar="PERCENT",
                         help=f"by how much periods, load and ends of ranges may differ ({SHARE}%%)")
     parser.add_argument("--json", action="store_true", help="as a JSON object with both drives and an array of differences")
+    expected.expected_options(parser, ", as of against")
     interface_option(parser)
     return parser.parse_args(words)
 
 
 def drives_of(given: argparse.Namespace) -> tuple[Tables, list[Drive]]:
     """The tables of the plan, and both drives as they were compared with it."""
-    options = ["--interface", given.interface] if given.interface is not None else []
+    options = [*(["--interface", given.interface] if given.interface is not None else []), *expected.words_of(given)]
     plan, logs = plan_of(given.plan, options, given.variant), [given.before, given.after]
     if len(different(logs)) < len(logs):
         raise program.Refused(program.UNREADABLE, "two drives are compared, and this is one")

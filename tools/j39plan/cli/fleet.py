@@ -6,12 +6,12 @@ are done. Of a vehicle each bus has its tables.
 
 import argparse
 import contextlib
+import functools
 import json
 import os
 import re
 import shutil
 import sys
-import tempfile
 from collections.abc import Iterable, Iterator
 from typing import Any, NamedTuple
 
@@ -19,10 +19,11 @@ from j39plan import program
 from j39plan.fleet.drives import Drive, answered
 from j39plan.fleet.table import Fleet
 from j39plan.fleet.team import Task, team
+from j39plan.log import expected
 from j39plan.log.files import interface_option
 from j39plan.plan.files import opened
 from j39plan.plan.tables import Tables
-from j39plan.vehicle.drives import bus_option, drives_of, events_on, refuse_buses, refuse_variant, vehicle_in
+from j39plan.vehicle.drives import bus_option, drives_of, named_on, refuse_buses, refuse_variant, vehicle_in
 from j39plan.vehicle.files import Vehicle
 
 # How wide the bar of progress is.
@@ -118,7 +119,7 @@ def words_of(words: list[str] | None) -> argparse.Namespace:
                         "of a vehicle")
     parser.add_argument("--jitter", metavar="TIME", help="by how much messages may come nearer than their flow's period, as of against")
     parser.add_argument("--silence", metavar="N", help="after how many periods a flow is silent, as of against")
-    parser.add_argument("--events", metavar="FLOW", action="append", default=[], help="a flow that is sent when something happens, as of against")
+    expected.expected_options(parser, ", as of against")
     program.variant_option(parser)
     interface_option(parser)
     bus_option(parser)
@@ -136,10 +137,8 @@ def input_copied(logs: list[str]) -> Iterator[str]:
     if program.INPUT not in logs:
         yield ""
         return
-    with tempfile.NamedTemporaryFile(suffix=".log") as copy:
-        shutil.copyfileobj(sys.stdin.buffer, copy)
-        copy.flush()
-        yield copy.name
+    with program.temporary(functools.partial(shutil.copyfileobj, sys.stdin.buffer), ".log") as copy:
+        yield copy
 
 
 class Gathered(NamedTuple):
@@ -155,7 +154,7 @@ class Gathered(NamedTuple):
 def compared(given: argparse.Namespace) -> Gathered:
     """The logs of a plan, as they were compared with it."""
     options = [word for key in ("jitter", "silence", "interface") for value in [getattr(given, key)] if value is not None for word in (f"--{key}", value)]
-    options += [word for name in given.events for word in ("--events", name)]
+    options += expected.words_of(given)
     plan, logs = plan_of(given.plan, options, given.variant), different(given.logs)
     with input_copied(logs) as copy:
         tasks: list[Task] = [(*plan, log, copy if log == program.INPUT else os.path.abspath(log), options) for log in largest_first(logs)]
@@ -177,7 +176,7 @@ def of_vehicle(given: argparse.Namespace, vehicle: Vehicle) -> int:
     worst, buses = 0, dict[str, Any]()
     for drive in drives_of(vehicle, given.logs, given.bus):
         words = {**vars(given), "plan": drive.plan, "logs": drive.logs, "interface": drive.interface or given.interface,
-                 "events": events_on(vehicle, drive.bus, given.events)}
+                 "events": named_on(vehicle, drive.bus, given.events, "flow"), "spare": named_on(vehicle, drive.bus, given.spare, "unit")}
         whole = compared(argparse.Namespace(**words))
         worst = max(worst, whole.status)
         if given.json:

@@ -6,12 +6,12 @@ plans name groups, signals and units; other groups have raw bytes. The plan is a
 
 import argparse
 import contextlib
+import functools
 import json
 import os
 import shutil
 import stat
 import sys
-import tempfile
 from collections.abc import Iterator
 
 from j39plan import program
@@ -56,12 +56,10 @@ def still(names: list[str]) -> Iterator[list[str]]:
     with contextlib.ExitStack() as copies:
         found = []
         for name in names:
-            if not stat.S_ISREG(os.stat(name).st_mode):
-                copy = copies.enter_context(tempfile.NamedTemporaryFile(suffix=".log"))
-                with open(name, "rb") as file:
-                    shutil.copyfileobj(file, copy)
-                copy.flush()
-                name = copy.name
+            place = program.place_of(name)
+            if isinstance(place, int) or not stat.S_ISREG(os.stat(place).st_mode):
+                with open(place, "rb") as file:
+                    name = copies.enter_context(program.temporary(functools.partial(shutil.copyfileobj, file), ".log"))
             found.append(name)
         yield found
 

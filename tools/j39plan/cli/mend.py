@@ -14,8 +14,7 @@ from j39plan.mend.attempts import Mend
 from j39plan.mend.judge import Judge
 from j39plan.mend.search import Mended, Tried, difference, mended
 from j39plan.mend.slack import Slack, slack_lines, slack_object, slack_of
-from j39plan.plan.files import of_one_vehicle, text_of
-from j39plan.plan.parts import Source
+from j39plan.plan.files import text_of
 from j39plan.progress import Progress
 
 
@@ -38,12 +37,14 @@ def mend_line(word: str, mend: Mend) -> str:
 def lines_of(name: str, tried: Tried) -> Iterator[str]:
     """A finding with what was tried."""
     yield f"{name}:{tried.line}: {tried.text}" + (f"  ({tried.hint})" if tried.hint else "")
+    yield from (f"  {word}: {what}" for word, what in tried.left if word == "ask first")
     for number, mend in enumerate(tried.mends):
-        yield mend_line("or" if number else "mend", mend)
+        yield mend_line("harmful" if mend.is_harmful else "or" if number else "mend", mend)
     if tried.by:
         yield f"  gone with the mend of {tried.by}"
-    elif not tried.mends:
+    elif all(mend.is_harmful for mend in tried.mends):
         yield "  no mend was found"
+    yield from (f"  {word}: {what}" for word, what in tried.left if word != "ask first")
     if tried.in_vain:
         yield f"  in vain: {'; '.join(tried.in_vain)}"
 
@@ -54,13 +55,14 @@ def mend_object(mend: Mend) -> dict[str, Any]:
     edits = [{"table": " ".join(map(str, place[:-1])) or "top", "key": place[-1], "value": value} for place, value in change.keys]
     edits += [{"new": table.header, "keys": table.keys} for table in change.added]
     edits += [{"gone": " ".join(map(str, place))} for place in change.removed]
-    return {"where": mend.where, "what": mend.what, **({"note": mend.note} if mend.note else {}), "edits": edits}
+    return {"where": mend.where, "what": mend.what, **({"note": mend.note} if mend.note else {}), **({"harmful": True} if mend.is_harmful else {}),
+            "edits": edits}
 
 
 def tried_object(tried: Tried) -> dict[str, Any]:
     """A finding with what was tried, as JSON has it."""
     found = {"text": tried.text, "line": tried.line, "hint": tried.hint, "mends": [mend_object(mend) for mend in tried.mends],
-             "in_vain": tried.in_vain, "gone_with": tried.by}
+             "in_vain": tried.in_vain, "gone_with": tried.by, **{word.replace(" ", "_"): what for word, what in tried.left}}
     return {key: value for key, value in found.items() if value != ""}
 
 
@@ -86,13 +88,14 @@ def main(words: list[str] | None = None) -> int:
     """Mends a plan; 1 where something is still found."""
     given = words_of(words)
     text, progress = text_of(given.plan, given.variant), Progress()
-    of_one_vehicle(Source(text))
     judge = Judge(progress)
     try:
         found = mended(text, judge)
         slack = slack_of(found.text, judge) if given.slack else None
     finally:
         progress.clear()
+    for answer in judge.refused:
+        program.say(f"a change that was tried makes no plan: {answer}")
     if given.output:
         with open(given.output, "w", encoding="utf-8", newline="") as file:
             file.write(found.text)

@@ -1,7 +1,8 @@
 """Writes a plan as a DBC, as canmatrix reads it.
 
 Each group is a message for each unit that sends it, and where its identifier has a destination for each unit that it goes to. Groups
-that are told by the same bits are one multiplexed message. What a DBC can't say is listed on standard error.
+that are told by the same bits are one multiplexed message. What a DBC can't say is listed on standard error. Of a plan with choices it has all that
+stands in the file, or one vehicle.
 """
 
 from __future__ import annotations
@@ -30,7 +31,7 @@ def main(words: list[str] | None = None) -> int:
     """Writes the DBC; 0, or the program's status where it can't read the plan, or 1 where there are notes and there were to be none."""
     given, notes = options(words), Notes()
     with opened(given.plan, given.variant) as plan:
-        program.shown(plan)
+        program.values(plan)
         dbc = Writer(source_in(plan), notes)
     program.put(dbc.text())
     print(f"{len(dbc.names)} nodes {len(dbc.messages)} messages, notes {notes.count}", file=sys.stderr)

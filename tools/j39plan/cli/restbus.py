@@ -10,6 +10,7 @@ import sys
 from typing import Any
 
 from j39plan import program
+from j39plan.bench.options import bus_options, seconds
 from j39plan.bench.rest import Rest, Settings
 from j39plan.bench.values import Values, Wrong
 from j39plan.bench.wire import Wire
@@ -26,17 +27,6 @@ from j39plan.progress import Progress
 PERIODS = range(1, most_of("flow", "period") + 1)
 
 
-def seconds(text: str) -> float:
-    """A duration."""
-    try:
-        duration = float(text)
-    except ValueError:
-        duration = 0.0
-    if not 0 < duration < 1e9:
-        raise argparse.ArgumentTypeError(f"{text} is no number of seconds")
-    return duration
-
-
 def period(text: str) -> int:
     """A period in ms."""
     if not text.isdecimal() or int(text) not in PERIODS:
@@ -50,9 +40,7 @@ def words_of(words: list[str] | None) -> argparse.Namespace:
     parser.epilog = "example: %(prog)s plan.toml --interface socketcan --channel can0"
     program.plan_word(parser)
     parser.add_argument("--without", metavar="UNIT", action="append", default=[], help="a unit that isn't played, as it is on the bench itself; may be given several times")
-    parser.add_argument("--interface", required=True, help="an interface of python-can: socketcan, pcan, vector, ixxat, kvaser, virtual, udp_multicast and others")
-    parser.add_argument("--channel", required=True, help="a channel of it, as can0, PCAN_USBBUS1 or 239.74.163.2")
-    parser.add_argument("--bitrate", type=int, help="bits a second, of an interface that sets them")
+    bus_options(parser, True)
     parser.add_argument("--seconds", type=seconds, metavar="N", help="how long (until ^C)")
     parser.add_argument("--log", metavar="FILE", help="write what is sent and heard as a log of candump -L")
     parser.add_argument("--value", metavar="SIGNAL=V", action="append", default=[], help="a signal, as EEC1.SPN190, has this value, a number or its name")

@@ -262,14 +262,9 @@ class Wide(Form[Cells]):
         return f"{begin}{part.before}{''.join(cells)}{part.behind}"
 
 
-class Way(NamedTuple, Generic[Made]):
-    """What messages of one kind have alike, by their line without number, time and data: their group, how many lines are below those of so many bytes,
-    what is made of these, and who sends the messages to whom."""
-
-    group: str
-    below: Below
-    known: Known[Made] | None
-    ends: str
+# What messages of one kind have alike, by their line without number, time and data: their group, how many lines are below those of so many bytes,
+# what is made of these, and who sends the messages to whom.
+Way = tuple[str, Below, Known[Made] | None, str]
 
 
 class Table(Generic[Made]):
@@ -310,7 +305,7 @@ class Table(Generic[Made]):
         _, group, _, sender, _, to, *_ = words
         if len(self._ways) >= WRITTEN:
             self._ways.clear()
-        way = self._ways[head] = Way(group, self._below[group], self._wanted.known(group), self._form.ends(sender, to, group))
+        way = self._ways[head] = (group, self._below[group], self._wanted.known(group), self._form.ends(sender, to, group))
         return way
 
 

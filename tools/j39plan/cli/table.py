@@ -1,6 +1,7 @@
 """Writes a plan as tables: units, groups, signals, flows, needs and requests, with what the program answers of them.
 
-Each row has the line of the file. Tables that are named are written, else all that have rows.
+Each row has the line of the file, and of a plan with choices with which alternatives it is there. Tables that are named are written, else all that have
+rows.
 """
 
 import argparse
@@ -27,7 +28,8 @@ def sheets_of(name: str, wanted: Iterable[str], variant: list[str] | None) -> li
     text = text_of(name, variant)
     with program.file_of(text) as plan:
         answers = Answers(stands(program.call(["addresses", "--", plan])[1]), load_of(program.call(["load", "--", plan])[1]))
-        sheets = Sheets(Source(text, name), Tables.of(plan), answers)
+        source = Source(text, name)
+        sheets = Sheets(source, source.tables if source["choice"] else Tables.of(plan), answers)
     return [sheet for key, made in sheets.all.items() if key in wanted and (sheet := made()).rows]
 
 

@@ -6,15 +6,18 @@ counted on standard error.
 
 import argparse
 import importlib.util
+import io
 import os
 import stat
 import sys
 from collections import Counter
-from collections.abc import Iterable, Iterator
-from typing import TYPE_CHECKING, Any, TextIO
+from collections.abc import Callable, Iterable, Iterator
+from typing import TYPE_CHECKING, Any
 
 from j39plan import program
 from j39plan.j1939 import FRAME_BYTES
+from j39plan.log.files import whole
+from j39plan.log.other_formats import SAVVY, Asc, Savvy, Trc, WholeLines
 
 if TYPE_CHECKING:
     from can.message import Message
@@ -29,29 +32,8 @@ LOGS = (".log", ".log.gz")
 FROM_ONE, WITHOUT_CHANNELS = (".trc", ".trc.gz"), (".csv", ".csv.gz")
 
 # Endings of files of lines.
-TEXTS = (".asc", ".asc.gz", *FROM_ONE, *WITHOUT_CHANNELS)
-
-
-class WholeLines:
-    """The lines of a text without the last one where that is cut: one of a frame, which begins with a digit, and has no end of line. The readers
-    pass a frame over that is cut, or make a shorter one of it."""
-
-    def __init__(self, text: TextIO) -> None:
-        self._text, self.is_cut = text, False
-
-    def __iter__(self) -> Iterator[str]:
-        return self
-
-    def __next__(self) -> str:
-        line = next(self._text)
-        self.is_cut = not line.endswith("\n") and line.lstrip()[:1].isdigit()
-        if self.is_cut:
-            raise StopIteration
-        return line
-
-    def close(self) -> None:
-        """Closes the text."""
-        self._text.close()
+ASC_TEXTS = (".asc", ".asc.gz")
+TEXTS = (*ASC_TEXTS, *FROM_ONE, *WITHOUT_CHANNELS)
 
 
 def interface_of(channel: object) -> str:
@@ -75,21 +57,44 @@ def spelled(message: "Message", interface: str) -> str:
     return f"({max(message.timestamp, 0.0):017.6f}) {interface} {identifier}#{bytes(message.data).hex().upper()}\n"
 
 
-def messages_of(name: str) -> Iterator["Message"]:
+def is_savvy(name: str) -> bool:
+    """Whether a file is a CSV of SavvyCAN."""
+    if not name.lower().endswith(WITHOUT_CHANNELS) or not os.path.isfile(name):
+        return False
+    with whole(name) as file:
+        return file.read(len(SAVVY)) == SAVVY.encode()
+
+
+def reader_of(name: str, dropped: Counter[str]) -> tuple[Any, WholeLines | None]:
+    """What reads a file, and its lines, if it has any; what these have beside frames is counted."""
+    from can.io.player import LogReader
+
+    if is_savvy(name):
+        lines = WholeLines(io.TextIOWrapper(whole(name), "ascii", newline=""))
+        return Savvy(lines), lines
+    reader: Any = LogReader(name)
+    lower = name.lower()
+    if not lower.endswith(TEXTS):
+        return reader, None
+    translate: Callable[[str], str] = str
+    if lower.endswith(ASC_TEXTS):
+        translate = Asc(dropped)
+    elif lower.endswith(FROM_ONE):
+        translate = Trc()
+    lines = reader.file = WholeLines(reader.file, translate)
+    return reader, lines
+
+
+def messages_of(name: str, dropped: Counter[str]) -> Iterator["Message"]:
     """What python-can reads of a file. It says in many ways that it can't."""
     if importlib.util.find_spec("can") is None:
         raise program.Refused(program.MISSING, "python-can isn't there: apt-get install python3-can")
-    from can.io.player import LogReader
-
     with open(name, "rb") as file:  # what isn't there is told as such
         about = os.fstat(file.fileno())
     if stat.S_ISREG(about.st_mode) and about.st_size == 0:
         raise program.Refused(program.UNREADABLE, f"{name} is empty")
-    lines = None
     try:
-        reader: Any = LogReader(name)
-        if name.lower().endswith(TEXTS):
-            lines = reader.file = WholeLines(reader.file)
+        reader, lines = reader_of(name, dropped)
     except Exception as fault:  # as below
         raise program.Refused(program.UNREADABLE, f"{name}: {why(name, fault)}") from None
     count = 0
@@ -156,13 +161,13 @@ def main(words: list[str] | None = None) -> int:
     refuse_log(given.file)
     written: Counter[str] = Counter()
     dropped: Counter[str] = Counter()
-    for line in lines_of(messages_of(given.file), given.channels, written, dropped):
+    for line in lines_of(messages_of(given.file, dropped), given.channels, written, dropped):
         sys.stdout.write(line)
     refuse_unless_there(given.file, given.channels, written)
     if len(written) > 1 and not given.channels:
         found = ", ".join(f"{count} of {interface}" for interface, count in sorted(written.items()))
         program.say(f"{os.path.basename(given.file)} has several channels, and 'follow' reads the first of a log: {found} frames; see --channel")
-    if given.file.lower().endswith(WITHOUT_CHANNELS):
+    if given.file.lower().endswith(WITHOUT_CHANNELS) and not is_savvy(given.file):
         program.say(f"{os.path.basename(given.file)} has no channels, as each CSV of python-can: all its frames are of can0")
     for what, count in sorted(dropped.items()):
         program.say(f"{count} {what} are left out")

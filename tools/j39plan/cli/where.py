@@ -6,15 +6,16 @@ import sys
 from collections.abc import Callable, Iterable, Iterator
 
 from j39plan import program
-from j39plan.plan import code_quality
+from j39plan.plan import code_quality, sarif
 from j39plan.plan.answer_objects import check_object
 from j39plan.plan.answer_places import Placed, placed
 from j39plan.plan.files import opened
 from j39plan.plan.further_faults import further_faults
 from j39plan.plan.hints import variants
 from j39plan.plan.hints.lint import Lint
+from j39plan.plan.hints.names import Asked, asked_in
 from j39plan.plan.parts import Source, source_in
-from j39plan.plan.reference import Reference
+from j39plan.plan.reference import Reference, shipped_reference
 from j39plan.vehicle.answer_objects import vehicle_object
 from j39plan.vehicle.answer_places import InFile
 from j39plan.vehicle.answers import answered, readable
@@ -62,8 +63,10 @@ def github_notice(file: str, line: int, text: str, _: list[str]) -> list[str]:
 def hints_of(given: argparse.Namespace, plan: str, used: frozenset[str] = frozenset()) -> list[Placed]:
     """The hints at a plan that can be read, and of whose units with these labels a vehicle makes use, as far as they are asked for."""
     source = source_in(plan)
-    told = [*(variants.nowhere(source) if source["choice"] else ()), *(Lint(source, used).hints() if given.lint else ())]
-    hints = [Placed(line, f"hint {text}", "", []) for line, text in sorted(told)]
+    asked: Asked = given.asked
+    told = [(line, text, "") for line, text in (variants.nowhere(source) if source["choice"] else ())]
+    told += Lint(source, used).named(asked) if given.lint else []
+    hints = [Placed(line, f"hint {text}", name, []) for line, text, name in sorted(told)]
     reference: Reference | None = given.reference
     return hints + (reference.differences(source) if reference else [])
 
@@ -78,18 +81,29 @@ def words_of(words: list[str] | None) -> argparse.Namespace:
     """The words of the command line."""
     parser = program.parser(__doc__)
     parser.epilog = "example: %(prog)s --lint plan.toml"
-    parser.add_argument("plan", metavar="PLAN", type=program.input_name, help="the name of a plan file, or of a vehicle file")
+    parser.add_argument("plan", metavar="PLAN", nargs="?", type=program.input_name, help="the name of a plan file, or of a vehicle file")
     forms = parser.add_mutually_exclusive_group()
     forms.add_argument("--github", action="store_true", help="as annotations of GitHub's CI")
     forms.add_argument("--json", action="store_true", help="as a JSON object: status, findings with their parts, lines, hints and steps")
     parser.add_argument("--gitlab", metavar="FILE", help="write them into a file too, as a code quality report of GitLab's CI, in which "
                         "those of other plans stay")
-    parser.add_argument("--reference", metavar="FILE", type=Reference, help="with hints at signals that a DBC of SAE J1939, or a plan of its groups, has "
-                        "otherwise by their SPNs: place, width, scale, unit, PGN, priority, length")
+    parser.add_argument("--sarif", metavar="FILE", help="write them into a file too, as SARIF 2.1.0, which GitHub's code scanning and others show; those of "
+                        "other plans stay")
+    parser.add_argument("--reference", metavar="FILE", nargs="?", const="", help="with hints at signals that a DBC of SAE J1939, or a plan of its groups, has "
+                        "otherwise by their SPNs: place, width, scale, unit, PGN, priority, length; without FILE the database of python3-canmatrix")
     program.variant_option(parser)
-    parser.add_argument("--lint", action="store_true", help="with hints that are no findings, as FILE:LINE: hint ANSWER, for example "
-                        "of a group that no flow sends; they don't change the status")
-    return parser.parse_args(words)
+    parser.add_argument("--lint", action="store_true", help="with hints that are no findings, as FILE:LINE: hint ANSWER  (NAME), for example "
+                        "of a group that no flow sends; they don't change the status. Behind it, -NAME silences those of a name, +NAME asks for "
+                        "those that come with nearly every plan")
+    rest, asked = asked_in(sys.argv[1:] if words is None else words)
+    given = parser.parse_args(rest, argparse.Namespace(asked=asked))
+    if given.plan is None and given.reference:  # the plan stands right behind the option
+        given.plan, given.reference = program.input_name(given.reference), ""
+    if given.plan is None:
+        parser.error("the following arguments are required: PLAN")
+    if given.reference is not None:
+        given.reference = Reference(given.reference) if given.reference else shipped_reference()
+    return given
 
 
 def in_files(found: Iterable[InFile], form: Form) -> Iterator[str]:
@@ -98,11 +112,14 @@ def in_files(found: Iterable[InFile], form: Form) -> Iterator[str]:
         yield from annotate(file, [part], form)
 
 
-def report(given: argparse.Namespace, found: list[InFile]) -> None:
-    """Writes what was found in each file into a code quality report."""
-    for file in dict.fromkeys(one.file for one in found):
-        issues = [(part.line, part.text, part.below) for name, _, part in found if name == file and part.line is not None]
-        code_quality.write(given.gitlab, file, issues)
+def report(given: argparse.Namespace, status: int, found: list[InFile]) -> None:
+    """Writes what was found in each file into the reports that are wanted, where it could be checked."""
+    for file in dict.fromkeys(one.file for one in found) if status in (0, 1, 2) else ():
+        issues = [(part.line, part.text, part.all_below) for name, _, part in found if name == file and part.line is not None]
+        if given.gitlab:
+            code_quality.write(given.gitlab, file, issues)
+        if given.sarif:
+            sarif.write(given.sarif, file, issues)
 
 
 def hints_at_buses(given: argparse.Namespace, name: str, data: bytes) -> Iterator[InFile]:
@@ -124,8 +141,7 @@ def of_vehicle(given: argparse.Namespace, name: str, data: bytes) -> int:
     else:
         notice, form = (github_notice, github_annotation) if given.github else (compiler_message, compiler_message)
         sys.stdout.write("".join(f"{line}\n" for line in (*in_files(hints, notice), *in_files([*parts, *further], form))))
-    if given.gitlab and status in (0, 1, 2):
-        report(given, [*hints, *parts, *further])
+    report(given, status, [*hints, *parts, *further])
     return status
 
 
@@ -151,9 +167,7 @@ def main(words: list[str] | None = None) -> int:
         print(json.dumps(check_object(given.plan, status, parts, hints if given.lint or given.reference else None, further), indent=1))
     else:
         sys.stdout.write("".join(f"{line}\n" for line in lines_of(given.plan, hints, [*parts, *further], given.github)))
-    if given.gitlab and status in (0, 1, 2):
-        issues = [(part.line, part.text, part.all_below) for part in (*hints, *parts, *further) if part.line is not None]
-        code_quality.write(given.gitlab, given.plan, issues)
+    report(given, status, [InFile(given.plan, "", part) for part in (*hints, *parts, *further)])
     return status
 
 

@@ -17,13 +17,15 @@ if TYPE_CHECKING:
 
 @dataclass(eq=False)
 class Known:
-    """A signal that a message of a group has, and whether the plan lacks it."""
+    """A signal that a message of a group has; whether the plan lacks it, why, and whether its bits are held then."""
 
     signal: canmatrix.Signal
     said: Said
     bits: int
     message: str
     is_left_out: bool = False
+    why: str = ""
+    is_held: bool = False
 
 
 def number_in(signal: canmatrix.Signal) -> str:

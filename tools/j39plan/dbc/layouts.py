@@ -9,7 +9,7 @@ from collections.abc import Iterable, Iterator
 from typing import TYPE_CHECKING, NamedTuple
 
 from j39plan.dbc.names import ALWAYS_ATTRIBUTE, GROUPS_ATTRIBUTE, KIND_ATTRIBUTE, SELECTOR_KIND
-from j39plan.dbc.signals import is_selector, place_of
+from j39plan.dbc.signals import is_selector, is_sometimes, place_of
 from j39plan.dbc.times import times_of
 from j39plan.j1939 import PROPRIETARY
 from j39plan.left_out import LeftOut, Notes, plain
@@ -45,11 +45,6 @@ def are_apart(one: dict[str, int] | None, other: dict[str, int] | None) -> bool:
     return one is not None and other is not None and one["value"] != other["value"] and {**one, "value": 0} == {**other, "value": 0}
 
 
-def is_multiplexed(signal: canmatrix.Signal) -> bool:
-    """Whether only some messages have a signal, by their multiplexor."""
-    return bool((signal.multiplex is not None or signal.mux_val_grp) and not is_selector(signal))
-
-
 def only_selects(signal: canmatrix.Signal) -> bool:
     """Whether a signal is none of a plan, and stands in the file for the bits by which groups are told."""
     return bool(signal.attributes.get(KIND_ATTRIBUTE) == SELECTOR_KIND)
@@ -64,7 +59,7 @@ def values_of(signal: canmatrix.Signal) -> list[range]:
 
 def has(signal: canmatrix.Signal, value: int) -> bool:
     """Whether messages with this value of the multiplexor have a signal."""
-    return not is_multiplexed(signal) or any(value in some for some in values_of(signal))
+    return not is_sometimes(signal) or any(value in some for some in values_of(signal))
 
 
 def selector_of(frame: canmatrix.Frame, version: int) -> tuple[canmatrix.Signal, Bits]:
@@ -115,7 +110,7 @@ class Layouts:
 
     def _bits_of(self, frame: canmatrix.Frame) -> Bits | None:
         """The bits by which the messages of a frame are told, if it is multiplexed; why they can't be is said."""
-        if not frame.arbitration_id.extended or not (any(map(is_multiplexed, frame.signals)) or frame.attributes.get(GROUPS_ATTRIBUTE)):
+        if not frame.arbitration_id.extended or not (any(map(is_sometimes, frame.signals)) or frame.attributes.get(GROUPS_ATTRIBUTE)):
             return None
         try:
             return selector_of(frame, self._version)[1]
@@ -141,7 +136,7 @@ class Layouts:
                 named: Iterable[int]) -> list[int]:
         """The values of the multiplexor with which a message has further ones of these signals, or that it names; those that none can have are
         said, and those of which there are too many."""
-        some = [one for signal in signals if is_multiplexed(signal) for one in values_of(signal)]
+        some = [one for signal in signals if is_sometimes(signal) for one in values_of(signal)]
         held = [range(max(one.start, 0), min(one.stop, 1 << bits.bits)) for one in some]
         for one, kept in zip(some, held, strict=True):
             if len(kept) < len(one):
@@ -153,9 +148,9 @@ class Layouts:
 
     def _is_nested(self, signal: canmatrix.Signal, selector: canmatrix.Signal, frame: canmatrix.Frame) -> bool:
         """Whether a signal hangs on another multiplexor than that of each message, which is said."""
-        if not is_multiplexed(signal) or signal.muxer_for_signal in (None, selector.name):
+        if not is_sometimes(signal) or signal.muxer_for_signal in (None, selector.name):
             return False
-        self._notes.say(f"signal {signal.name} of {frame.name}", f"it is multiplexed by {signal.muxer_for_signal}, which not each message has")
+        self._notes.say(f"signal {signal.name} of {frame.name}", f"left out: it is multiplexed by {signal.muxer_for_signal}, which not each message has")
         return True
 
 
@@ -176,7 +171,7 @@ def plainly(signals: list[canmatrix.Signal], value: int) -> Iterator[canmatrix.S
     for signal in signals:
         if has(signal, value):
             same = copy.copy(signal)
-            if not is_multiplexed(signal):
+            if not is_sometimes(signal):
                 same.attributes = {**signal.attributes, **({} if is_selector(signal) else {ALWAYS_ATTRIBUTE: "1"})}
                 yield same
                 continue

@@ -10,8 +10,9 @@ from j39plan.dbc import reader
 from j39plan.dbc.names import (
     ADDRESS_ATTRIBUTE, ARBITRARY_ATTRIBUTE, BITRATE_ATTRIBUTE, FORMAT_ATTRIBUTE, IDENTITY_ATTRIBUTE, J1939_FORMAT, NAME_ATTRIBUTES, NOBODY, UNIT_ATTRIBUTE,
 )
+from j39plan.dbc.senders import senders_of, source_of
 from j39plan.dbc.times import attribute_of
-from j39plan.left_out import LeftOut, Notes, plain
+from j39plan.left_out import LeftOut, Notes, plain, some_of
 from j39plan.plan.schema import VERSIONS, bitrates_of
 
 if TYPE_CHECKING:
@@ -147,6 +148,17 @@ class Network:
             if default is not None and attribute not in ecu.attributes:
                 node.defaults.setdefault(attribute, default)
         node.comment = node.comment or ecu.comment or ""
+
+    def make_units(self) -> None:
+        """Makes a unit of each source address, where the files have no nodes at all. If all are 0, the identifiers name groups, and nobody's address."""
+        addresses = sorted({source for frame in self.frames if (source := source_of(frame)) is not None})
+        if self.nodes or not any(addresses):
+            return
+        self.nodes = {f"SA_{address}": Node(f"SA_{address}", {ADDRESS_ATTRIBUTE: address}) for address in addresses}
+        for frame in self.frames:
+            if not senders_of(frame) and (source := source_of(frame)) is not None:
+                frame.transmitters = [f"SA_{source}"]
+        self.notes.say("units", f"there are no nodes: {some_of(list(self.nodes))} {'are' if len(addresses) > 1 else 'is'} made of the source addresses of identifiers")
 
     def add_bitrate(self, matrix: canmatrix.CanMatrix, file: str) -> None:
         """Notes how fast the bus is, if a file says so."""

@@ -12,6 +12,8 @@ from typing import TYPE_CHECKING, NamedTuple
 
 from j39plan import program
 from j39plan.left_out import LeftOut, Notes, plain
+from j39plan.sheet import files as sheet_files
+from j39plan.sheet.columns import Mapping
 
 if TYPE_CHECKING:
     import canmatrix
@@ -109,7 +111,7 @@ def kind_of(name: str, kind: str | None) -> str:
     import canmatrix.formats
     kind = kind or name.rpartition(".")[2].lower()
     if kind not in KINDS:
-        raise LeftOut("it is none of .dbc, .arxml, .kcd and .sym by its ending: name its kind by --kind")
+        raise LeftOut("it is none of .dbc, .arxml, .kcd, .sym, .csv, .xlsx and .ods by its ending: name its kind by --kind")
     if kind not in canmatrix.formats.loadedFormats:
         raise LeftOut(f"canmatrix doesn't read .{kind}: apt-get install python3-lxml")
     return kind
@@ -156,14 +158,20 @@ def chosen_bus(buses: dict[str, canmatrix.CanMatrix], bus: str | None) -> canmat
 
 
 class Form(NamedTuple):
-    """What is said of a file beside its name: which of its buses is wanted, of which kind it is, and in which encoding its lines are."""
+    """What is said of a file beside its name: which of its buses is wanted, of which kind it is, in which encoding its lines are, and of a sheet which
+    columns are which."""
 
     bus: str | None = None
     kind: str | None = None
     encoding: str | None = None
+    columns: Mapping = Mapping({}, [])
 
 
 def load(name: str, data: bytes, form: Form, notes: Notes) -> canmatrix.CanMatrix:
     """The bus of a file of this name, which holds these bytes: the one that is wanted, or its only one."""
+    kind = (form.kind or name.rpartition(".")[2]).lower()
+    if kind in sheet_files.KINDS:
+        from j39plan.sheet import matrix
+        return matrix.load(kind, data, form.encoding, form.columns, notes)
     import_canmatrix()
     return chosen_bus(buses_of(kind_of(name, form.kind), data, form.encoding, notes), form.bus)

@@ -10,6 +10,7 @@ from functools import lru_cache
 from math import lcm
 from typing import TYPE_CHECKING, Any, NamedTuple
 
+from j39plan.dbc.holders import Holders
 from j39plan.dbc.known import Known, difference, same_signal
 from j39plan.dbc.names import (
     ALWAYS_ATTRIBUTE, BYTES_ATTRIBUTE, CODE_CONTENT, CONTENT_ATTRIBUTE, KIND_ATTRIBUTE, REPEATED_ATTRIBUTE, SIGNAL_ATTRIBUTE, SPN_ATTRIBUTE, TEXT_CONTENT,
@@ -49,6 +50,10 @@ def values_of(kind: str, bits: int) -> tuple[int, int]:
     most = (1 << bits) - 1
     reserved = {"measured": 5 << (bits - 8) if bits >= 8 else 0, "discrete": 2, "states": 2}
     return 0, max(0, most - reserved.get(kind, 0))
+
+
+class Misplaced(LeftOut):
+    """Why a signal isn't in the plan that could be: it lies outside of its group, or over an earlier one."""
 
 
 class Steps(NamedTuple):
@@ -173,9 +178,14 @@ def is_text(signal: canmatrix.Signal) -> bool:
                 or (signal.size > BITS and (signal.unit or "").upper() == "ASCII"))
 
 
+def is_sometimes(signal: canmatrix.Signal) -> bool:
+    """Whether a signal isn't in each message."""
+    return bool((signal.multiplex is not None or signal.mux_val_grp) and not is_selector(signal))
+
+
 def check_sent_always(signal: canmatrix.Signal) -> None:
     """Refuses a signal that isn't in each message."""
-    if (signal.multiplex is not None or signal.mux_val_grp) and not is_selector(signal):
+    if is_sometimes(signal):
         raise LeftOut("it is multiplexed")
 
 
@@ -190,7 +200,7 @@ def place_of(signal: canmatrix.Signal, version: int) -> int:
         raise LeftOut(f"it has {signal.size} bits, more than {BITS}" if signal.size > BITS else "it has no bits")
     start: int = signal.get_startbit(bit_numbering=1, start_little=True)
     if not signal.is_little_endian and start % 8 + signal.size > 8:
-        raise LeftOut("its most significant byte comes first")
+        raise LeftOut("its most significant byte comes first (Motorola)")
     if not 0 <= start < 8 * BYTES:
         raise LeftOut(f"it begins at byte {start // 8 + 1}")
     return start
@@ -323,6 +333,10 @@ class Signals:
             kept.table.remarks[:] = remarks_of(kept.signal, kept.table.keys, receivers, kept.names)
         return [kept.table for kept in self.kept]
 
+    def holders(self) -> Holders:
+        """What holds the places of the signals that aren't in the plan."""
+        return Holders(self.known, self.labels, self.lengths[0], len(self.signals), self.notes)
+
     def said_of(self, signal: canmatrix.Signal) -> Said:
         """Where a signal lies, and what it means."""
         return Said.of(signal, kind_of(signal, self.version, self.is_private))
@@ -340,7 +354,7 @@ class Signals:
                 if self.contradicts(signal, frame, earlier, message):
                     contradicted.append(plain(signal.name))
             except LeftOut as why:
-                self.say(signal, frame, why)
+                self.say(signal, frame, f"left out: {why}")
         return contradicted
 
     def contradicts(self, signal: canmatrix.Signal, frame: canmatrix.Frame, earlier: list[Known], message: str) -> bool:
@@ -402,7 +416,7 @@ class Signals:
         """Leaves out a signal that lies outside or over an earlier one, unless it is to be kept."""
         fault = self.layout.fault(start, signal.size, self.length_of(frame))
         if fault and not self.strict:
-            raise LeftOut(fault)
+            raise Misplaced(fault)
         if fault:
             self.say(signal, frame, f"{fault}, and is kept")
 
@@ -416,14 +430,22 @@ class Signals:
 
     def add(self, known: Known, frame: canmatrix.Frame) -> None:
         """Adds a signal or a text, as far as a plan has it."""
-        signal, receivers = known.signal, dict.fromkeys(known.signal.receivers)
         self.known.append(known)
         known.is_left_out = True
+        try:
+            self.add_table(known, frame)
+        except LeftOut as why:
+            known.why, known.is_held = str(why), not isinstance(why, Misplaced) and not is_sometimes(known.signal)
+            raise
+        known.is_left_out = False
+
+    def add_table(self, known: Known, frame: canmatrix.Frame) -> None:
+        """Adds the table of a signal or a text."""
+        signal, receivers = known.signal, dict.fromkeys(known.signal.receivers)
         if is_text(signal) and knows(self.version, ("group", "text")):
             self.texts.append(Kept(signal, known.said, self.text(signal, frame), receivers, {}))
         else:
             self.signals.append(Kept(signal, known.said, self.number(signal, frame), receivers, {}))
-        known.is_left_out = False
 
     def text(self, signal: canmatrix.Signal, frame: canmatrix.Frame) -> Table:
         """The table of a text. It may lie over signals."""

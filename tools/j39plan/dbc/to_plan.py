@@ -9,11 +9,12 @@ from dataclasses import dataclass, field
 from itertools import takewhile
 from typing import TYPE_CHECKING, Any
 
+from j39plan.dbc.addresses import addresses_of, number_in, own
 from j39plan.dbc.agreement import agree
 from j39plan.dbc.layouts import Layouts, are_apart
 from j39plan.dbc.merge import Network, Node, Sent
 from j39plan.dbc.names import (
-    ADDRESS_ATTRIBUTE, ARBITRARY_ATTRIBUTE, EVERY_ATTRIBUTE, GROUP_ATTRIBUTE, IDENTITY_ATTRIBUTE, MOST_ATTRIBUTE, NAME_ATTRIBUTES, NOBODY,
+    ARBITRARY_ATTRIBUTE, EVERY_ATTRIBUTE, GROUP_ATTRIBUTE, IDENTITY_ATTRIBUTE, MOST_ATTRIBUTE, NAME_ATTRIBUTES, NOBODY,
     UNIT_ATTRIBUTE,
 )
 from j39plan.dbc.numbers import Box, numbers_of
@@ -35,20 +36,6 @@ UNITS, GROUPS, FLOWS, NEEDS = (most_of("", array) for array in ("unit", "group",
 PERIODS, DISTANCES = range(1, most_of("flow", "period") + 1), range(1, most_of("group", "every") + 1)
 
 
-def number_in(node: Node, attribute: str, most: int, value: object, notes: Notes) -> int | None:
-    """The number of 0..most that a node has for an attribute by this value; another value is said."""
-    number = number_of(value)
-    if value in (None, "") or number is not None and 0 <= number <= most:
-        return number
-    notes.say(f"unit {node.name}, {attribute}", f"{value} is outside 0..{most}")
-    return None
-
-
-def own(node: Node, attribute: str, most: int, notes: Notes) -> int | None:
-    """The number that a node itself gives for an attribute: a default would give all nodes the same."""
-    return number_in(node, attribute, most, node.given.get(attribute), notes)
-
-
 def shared(node: Node, attribute: str, most: int, notes: Notes) -> int | None:
     """The number of an attribute that nodes can share: the node's own, else its file's default, which is said."""
     is_own = attribute in node.given
@@ -65,37 +52,6 @@ def name_of(node: Node, notes: Notes) -> dict[str, Any]:
     if shared(node, ARBITRARY_ATTRIBUTE, 1, notes):
         name["arbitrary"] = True
     return name
-
-
-def sources_of(frames: Iterable[canmatrix.Frame]) -> dict[str, set[int]]:
-    """From which addresses the frames of each node come."""
-    sources = defaultdict(set)
-    for frame in frames:
-        if frame.arbitration_id.extended and frame.arbitration_id.j1939_source not in (NULL_ADDRESS, GLOBAL_ADDRESS):
-            for name in frame.transmitters:
-                sources[name].add(frame.arbitration_id.j1939_source)
-    return sources
-
-
-def address_of(node: Node, sources: set[int], notes: Notes) -> int:
-    """The address of a unit: its own, else the one from which all its frames come."""
-    address = own(node, ADDRESS_ATTRIBUTE, NULL_ADDRESS, notes)
-    if address is not None and address != NULL_ADDRESS:
-        return address
-    if len(sources) == 1:
-        return next(iter(sources))
-    raise LeftOut("its frames come from several addresses" if sources else "no address is given")
-
-
-def addresses_of(network: Network, notes: Notes) -> dict[str, int]:
-    """The addresses of the nodes that have one."""
-    sources, found = sources_of(network.frames), dict[str, int]()
-    for name, node in network.nodes.items():
-        try:
-            found[name] = address_of(node, sources[name], notes)
-        except LeftOut as why:
-            notes.say(f"unit {name}", why)
-    return found
 
 
 def check_frame(frame: canmatrix.Frame, version: int) -> None:
@@ -202,6 +158,7 @@ class Conversion:
         self.flows: dict[tuple[str, str, str], Flow] = {}
         self.periods = PERIODS if knows(version, ("flow", "period")) else range(0)
         self.unit_labels, self.group_labels = Labels({"all"}), Labels()
+        self.lost: list[str] = []
         self.names: dict[tuple[int, int | None], str] = {}
         self.lengths: dict[tuple[int, int | None], range] = {}
 
@@ -209,14 +166,17 @@ class Conversion:
         """The tables of the plan, in the order of its file."""
         yield from self.units.values()
         for group in self.groups:
-            group.table.inside = group.signals.tables(self.labels_of)
+            holders = group.signals.holders()
+            group.table.inside = [*group.signals.tables(self.labels_of), *holders.tables]
+            if holders.named:
+                group.table.beside["length"] = "; ".join(holders.named)
             yield group.table
         yield from (flow.finished(self.needed_by(*way)) for way, flow in self.flows.items())
         yield from self.needs.values()
 
     def add_units(self) -> None:
         """The units of the network that have an address."""
-        addresses = addresses_of(self.network, self.notes)
+        addresses = addresses_of(self.network, self.lose, self.notes)
         for name in list(addresses)[UNITS:]:
             self.notes.say(f"unit {name}", f"a plan has at most {UNITS} units")
         nodes = [(self.network.nodes[name], address) for name, address in list(addresses.items())[:UNITS]]
@@ -245,6 +205,11 @@ class Conversion:
         if there is not None and not node.known_by & self.network.nodes[there].known_by:
             self.notes.say(f"unit {node.name}", f"{there} is at address {address} too: --same {there}={node.name}, if they are one")
         self.units[node.name] = Table("unit", {"label": label, "address": address, "name": name}, remark(long, label, quoted(node.comment)))
+
+    def lose(self, what: str, why: object) -> None:
+        """Says what isn't in the plan, and keeps that for the top of its file."""
+        self.notes.say(what, why)
+        self.lost.append(": ".join(filter(None, (self.notes.file, what, str(why)))))
 
     def labels_of(self, names: Iterable[str]) -> list[str]:
         """The labels of the nodes of these names that are units of the plan."""
@@ -488,7 +453,7 @@ class Conversion:
                 if self.has_needs:
                     self.add_needs(one.frame, group)
             except LeftOut as why:
-                self.notes.say(f"group {one.name or one.frame.name}", why)
+                self.lose(f"group {one.name or one.frame.name}", f"left out: {why}")
         self.notes.file, self.notes.are_new = "", False
         self.say_whole_ranges()
         self.say_unmet()

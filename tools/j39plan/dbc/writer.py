@@ -119,6 +119,8 @@ class Writer:
             self.notes.say("timing", "a DBC has no count of unplanned frames")
             for key in [key for key in self.source.places.keys(("timing",)) if key not in ("bitrate", "unplanned")]:
                 self.notes.say("timing", f"a DBC has no {key}")
+        if choices := self.source["choice"]:
+            self.notes.say("choice", f"a DBC has no alternatives: what goes with those of {len(choices)} choices stands in it together")
         if self.source.kept:
             self.notes.say("keep_free", "a DBC has no addresses that are kept free")
         if requests := self.tables.requests:

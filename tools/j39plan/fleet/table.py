@@ -241,7 +241,7 @@ def moment_of(seconds: float | None) -> str:
         return "-"
     if seconds < DATED:
         return f"{seconds:.3f}"
-    return f"{datetime.datetime.fromtimestamp(int(seconds), datetime.UTC):%Y-%m-%d %H:%M:%S}.{int(seconds * 1000) % 1000:03}"
+    return f"{datetime.datetime.fromtimestamp(int(seconds), datetime.timezone.utc):%Y-%m-%d %H:%M:%S}.{int(seconds * 1000) % 1000:03}"
 
 
 def duration_of(row: dict[str, Any]) -> str:

@@ -6,13 +6,16 @@ from __future__ import annotations
 import logging
 import os
 import pickle
+import socket
 import subprocess
 import sys
 import threading
+import time
 from collections.abc import Callable, Iterable, Iterator
 from concurrent.futures import Future, ThreadPoolExecutor
 from queue import Empty, SimpleQueue
 from typing import Any
+from urllib.parse import urlsplit
 
 from j39plan import program
 from j39plan.fleet.drives import Drive, drive_of, empty
@@ -20,8 +23,8 @@ from j39plan.fleet.drives import Drive, drive_of, empty
 # How often a task is begun whose process is ended.
 TRIES = 3
 
-# How long a scheduler and its workers are waited for, in seconds, and how long an answer at a time.
-PATIENCE, MOMENT = 60, 0.5
+# How long a scheduler and its workers are waited for, in seconds, how long one that starts until it listens, and how long an answer at a time.
+PATIENCE, STARTING, MOMENT = 60, 5, 0.5
 
 # What a task is done with: the text of the plan and what `show` answers of it, what the log is called and where it lies, and the options of
 # `against`.
@@ -120,6 +123,19 @@ class Processors:
         return lost(task, f"the process that read it was ended, {TRIES} times")
 
 
+def refuse_unless_listening(address: str) -> None:
+    """Refuses an address at which no scheduler listens, and none begins to for a while: Dask itself tries that much longer."""
+    there, end = urlsplit(address if "://" in address else f"tcp://{address}"), time.monotonic() + STARTING
+    while there.scheme in ("tcp", "tls"):
+        try:
+            with socket.create_connection((there.hostname, there.port or 0), timeout=max(end - time.monotonic(), MOMENT)):
+                return
+        except (OSError, ValueError) as fault:
+            if time.monotonic() + MOMENT >= end:
+                raise program.Refused(program.DEVICE, f"{address}: no scheduler listens there, within {STARTING} s: {fault}") from None
+        time.sleep(MOMENT)
+
+
 class Cluster:
     """The workers of a Dask cluster. They read the logs by the same names, and have the program and the package `j39plan`."""
 
@@ -130,6 +146,7 @@ class Cluster:
             raise program.Refused(program.MISSING, "distributed isn't there: apt-get install python3-distributed") from None
         logging.getLogger("distributed").setLevel(logging.CRITICAL)  # what matters is said by the tables
         self._distributed = distributed
+        refuse_unless_listening(address)
         try:
             self._client = distributed.Client(address, timeout=PATIENCE)
             self._client.wait_for_workers(1, timeout=PATIENCE)

@@ -55,6 +55,56 @@ def lines_of(answer: str) -> list[Line]:
     return [line_of(text, LINES) for text in lines] if lines and lines[-1].startswith("deviations ") else []
 
 
+class Accused(NamedTuple):
+    """Whom a line of `audit` accuses of what: its `text` and its first word; what that means, and what to ask the supplier; how often, and the first line of
+    the log; the unit, group, flow, request, address or NAME, as far as the line has them; and the `worst` line, by how many us."""
+
+    text: str
+    word: str
+    means: str
+    ask: str
+    times: int
+    first: int
+    unit: str | None = None
+    group: str | None = None
+    flow: int | None = None
+    request: int | None = None
+    address: int | None = None
+    name: str | None = None
+    worst: int | None = None
+    by: int | None = None
+
+
+class Audit(NamedTuple):
+    """What a log refutes of a plan: who is `accused`; how often each flow was seen, by its number; and how many lines of the log are frames, have 11-bit
+    identifiers (`skipped`), spell none (`bad`), are of other interfaces (`elsewhere`), or are of no sure sender, and how often it breaks off."""
+
+    accused: list[Accused]
+    seen: dict[int, int]
+    frames: int
+    skipped: int
+    bad: int
+    elsewhere: int
+    unsure: int
+    breaks: int
+
+
+def accused_of(line: Line) -> Accused:
+    """A line that accuses."""
+    said: dict[str, Any] = {**WORDS[line.word("word")]._asdict(), **{key: value for key, value in line.parts.items() if key in Accused._fields}}
+    return Accused(line.text, **said)
+
+
+def audit_of(answer: str) -> Audit | None:
+    """What it answers; None where it answers as `check` does, of a plan with findings, or as `show`, of one that is refused."""
+    lines = lines_of(answer)
+    if not lines:
+        return None
+    counts: dict[str, Any] = {key: value for line in lines if line.kind == "counts" for key, value in line.parts.items() if key in Audit._fields}
+    seen = {line.number("flow"): line.number("seen") for line in lines if line.kind == "flow"}
+    return Audit([accused_of(line) for line in lines if line.kind == "accused"], seen, **counts)
+
+
 def audit_object(plan: str, log: str, status: int, lines: list[Line]) -> dict[str, Any]:
     """What it answers, as JSON: who is accused of what, with what that means and what to ask the supplier, what was seen, and the counts."""
     found: dict[str, Any] = {"plan": plan, "log": log, "status": status, **{name: [] for name in SEVERAL.values()}}

@@ -58,7 +58,7 @@ def counted(first: int | None) -> str:
     text, at = "time in s from the log's first frame, at ", f"{first // SECOND}.{first % SECOND // 1000:06}"
     if first < CALENDAR * SECOND:
         return text + at
-    day = datetime.datetime.fromtimestamp(first // SECOND, datetime.UTC)
+    day = datetime.datetime.fromtimestamp(first // SECOND, datetime.timezone.utc)
     return f"{text}{day:%Y-%m-%d %H:%M:%S} UTC ({at})"
 
 

@@ -15,7 +15,7 @@ import time
 import zlib
 from collections.abc import Sequence
 from types import FrameType
-from typing import BinaryIO, Self
+from typing import BinaryIO
 
 from j39plan import program
 
@@ -60,7 +60,7 @@ def is_live(file: Opened) -> bool:
 
 def opened(name: str) -> Opened:
     """A file of a log, unpacked where gzip has packed it. A pipe is read as it is."""
-    return Unpacked(name, "rb") if is_packed(name) else open(name, "rb", buffering=0)
+    return Unpacked(name, "rb") if is_packed(name) else open(program.place_of(name), "rb", buffering=0)
 
 
 def is_packed(name: str) -> bool:
@@ -93,7 +93,7 @@ class Log(io.RawIOBase):
         self._woken, self._wake = os.pipe()
         self._end: float | None = None
 
-    def __enter__(self) -> Self:
+    def __enter__(self) -> "Log":
         return self
 
     def close(self) -> None:

@@ -10,7 +10,7 @@ from typing import NamedTuple
 
 from j39plan import program
 from j39plan.j1939 import ADDRESS_CLAIMED, FRAME_BYTES, GLOBAL_ADDRESS, identity_in, kind_of, pgn_in, source_in
-from j39plan.log.checks.feed import FRAME
+from j39plan.log.checks.lines import FRAME
 from j39plan.log.files import LINE_MOST, interface_of, whole
 from j39plan.plan.cut import of_any_number
 from j39plan.plan.tables import Tables, Unit

@@ -5,20 +5,13 @@ from __future__ import annotations
 from collections.abc import Iterable, Iterator
 from itertools import chain
 
-from j39plan.j1939 import NAME_FIELDS, POOL
-from j39plan.mend.attempts import Attempt, Mend
+from j39plan.j1939 import NAME_FIELDS, POOL, PREFERRED_ADDRESSES
+from j39plan.mend.attempts import Attempt, Mend, ask_first
 from j39plan.mend.edits import Change, setting
 from j39plan.mend.judge import Draft
 from j39plan.plan.answer_grammar import Line
 from j39plan.plan.hints import ends
 from j39plan.plan.tables import Unit
-
-# The addresses that SAE J1939 gives to functions of the first 128, by the number of the function: the engine's, the transmission's, and so on.
-PREFERRED = {
-    0: (0, 1), 3: (3, 4), 5: (5, 6), 6: (7,), 7: (8,), 8: (9, 10), 9: (11,), 10: (12,), 11: (13, 14), 12: (15,), 13: (16,), 14: (17,), 15: (18,),
-    16: (19,), 17: (20,), 18: (21, 22), 19: (23,), 20: (24,), 21: (25, 58), 22: (27,), 23: (28,), 24: (29,), 26: (33,), 27: (36,), 28: (37,),
-    29: (38,), 30: (39,), 32: (42,), 34: (46,), 35: (47, 64), 36: (48,), 37: (49, 50), 38: (51,), 39: (52, 53), 40: (54,), 41: (55,),
-}
 
 # Addresses outside of those that units may choose, but those of off-board tools and those above, which are no unit's for good (SAE J1939).
 OUTSIDE = (*range(POOL.start), 248)
@@ -32,14 +25,14 @@ CAN_CHOOSE = "only if the unit really can take another address"
 def preferred(draft: Draft, unit: Unit) -> tuple[int, ...]:
     """The addresses of a unit's function, where the plan says that."""
     said = (*unit.place, "name", "function") in draft.source.places.lines
-    return PREFERRED.get(unit.fields["function"], ()) if said else ()
+    return PREFERRED_ADDRESSES.get(unit.fields["function"], ()) if said else ()
 
 
 def free(draft: Draft, unit: Unit) -> Iterator[int]:
     """The addresses that no unit has: those of the unit's function first, then those outside of 128..247 that no function has, the others there,
     and those inside that aren't kept free."""
     taken = {other.address for other in draft.tables.units}
-    named = set(chain.from_iterable(PREFERRED.values()))
+    named = set(chain.from_iterable(PREFERRED_ADDRESSES.values()))
     inside = (address for address in POOL if address not in draft.source.kept)
     order = (*preferred(draft, unit), *(address for address in OUTSIDE if address not in named), *OUTSIDE, *inside)
     return (address for address in dict.fromkeys(order) if address not in taken)
@@ -105,9 +98,32 @@ def rank(draft: Draft, unit: Unit) -> tuple[bool, bool]:
     return unit.claims, unit.address not in preferred(draft, unit)
 
 
+def said_of(draft: Draft, unit: Unit) -> dict[str, int]:
+    """What a plan says of a unit's NAME."""
+    return {key: number for key, number in unit.fields.items() if (*unit.place, "name", key) in draft.source.places.lines}
+
+
+def one_of_two(draft: Draft, first: Unit, second: Unit) -> Iterator[Attempt]:
+    """That two units at one address are one ECU under two names, where nothing that is said of both NAMEs differs: the one of which less is said goes,
+    and the other one sends and gets what it did."""
+    both = [said_of(draft, unit) for unit in (first, second)]
+    if first.address != second.address or any(both[0][key] != both[1][key] for key in both[0].keys() & both[1].keys()):
+        return
+    stays, goes = (second, first) if len(both[1]) > len(both[0]) else (first, second)
+    tables = draft.tables
+    ends = [(flow.place, ("from", flow.sender), ("to", flow.to)) for flow in tables.flows]
+    ends += [(need.place, ("unit", need.unit), ("from", need.sender)) for need in tables.needs]
+    ends += [(request.place, ("from", request.sender), ("to", request.to)) for request in tables.requests]
+    keys = tuple(((*place, key), stays.label) for place, *named in ends for key, label in named if label == goes.label)
+    yield ask_first(f"is it one ECU under two names? then take one away, or join its files by join --same {stays.label}={goes.label}")
+    yield Attempt(f"{goes.label} as another name of {stays.label}", [
+        Mend(f"unit {goes.label}", f"taken away, {stays.label} stands for it", Change(keys, removed=(goes.place,)), "if it is one ECU under two names")])
+
+
 def two_at_one(draft: Draft, line: Line) -> Iterator[Attempt]:
     """Two units have one address (F2, F26)."""
     first, second = unit_of(draft, line.word("unit")), unit_of(draft, line.word("other"))
+    yield from one_of_two(draft, first, second)
     order = [first, second] if rank(draft, first) > rank(draft, second) else [second, first]
     yield from (elsewhere(draft, unit, says_free=unit is order[0]) for unit in order)
     yield from (choosing(unit) for unit in order if unit.claims)
@@ -115,6 +131,7 @@ def two_at_one(draft: Draft, line: Line) -> Iterator[Attempt]:
 
 def alike(draft: Draft, line: Line) -> Iterator[Attempt]:
     """Two units have one NAME, or one but for serial numbers that aren't both given (F1)."""
+    yield from one_of_two(draft, unit_of(draft, line.word("unit")), unit_of(draft, line.word("other")))
     kinds = {unit.kind for unit in draft.tables.units}
     first = {key: at for key, at, _ in NAME_FIELDS}
     for label in (line.word("other"), line.word("unit")):

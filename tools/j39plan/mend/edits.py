@@ -7,12 +7,15 @@ from collections.abc import Iterator
 from dataclasses import dataclass
 
 from j39plan.plan.parts import spelled
-from j39plan.plan.schema import Value
+from j39plan.plan.schema import Value, knows
 from j39plan.plan.text import Table, lines_of
-from j39plan.plan.toml_places import Place, Places
+from j39plan.plan.toml_places import Place, Places, table_of
 
 # A part of a text, from where up to where, and what stands there instead.
 Piece = tuple[int, int, str]
+
+# The keys of whose values some are known to later versions alone.
+WITH_WORDS = ("kind", "bitrate")
 
 # Comments right above a header, which belong to it.
 ABOVE = re.compile(r"(?:^[ \t]*#[^\n]*\n)+\Z", re.MULTILINE)
@@ -32,6 +35,13 @@ class Change:
 
     def __add__(self, other: Change) -> Change:
         return Change(self.keys + other.keys, self.added + other.added, self.removed + other.removed)
+
+    def is_known(self, version: int) -> bool:
+        """Whether a version of the format knows all that is written, where the change itself doesn't write another one."""
+        pairs = [(table_of(place[:-1]), str(place[-1]), value) for place, value in self.keys]
+        pairs += [pair for table in self.added for pair in (("", table.header, None), *((table.header, key, value) for key, value in table.keys.items()))]
+        return (("version",) in dict(self.keys)
+                or all(knows(version, (table or None, key)) and (key not in WITH_WORDS or knows(version, value)) for table, key, value in pairs))
 
 
 def setting(table: Place, **values: Value) -> Change:

@@ -5,7 +5,7 @@ from __future__ import annotations
 from collections.abc import Iterable, Iterator
 
 from j39plan.j1939 import FRAME_BYTES, is_pdu2
-from j39plan.mend.attempts import Attempt, Mend
+from j39plan.mend.attempts import Attempt, Mend, by_hand
 from j39plan.mend.edits import Change, setting
 from j39plan.mend.judge import Draft, greatest
 from j39plan.plan.answer_grammar import Line
@@ -19,20 +19,40 @@ PERIODS, ANSWERS = (100, 1000, 50, 200, 500, 20, 10, 5000), (1000, 5000, 100)
 
 GUESSED = "its period is a guess: write that of the unit"
 
+# What is to be known of a group that names its receiver, as commands do, where it is to go to all.
+OBEYED = "each unit that hears the command may obey it"
+
 
 def flow_of(draft: Draft, line: Line, part: str = "flow") -> Flow:
     """The flow that a finding names."""
     return draft.tables.flows[line.number(part) - 1]
 
 
-def to_all(draft: Draft, line: Line) -> Iterator[Attempt]:
-    """A flow can't go to the one unit (F9, F10)."""
+def to_others(draft: Draft, line: Line) -> Iterator[Attempt]:
+    """A flow can't go to the one unit (F9, F10): it goes to all, or to another unit, one that needs it first."""
     flow = flow_of(draft, line)
-    yield Attempt("to all", [Mend(f"flow {flow.number} ({flow.what})", 'to = "all"', setting(flow.place, to="all"))])
+    yield Attempt("to all", [to_all(draft, flow)])
     if flow.sender == flow.to:
-        others = (unit.label for unit in draft.tables.units if unit.label != flow.sender)
-        yield Attempt("to another unit", (Mend(f"flow {flow.number} ({flow.what})", f'to = "{label}"', setting(flow.place, to=label)) for label in others))
+        needing = {need.unit for need in draft.tables.needs if need.group == flow.group}
+        others = sorted((unit.label for unit in draft.tables.units if unit.label != flow.sender), key=lambda label: label not in needing)
+        yield Attempt("to another unit", (to_one(flow, label, "" if label in needing else "which unit is meant?") for label in others))
         yield gone("flow", flow.number, flow.what, flow.place)
+
+
+def is_command(draft: Draft, group: str) -> bool:
+    """Whether frames of a group name their receiver, as those of commands do."""
+    return not is_pdu2(next(other for other in draft.tables.groups if other.label == group).pgn)
+
+
+def to_all(draft: Draft, flow: Flow, note: str = "") -> Mend:
+    """That a flow goes to all."""
+    is_harmful = is_command(draft, flow.group)
+    return to_one(flow, "all", OBEYED if is_harmful else note)._replace(is_harmful=is_harmful)
+
+
+def to_one(flow: Flow, label: str, note: str = "") -> Mend:
+    """That a flow goes to a unit."""
+    return Mend(f"flow {flow.number} ({flow.what})", f'to = "{label}"', setting(flow.place, to=label), note)
 
 
 def gone(kind: str, number: int, what: str, place: tuple[str | int, ...]) -> Attempt:
@@ -63,7 +83,7 @@ def unsent(draft: Draft, line: Line) -> Iterator[Attempt]:
     asked = [request for request in draft.tables.requests if request.group == group and request.to != "all"]
     yield Attempt("a flow that answers a request for it", (
         mend for request in asked for mend in written(draft, group, request.to, request.sender, on_request=True)))
-    yield Attempt("a flow from its maker's unit, which the plan doesn't say", [])
+    yield by_hand("a flow from its maker's unit, which the plan doesn't say")
 
 
 def receivers(draft: Draft, group: str, unit: str) -> list[str]:
@@ -76,7 +96,16 @@ def written(draft: Draft, group: str, sender: str, to: str, on_request: bool = F
     """A flow that is written anew; with timing with a period, that of another flow of the same if there is one, and for data of an age
     with the greatest pause."""
     keys: dict[str, Value] = {"group": group, "from": sender, "to": to, **({"on_request": True} if on_request else {})}
-    others = [flow for flow in draft.tables.flows if flow.group == group and flow.period]
+    if to == "all" and not on_request and is_command(draft, group):
+        yield from (mend._replace(note=OBEYED, is_harmful=True) for mend in with_period(draft, keys, within))
+    else:
+        yield from with_period(draft, keys, within)
+
+
+def with_period(draft: Draft, keys: dict[str, Value], within: int | None) -> Iterator[Mend]:
+    """A flow that is written anew, with timing with a period."""
+    sender, on_request = keys["from"], "on_request" in keys
+    others = [flow for flow in draft.tables.flows if flow.group == keys["group"] and flow.period]
     if draft.tables.timing is None:
         yield added("flow", keys)
         return
@@ -118,9 +147,9 @@ def unmet_of(draft: Draft, need: Need) -> Iterator[Attempt]:
     yield Attempt(f"a request of {need.unit}", (
         added("request", {"group": need.group, "from": need.unit, "to": flow.sender})
         for flow in flows if flow.on_request and flow.to in ("all", need.unit)))
+    yield Attempt("its flow to itself", (to_one(flow, need.unit) for flow in flows if flow.to == flow.sender))
     yield Attempt("its flow to all", (
-        Mend(f"flow {flow.number} ({flow.what})", 'to = "all"', setting(flow.place, to="all"), f"{need.unit} hears it then")
-        for flow in flows if flow.to not in ("all", need.unit)))
+        to_all(draft, flow, f"{need.unit} hears it then") for flow in flows if flow.to not in ("all", need.unit)))
     yield Attempt("its flow not on request alone", (
         Mend(f"flow {flow.number} ({flow.what})", "on_request = false", setting(flow.place, on_request=False), "only if the unit sends it by itself")
         for flow in flows if flow.on_request and flow.to in ("all", need.unit)))
@@ -132,13 +161,13 @@ def unmet_of(draft: Draft, need: Need) -> Iterator[Attempt]:
     if not senders:
         others = [unit.label for unit in draft.tables.units if unit.label != need.unit]
         what = f'a flow with group = "{need.group}" and to = "{receivers(draft, need.group, need.unit)[0]}"'
-        yield Attempt(f"{what}, from who has the value, which the plan doesn't say", (
-            mend for sender in others for to in receivers(draft, need.group, need.unit)
-            for mend in written(draft, need.group, sender, to, within=within)) if len(others) == 1 else [])
+        yield Attempt(f"{what}, from {others[0]}", (
+            mend for to in receivers(draft, need.group, need.unit) for mend in written(draft, need.group, others[0], to, within=within))
+        ) if len(others) == 1 else by_hand(f"{what}, from who has the value, which the plan doesn't say")
 
 
 def unanswered(draft: Draft, line: Line) -> Iterator[Attempt]:
-    """No flow answers a request, or none as it was asked (F21, F22, F23)."""
+    """No flow answers a request, or none as it was asked (F21, F22, F23): the flow that is there goes to others, who has it is asked, or a flow anew."""
     request = draft.tables.requests[line.number("request") - 1]
     senders = [request.to] if request.to != "all" else list(dict.fromkeys(
         flow.sender for flow in draft.tables.flows if flow.group == request.group and flow.sender != request.sender))
@@ -146,12 +175,18 @@ def unanswered(draft: Draft, line: Line) -> Iterator[Attempt]:
         others = [unit.label for unit in draft.tables.units if unit.label != request.sender]
         senders = others if len(others) == 1 else []
     to = answers_to(draft, request.group, request.sender, request.to)
-    what = f"an answer of {' or '.join(senders)}" if senders else (
-        f'a flow with group = "{request.group}", to = "all" and on_request = true, from who has it, which the plan doesn\'t say')
-    yield Attempt(what, (mend for sender in senders for receiver in to for mend in written(draft, request.group, sender, receiver, on_request=True)))
-    mine = [flow for flow in draft.tables.flows if flow.group == request.group and flow.sender in senders and flow.to not in to]
+    sent = [flow for flow in draft.tables.flows if flow.group == request.group]
+    having = dict.fromkeys(flow.sender for flow in sent if flow.sender not in (request.to, request.sender))
+    yield Attempt("asked of who sends it", (
+        Mend(f"request {line.number('request')} ({request.what})", f'to = "{sender}"', setting(request.place, to=sender), "who sends it") for sender in having))
     yield Attempt("its flow to others", (
-        Mend(f"flow {flow.number} ({flow.what})", f'to = "{receiver}"', setting(flow.place, to=receiver)) for flow in mine for receiver in to))
+        to_one(flow, receiver, "the others get it no more" * (flow.to == "all"))
+        for flow in sent if flow.sender in senders for receiver in to if receiver != flow.to))
+    if not senders:
+        yield by_hand(f'a flow with group = "{request.group}", to = "all" and on_request = true, from who has it, which the plan doesn\'t say')
+    yield Attempt(f"an answer of {' or '.join(senders)}", (
+        mend._replace(note=mend.note or "only if it has that") if having and request.to != "all" else mend
+        for sender in senders for receiver in to for mend in written(draft, request.group, sender, receiver, on_request=True)))
 
 
 def answers_to(draft: Draft, group: str, asking: str, asked: str) -> Iterable[str]:
@@ -169,5 +204,5 @@ def period_missing(draft: Draft, line: Line) -> Iterator[Attempt]:
         for period in periods if flow.pause is None or period <= flow.pause))
 
 
-ATTEMPTS = {"F9": to_all, "F10": to_all, "F11": twice, "F13": unsent, "F16": period_missing, "F19": unmet, "F21": unanswered, "F22": unanswered,
+ATTEMPTS = {"F9": to_others, "F10": to_others, "F11": twice, "F13": unsent, "F16": period_missing, "F19": unmet, "F21": unanswered, "F22": unanswered,
             "F23": unanswered, "F25": asked_twice}

@@ -19,6 +19,9 @@ from j39plan.progress import Progress
 # The parts of findings that say how bad it is, and not of what: with others it is the same finding.
 MEASURES = {"F3": "units", "F7": "end", "F15": "end", "F17": "load", "F24": "end"}
 
+# The vehicle of a line in which a finding was met: in another one it is the same finding.
+VEHICLE = "variant"
+
 # The parts of findings that are numbers of tables.
 NUMBERED = ("flow", "need", "request")
 
@@ -29,15 +32,17 @@ Key = tuple[str, ...]
 def key_of(text: str) -> Key:
     """A finding by what it is about."""
     line = line_of(text)
-    measure = MEASURES.get(line.word("finding"))
-    return tuple(str(word) for part, word in line.parts.items() if part != measure)
+    others = (MEASURES.get(line.word("finding")), VEHICLE)
+    return tuple(str(word) for part, word in line.parts.items() if part not in others)
 
 
 class Judge:
-    """Asks the program, of the same text once, and counts how often."""
+    """Asks the program, of the same text once, and counts how often; `refused` is what it answers of changed texts that are no plans, which is a fault of
+    who tries them."""
 
     def __init__(self, progress: Progress) -> None:
         self.asked = 0
+        self.refused: list[str] = []
         self.about = ""
         self._progress = progress
         self._known: dict[bytes, list[str] | None] = {}
@@ -49,6 +54,8 @@ class Judge:
             status, answer = self.answer("check", text)
             lines = [line for line, *_ in parted(answer) if line_of(line).kind == "finding"]
             self._known[known] = lines if status in (0, 1) else None
+            if status == program.UNREADABLE:
+                self.refused.append(answer.strip())
         return self._known[known]
 
     def load(self, text: str) -> Load | None:
@@ -68,7 +75,7 @@ class Judge:
 
 class Outcome(NamedTuple):
     """What `check` says of a changed plan: whether what was to be mended is found no more, and what is found anew; `new` is None where the
-    change makes no plan."""
+    change can't be written, or makes no plan."""
 
     is_gone: bool
     new: list[str] | None
@@ -80,10 +87,10 @@ class Outcome(NamedTuple):
 
 
 class Draft:
-    """A plan as it is so far, with what is found in it."""
+    """A plan as it is so far, with what is found in it; `tries` is of how many changes it was asked."""
 
     def __init__(self, text: str, judge: Judge) -> None:
-        self.text, self.judge = text, judge
+        self.text, self.judge, self.tries = text, judge, 0
         self.source = Source(text)
         self.findings = judge.findings(text) or []
         self.editor = Editor(text)
@@ -98,7 +105,10 @@ class Draft:
         return self.editor.changed(change)
 
     def found(self, change: Change) -> list[str] | None:
-        """What is found in the plan with a change."""
+        """What is found in the plan with a change; None where it can't be written, or not in this version of the format."""
+        self.tries += 1
+        if not change.is_known(self.source.version):
+            return None
         try:
             return self.judge.findings(self.with_change(change))
         except Unchangeable:
@@ -106,6 +116,7 @@ class Draft:
 
     def load(self, change: Change) -> Load | None:
         """What `load` says of the plan with a change."""
+        self.tries += 1
         return self.judge.load(self.with_change(change))
 
     def outcome(self, change: Change, findings: Iterable[str]) -> Outcome:
@@ -124,7 +135,7 @@ class Draft:
 
     def renumbered(self, line: Line, change: Change) -> Key | None:
         """A finding by what it is about, as it is called where tables are gone; None of one about a table that is gone."""
-        measure, parts = MEASURES.get(line.word("finding")), dict(line.parts)
+        others, parts = (MEASURES.get(line.word("finding")), VEHICLE), dict(line.parts)
         kind = next((part for part in NUMBERED if part in parts), "")
         for part in (kind, "other"):
             if kind and isinstance(number := parts.get(part), int):
@@ -132,7 +143,7 @@ class Draft:
                 if number in gone:
                     return None
                 parts[part] = number - sum(other < number for other in gone)
-        return tuple(str(word) for part, word in parts.items() if part != measure)
+        return tuple(str(word) for part, word in parts.items() if part not in others)
 
 
 def least(low: int, high: int, is_enough: Callable[[int], bool]) -> int | None:

@@ -6,7 +6,7 @@ from collections.abc import Iterable, Iterator
 from dataclasses import replace
 
 from j39plan.j1939 import IDENTIFIERS, PROPRIETARY, pgn_in, without_destination
-from j39plan.mend.attempts import Attempt, Mend
+from j39plan.mend.attempts import Attempt, Mend, by_hand
 from j39plan.mend.edits import setting
 from j39plan.mend.judge import Draft
 from j39plan.plan.answer_grammar import Line
@@ -123,7 +123,7 @@ def same_number(draft: Draft, line: Line) -> Iterator[Attempt]:
     yield Attempt("private = true of both, each sent by its own maker's units", [
         Mend("2 groups", "private = true", setting(some[0].place, private=True) + setting(some[1].place, private=True))]
         if some[0].pgn in PROPRIETARY and not all(group.private for group in some) else [])
-    yield Attempt("one group with the signals of both, which has to be written by hand", [])
+    yield by_hand("one group with the signals of both")
 
 
 def later_record(draft: Draft, line: Line) -> Iterator[Attempt]:

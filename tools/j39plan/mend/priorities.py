@@ -35,6 +35,11 @@ class Assignment:
         return Change(tuple(((*group.place, "priority"), priorities[label]) for label, group in self._groups.items()
                             if label in priorities and priorities[label] != group.priority))
 
+    @property
+    def has_several(self) -> bool:
+        """Whether there are several groups whose priorities can be exchanged."""
+        return len(self._groups) > 1
+
     def found(self, *wanted: str) -> Priorities | None:
         """Priorities by which these findings are gone and no other one came, with as few others than planned as this search finds."""
         priorities = self._all

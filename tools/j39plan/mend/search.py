@@ -6,15 +6,18 @@ import difflib
 from collections.abc import Callable, Iterator
 from typing import NamedTuple
 
-from j39plan.mend import addresses, flows, layouts, times
+from j39plan.mend import addresses, alternatives, flows, layouts, times
 from j39plan.mend.attempts import Attempt, Mend
 from j39plan.mend.edits import Change
-from j39plan.mend.judge import Draft, Judge, Outcome, key_of
+from j39plan.mend.judge import NUMBERED, Draft, Judge, Outcome, key_of
 from j39plan.plan.answer_grammar import Line, line_of
 from j39plan.plan.answer_places import finding
 from j39plan.plan.schema import VERSIONS
 
 ATTEMPTS: dict[str, Callable[[Draft, Line], Iterator[Attempt]]] = {**addresses.ATTEMPTS, **layouts.ATTEMPTS, **flows.ATTEMPTS, **times.ATTEMPTS}
+
+# Findings about what is built of a line of vehicles, against which nothing is tried.
+UNTRIED = ("F29", "F30")
 
 # Findings whose mends may take tables away, after which the others have other numbers: they come last.
 LAST = ("F10", "F11", "F25")
@@ -25,8 +28,8 @@ BROUGHT = 2
 
 
 class Tried(NamedTuple):
-    """A finding with its line in the plan as it was and a hint, its mends, each of which takes it away alone, and what was tried in vain. `by` is the
-    finding with whose mend it went."""
+    """A finding with its line in the plan as it was and a hint, its mends, each of which takes it away alone, those that do harm last, and what was tried in
+    vain. `by` is the finding with whose mend it went; `left` is what is asked first, or left to be written, each with its word."""
 
     text: str
     line: int
@@ -34,6 +37,7 @@ class Tried(NamedTuple):
     mends: list[Mend]
     in_vain: list[str]
     by: str = ""
+    left: tuple[tuple[str, str], ...] = ()
 
 
 class Mended(NamedTuple):
@@ -45,19 +49,33 @@ class Mended(NamedTuple):
     status: int
 
 
-def mends_of(draft: Draft, text: str) -> tuple[list[Mend], list[str]]:
-    """Of each attempt against a finding the first change that mends; and of what none does, with what it brings instead."""
+def attempts_of(draft: Draft, text: str) -> Iterator[Attempt]:
+    """What is tried against a finding: first what only a line of vehicles has."""
+    number, line = text.split()[0], line_of(text)
+    if number in alternatives.ATTEMPTS:
+        yield from alternatives.ATTEMPTS[number](draft, line)
+    if number not in UNTRIED:
+        yield from ATTEMPTS[number](draft, line)
+
+
+def mends_of(draft: Draft, text: str) -> tuple[list[Mend], list[str], tuple[tuple[str, str], ...]]:
+    """Of each attempt against a finding the first change that mends; of what was tried and doesn't, with what it brings instead; and what is left to
+    who writes the plan."""
     mends: list[Mend] = []
     in_vain: list[str] = []
-    for attempt in ATTEMPTS[text.split()[0]](draft, line_of(text)):
-        if attempt.is_last and mends:
+    left: tuple[tuple[str, str], ...] = ()
+    for attempt in attempts_of(draft, text):
+        if attempt.word:
+            left += ((attempt.word, attempt.what),)
+        if attempt.word or attempt.is_last and mends:
             continue
+        tries = draft.tries
         mend, brought = first_of(draft, attempt, text)
         if mend is not None:
             mends.append(mend)
-        else:
+        elif draft.tries > tries:
             in_vain.append(attempt.what + (f" (brings {', '.join(brought[:BROUGHT])}{', ..' * (len(brought) > BROUGHT)})" if brought else ""))
-    return mends, in_vain
+    return sorted(mends, key=lambda mend: mend.is_harmful), in_vain, left
 
 
 def first_of(draft: Draft, attempt: Attempt, text: str) -> tuple[Mend | None, list[str]]:
@@ -95,9 +113,9 @@ def mended(plan: str, judge: Judge) -> Mended:
     tried: dict[str, Tried] = {}
     while (text := next_of(draft, given_up)) is not None:
         judge.about = f"; {text}"
-        mends, in_vain = mends_of(draft, text)
-        tried[text] = Tried(text, *_placed(first if text in first.findings else draft, text), mends, in_vain)
-        if not mends:
+        mends, in_vain, left = mends_of(draft, text)
+        tried[text] = Tried(text, *_placed(first if text in first.findings else draft, text), mends, in_vain, left=left)
+        if not mends or mends[0].is_harmful:
             given_up.add(text)
             continue
         before, change = draft, mends[0].change
@@ -105,7 +123,7 @@ def mended(plan: str, judge: Judge) -> Mended:
         for other in _gone(before, draft, change):
             if other in first.findings:
                 tried.setdefault(other, Tried(other, *_placed(first, other), [], [], text))
-        if change.removed:
+        if any(place[0] in NUMBERED for place in change.removed):
             given_up.update(other for other in draft.findings if other.split()[0] not in LAST)
     status, answer = judge.answer("check", draft.text)
     order = {text: number for number, text in enumerate(first.findings)}

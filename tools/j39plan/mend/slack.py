@@ -110,7 +110,7 @@ def slack_of(text: str, judge: Judge) -> Slack | None:
     if load is None or load.taken is None:
         program.say(f"no slack is known: {'the plan has no timing' if load is None else 'findings about addresses or numbers come first'}")
         return None
-    flows = [left_of(flow, delay) for flow, delay in zip(draft.tables.flows, load.delays)]
+    flows = [left_of(draft.tables.flows[delay.flow - 1], delay) for delay in load.delays]
     guest, judge.about = Guest(draft), ", how many further frames the bus takes"
     priorities = sorted({*USUAL, *(group.priority for group in draft.tables.groups)})
     rooms = [Room(priority, every, *guest.room(priority, every)) for priority in priorities for every in DISTANCES]

@@ -29,7 +29,8 @@ def in_time(draft: Draft, line: Line) -> Iterator[Attempt]:
     if group.most <= FRAME_BYTES:
         yield Attempt(f"a smaller priority number of {group.label}", (of_priority(group, level) for level in range(group.priority - 1, -1, -1)))
         yield Attempt("a larger priority number of one other group", later_groups(draft, group, line.text))
-        yield Attempt("other priorities of several groups (Audsley)", assigned(draft, line.text), is_last=True)
+        if assignment_of(draft).has_several:
+            yield Attempt("other priorities of several groups (Audsley)", assigned(draft, line.text), is_last=True)
     yield Attempt("a longer deadline or period", longer(draft, flow, line.text))
     yield Attempt("less jitter", less_jitter(draft, flow, line.text))
     yield from other_drivers(draft, flow)
@@ -53,6 +54,7 @@ def later_groups(draft: Draft, late: Group, finding: str) -> Iterator[Mend]:
 def assigned(draft: Draft, finding: str) -> Iterator[Mend]:
     """Priorities of several groups."""
     assignment = assignment_of(draft)
+    draft.tries += 1  # of each finding, though the search is one for all
     priorities = assignment.found(finding)
     groups = [group for group in draft.tables.groups if (priorities or {}).get(group.label, group.priority) != group.priority]
     if priorities and len(groups) > 1:  # one alone was tried before
@@ -66,15 +68,26 @@ def longer(draft: Draft, flow: Flow, finding: str) -> Iterator[Mend]:
     period = flow.period or 1
 
     def with_deadline(deadline: int) -> Change:
-        return setting(flow.place, deadline=deadline, **({"period": deadline} if deadline > period else {}))
+        return setting(flow.place, deadline=deadline) + (with_period(flow, deadline) if deadline > period else Change())
 
     deadline = least(1, most, lambda number: draft.outcome(with_deadline(number), [finding]).is_gone)
     if deadline is None:
         return
     note = "" if deadline <= period else "its messages come less often then"
-    if deadline > period and draft.mends(setting(flow.place, period=deadline), finding):
-        yield Mend(where, f"period = {deadline}", setting(flow.place, period=deadline), note)
-    yield Mend(where, f"deadline = {deadline}" + (f", period = {deadline}" if deadline > period else ""), with_deadline(deadline), note)
+    longer_period = f"period = {deadline}{pause_in_words(flow, deadline)}"
+    if deadline > period and draft.mends(with_period(flow, deadline), finding):
+        yield Mend(where, longer_period, with_period(flow, deadline), note)
+    yield Mend(where, f"deadline = {deadline}" + (f", {longer_period}" if deadline > period else ""), with_deadline(deadline), note)
+
+
+def with_period(flow: Flow, period: int) -> Change:
+    """Another period of a flow, and a pause that is no less."""
+    return setting(flow.place, period=period, **({"pause": period} if flow.pause is not None and flow.pause < period else {}))
+
+
+def pause_in_words(flow: Flow, period: int) -> str:
+    """The pause that comes with another period, as it is named behind it."""
+    return f", pause = {period}, it was {flow.pause}" if flow.pause is not None and flow.pause < period else ""
 
 
 def less_jitter(draft: Draft, flow: Flow, finding: str) -> Iterator[Mend]:
@@ -114,11 +127,10 @@ def less_often(draft: Draft, finding: str) -> list[Mend]:
     some = sorted((flow for flow in draft.tables.flows if flow.period), key=lambda flow: -bits_of(draft, flow))[:FULLEST]
     found: list[tuple[float, Mend]] = []
     for flow in some:
-        period, place = flow.period or 1, flow.place
-        number = least(period + 1, most_of("flow", "period"), lambda number, place=place: draft.outcome(setting(place, period=number), [finding]).is_gone)  # type: ignore[misc]
+        period = flow.period or 1
+        number = least(period + 1, most_of("flow", "period"), lambda number, flow=flow: draft.outcome(with_period(flow, number), [finding]).is_gone)  # type: ignore[misc]
         if number is not None:
-            pause = {"pause": number} if flow.pause is not None and flow.pause < number else {}
-            mend = Mend(f"flow {flow.number} ({flow.what})", f"period = {number}, it was {period}", setting(place, period=number, **pause))
+            mend = Mend(f"flow {flow.number} ({flow.what})", f"period = {number}, it was {period}{pause_in_words(flow, number)}", with_period(flow, number))
             found.append((number / period, mend))
     return [mend for _, mend in sorted(found, key=lambda one: one[0])]
 
@@ -133,7 +145,7 @@ def too_old(draft: Draft, line: Line) -> Iterator[Attempt]:
     need = draft.tables.needs[line.number("need") - 1]
     flows = [flow for flow in draft.tables.flows if need.is_met_by(flow)]
     yield Attempt("pause of its flow", (mend for flow in flows for mend in shorter_pause(draft, flow, line.text)))
-    yield Attempt("period and pause of its flow", (mend for flow in flows for mend in more_often(draft, flow, need, line.text)))
+    yield Attempt("period and pause of its flow", (mend for flow in flows for mend in more_often(draft, flow, need, line.text)), is_last=True)
     group = next(group for group in draft.tables.groups if group.label == need.group)
     if group.most <= FRAME_BYTES:
         yield Attempt(f"a smaller priority number of {group.label}", (of_priority(group, level) for level in range(group.priority - 1, -1, -1)))
@@ -155,8 +167,14 @@ def more_often(draft: Draft, flow: Flow, need: Need, finding: str) -> Iterator[M
     """The greatest period and pause, the same, by which what a flow brings is young enough."""
     if flow.period is None or flow.on_request:
         return
-    period = greatest(1, min(flow.period - 1, need.within or 0),
-                      lambda number: draft.outcome(setting(flow.place, period=number, pause=number), [finding]).is_gone)
+
+    def is_young(number: int) -> bool:
+        return draft.outcome(setting(flow.place, period=number, pause=number), [finding]).is_gone
+
+    most = min(flow.period - 1, need.within or 0)
+    halves = (most >> times for times in range(most.bit_length()) if most >> times > flow.jitter)  # a flow of very short periods is late
+    start = next(filter(is_young, halves), None)
+    period = None if start is None else greatest(start, min(2 * start, most), is_young)
     if period is not None:
         yield Mend(f"flow {flow.number} ({flow.what})", f"period = {period}, pause = {period}, period was {flow.period}",
                    setting(flow.place, period=period, pause=period), "the greatest ones, if the unit keeps them")

@@ -56,7 +56,7 @@ def check_object(plan: str, status: int, parts: list[Placed], hints: list[Placed
     if status in (0, 1):
         found.setdefault("findings", [])
         if hints is not None:
-            found["hints"] = [{"line": hint.line, "hint": hint.answer.removeprefix("hint ")} for hint in hints]
+            found["hints"] = [{"line": hint.line, "hint": hint.answer.removeprefix("hint "), **({"name": hint.hint} if hint.hint else {})} for hint in hints]
     if further:
         found["further"] = [{"line": fault.line, "hint": fault.answer.removeprefix("also ")} for fault in further]
     for part in parts:

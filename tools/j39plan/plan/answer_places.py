@@ -12,6 +12,7 @@ from j39plan.plan.hints.text_faults import Told
 from j39plan.plan.parts import Source
 from j39plan.plan.tables import Flow
 from j39plan.plan.toml_places import Place
+from j39plan.plan.variants import Line as Choices
 
 # The key to look at, of each finding that names two units or two groups.
 PAIR_KEYS = {"F1": ("unit", "name"), "F2": ("unit", "address"), "F5": ("group", "pgn"), "F26": ("unit", "address")}
@@ -44,7 +45,7 @@ def of_group(plan: Source, line: Line) -> Told:
     """Line and hint of a finding about the number of a group, or the width of a signal of one."""
     group = next(group for group in plan.tables.groups if group.label == line.word("group"))
     if line.word("finding") == "F4":
-        place, (key, hint) = group.place, groups.wrong_number(group, plan.version)
+        place, (key, hint) = group.place, groups.wrong_number(group, plan.version, plan.places.spelled.get((*group.place, "pgn"), ""))
     else:
         signal = next(signal for signal in group.signals if signal.label == line.word("signal"))
         place, (key, hint) = signal.place, groups.wrong_width(signal)
@@ -58,6 +59,9 @@ def of_one(plan: Source, line: Line) -> Told:
     place = plan.labelled((array,), line.word(array))
     if kind in ("signal", "text"):
         place = plan.labelled(place + (kind,), line.word(kind))
+    if line.word("finding") == "F7":
+        group = next(group for group in plan.tables.groups if group.label == line.word("group"))
+        hint += groups.outside(group, next(signal for signal in group.signals if signal.place == place))
     return plan.line(place + (key,)), f"key {key}: {hint}"
 
 
@@ -91,6 +95,10 @@ def of_need(plan: Source, line: Line) -> Told:
     """Line and hint of a finding about a need."""
     need = plan.tables.needs[line.number("need") - 1]
     key, hint = needs.unmet(plan.tables, need) if line.word("finding") == "F19" else ("within", needs.old(plan.tables, need))
+    group = next(group for group in plan.tables.groups if group.label == need.group)
+    if line.word("finding") == "F20" and group.most > FRAME_BYTES:
+        key_of_length = "most" if group.most > group.length else "length"
+        hint += f" ({key_of_length} at line {plan.line((*group.place, key_of_length))}{groups.in_bytes(group)})"
     return plan.line(need.place + (key,)), f"{needs.named(need)}: key {key}: {hint}"
 
 
@@ -164,7 +172,8 @@ def of_plan(plan: Source, line: Line) -> Told:
 def of_choices(plan: Source, line: Line) -> Told:
     """Line and hint of a finding about the choices of a line of vehicles."""
     if line.word("finding") == "F29":
-        return plan.line(("never",)), "the nevers leave no vehicle"
+        one = ", or ".join(f"at line {plan.line(('never', number))}" for number in Choices.of(plan).freeing(set()))
+        return plan.line(("never",)), "the nevers leave no vehicle" + (f"; without the one {one} there are some" if one else "")
     told = [" or ".join(labels) for labels in full.several(plan)]
     named = f"{', '.join(told[:SHOWN])}{' ..' if len(told) > SHOWN else ''}"
     return plan.line(("choice",)), f"so many vehicles may differ in delays, loads and addresses, by {named}: where few do, plan what they have for each vehicle"

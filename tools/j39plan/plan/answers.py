@@ -69,8 +69,8 @@ def findings(plan: Source, answer: str) -> Iterator[Finding]:
 
 
 def stands(answer: str) -> dict[str, Stand]:
-    """Where units stand by `addresses`; of a plan whose addresses have findings that isn't known."""
-    units = (line for line in lines_of(answer) if line.kind == "unit")
+    """Where units stand by `addresses`; of a plan whose addresses have findings that isn't known, nor of a unit that no vehicle of a line has."""
+    units = (line for line in lines_of(answer) if line.kind == "unit" and "nowhere" not in line.parts)
     return {line.word("unit"): Stand(line.word("stays") == "stays", line.number("address")) for line in units}
 
 
@@ -86,8 +86,8 @@ def age_of(line: Line) -> Age:
 
 
 def load_of(answer: str) -> Load | None:
-    """What `load` tells of a plan; None of one that says nothing of the bus."""
-    lines = lines_of(answer)
+    """What `load` tells of a plan, but for what no vehicle of a line has; None of one that says nothing of the bus."""
+    lines = [line for line in lines_of(answer) if "nowhere" not in line.parts]
     if lines and lines[-1].word("cause") == "NoTiming":
         return None
     taken = [(line.number("load"), line.number("bitrate")) for line in lines if line.kind == "load"]

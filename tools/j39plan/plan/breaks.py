@@ -6,7 +6,7 @@ its lengths, and a signal is what lies at its place there, by its kind and its s
 
 from __future__ import annotations
 
-from collections.abc import Iterator
+from collections.abc import Iterable, Iterator
 from typing import NamedTuple
 
 from j39plan.plan import scales
@@ -154,9 +154,9 @@ class Layouts:
 
 
 class Breaks:
-    """What breaks, flow by flow of the old plan."""
+    """What breaks, flow by flow of the old plan; what becomes too old only where the answers on both are known."""
 
-    def __init__(self, matched: Matched, old: Answers, new: Answers) -> None:
+    def __init__(self, matched: Matched, old: Answers | None = None, new: Answers | None = None) -> None:
         self._matched, self._layouts, self._answers = matched, Layouts(), (old, new)
         self._units = {old.label: new for old, new in matched.units if old is not None}
         self._groups = {old.label: new for old, new in matched.groups if old is not None}
@@ -172,8 +172,16 @@ class Breaks:
 
     def found(self) -> list[Break]:
         """All that breaks; what is the same of several receivers once."""
+        return self._together([*self._of_plan(), *self._of_flows(), *self._of_units(), *self._of_needs()])
+
+    def aged(self) -> list[Break]:
+        """What becomes too old."""
+        return self._together(self._of_needs())
+
+    def _together(self, found: Iterable[Break]) -> list[Break]:
+        """What is the same of several receivers once."""
         together: dict[Break, list[str]] = {}
-        for one in [*self._of_plan(), *self._of_flows(), *self._of_units(), *self._of_needs()]:
+        for one in found:
             receivers = together.setdefault(one._replace(receivers=()), [])
             receivers.extend(label for label in one.receivers if label not in receivers)
         return [self._with_needs(one._replace(receivers=tuple(receivers))) for one, receivers in together.items()]
@@ -210,7 +218,7 @@ class Breaks:
         """Units whose needs become too old."""
         old, new = self._answers
         for before, now in self._matched.others.get("need", []):
-            if before is None or now is None or not (old.load and new.load):
+            if before is None or now is None or not (old and new and old.load and new.load):
                 continue
             was, age = old.delays.get(before.line()), new.delays.get(now.line())
             most = 1000 * before.number("within")

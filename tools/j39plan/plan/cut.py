@@ -3,7 +3,6 @@
 import contextlib
 import os
 import re
-import tempfile
 from collections.abc import Callable, Iterable, Iterator
 
 from j39plan import program
@@ -98,18 +97,16 @@ def has_no_signal(_: bool, key: str, inner: str | None) -> bool:
 @contextlib.contextmanager
 def _cut(plan: str, tables: Tables, shortened: Callable[[str], str | None]) -> Iterator[tuple[str, Tables]]:
     """The name of a plan of a shorter text, and its tables; the plan itself where it can't be cut."""
-    with open(plan, "rb") as file, tempfile.NamedTemporaryFile() as copy:
+    with open(plan, "rb") as file:
         try:
             text = shortened(file.read().decode())
         except (UnicodeDecodeError, IndexError):
             text = None
-        if text is not None:
-            copy.write(text.encode())
-            copy.flush()
-        if text is None or program.call(["follow", "--", copy.name, os.devnull])[0] != 0:
+    with program.file_of(text or "") as copy:
+        if text is None or program.call(["follow", "--", copy, os.devnull])[0] != 0:
             yield plan, tables
         else:
-            yield copy.name, Tables.of(copy.name)
+            yield copy, Tables.of(copy)
 
 
 def cut(plan: str, tables: Tables, choice: Choice) -> contextlib.AbstractContextManager[tuple[str, Tables]]:

@@ -85,10 +85,24 @@ def inside_pairs(old: Part, new: Part, table: str) -> Pairs:
     return pairs_of(old.inside.get(table, []), new.inside.get(table, []), *INSIDE_KEYS.get(table, (label_of,)))
 
 
+# Keys whose lists say the same in each order.
+SETS = ("keep_free", "with", "of", "but")
+
+
+def first_of(part: Part) -> Hashable:
+    """The first alternative of a choice or a never; of another table itself."""
+    return str(next(iter(part.values("of")), id(part)))
+
+
+def alternatives_of(part: Part) -> Hashable:
+    """The alternatives that a table names."""
+    return tuple(frozenset(map(str, part.values(key))) for key in ("of", "but", "with"))
+
+
 class Matched:
     """Two plans, and which of their tables are the same ones: units by label, else by NAME, else by all of it but the number, else
     by the address, where neither may choose another one; groups by label, else by their number;
-    flows and others by what they name."""
+    flows and others by what they name, and of a line of vehicles those first that are there with the same alternatives."""
 
     def __init__(self, old: Source, new: Source) -> None:
         self.old, self.new = old, new
@@ -102,11 +116,17 @@ class Matched:
             (old.label, before.label): now.label for old, new in self.groups if old is not None and new is not None
             for before, now in inside_pairs(old, new, "signal") if before is not None and now is not None
         }
-        self.others = {array: pairs_of(old[array], new[array], self._names) for array in arrays_behind()}
+        self.others = {array: pairs_of(old[array], new[array], *self._keys(array)) for array in arrays_behind()}
 
     def named(self, table: str, label: str) -> str:
         """What the new plan calls a unit or a group of the old one."""
         return self._renamed.get((table, label), label)
+
+    def _keys(self, array: str) -> tuple[Key, ...]:
+        """What tells a table of an array from others."""
+        if array in ("choice", "never"):
+            return alternatives_of, first_of
+        return lambda part: (self._names(part), alternatives_of(part)), self._names
 
     def _names(self, part: Part) -> Hashable:
         """What a flow names, as the new plan calls it."""
@@ -137,7 +157,7 @@ def of_keys(what: str, old: Part, new: Part, skipped: Iterable[str] = ()) -> Ite
     for key in dict.fromkeys([*keys_of(new.table), *old.said, *new.said]):
         if key in ("label", *TOLD_BY, *skipped, *old.inside, *new.inside) or old[key] == new[key]:
             continue
-        if key == "keep_free" and set(old.values(key)) == set(new.values(key)):
+        if key in SETS and set(old.values(key)) == set(new.values(key)):
             continue
         for inner, before, now in parts_of(key, old[key], new[key]):
             yield Change(what, inner, spelled(before), spelled(now), old.line(key), new.line(key))
@@ -185,13 +205,15 @@ def told_of(source: Source, lines: list[Line]) -> dict[int, Line]:
 def is_too_old(told: Line, most: int) -> bool:
     """Whether a need of at most so many us isn't met by what `load` says of it: an age, or that none is shown."""
     age = told.number_if_any("old" if "old" in told.parts else "age")
-    return age is None or age > most
+    return "nowhere" not in told.parts and (age is None or age > most)
 
 
 def shown_age(said: str) -> str:
     """What `load` says of a need, in words."""
     if said.startswith("unmet"):
         return "unmet"
+    if said == "no variant":
+        return "none: no vehicle has it"
     if said.startswith("age "):
         return said.removeprefix("age ")
     return f"not shown young enough, {said.removeprefix('old ')}" if said.startswith("old of ") else f"{said.removeprefix('old ')}, too old"
@@ -212,7 +234,7 @@ def of_answers(matched: Matched, old: Answers, new: Answers) -> Iterator[Change]
     for before, now in matched.units:
         if before is not None and now is not None:
             was, comes = old.stands.get(before.label), new.stands.get(now.label)
-            if was and comes and was.parts["stays"] != comes.parts["stays"]:
+            if was and comes and "stays" in was.parts and "stays" in comes.parts and was.parts["stays"] != comes.parts["stays"]:
                 yield Change(name_of(now), "stands", was.said, comes.said, before.line(), now.line())
     for pairs in matched.others.values():
         for before, now in pairs:

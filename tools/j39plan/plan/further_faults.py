@@ -5,7 +5,6 @@ none of its faults.
 """
 
 import re
-import tomllib
 from collections.abc import Callable, Container, Iterator
 from typing import Any, NamedTuple
 
@@ -16,6 +15,10 @@ from j39plan.plan.hints.wanted import listed
 from j39plan.plan.parts import Source
 from j39plan.plan.schema import VERSIONS, Rule, schema
 from j39plan.plan.toml_places import MARK, Place, Places
+from j39plan.plan.toml_reader import loads
+
+# How hints at files of other kinds begin: nothing else is to be told of them.
+OTHER_KIND = "this is "
 
 # So many statements that are no TOML are passed over.
 MOST = 20
@@ -42,7 +45,7 @@ BySchema = Callable[[str, set[str]], list[Told]]
 def further_faults(data: bytes, parts: list[Placed], by_schema: BySchema | None = None) -> list[Placed]:
     """What else is wrong in a file that `check` answered so, in the order of its lines; by the schema of plans, where no other one is given."""
     first = next((part for part in parts if part.answer.startswith("refused ")), None)
-    if first is None or first.answer.startswith("refused plan "):
+    if first is None or first.answer.startswith("refused plan ") or first.hint.startswith(OTHER_KIND):
         return []
     try:
         text = data.decode()
@@ -91,7 +94,7 @@ def errors_of(text: str, rule: Rule, versions: Container[object]) -> list[Any]:
     """What the library finds wrong with a text of one of these versions by a schema; nothing where it isn't there."""
     try:
         from jsonschema import Draft7Validator, validators
-        values = tomllib.loads(text.removeprefix(MARK))
+        values = loads(text.removeprefix(MARK))
     except (ImportError, ValueError, RecursionError):
         return []
     if values.get("version") not in versions:

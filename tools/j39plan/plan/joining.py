@@ -77,8 +77,8 @@ class Merged:
 
 def name_of(part: Part) -> str:
     """What a table is called in what is said of it."""
-    if part.label:
-        return f"{part.table} {part.label}"
+    if part.label or part.table in ("choice", "never"):
+        return f"{part.table} {part.label or ' '.join(map(str, part.values('of')))}"
     return " ".join([part.table, *(f"{key} {part.text(key)}" for key in TOLD_BY if key in part.said)]).replace("flow group ", "flow ")
 
 

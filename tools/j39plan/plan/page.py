@@ -3,11 +3,13 @@
 import os
 from collections import defaultdict
 from collections.abc import Iterable, Iterator
+from fractions import Fraction
 from html import escape
 from itertools import groupby
 
 from j39plan.j1939 import NAME_FIELDS
 from j39plan.plan.answers import Age, Delay, Finding, Load, Stand
+from j39plan.plan.bus_shares import Shares, shares_of
 from j39plan.plan.page_style import STYLE
 from j39plan.plan.parts import Source
 from j39plan.plan.tables import Flow, Group, Signal, Tables, Text, Unit, serves
@@ -66,7 +68,7 @@ def standing(unit: Unit, stands: dict[str, Stand]) -> str:
     if not unit.claims:
         return "in every run, and never claims it"
     if unit.label not in stands:
-        return "not known: the addresses have findings"
+        return "no vehicle has it" if stands else "not known: the addresses have findings"
     return "in every run" if stands[unit.label].stays else "may move"
 
 
@@ -298,11 +300,6 @@ def in_milliseconds(microseconds: int) -> str:
     return f"{text.rstrip('0').rstrip('.')} ms"
 
 
-def bits_of(group: Group) -> int:
-    """The bits of a frame of a group at most, with those that are stuffed (ISO 11898-1: 80, and 10 a byte)."""
-    return 80 + 10 * group.most
-
-
 def premises(tables: Tables) -> list[str]:
     """What the bounds rest on, as the plan says it: what else comes on the bus, and how the controllers send."""
     timing = tables.timing
@@ -337,9 +334,13 @@ def late_cells(late: int | None, limit: int) -> list[str]:
     return [f"<strong>{in_milliseconds(late)}, late</strong>", in_milliseconds(limit), share_of(late, limit)]
 
 
-def delay_row(delay: Delay, flow: Flow, group: Group, link: str, bitrate: int, is_paced: bool) -> str:
-    """A flow with what it takes of the bus and its delay, in words where it has none. What long messages take `load` alone knows."""
-    taken = f"{100 * 1000 * bits_of(group) / (flow.period * bitrate):.1f} %" if flow.period and delay.frames == 1 else "–"
+def bus_cell(bits: Fraction | int | None, bitrate: int) -> str:
+    """What part of the bus so many bits a second take."""
+    return f"{100 * float(bits) / bitrate:.2f} %" if bits is not None else "–"
+
+
+def delay_row(delay: Delay, flow: Flow, link: str, taken: str, is_paced: bool) -> str:
+    """A flow with what it takes of the bus and its delay, in words where it has none."""
     if not delay.frames:
         cells = ["no period", "–", "–"]
     elif delay.within is None:
@@ -352,21 +353,41 @@ def delay_row(delay: Delay, flow: Flow, group: Group, link: str, bitrate: int, i
     return row(str(delay.flow), [*ends, *(paced(flow) if is_paced else []), taken, *cells])
 
 
-def load_section(tables: Tables, load: Load) -> str:
+def other_rows(tables: Tables, shares: Shares, bitrate: int, links: dict[str, str], is_paced: bool) -> Iterator[str]:
+    """What else takes a part of the bus: requests, and damaged frames."""
+    blank = ["–"] * (2 * is_paced)
+    for number, bits in shares.requests.items():
+        request = tables.requests[number - 1]
+        ends = [links[request.group], escape(request.sender), escape(request.to), f"{request.period} ms"]
+        yield row(f"request {number}", [*ends, *blank, bus_cell(bits, bitrate), "–", "–", "–"])
+    if shares.damage:
+        yield row("damaged frames", ["–"] * 4 + [*blank, bus_cell(shares.damage, bitrate), "–", "–", "–"])
+
+
+def load_table(tables: Tables, load: Load, taken: int, bitrate: int) -> str:
+    """Each flow with its delay and its part of the bus; where these are all of the load, with their sum."""
+    links, shares = links_of(tables), shares_of(tables, tables.timing) if tables.timing else Shares({}, {}, 0)
+    is_paced = any(flow.jitter or flow.pause for flow in tables.flows)
+    rows = [delay_row(delay, flow, links[flow.group], bus_cell(shares.flows.get(flow.number), bitrate), is_paced)
+            for delay in load.delays for flow in [tables.flows[delay.flow - 1]]]
+    rows += other_rows(tables, shares, bitrate, links, is_paced)
+    if shares.total == taken:
+        rows.append(row("all", ["–"] * (4 + 2 * is_paced) + [bus_cell(taken, bitrate), "–", "–", "–"]))
+    heads = ("Flow", "Group", "From", "To", "Period", *(("Jitter", "Pause") if is_paced else ()), "Bus load", "On the bus within", "Limit", "Of its limit")
+    return table("Delays of the flows", heads, rows)
+
+
+def load_section(tables: Tables, load: Load, is_line: bool) -> str:
     """Within which time the frames of each flow are on the bus, and how full it is."""
     if load.taken is None:
         return section("load", "Load", ["<p>Not known: addresses or identifiers have findings that are to be mended first.</p>"])
     taken, bitrate = load.taken
     full = " <strong>That is more than the bus carries.</strong>" if taken > bitrate else ""
-    parts = [f"<p>{taken} of {bitrate} bits a second at most, {100 * taken / bitrate:.1f} % of the bitrate.{full}</p>"]
-    links, groups = links_of(tables), {group.label: group for group in tables.groups}
-    is_paced = any(flow.jitter or flow.pause for flow in tables.flows)
-    rows = [delay_row(delay, flow, groups[flow.group], links[flow.group], bitrate, is_paced)
-            for delay in load.delays for flow in [tables.flows[delay.flow - 1]]]
-    if rows:
+    worst = " Load, times and ages are those of the worst vehicle of the line." if is_line else ""
+    parts = [f"<p>{taken} of {bitrate} bits a second at most, {100 * taken / bitrate:.1f} % of the bitrate.{full}{worst}</p>"]
+    if load.delays:
         parts.append("<p>The times count from when a frame is ready in its controller, and hold where the bus keeps what they rest on.</p>")
-        heads = ("Flow", "Group", "From", "To", "Period", *(("Jitter", "Pause") if is_paced else ()), "Bus load", "On the bus within", "Limit", "Of its limit")
-        parts += [*premises(tables), table("Delays of the flows", heads, rows)]
+        parts += [*premises(tables), load_table(tables, load, taken, bitrate)]
     return section("load", "Load", parts)
 
 
@@ -375,7 +396,7 @@ def sections_of(title: str, source: Source, tables: Tables, found: list[Finding]
     return {"findings": finding_section(escape(title), found), "units": unit_section(source, tables, stands), "flows": flow_section(tables),
             **({"needs": need_section(tables, load)} if tables.needs else {}),
             **({"requests": request_section(tables)} if tables.requests else {}),
-            **({"load": load_section(tables, load)} if load else {}), "groups": group_section(tables)}
+            **({"load": load_section(tables, load, bool(source["choice"]))} if load else {}), "groups": group_section(tables)}
 
 
 def counts_of(source: Source, tables: Tables, found: list[Finding]) -> str:
@@ -384,7 +405,7 @@ def counts_of(source: Source, tables: Tables, found: list[Finding]) -> str:
     return f"<p>Version {source.version} of the format: {counts}.</p>"
 
 
-def document(heading: str, facts: str, sections: dict[str, str], version: str, style: str = STYLE) -> str:
+def document(heading: str, facts: str, sections: dict[str, str], footer: str, style: str = STYLE) -> str:
     """A whole page of sections by their names, below a heading and what is said with it."""
     links = "".join(f'<li><a href="#{name}">{name[0].upper() + name[1:].replace("-", " ")}</a></li>' for name in sections)
     return f"""<!DOCTYPE html>
@@ -408,14 +429,14 @@ def document(heading: str, facts: str, sections: dict[str, str], version: str, s
 <main id="content">
 {chr(10).join(sections.values())}
 </main>
-<footer><p>Written by {escape(version)}.</p></footer>
+<footer>{footer}</footer>
 </body>
 </html>
 """
 
 
-def page(title: str, source: Source, tables: Tables, found: list[Finding], stands: dict[str, Stand], load: Load | None, version: str, labels: str = "", choices: str = "") -> str:
-    """The whole page, of a vehicle of a line with its choices and what it has of these. The title is the name of the plan's file."""
+def page(title: str, source: Source, tables: Tables, found: list[Finding], stands: dict[str, Stand], load: Load | None, footer: str, labels: str = "", choices: str = "") -> str:
+    """The whole page, of a line or a vehicle of it with its choices and, as labels, which it is. The title is the name of the plan's file."""
     heading = f"Plan {escape(os.path.basename(title))}" + (f" ({escape(labels)})" if labels else "")
     first = {"choices": choices} if choices else {}
-    return document(heading, counts_of(source, tables, found), {**first, **sections_of(title, source, tables, found, stands, load)}, version)
+    return document(heading, counts_of(source, tables, found), {**first, **sections_of(title, source, tables, found, stands, load)}, footer)

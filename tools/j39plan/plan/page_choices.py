@@ -2,6 +2,7 @@
 
 from html import escape
 
+from j39plan.plan.diagram import of_line
 from j39plan.plan.page import row, section, table
 from j39plan.plan.variants import Line, Table
 
@@ -16,17 +17,18 @@ def named(line: Line, place: Table) -> str:
     return NAMED[kind].format_map({**line.names[place], "number": str(number)})
 
 
-def choice_section(line: Line, taken: set[str]) -> str:
-    """A table of the alternatives: which of them this vehicle has, and what is there only with some of them."""
-    rows = []
+def choice_section(line: Line, taken: set[str] | None) -> str:
+    """A table of the alternatives: how many vehicles have each, whether a vehicle of these alternatives does, and what is there only with some of them."""
+    counts, rows = of_line(line).counts(), []
     for number, labels in enumerate(line.choices, 1):
         for label in labels:
             there = [named(line, place) for place, wanted in line.named.items() if label in wanted and place[0] in NAMED]
-            rows.append(row(str(number), [f"<strong>{escape(label)}</strong>" if label in taken else escape(label), "yes" if label in taken else "no",
-                                          escape(", ".join(there)) or "–"]))
-    parts = [table("Choices of the line, and what this vehicle has", ("Choice", "Alternative", "Here", "With it there may be"), rows)]
-    nevers = [labels for (kind, _), labels in line.named.items() if kind == "never"]
+            head = f"<strong>{escape(label)}</strong>" if taken and label in taken else escape(label)
+            here = [] if taken is None else ["yes" if label in taken else "no"]
+            rows.append(row(str(number), [head, *here, str(counts[label]), escape(", ".join(there)) or "–"]))
+    caption = "Choices of the line" if taken is None else "Choices of the line, and what this vehicle has"
+    parts = [table(caption, ("Choice", "Alternative", *(() if taken is None else ("Here",)), "Vehicles", "With it there may be"), rows)]
+    nevers = line.lists_of("never")
     if nevers:
         parts.append("<ul>" + "".join(f"<li>Never built: {escape(line.in_words(labels))}</li>" for labels in nevers) + "</ul>")
     return section("choices", "Choices", parts)
-

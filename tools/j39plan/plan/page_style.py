@@ -28,7 +28,7 @@ th { background: var(--head); font-weight: 600; }
 .bytes td { text-align: center; }
 .bytes .free { color: var(--soft); font-style: italic; border-style: dashed; }
 code { font-family: monospace; }
-footer { margin-top: 2rem; color: var(--soft); }
+footer { margin-top: 2rem; color: var(--soft); overflow-wrap: anywhere; }
 @media print {
   :root { --paper: #ffffff; --ink: #000000; --soft: #333333; --line: #666666; --head: #ffffff; --anchor: #000000; }
   @page { margin: 15mm; }

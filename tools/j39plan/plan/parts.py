@@ -18,10 +18,10 @@ COMMENT = re.compile(r"""(?:[^"'#]|"(?:\\.|[^"\\])*"|'[^']*')*#[ \t]*(.*?)\s*$""
 
 
 class Source:
-    """A plan's text, where its tables and keys stand, and the name of its file."""
+    """A plan's text, which may be half written, where its tables and keys stand, and the name of its file."""
 
-    def __init__(self, text: str, name: str = "") -> None:
-        self.name, self.text, self.places = name, text, Places(text)
+    def __init__(self, text: str, name: str = "", is_half_written: bool = False) -> None:
+        self.name, self.text, self.places = name, text, Places(text, is_half_written)
         self._lines = text.split("\n")
         self._keys: dict[Place, list[str]] = {}
         for place in self.places.lines:

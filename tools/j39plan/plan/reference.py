@@ -3,6 +3,8 @@ group is sent."""
 
 from __future__ import annotations
 
+import importlib.util
+import os
 import re
 from collections.abc import Iterator
 from fractions import Fraction
@@ -104,6 +106,23 @@ def known_of(signal: canmatrix.Signal, frame: Frame) -> Known | None:
     return Known(number, frame, (start, signal.size), Scale(step, offset, in_ascii(unit_of(signal, 1))))
 
 
+def shipped() -> str:
+    """The database of J1939 groups that canmatrix ships."""
+    spec = importlib.util.find_spec("canmatrix")
+    name = os.path.join(os.path.dirname(spec.origin), "j1939.dbc") if spec and spec.origin else ""
+    if not os.path.isfile(name):
+        raise program.Refused(program.MISSING, "no reference is there: apt-get install python3-canmatrix, or name a file")
+    return name
+
+
+def shipped_reference() -> Reference:
+    """That database as a reference; which it is, and what it doesn't say, is said."""
+    reference = Reference(shipped())
+    lacks = [what for what, has in (("scales", reference.has_scales), ("priorities", reference.has_priorities)) if not has]
+    program.say(f"the reference is {reference.name}" + (f", which has no {' and no '.join(lacks)}" if lacks else ""))
+    return reference
+
+
 class Reference:
     """The signals of a file by their numbers."""
 
@@ -114,18 +133,19 @@ class Reference:
         for known in of_file(name) if ending in KINDS else of_plan(name):
             self._known.setdefault(known.spn, []).append(known)
         # A file in which all have priority 0, and a signal that is its raw number without a unit, say nothing of these.
-        self._has_priorities = any(known.frame.priority for some in self._known.values() for known in some)
+        self.has_priorities = any(known.frame.priority for some in self._known.values() for known in some)
+        self.has_scales = any(known.scale != UNSAID for some in self._known.values() for known in some)
         if not self._known:
             raise program.Refused(program.UNREADABLE, f"{name}: no signal in it has an SPN")
 
-    def differences(self, plan: Source) -> list[Placed]:
-        """What is otherwise in a plan, each with its line: of signals, and once of each group. Where not all of its signals are there, it is said how many
-        are."""
+    def differences(self, plan: Source, says_missing: bool = True) -> list[Placed]:
+        """What is otherwise in a plan, each with its line: of signals, and once of each group. Where not all of its signals are there, it can be said how
+        many are."""
         found: list[Placed] = []
         seen: set[str] = set()
         signals = list(signals_in(plan))
         there = sum(number in self._known for *_, number in signals)
-        if there < len(signals):
+        if says_missing and there < len(signals):
             program.say(f"of {len(signals)} signals with an SPN {there} are in {self.name}")
         for group, signal, number in signals:
             others = self._known.get(number)
@@ -158,7 +178,7 @@ class Reference:
 
     def _of_group(self, group: Part, mine: Frame, others: list[Frame]) -> Iterator[Placed]:
         """What is otherwise of a group: another priority; lengths none of which is one of the reference."""
-        if self._has_priorities and all(mine.priority != other.priority for other in others):
+        if self.has_priorities and all(mine.priority != other.priority for other in others):
             yield self._placed(group.line("priority"), f"{group.label}: priority {mine.priority}", shown({other.priority for other in others}))
         if all(other.lengths[0] > mine.lengths[1] or other.lengths[1] < mine.lengths[0] for other in others):
             yield self._placed(group.line("length"), f"{group.label}: {lengths_in_words(mine.lengths)}",

@@ -6,7 +6,8 @@ that TOML 1.1 allows; where it isn't, the places up to there are found.
 
 import bisect
 import re
-import tomllib
+
+from j39plan.plan.toml_reader import TOMLDecodeError, loads
 
 BLANK = re.compile(r"(?:[ \t\r\n]|#[^\n]*)*")
 NO_VALUE = re.compile(r"[ \t\r]*(?:#[^\n]*)?(?:\n|\Z)")
@@ -26,6 +27,9 @@ ESCAPE = re.compile(r"\\(?:(e)|x([0-9A-Fa-f]{2})|.)", re.DOTALL)
 NEWER = re.compile(r'"(?:[^\\]|\\[^ex])*\\[ex]|[-\dTt ]*\d\d:\d\d(?!:)')
 
 MARK = "\ufeff"
+
+# So many lines of a half-written text are passed over.
+PASSED_OVER = 50
 
 # Keys and, for the elements of arrays, numbers from 1.
 Place = tuple[str | int, ...]
@@ -48,16 +52,16 @@ def text_of(spelled: str) -> str:
     if spelled.startswith('"'):
         spelled = ESCAPE.sub(_older, spelled)
     try:
-        return str(tomllib.loads(f"x = {spelled}")["x"])
-    except tomllib.TOMLDecodeError:
+        return str(loads(f"x = {spelled}")["x"])
+    except TOMLDecodeError:
         return spelled.strip("\"'")
 
 
 def fault_of(text: str) -> tuple[int, str] | None:
     """Line and description of the fault that Python's reader of TOML 1.0 finds in a text, if it finds one."""
     try:
-        tomllib.loads(text)
-    except tomllib.TOMLDecodeError as fault:
+        loads(text)
+    except TOMLDecodeError as fault:
         found = re.search(r"at line (\d+)", str(fault))
         return int(found.group(1)) if found else text.count("\n") + 1, str(fault)
     except (ValueError, RecursionError):  # a number of very many digits, brackets in very many brackets
@@ -80,24 +84,29 @@ class Places:
     """The line of each table and key of a TOML text, and the texts and other values as they are spelled.
 
     `statements` is where its headers and top pairs begin, `newer` where there is what TOML 1.0 doesn't have. `pairs` has of each key with a value
-    where it begins, where the value ends, and the place of the table in which it stands, to which dotted keys are added."""
+    where it begins, where the value ends, and the place of the table in which it stands, to which dotted keys are added. `values` has of each value
+    where it begins and ends, `headers` of each table with a header where that begins, and the table's place. Where the text is half written, each
+    line in which a statement that is no TOML begins can be passed over."""
 
-    def __init__(self, text: str) -> None:
+    def __init__(self, text: str, is_half_written: bool = False) -> None:
         self.lines: dict[Place, int] = {(): 1}
         self.texts: dict[Place, str] = {}
         self.spelled: dict[Place, str] = {}
         self.statements: list[int] = []
         self.newer: list[int] = []
         self.pairs: dict[Place, tuple[int, int, Place]] = {}
+        self.values: dict[Place, tuple[int, int]] = {}
+        self.headers: list[tuple[int, Place]] = []
         self._text = text
         self._at = len(MARK) if text.startswith(MARK) else 0
         self._feeds = [found.start() for found in re.finditer("\n", text)]
         self._counts: dict[Place, int] = {}
         self._depth = 0
-        try:
-            self._read()
-        except (_Unexpected, RecursionError):
-            pass
+        self._table_now: Place = ()
+        left = PASSED_OVER if is_half_written else 0
+        while not self._is_read() and left:
+            self._pass_over()
+            left -= 1
 
     def line(self, place: Place) -> int:
         """The line of the place, or of the nearest table around it."""
@@ -129,16 +138,29 @@ class Places:
         """The line of a position in the text."""
         return bisect.bisect_left(self._feeds, at) + 1
 
-    def _read(self) -> None:
-        table: Place = ()
-        while self._skip() < len(self._text):
-            self.statements.append(self._at)
-            if self._text.startswith("[[", self._at):
-                table = self._element(self._header("[[", "]]"))
-            elif self._text.startswith("[", self._at):
-                table = self._inside(self._header("[", "]"))
-            else:
-                self._pair(table)
+    def _is_read(self) -> bool:
+        """Reads the statements, and says whether all of them are TOML."""
+        try:
+            while self._skip() < len(self._text):
+                self._statement()
+        except (_Unexpected, RecursionError):
+            return False
+        return True
+
+    def _statement(self) -> None:
+        self.statements.append(self._at)
+        if not self._text.startswith("[", self._at):
+            self._pair(self._table_now)
+            return
+        start, is_array = self._at, self._text.startswith("[[", self._at)
+        self._table_now = self._element(self._header("[[", "]]")) if is_array else self._inside(self._header("[", "]"))
+        self.headers.append((start, self._table_now))
+
+    def _pass_over(self) -> None:
+        """Goes on behind the line in which the last statement begins."""
+        line = self._text.find("\n", self.statements[-1])
+        self._at = line + 1 if line >= 0 else len(self._text)
+        self._depth = 0
 
     def _skip(self) -> int:
         start, blank = self._at, BLANK.match(self._text, self._at)
@@ -234,7 +256,9 @@ class Places:
             self.texts[place] = text_of(self._take(STRING))
         else:
             self._take(OTHER)
-        self.spelled[place] = self._text[start:self._at].strip()
+        spelled = self._text[start:self._at]
+        self.spelled[place] = spelled.strip()
+        self.values[place] = start, start + len(spelled.rstrip())
 
     def _table(self, place: Place) -> None:
         self._expect("{")

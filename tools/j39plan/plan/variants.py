@@ -2,11 +2,11 @@
 
 import re
 from collections.abc import Iterator, Sequence
-from typing import Self
 
 from j39plan import program
 from j39plan.plan.cut import HEADER
-from j39plan.plan.parts import Source
+from j39plan.plan.hints.words import likely
+from j39plan.plan.parts import Source, source_in
 from j39plan.plan.toml_places import Places
 
 # A line of `show` on choices.
@@ -16,7 +16,7 @@ NAMED = re.compile(r"(choice|never|unit|group|flow|need|request) (\d+) (?:of|wit
 NAMES = re.compile(r"(unit|group) (\d+) (label) (\w+)$|(flow|need|request) (\d+) (group|from|to|unit) (\w+)$", re.MULTILINE)
 
 # A key `with`, with what stands on its last line behind it.
-WITH = re.compile(r"""^[ \t]*(?:with|"with"|'with')[ \t]*=[ \t]*\[(?:[^]"'#]|"[^"\n]*"|'[^'\n]*'|#[^\n]*)*\][ \t]*(?:#[^\n]*)?\n?""", re.MULTILINE)
+WITH = re.compile(r"""^[ \t]*(?:with|"with"|'with')[ \t]*=[ \t]*\[(?:[^]"'#]|"[^"\n]*"|'[^'\n]*'|#[^\n]*)*\][ \t]*(?:#[^\n]*)?\r?\n?""", re.MULTILINE)
 
 # Comments on lines of their own right above something.
 ABOVE = re.compile(r"(?:^[ \t]*#[^\n]*\n)+\Z", re.MULTILINE)
@@ -38,11 +38,11 @@ class Line:
 
     def __init__(self, named: dict[Table, list[str]], names: dict[Table, dict[str, str]]) -> None:
         self.named, self.names = named, names
-        self.choices = self._of("choice")
+        self.choices = self.lists_of("choice")
         self._labelled = {(kind, keys["label"]): (kind, number) for (kind, number), keys in names.items() if "label" in keys}
 
     @classmethod
-    def shown(cls, text: str) -> Self:
+    def shown(cls, text: str) -> "Line":
         """The choices by what `show` answers."""
         named: dict[Table, list[str]] = {}
         for table, number, label in NAMED.findall(text):
@@ -54,7 +54,7 @@ class Line:
         return cls(named, names)
 
     @classmethod
-    def of(cls, source: Source) -> Self:
+    def of(cls, source: Source) -> "Line":
         """The choices by the text of a plan that can be read."""
         choices = [list(map(str, choice.values("of"))) for choice in source["choice"]]
         order = [label for choice in choices for label in choice]
@@ -71,7 +71,15 @@ class Line:
                     named[table, number] = sorted(map(str, part.values("with")), key=order.index)
         return cls(named, names)
 
-    def _of(self, table: str) -> list[list[str]]:
+    def freeing(self, wanted: set[str]) -> Iterator[int]:
+        """The nevers without one of which a variant with these alternatives is built."""
+        for table in self.named:
+            others = Line({other: labels for other, labels in self.named.items() if other != table}, self.names) if table[0] == "never" else None
+            if others and others.first(wanted) is not None:
+                yield table[1]
+
+    def lists_of(self, table: str) -> list[list[str]]:
+        """The lists of the tables of an array, in their order."""
         return [labels for (other, _), labels in self.named.items() if other == table]
 
     def is_in(self, taken: set[str], labels: Sequence[str]) -> bool:
@@ -82,7 +90,7 @@ class Line:
     def first(self, wanted: set[str], boxes: Sequence[Sequence[Box]] = (), gone: Sequence[list[str]] = ()) -> set[str] | None:
         """The alternatives of the first variant that is built and takes these; that is in one of several boxes, of each group of boxes; and in the box of
         none of the lists that are gone. None where there is none."""
-        nevers = [(set(never), never) for never in (*self._of("never"), *gone)]
+        nevers = [(set(never), never) for never in (*self.lists_of("never"), *gone)]
         if any(not never for never, _ in nevers):
             return None
         return self._behind(set(), wanted, 0, boxes, nevers)
@@ -175,8 +183,25 @@ def shown_variant(plan: str, labels: Sequence[str]) -> str:
     """What `variant` answers; a plan that can't be read, or alternatives that aren't built together, are refused by it."""
     status, answer = program.call(["variant", "--", plan, *labels])
     if status != 0:
-        raise program.Refused(status, answer.strip())
+        why = why_not(source_in(plan), labels) if answer.startswith("refused variant ") else ""
+        raise program.Refused(status, answer.strip() + (f"  ({why})" if why else ""))
     return answer
+
+
+def why_not(plan: Source, labels: Sequence[str]) -> str:
+    """Why no vehicle of a plan is built with these alternatives: the label that none has, two of one choice, or the never that forbids them."""
+    line = Line.of(plan)
+    known = [label for choice in line.choices for label in choice]
+    if strange := next((label for label in labels if label not in known), ""):
+        return f"no choice has {strange}{likely(strange, known)}"
+    for choice in line.choices:
+        some = [label for label in labels if label in choice]
+        if len(some) > 1:
+            return f"{some[0]} stands there twice" if some[0] == some[1] else f"{some[0]} and {some[1]} are of one choice"
+    number = next(line.freeing(set(labels)), None)
+    if number is None:
+        return "several nevers together forbid that"
+    return f"the never at line {plan.line(('never', number))} forbids {line.in_words(line.named['never', number]).replace(', ', ' with ')}"
 
 
 def line_of(plan: str) -> Line:
@@ -189,7 +214,7 @@ def text_of_variant(plan: str, labels: Sequence[str], has_its_lines: bool = Fals
     wanted = shown_variant(plan, labels)
     line = line_of(plan)
     taken = line.first(set(labels))
-    with open(plan, encoding="utf-8") as file:
+    with open(plan, encoding="utf-8", newline="") as file:
         written = variant_text(file.read(), line.there(taken), has_its_lines) if taken is not None else None
     if written is None:
         raise program.Refused(program.FAULT, "the tables of the plan aren't written by headers as [[unit]]")

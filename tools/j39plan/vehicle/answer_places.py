@@ -4,6 +4,7 @@ hint."""
 from collections.abc import Callable, Iterator
 from typing import NamedTuple
 
+from j39plan import program
 from j39plan.plan import answer_places
 from j39plan.plan.answer_grammar import Line
 from j39plan.plan.answer_places import Placed
@@ -13,7 +14,7 @@ from j39plan.vehicle.answer_grammar import Block, answer_of, line_of
 from j39plan.vehicle.files import Vehicle, plan_file
 from j39plan.vehicle.hints import contents, forwards, needs
 from j39plan.vehicle.hints.refusals import refusal
-from j39plan.vehicle.tables import VehicleTables
+from j39plan.vehicle.tables import Bus, VehicleTables
 from j39plan.vehicle.ways import Ways, signal_of
 
 
@@ -102,21 +103,30 @@ class Findings:
         return Told(gateway.place, "unit", f"key unit: {forwards.shared_queue(self._ways, gateway.label, line.word('bus'))}")
 
 
-def of_bus(vehicle: str, file: str, block: Block) -> Iterator[InFile]:
+def of_choices(bus: Bus, vehicle: Source, data: bytes) -> Placed:
+    """That the plan of a bus is one of a line of vehicles: where its choices begin, and what to name in its place."""
+    line, named = Source(data.decode(errors="replace")).line(("choice", 1)), vehicle.line((*bus.place, "plan"))
+    hint = f'{vehicle.name}:{named}: plan = "{bus.plan}" has choices: name the plan of one vehicle, by variant.py {bus.plan} LABEL.. > one.toml'
+    return Placed(line, program.CHOICES, hint, [])
+
+
+def of_bus(vehicle: Source, bus: Bus, block: Block) -> Iterator[InFile]:
     """The parts of what is said of a bus, with their places in the file of its plan."""
-    yield InFile(vehicle, "", Placed(None, f"bus {block.bus}", "", []))
+    yield InFile(vehicle.name, "", Placed(None, f"bus {block.bus}", "", []))
+    file = plan_file(vehicle.name, bus.plan)
     with open(file, "rb") as opened:
-        for part in answer_places.placed(opened.read(), block.answer):
-            yield InFile(file, block.bus, part)
+        data = opened.read()
+    for part in answer_places.placed(data, block.answer):
+        yield InFile(file, block.bus, of_choices(bus, vehicle, data) if part.answer == program.CHOICES else part)
 
 
 def placed(name: str, data: bytes, answer: str) -> Iterator[InFile]:
     """The parts of an answer on a vehicle's file of this name; those that say what is wrong with their places."""
     source = Source(data.decode(errors="replace"), name)
     found = answer_of(answer)
-    plans = {bus.label: plan_file(name, bus.plan) for bus in VehicleTables(source).buses} if found.blocks else {}
+    buses = {bus.label: bus for bus in VehicleTables(source).buses} if found.blocks else {}
     for block in found.blocks:
-        yield from of_bus(name, plans[block.bus], block)
+        yield from of_bus(source, buses[block.bus], block)
     findings: Findings | None = None
     for text in found.rest:
         kind = line_of(text).kind

@@ -6,7 +6,7 @@ import re
 from typing import NamedTuple
 
 from j39plan import program
-from j39plan.plan.hints.refusals import likely
+from j39plan.plan.hints.words import likely
 from j39plan.plan.parts import Source
 from j39plan.vehicle.answers import answered
 from j39plan.vehicle.files import Vehicle, is_vehicle
@@ -111,9 +111,9 @@ def is_told(bus: str, own: dict[str, list[str]], by_bus: dict[str, str]) -> bool
     return False
 
 
-def events_on(vehicle: Vehicle, bus: str, names: list[str]) -> list[str]:
-    """What of these flows, as `P.EEC1` or `P.2`, is of a bus."""
+def named_on(vehicle: Vehicle, bus: str, names: list[str], what: str) -> list[str]:
+    """What of these flows, as `P.EEC1` or `P.2`, or units is of a bus."""
     for name in names:
         if name.partition(".")[0] not in [other.label for other in vehicle.tables.buses]:
-            raise program.Refused(program.UNREADABLE, f"{name}: name the bus of the flow, as {vehicle.tables.buses[0].label}.{name}")
+            raise program.Refused(program.UNREADABLE, f"{name}: name the bus of the {what}, as {vehicle.tables.buses[0].label}.{name}")
     return [name.removeprefix(f"{bus}.") for name in names if name.startswith(f"{bus}.")]

@@ -137,10 +137,10 @@ def age_of(line: Line) -> str:
     return in_milliseconds(age) + (f" by flow {flow}" if flow is not None else "")
 
 
-def vehicle_page(title: str, vehicle: Vehicle, parts: list[InFile], plans: dict[str, dict[str, str]], version: str) -> str:
+def vehicle_page(title: str, vehicle: Vehicle, parts: list[InFile], plans: dict[str, dict[str, str]], footer: str) -> str:
     """The whole page. The title is the name of the vehicle's file; `plans` has the sections of the pages of the plans by their files."""
     page, tables = Page(vehicle, parts, plans), vehicle.tables
     counts = f"{len(tables.buses)} buses, {len(tables.gateways)} gateways, {len(tables.forwards)} forwards, {len(tables.needs)} needs"
     sections = {"findings": page.findings(), "buses": page.buses(), **({"forwards": page.forwards()} if tables.forwards else {}),
                 **({"needs": page.needs()} if tables.needs else {}), **{f"bus-{bus.label}": page.bus(bus) for bus in tables.buses}}
-    return document(f"Vehicle {escape(os.path.basename(title))}", f"<p>{counts}.</p>", sections, version, VEHICLE_STYLE)
+    return document(f"Vehicle {escape(os.path.basename(title))}", f"<p>{counts}.</p>", sections, footer, VEHICLE_STYLE)

@@ -46,8 +46,8 @@ _j39plan_tool() {
   local word=${COMP_WORDS[COMP_CWORD]} tool=${COMP_WORDS[0]##*/} before=${COMP_WORDS[COMP_CWORD - 1]}
   COMPREPLY=()
   if [ "$before" = --kind ]; then
-    mapfile -t COMPREPLY < <(compgen -W 'dbc arxml kcd sym' -- "$word")
-  elif [[ $before =~ ^(-o|--output|--notes|--gitlab|--junit|--xlsx|--reference)$ ]]; then
+    mapfile -t COMPREPLY < <(compgen -W 'dbc arxml kcd sym csv xlsx ods' -- "$word")
+  elif [[ $before =~ ^(-o|--output|--notes|--gitlab|--sarif|--junit|--xlsx|--reference|--columns)$ ]]; then
     compopt -o filenames 2> /dev/null
     mapfile -t COMPREPLY < <(compgen -f -- "$word")
   elif [[ $word == -* ]]; then
@@ -55,11 +55,11 @@ _j39plan_tool() {
   elif [ "$tool $before" = 'j39plan-variant --log' ]; then
     _j39plan_files "$word" log
   elif [ "$tool" = j39plan-dbc2plan ]; then
-    _j39plan_files "$word" dbc arxml kcd sym
+    _j39plan_files "$word" dbc arxml kcd sym csv xlsx ods
   elif [ "$tool" = j39plan-answer ] && [ "$COMP_CWORD" -eq 1 ]; then
     mapfile -t COMPREPLY < <(compgen -W 'check addresses load audit vehicle' -- "$word")
   elif [ "$tool" = j39plan-table ] && [ "$COMP_CWORD" -gt 1 ]; then
-    mapfile -t COMPREPLY < <(compgen -W 'units groups signals flows needs requests' -- "$word")
+    mapfile -t COMPREPLY < <(compgen -W 'units groups signals flows needs requests plan' -- "$word")
   elif [ "$tool" = j39plan-log2plan ]; then
     case $before in
       --dbc) _j39plan_files "$word" dbc arxml kcd sym ;;
@@ -74,6 +74,8 @@ _j39plan_tool() {
     _j39plan_files "$word" csv
   elif [[ "$tool $before" =~ ^j39plan-restbus\ --(log|replay)$ ]]; then
     _j39plan_files "$word" log
+  elif [ "$tool $before" = 'j39plan-probe --log' ]; then
+    _j39plan_files "$word" log
   elif [ "$tool" = j39plan-tolog ]; then
     _j39plan_files "$word" asc blf trc mf4 csv
   elif [[ $tool =~ ^j39plan-(against|drift|fleet|signals|codes|plot)$ ]] && [ "$COMP_CWORD" -gt 1 ]; then
@@ -82,4 +84,4 @@ _j39plan_tool() {
     _j39plan_files "$word" toml
   fi
 }
-complete -F _j39plan_tool j39plan-where j39plan-answer j39plan-startup j39plan-dbc2plan j39plan-log2plan j39plan-plan2dbc j39plan-join j39plan-forwards j39plan-compare j39plan-variant j39plan-mend j39plan-against j39plan-drift j39plan-fleet j39plan-table j39plan-report j39plan-signals j39plan-codes j39plan-plot j39plan-tolog j39plan-cut j39plan-restbus j39plan-check-plans
+complete -F _j39plan_tool j39plan-where j39plan-answer j39plan-startup j39plan-dbc2plan j39plan-log2plan j39plan-plan2dbc j39plan-join j39plan-forwards j39plan-compare j39plan-variant j39plan-mend j39plan-against j39plan-drift j39plan-fleet j39plan-table j39plan-report j39plan-signals j39plan-codes j39plan-plot j39plan-tolog j39plan-cut j39plan-restbus j39plan-probe j39plan-lsp j39plan-check-plans

@@ -3,7 +3,7 @@ ghost use Rattle.std.specs.Prelude.{◌≡◌};
 
 /// One thing that is wrong with a plan, named by places from 0. Findings are in order by their number, then by their
 /// places.
-#[derive(Clone, Copy, PartialEq, Eq)]
+#[derive(Clone, Copy)]
 pub enum Finding {
     /// F1: two units may be one: they have one NAME, or nothing but serial numbers distinguishes them, and not both are
     /// given.

@@ -14,7 +14,7 @@ use j39_id::Name;
 use j39_network::{Plan, kind_of_name};
 
 /// Who stands behind an address of a log. Units are given by their places, from 0.
-#[derive(Clone, Copy, PartialEq, Eq)]
+#[derive(Clone, Copy)]
 pub enum Who {
     /// The unit whose NAME holds the address.
     Holder(usize),

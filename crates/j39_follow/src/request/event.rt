@@ -2,7 +2,7 @@
 use crate::flow::sending::Aim;
 
 /// A number of a group, the unit that sent it, if it is one of the plan, and for whom.
-#[derive(Clone, Copy, PartialEq, Eq)]
+#[derive(Clone, Copy)]
 pub struct Reply {
     pub number: u32,
     pub sender: Option<usize>,
@@ -10,7 +10,7 @@ pub struct Reply {
 }
 
 /// What a frame reports of requests.
-#[derive(Clone, Copy, PartialEq, Eq)]
+#[derive(Clone, Copy)]
 pub enum Event {
     /// The request at this place was asked.
     Asked(usize),

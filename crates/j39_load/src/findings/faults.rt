@@ -13,7 +13,7 @@ use j39_search::FindResult;
 use std::alloc::{AllocError, Global};
 
 /// What is looked for at each flow.
-#[derive(Clone, Copy, PartialEq, Eq)]
+#[derive(Clone, Copy)]
 pub(crate) enum FlowFault {
     WithoutPeriod,
     Lateness,

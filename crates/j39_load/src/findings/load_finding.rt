@@ -2,7 +2,7 @@
 ghost use Rattle.std.specs.Prelude.{◌≡◌};
 
 /// What is wrong with what the flows of a plan ask of its bus. Flows and needs are named by their places from 0.
-#[derive(Clone, Copy, PartialEq, Eq)]
+#[derive(Clone, Copy)]
 pub enum LoadFinding {
     /// It isn't known how often a flow is sent.
     NoPeriod(usize),

@@ -1,7 +1,7 @@
 //! Long messages to all.
 
 /// Frames of the long messages of a unit to all.
-#[derive(Clone, Copy, PartialEq, Eq)]
+#[derive(Clone, Copy)]
 pub(crate) enum BroadcastPart {
     Packets,
     Announcements,

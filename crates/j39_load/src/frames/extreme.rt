@@ -9,7 +9,7 @@ use j39_id::addresses::{POOL_FIRST, POOL_LAST};
 use j39_network::UnitPlan;
 
 /// One end of the addresses that a unit may come to hold.
-#[derive(Clone, Copy, PartialEq, Eq)]
+#[derive(Clone, Copy)]
 pub(crate) enum Extreme {
     Least,
     Greatest,

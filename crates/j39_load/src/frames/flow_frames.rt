@@ -4,7 +4,7 @@ use crate::frames::broadcast::Broadcast;
 use j39_timing::Stream;
 
 /// Frames of a flow, or of a unit's broadcasts, with how urgent they are.
-#[derive(Clone, Copy, PartialEq, Eq)]
+#[derive(Clone, Copy)]
 pub struct FlowFrames {
     /// How many a message has, how often they come, and how long they are at most, in bits.
     pub stream: Stream,

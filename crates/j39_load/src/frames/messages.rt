@@ -4,7 +4,7 @@ use crate::frames::broadcast::Broadcast;
 use crate::frames::flow_frames::FlowFrames;
 
 /// The messages of a flow; where some are long, these.
-#[derive(Clone, Copy, PartialEq, Eq)]
+#[derive(Clone, Copy)]
 pub enum Messages {
     /// Each goes in one frame.
     Short(FlowFrames),

@@ -3,7 +3,7 @@
 use crate::frames::{FlowFrames, Messages};
 
 /// What a flow asks of the bus, times and lengths in bits.
-#[derive(Clone, Copy, PartialEq, Eq)]
+#[derive(Clone, Copy)]
 pub struct FlowLoad {
     pub messages: Messages,
     /// Where some messages are long and others go in one frame, the frames of these others.

@@ -17,7 +17,7 @@ use j39_timing::Stream;
 use std::alloc::{AllocError, Global};
 
 /// A part of the list of all frames.
-#[derive(Clone, Copy, PartialEq, Eq)]
+#[derive(Clone, Copy)]
 pub(crate) enum FramePart {
     /// Of each flow the frames that are its own, or what it wants of its unit's.
     Flows,

@@ -3,7 +3,7 @@
 use crate::frames::FlowFrames;
 
 /// What a request asks of the bus, where it is known how often it is sent.
-#[derive(Clone, Copy, PartialEq, Eq)]
+#[derive(Clone, Copy)]
 pub struct RequestLoad {
     /// Its frames, which carry the number of the group that is asked for.
     pub frames: FlowFrames,

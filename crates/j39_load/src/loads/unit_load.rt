@@ -4,7 +4,7 @@ use crate::frames::FlowFrames;
 
 /// What the long messages of a unit to all ask of the bus. It sends one of them at a time, and queues the packets of
 /// each a gap apart.
-#[derive(Clone, Copy, PartialEq, Eq)]
+#[derive(Clone, Copy)]
 pub struct UnitLoad {
     /// Their packets, two of which are queued at least a gap apart.
     pub packets: FlowFrames,

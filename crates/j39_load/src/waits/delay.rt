@@ -3,7 +3,7 @@
 use crate::waits::whole_time::WholeTime;
 
 /// How long the messages of a flow take, from their releases until they have been sent: their worst-case response time.
-#[derive(Clone, Copy, PartialEq, Eq)]
+#[derive(Clone, Copy)]
 pub enum Delay {
     /// At most so many bits, which are within the flow's limit.
     Within(u32),

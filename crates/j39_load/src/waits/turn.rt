@@ -1,7 +1,7 @@
 //! How long the long messages of a unit to all take.
 
 /// How long one long message to all of each flow of a unit takes, one after the other, times in bits.
-#[derive(Clone, Copy, PartialEq, Eq)]
+#[derive(Clone, Copy)]
 pub struct Turn {
     /// All of them together.
     pub time: u64,

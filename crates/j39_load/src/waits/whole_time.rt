@@ -1,7 +1,7 @@
 //! When long messages to all are whole.
 
 /// When the long messages of a flow to all are whole, times in bits.
-#[derive(Clone, Copy, PartialEq, Eq)]
+#[derive(Clone, Copy)]
 pub struct WholeTime {
     /// How many frames the longest has.
     pub frames: u16,

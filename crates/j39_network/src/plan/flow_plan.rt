@@ -5,7 +5,7 @@ ghost use Rattle.std.specs.Option.{ForSome};
 use super::{Pace, To};
 
 /// A flow: a group that a unit sends, by the places of both from 0, and how often, where that is known.
-#[derive(Clone, Copy, PartialEq, Eq)]
+#[derive(Clone, Copy)]
 pub struct FlowPlan {
     pub group: usize,
     pub sender: usize,

@@ -3,7 +3,7 @@ ghost use Rattle.std.specs.Prelude.{◌≤◌, ◌<◌};
 ghost use Rattle.std.specs.Option.{ForSome};
 
 /// How often a flow is sent, and how soon each of its frames has to be on the bus, in milliseconds.
-#[derive(Clone, Copy, PartialEq, Eq)]
+#[derive(Clone, Copy)]
 pub struct Pace {
     /// The releases of two messages of the flow are at least so far apart.
     pub period: u16,

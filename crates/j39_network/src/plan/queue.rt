@@ -1,7 +1,7 @@
 //! How a unit's controller chooses among frames that wait.
 
 /// With which of its waiting frames a unit takes part in an arbitration (ISO 11898-1).
-#[derive(Clone, Copy, PartialEq, Eq)]
+#[derive(Clone, Copy)]
 pub enum Queue {
     /// With the one that has the least identifier.
     Priority,

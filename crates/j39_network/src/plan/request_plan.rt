@@ -5,7 +5,7 @@ ghost use Rattle.std.specs.Option.{ForSome};
 use super::To;
 
 /// A group that a unit asks for, by the places of both from 0: one unit, or all that are on.
-#[derive(Clone, Copy, PartialEq, Eq)]
+#[derive(Clone, Copy)]
 pub struct RequestPlan {
     pub group: usize,
     /// The unit that asks.

@@ -2,7 +2,7 @@
 ghost use Rattle.std.specs.Prelude.{◌≤◌};
 
 /// How fast a bus is (SAE J1939-11 and SAE J1939-14 know 250,000 and 500,000 bits a second).
-#[derive(Clone, Copy, PartialEq, Eq)]
+#[derive(Clone, Copy)]
 pub enum Bitrate {
     /// 125,000 bits a second.
     Kbit125,
@@ -15,7 +15,7 @@ pub enum Bitrate {
 }
 
 /// How many frames are damaged at most.
-#[derive(Clone, Copy, PartialEq, Eq)]
+#[derive(Clone, Copy)]
 pub struct ErrorRate {
     /// So many attempts that are damaged begin at most in any window.
     pub count: u16,
@@ -27,7 +27,7 @@ pub struct ErrorRate {
 }
 
 /// What is known of the bus that a plan is for.
-#[derive(Clone, Copy, PartialEq, Eq)]
+#[derive(Clone, Copy)]
 pub struct Timing {
     pub bitrate: Bitrate,
     /// How many frames of no planned flow, and of a smaller identifier, are queued at most while a planned frame waits,

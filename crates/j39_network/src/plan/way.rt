@@ -1,7 +1,7 @@
 //! How a unit chooses a new address.
 
 /// The way in which an arbitrary unit chooses another address of 128 to 247 once it loses its own.
-#[derive(Clone, Copy, PartialEq, Eq)]
+#[derive(Clone, Copy)]
 pub enum Way {
     /// The lowest free address.
     Lowest,

@@ -1,7 +1,7 @@
 //! Places in a plan file.
 
 /// A table of a plan file, its indices counted from 0.
-#[derive(Clone, Copy, PartialEq, Eq)]
+#[derive(Clone, Copy)]
 pub enum Table {
     Top,
     Timing,

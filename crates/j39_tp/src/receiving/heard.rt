@@ -2,7 +2,7 @@
 use crate::Packet;
 
 /// What a receiver does with what it hears.
-#[derive(Clone, Copy, PartialEq, Eq)]
+#[derive(Clone, Copy)]
 pub enum Heard {
     /// Nothing is sent, and no message is complete.
     Nothing,

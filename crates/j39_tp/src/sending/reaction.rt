@@ -2,7 +2,7 @@
 use crate::Packet;
 
 /// What a sender does with what it hears.
-#[derive(Clone, Copy, PartialEq, Eq)]
+#[derive(Clone, Copy)]
 pub enum Reaction {
     /// The packet changes nothing.
     Nothing,

@@ -1,7 +1,7 @@
 //! Places in a vehicle file.
 
 /// A table of a vehicle file, its indices counted from 0.
-#[derive(Clone, Copy, PartialEq, Eq)]
+#[derive(Clone, Copy)]
 pub enum Table {
     Top,
     Bus(usize),

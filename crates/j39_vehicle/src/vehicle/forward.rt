@@ -7,7 +7,7 @@ use super::GroupAt;
 use j39_network::To;
 
 /// When a gateway sends what it heard.
-#[derive(Clone, Copy, PartialEq, Eq)]
+#[derive(Clone, Copy)]
 pub enum Mode {
     /// For each message that ended, one.
     Direct,
@@ -16,7 +16,7 @@ pub enum Mode {
 }
 
 /// A signal whose values go into another one.
-#[derive(Clone, Copy, PartialEq, Eq)]
+#[derive(Clone, Copy)]
 pub struct ForwardedSignal {
     /// The place of the signal in the group that is heard.
     pub read: usize,

@@ -5,7 +5,7 @@ ghost use Rattle.std.specs.Option.{ForSome};
 use super::UnitAt;
 
 /// What a unit has to hear from a unit of the same or another bus: a group of its own bus, or one of its signals.
-#[derive(Clone, Copy, PartialEq, Eq)]
+#[derive(Clone, Copy)]
 pub struct VehicleNeed {
     pub unit: UnitAt,
     /// The place of the group in the plan of the unit's bus.

@@ -19,18 +19,22 @@ class Claims:
         self._hands, self._found = hands, found
         self._began: dict[str, int] = {}  # who was heard first by a claim that nobody had asked for, with its line
         self._asked_first: set[str] = set()  # and by one that was asked for
+        self._later: dict[str, int | None] = {}  # when those claimed first, unasked, that were heard before
+        self._missing: int | None = None  # the first line before which frames may be missing
         self.open: dict[str, Place] = {}
 
-    def anew(self) -> None:
-        """The clock was set, or frames are missing: who is asked counts no more."""
+    def anew(self, line: int) -> None:
+        """The clock was set, or frames are missing before a line: who is asked counts no more, and claims may be among these."""
         self.open.clear()
+        self._missing = line if self._missing is None else self._missing
 
     def claimed(self, line: int, at: int | None, label: str) -> None:
         """A unit claims an address, or can't, before the hands know of it."""
         self.open.pop(label, None)
         if label in self._hands.last:
-            return
-        if self._hands.was_asked(at):
+            if not self._hands.has_claimed(label) and not self._hands.was_asked(at):
+                self._later[label] = at
+        elif self._hands.was_asked(at):
             self._asked_first.add(label)
         else:
             self._began[label] = line
@@ -73,6 +77,13 @@ class Claims:
         since = sorted(self._began.values())[BEGINNERS - 1]
         for label in others:
             line, at = self._hands.begun[label]
-            if line > since and not self._hands.has_claimed(label):
+            is_known = self._missing is None or line < self._missing
+            if line <= since or not is_known:
+                continue
+            claimed = self._later.get(label)
+            if at is not None and claimed is not None:
+                text = f"{label} sends for {{}} ms before it claims an address, which {len(self._began)} other units do first"
+                self._found.tell("unclaimed", text, line, at, claimed - at, unit=label)
+            elif not self._hands.has_claimed(label):
                 text = f"{label} sends, and never claims an address, as {len(self._began)} other units do before they send"
                 self._found.tell("unclaimed", text, line, at, unit=label)

@@ -7,21 +7,27 @@ from j39plan.j1939 import (
     ACKNOWLEDGEMENT, ADDRESS_CLAIMED, DATA_TRANSFER, CONNECTION_MANAGEMENT, FRAME_BYTES, GLOBAL_ADDRESS, NULL_ADDRESS, OTHER_SERVICES, PROPRIETARY,
     REQUEST, SERVICES, destination_in, identifier_of,
 )
+from j39plan.log.checks.absences import Absences
+from j39plan.log.checks.announced import Announced
+from j39plan.log.checks.asked_for import AskedFor
 from j39plan.log.checks.busy import Busy
 from j39plan.log.checks.claims import Claims
 from j39plan.log.checks.commanded import Commanded
 from j39plan.log.checks.damage import Damage
 from j39plan.log.checks.deviations import Found
-from j39plan.log.checks.distances import Distances, Heard, Rule, Tolerance, Way
-from j39plan.log.checks.feed import Noted
+from j39plan.log.checks.distances import Distances, Rule, Tolerance
+from j39plan.log.checks.feed import BAD, Noted
 from j39plan.log.checks.hands import Hands, named
 from j39plan.log.checks.numbers import Numbers
 from j39plan.log.checks.other_requests import OtherRequests
 from j39plan.log.checks.premises import Beside
 from j39plan.log.checks.queued import Begun, Queued
 from j39plan.log.checks.requests import Asked
-from j39plan.log.checks.transfers import WHOLE, Announcement, Cause, Pair, Route, Transfers, announcement_in, is_managing, pair_of, pgn_of
+from j39plan.log.checks.sessions import Sessions
+from j39plan.log.checks.tracks import Heard, Way, way_of
+from j39plan.log.checks.transfers import BAM, RTS, WHOLE, Announcement, Pair, Route, Transfers, announcement_in, is_managing, pair_of, pgn_of
 from j39plan.log.checks.unplanned import Bounds, Unplanned
+from j39plan.log.checks.wording import no_group
 from j39plan.log.clock import DAY, MILLISECOND, SECOND, Clock
 from j39plan.log.reports import Acknowledgement, Claim, Frame, Message, Report, Request, Who
 from j39plan.log.serial_numbers import Renumbered
@@ -38,9 +44,6 @@ CLAIMS = ADDRESS_CLAIMED.to_bytes(3, "little")
 
 # So many of the shortest period without any report, a second at least, are a silence of all.
 PERIODS = 5
-
-# So long the longest message to all takes at most: 255 packets, 200 ms apart.
-LONGEST = 51 * SECOND
 
 # So many bytes has a NAME, and a request.
 NAME_BYTES, REQUEST_BYTES = 8, 3
@@ -64,30 +67,36 @@ class Comparison:
         for group in tables.groups:
             self.groups.setdefault(group.pgn, []).append(group)
         self.planned = {group.label: group for group in tables.groups}
-        self._ways: list[Way] = [(flow.group, flow.sender, flow.to) for flow in tables.flows]
+        self._ways: list[Way] = [way_of(flow) for flow in tables.flows]
+        self._otherwise: set[Way] = set()  # ways of which messages came, but not as planned
         self.sent = {way: [0] for way in self._ways}  # how often messages came of each way
         self.found, self.clock, self.hands = found, Clock(), Hands(tables, found)
         self.numbers = Numbers(settings.others, found)
-        heard = Heard(self.hands.first, self.hands.free)
+        heard = Heard(self.hands.first, self.hands.free, self.hands.off, self.hands.last)
         tolerance = settings.tolerance.with_drift(tables.timing.drift if tables.timing else 0)
         self.distances = Distances(tables.flows, tolerance, settings.rule, bounds.waits, heard, found)
         self.claims, self.queued, self.commanded = Claims(tables.units, self.hands, found), Queued(), Commanded(tables.units, found)
-        self.asked, self.damage = Asked(tables, tolerance, bounds.requests, found, self.hands.is_on), Damage(tables.timing, found)
+        self.asked, self.damage = Asked(tables, tolerance, bounds.requests, found, self.hands), Damage(tables.timing, found)
         self.busy, self.unplanned = Busy(tables.timing), Unplanned(tables, bounds.flows, found)
-        self.transfers = Transfers(tables.timing, self.busy, found)
+        self.asked_for, self.absences = AskedFor(), Absences(tables, settings.rule.events, found)
         labels = {pgn: groups[0].label for pgn, groups in self.groups.items() if len(groups) == 1}
+        self.transfers, self.sessions = Transfers(tables.timing, self.busy, found, self.hands.is_off), Sessions(labels, found)
         self.others = OtherRequests(labels, found, self.hands.is_on)
-        self._begun: dict[Pair, Begun] = {}
-        self.of_premises = Beside()
+        self.announcements = Announced(self.hands, self.distances, self.transfers, self.queued, found)
+        self.of_premises = Beside(self.transfers.urgent)
         self.is_unjudged = False  # whether `audit` doesn't judge yet, or nobody, since the plan has findings: what `follow` says is told
         self._received: tuple[int, Pair] | None = None  # the line on which a receiver said that it has a message, and counted it
         self._pgns = {label: group.pgn for label, group in self.planned.items()}
+        self._numbers: dict[tuple[str, int], list[int]] = {}  # the flows of each unit and group's number
+        for place, flow in enumerate(tables.flows, 1):
+            self._numbers.setdefault((flow.sender, self._pgns[flow.group]), []).append(place)
         self._is_watched = False  # whether what is due is told as soon as it is
-        self._line, self._still = 0, ""  # the line of the last report; and what is told of nothing coming since
+        self._line, self._still = 0, ""  # the line of the last report; and what is told where nothing came since
         self.odd = 0  # lines with frames that are none of J1939, which `follow` can't read
         self._at: int | None = None  # the time of the last report
         periods = [flow.period for flow in tables.flows if flow.period and not flow.on_request]
         self._gap = max(SECOND, PERIODS * min(periods) * MILLISECOND) if len(periods) > 1 else math.inf
+        self._quiet = min(self._gap, self.distances.least)
 
     def claim(self, line: int, at: int | None, who: Who, identity: int | None) -> None:
         """A claim of an address, or that none was found, by a box of this serial number where its unit is of any."""
@@ -98,10 +107,10 @@ class Comparison:
             self.of_premises.given_back[who.label] += who.address is None and self.hands.holds(who, identity)
         if self.commanded.is_obeyed(self.hands.name_of(who, identity), who.address) and who.label and who.address is not None:
             self.of_premises.obeyed.add((who.label, who.address))
-        for address in self.hands.claim(line, at, who, identity):
-            for begun in self._begun.values():
-                if address in (begun.pair[0][2], begun.pair[1][2]) and not begun.between:
-                    begun.between = f"address {address} changed hands at line {line}"
+        addresses = self.hands.claim(line, at, who, identity)
+        if who.label and at is not None and (off := self.hands.off.get(who.label)) and off.back == at:
+            self.distances.begins(who.label)
+        self.announcements.changes_hands(addresses, line)
         self.unplanned.came(line, at, identifier_of(6, ADDRESS_CLAIMED, 0))
         if who.name and who.label is None:
             address = NULL_ADDRESS if who.address is None else who.address
@@ -141,12 +150,9 @@ class Comparison:
         if (line, pair_of(sender, to)) == self._received:
             return
         planned = self.planned[group]
-        begun = self._begun.pop(pair_of(sender, to), None) if len(data) > 2 * FRAME_BYTES else None
+        begun = self.announcements.whole(line, at, pair_of(sender, to)) if len(data) > 2 * FRAME_BYTES else None
         first, began = (begun.line, begun.at) if begun else (line, at)
-        if begun:
-            self.transfers.reported(line, at, begun.pair)
-            self.queued.whole(begun.way)
-        else:
+        if begun is None:
             self.hands.sends(line, at, sender)
             if sender.label is None:
                 self.unknown(line, at, sender, planned.pgn, group)
@@ -157,11 +163,26 @@ class Comparison:
         if flow:
             self.sends(flow, first, began, begun.waited if begun else 0)
             return
-        if self.is_unjudged and sender.label:
-            self.found.tell("no-flow", f"{group} from {sender.label} to {to.shown}: no flow", first, began, unit=sender.label)
         if begun is None:
+            self.without_flow(line, at, planned, sender, to)
             priority = planned.priority if odd_priority is None else odd_priority
             self.passes(line, at, identifier_of(priority, planned.pgn, 0, 0), "", sender)
+
+    def without_flow(self, line: int, at: int | None, group: Group, sender: Who, to: Who) -> None:
+        """A message of a planned group begins that no flow brings from here to there. Who answers a request isn't accused."""
+        if sender.label is None:
+            return
+        is_answer = self.asked_for.is_asked(group.pgn, sender.address, at)
+        self.of_premises.takes(sender.label, group.label, line, is_answer)
+        if not is_answer and self.is_unjudged:
+            self.found.tell("no-flow", f"{group.label} from {sender.label} to {to.shown}: no flow", line, at, unit=sender.label)
+        self.otherwise(at, group.pgn, sender.label)
+
+    def otherwise(self, at: int | None, pgn: int, sender: str) -> None:
+        """A message of a planned group comes that isn't as planned, which is told by itself: no flow of its sender and its group's number is silent."""
+        for number in self._numbers.get((sender, pgn), ()):
+            self._otherwise.add(self._ways[number - 1])
+            self.distances.besides(number, at)
 
     def answers(self, line: int, at: int | None, sender: Who, to: Who, pgn: int) -> None:
         """A message of a group begins, which may be asked for."""
@@ -173,6 +194,11 @@ class Comparison:
     def sends(self, number: int, line: int, at: int | None, waited: int = 0) -> None:
         """A message of a flow has come, by where it began, and how long it may have waited for others of its unit."""
         self.counted(number)[0] += 1
+        if at is not None and self.asked_for.is_open(at):
+            flow = self.flows[number - 1]
+            if self.asked_for.is_besides(self._pgns[flow.group], self.hands.last.get(flow.sender, (0, None, None))[2], at):
+                self.distances.besides(number, at)
+                return
         self.distances.sent(number, line, at, waited)
 
     def counted(self, number: int) -> list[int]:
@@ -198,6 +224,9 @@ class Comparison:
 
     def unheard(self, noted: Noted) -> None:
         """A frame of which `follow` says nothing: one with an 11-bit identifier, or an error frame."""
+        if noted.kind == BAD:
+            self.lacks(noted.line, self._at)
+            return
         line, at = noted.line, self.clock.see(noted.line, noted.time)
         if noted.is_error:
             self.damaged(line, at, noted)
@@ -218,6 +247,8 @@ class Comparison:
             self.single(line, at, frame)
         elif is_managing(frame) and (announcement := announcement_in(frame)):
             self.announced(line, at, frame, announcement)
+        elif frame.pgn == CONNECTION_MANAGEMENT and frame.data[:1] in (bytes((RTS,)), bytes((BAM,))):
+            self.sessions.announced(line, at, frame, f"a message from {frame.sender.shown} to {frame.to.shown}")
         elif frame.pgn == DATA_TRANSFER or is_managing(frame):
             self.carried(line, at, frame)
 
@@ -244,26 +275,20 @@ class Comparison:
         self.hands.sends(line, at, sender)
         if frame.pgn == DATA_TRANSFER:
             self.commanded.packet(line, at, frame)
+            self.sessions.packet(line, at, frame)
             if frame.to.address is None and sender.label and at is not None:
                 self.queued.packet(sender.label, at)
+        else:
+            self.sessions.answered(line, at, frame)
         is_planned = self.transfers.came(line, at, frame)
         if frame.pgn == CONNECTION_MANAGEMENT and frame.data[0] == WHOLE:
-            self.acknowledged(line, pair_of(frame.to, sender))
+            pair = pair_of(frame.to, sender)
+            if begun := self.announcements.acknowledged(pair, at):
+                self._received = line, pair
+                if begun.way in self.sent:
+                    self.sends(self._ways.index(begun.way) + 1, begun.line, begun.at, begun.waited)
         if not is_planned:
             self.passes(line, at, frame.identifier, f"PGN {frame.pgn if frame.pgn == DATA_TRANSFER else pgn_of(frame)}", sender)
-
-    def acknowledged(self, line: int, pair: Pair) -> None:
-        """The receiver may have said that it has a message which isn't reported yet, as where a packet was asked for once more: it was carried whole."""
-        if pair in self._begun and self.transfers.is_acknowledged(pair):
-            self._received = line, pair
-            begun = self._begun.pop(pair)
-            self.queued.whole(begun.way)
-            if number := self.flow_of(begun.way):
-                self.sends(number, begun.line, begun.at, begun.waited)
-
-    def flow_of(self, way: Way) -> int:
-        """The number of the first flow of a way, 0 where there is none."""
-        return next((number for number, flow in enumerate(self.flows, 1) if (flow.group, flow.sender, flow.to) == way), 0)
 
     def single(self, line: int, at: int | None, frame: Frame) -> None:
         """A frame that is none of a planned group, and carries no part of a long message. A unit without an address may ask for claims."""
@@ -284,47 +309,51 @@ class Comparison:
             way = group.label, sender.label or "", to.shown
             if way in self.sent:
                 self.sent[way][0] += 1
+            self.otherwise(at, frame.pgn, sender.label or "")
 
     def nobody(self, line: int, at: int | None, pgn: int, sender: Who) -> None:
         """A message of no group."""
         if pgn not in UNPLANNED:
-            self.found.tell("no-group", f"PGN {pgn} from {sender.shown}: no group has it", line, at, unit=sender.label)
+            self.found.tell("no-group", no_group(pgn, sender), line, at, unit=sender.label)
 
     def announced(self, line: int, at: int | None, frame: Frame, announced: Announcement) -> None:
         """A long message is announced."""
-        sender, to = frame.sender, frame.to
-        pair = pair_of(sender, to)
+        sender, to, pair = frame.sender, frame.to, pair_of(frame.sender, frame.to)
         self.commanded.announced(frame, announced)
-        if announced.is_sound:
-            self.end(self._begun.pop(pair, None))
         group = self.group_of(announced.pgn, announced.length, sender, to)
         way = (group.label if group else "", sender.label or "", to.shown)
-        is_planned = way in self.sent
         self.sender(line, at, sender, announced.pgn, group.label if group else "")
-        if announced.is_sound:
-            self.answers(line, at, sender, to, announced.pgn)
-            self.hands.announces(line, at, sender)
-        route = Route(f"{group.label if group else f'PGN {announced.pgn}'} from {sender.shown} to {to.shown}", is_planned, sender.label, to.label)
-        waited = 0
-        if announced.is_sound:
-            self.transfers.announced(line, at, route, frame)
-            waited = self.busy.waited + self.queued.announced(sender.label, at, way, to.address is None) if sender.label and at is not None else 0
-        if not is_planned:
+        text = f"{group.label if group else f'PGN {announced.pgn}'} from {sender.shown} to {to.shown}"
+        session = self.sessions.announced(line, at, frame, text)
+        if way not in self.sent:
             self.passes(line, at, frame.identifier, f"PGN {announced.pgn}", sender)
+        if session is None or not announced.is_sound:
+            if pair not in self.announcements:  # what came before is done, and its answers aren't this one's
+                self.transfers.forget(pair)
+            self.otherwise(at, announced.pgn, sender.label or "")
+            return
+        self.announcements.ends(pair, at)
+        self.answers(line, at, sender, to, announced.pgn)
+        self.hands.announces(line, at, sender)
+        self.transfers.announced(line, at, Route(text, way in self.sent, sender.label, to.label), frame)
+        waited = self.busy.waited + self.queued.announced(sender.label, at, way, to.address is None) if sender.label and at is not None else 0
         if group is None:
             self.nobody(line, at, announced.pgn, sender)
         elif group.length <= announced.length <= group.most:  # of another length `audit` tells
-            begun = Begun(line, at, route.text, pair, way, sender.label, waited)
-            if announced.is_sound:
-                self._begun[pair] = begun
-            else:
-                self.broken(begun, Cause("its announcement breaks the rules"))
+            self._otherwise.add(way)
+            self.announcements.begins(Begun(line, at, text, pair, way, sender.label, to.label, session, waited))
+            if way not in self.sent:
+                self.without_flow(line, at, group, sender, to)
+        else:
+            self.otherwise(at, announced.pgn, sender.label or "")
 
     def request(self, line: int, at: int | None, request: Request) -> None:
         """A request."""
         if request.pgn == ADDRESS_CLAIMED:
             self.hands.asked(at)
             self.claims.asked(line, at, request)
+        else:
+            self.asked_for.asks(at, request)
         if (request.sender.address, request.pgn) != (NULL_ADDRESS, ADDRESS_CLAIMED):  # a unit without an address may ask for claims
             self.sender(line, at, request.sender, REQUEST)
         if request.request:
@@ -334,29 +363,22 @@ class Comparison:
         if request.request == 0 or self.requests[request.request - 1].period is None:
             self.unplanned.came(line, at, identifier_of(6, REQUEST, 0))
 
-    def end(self, begun: Begun | None) -> None:
-        """A message that comes to nothing, if there is one; of one before which frames may be missing that isn't known."""
-        if begun is None or self.distances.is_before(begun.line):
-            return
-        if begun.between:
-            address, _, where = begun.between.partition(" at ")
-            text = f"{begun.text}: announced, and not put together, since {address}"
-            self.found.tell("not-whole", text, begun.line, begun.at, unit=begun.unit, detail=f" at {where}")
-        elif cause := self.transfers.cause(begun.pair):
-            self.broken(begun, cause)
-
-    def broken(self, begun: Begun, cause: Cause) -> None:
-        """A message that was announced and not carried whole."""
-        text = f"{begun.text}: announced, and not carried whole: {cause.text}"
-        self.found.tell("not-whole", text, begun.line, begun.at, cause.packet, unit=begun.unit)
-
     def anew(self, line: int, at: int) -> None:
         """What is measured begins here."""
         self.distances.anew(line, at)
+        self.lacks(line, at)
+        self.transfers.anew()
+        self.queued.anew()
+        self.asked_for.anew()
+
+    def lacks(self, line: int, at: int | None) -> None:
+        """Frames may be missing before a line: who didn't answer until there isn't told, nor what becomes of messages that are under way."""
         self.asked.anew()
         self.others.anew()
-        self.claims.anew()
-        self.queued.anew()
+        self.claims.anew(line)
+        self.sessions.forget(at)
+        self.transfers.waits.clear()
+        self.announcements.lacks()
 
     def looks_at_time(self, line: int, at: int) -> None:
         """Time goes by. Where the clock was set, nothing at all came, or the interface was off, what is measured begins anew."""
@@ -368,22 +390,25 @@ class Comparison:
         elif self.damage.is_off:
             self.damage.is_off = False
             self.anew(line, at)
-        elif last is not None and at - last > self._gap and self.distances.alive(last) > 1:
+        elif last is not None and at - last > self._quiet and self.distances.stood_still(last, at - last, self._gap):
             self.hands.stood_still(line, at, at - last)
             self.anew(line, at)
+        if last is None:
+            self.sessions.begins(at)
         self._at, self._line = at, line
         if self._is_waiting():
             self.goes_by(at)
 
     def _is_waiting(self) -> bool:
         """Whether time has to go by for something that is waited for."""
-        return bool(self._is_watched or self.transfers.waits or self.transfers.refused or self.claims.open or self.hands.ignition.gap or self.commanded.open)
+        return bool(self._is_watched or self.transfers.waits or self.transfers.refused or self.claims.open or self.hands.ignition.is_open or self.commanded.open)
 
     def calm(self) -> tuple[int, float]:
         """The time of the last report; and how much later the next one may come, so that of a message that is as planned nothing changes but its flow's
         count and distances, below 0 where more may."""
-        is_open = self.asked.open or self.others.open or self.damage.is_off or not self.hands.is_settled
-        return (0, -1) if self._at is None or is_open or self._is_waiting() else (self._at, min(self._gap, DAY))
+        is_asked = self._at is not None and self.asked_for.is_open(self._at)
+        is_open = is_asked or self.asked.open or self.others.open or self.damage.is_off or not self.hands.is_settled
+        return (0, -1) if self._at is None or is_open or self._is_waiting() else (self._at, min(self._quiet, DAY))
 
     def passed(self, line: int, at: int) -> None:
         """Nothing but such messages came up to this line and time."""
@@ -398,15 +423,11 @@ class Comparison:
         """Nothing has come for so long, by the clock. After a while it is told of all, or of what is due if that was alone on the bus."""
         if self._at is None or self._still or self.damage.is_off or duration <= max(SECOND, self._gap if self._gap < math.inf else 0):
             return
-        if self._gap == math.inf or self.distances.alive(self._at) <= 1:
-            self.distances.goes_by(self._at + duration, self.is_under_way)
+        if self._gap == math.inf or len(self.distances.alive(self._at)) <= 1:
+            self.distances.goes_by(self._at + duration, self.announcements.is_under_way)
             return
         self._still = "nothing at all comes any more: the bus, the log or its clock stands still"
         self.found.tell("gap", self._still, self._line, self._at)
-
-    def is_under_way(self, way: Way) -> bool:
-        """Whether a message was announced that may still be carried whole."""
-        return any(begun.way == way and begun.at is not None and self._at is not None and self._at - begun.at < LONGEST for begun in self._begun.values())
 
     def goes_by(self, at: int) -> None:
         """Time goes by for what is waited for."""
@@ -416,8 +437,8 @@ class Comparison:
             self.transfers.goes_by(at)
         if self.claims.open:
             self.claims.goes_by(at)
-        if self.hands.ignition.gap:
-            self.hands.ignition.goes_by(at)
+        if self.hands.ignition.is_open:
+            self.hands.ignition.goes_by(at, self.distances.has_resumed())
         if self.commanded.open:
             self.commanded.goes_by(at)
 
@@ -427,7 +448,7 @@ class Comparison:
             self.found.withdraw(self._still)
             self._still = ""
         if not self.damage.is_off:
-            self.distances.goes_by(at, self.is_under_way)
+            self.distances.goes_by(at, self.announcements.is_under_way)
         self.asked.goes_by(at)
         self.others.goes_by(at)
 
@@ -464,9 +485,7 @@ class Comparison:
 
     def ends(self, last: int | None, has_frames: bool) -> None:
         """Tells what is known at the end, where the last time of the log is this one."""
-        for begun in self._begun.values():
-            if begun.between or not self.transfers.may_go_on(begun.pair, last):
-                self.end(begun)
+        self.announcements.end(last)
         self.claims.end(last)
         self.commanded.end()
         self.hands.end(last)
@@ -477,23 +496,4 @@ class Comparison:
         self.damage.end()
         self.asked.end(last)
         self.others.goes_by(last)
-        for number, flow in enumerate(self.flows, 1):
-            if self.counted(number)[0] == 0 and not flow.on_request:
-                self.found.tell("never-sent", f"{self.distances.name(number)}: never sent", None, flow=number, unit=flow.sender)
-        self.unmet()
-        for label in self.units:
-            if has_frames and label not in self.hands.last and self.is_seen(label):
-                self.found.tell("absent", f"unit {label}: neither claimed an address nor sent anything", None, unit=label)
-
-    def is_seen(self, label: str) -> bool:
-        """Whether a unit that is there sends something: it claims its address, or has messages or requests to send."""
-        senders = [flow.sender for flow in self.flows] + [request.sender for request in self.requests]
-        return self.units[label].claims or label in senders
-
-    def unmet(self) -> None:
-        """Tells the needs that nothing met in this log."""
-        for number, need in enumerate(self.needs, 1):
-            flows = [flow for flow in self.flows if need.is_met_by(flow)]
-            if not any(self.sent[flow.group, flow.sender, flow.to][0] for flow in flows):
-                why = "" if flows else ", and no flow of the plan does"
-                self.found.tell("unmet", f"need {number}, {need.what} by {need.unit}: nothing met it{why}", None, unit=need.unit)
+        self.absences.tell(self.sent, self._otherwise, self.hands.last, has_frames)

@@ -27,11 +27,11 @@ LEAST, MOST = Measure(str, operator.lt), Measure(str, operator.gt)
 # The kinds of deviations (kinds.py says what each is), and what is measured of them; times are in nanoseconds.
 KINDS: dict[str, Measure | None] = {
     "stranger": None, "absent": None, "identity": FIRST, "exchanged": None, "address": None, "displaced": None, "commanded": None, "claim-to-one": None, "restart": None, "early-message": SHORTEST,
-    "two-boxes": None, "sends-on": None, "unclaimed": None, "claims-unanswered": None, "not-defended": None, "too-early": None, "hands": MOST, "no-group": None, "layout": None, "length": None, "priority": None, "no-flow": None,
+    "two-boxes": None, "sends-on": None, "unclaimed": LONGEST, "claims-unanswered": None, "not-defended": None, "too-early": None, "hands": MOST, "no-group": None, "layout": None, "length": None, "priority": None, "no-flow": None,
     "not-whole": LEAST, "given-up": None, "not-acknowledged": None, "near": SHORTEST, "silent": LONGEST, "stopped": LONGEST, "never-sent": None,
     "unmet": None, "unanswered": None, "refused": None, "refused-to-all": None, "late": LONGEST, "asked-early": SHORTEST, "gap": LONGEST, "ignition": LONGEST, "bus-off": None,
     "error-passive": None, "lost-frames": None, "restarted": None, "urgent": None, "short-identifier": None, "unplanned": MOST,
-    "remote": None, "fd": None, "extended-page": None, "wrong-answer": None,
+    "remote": None, "fd": None, "extended-page": None, "announcement": None, "grant": None, "packet": FIRST, "acknowledged": LEAST, "abort": None, "twice": None,
     "transport-priority": None, "packets-near": SHORTEST, "packets-far": LONGEST, "late-answer": LONGEST, "damaged": MOST, "overload": None,
 }
 
@@ -58,6 +58,7 @@ class Deviation:
     times: int = 1
     places: list[Place] = field(default_factory=list)
     ask: str = ""
+    flows: tuple[int, ...] = ()  # the flows of one that is of several
 
     @property
     def told(self) -> str:
@@ -87,11 +88,11 @@ class Found:
     """The deviations of a log, as they are met. Who hears is told of each the first time, or, where all places are kept, each time."""
 
     def __init__(self, keeps_all: bool = False, hear: Hear | None = None) -> None:
-        self._keeps_all, self._hear, self._is_plain = keeps_all, hear, not keeps_all
+        self.keeps_all, self._hear, self._is_plain = keeps_all, hear, not keeps_all
         self._met: dict[str, Deviation] = {}
 
     def tell(self, kind: str, text: str, line: int | None, at: int | None = None, value: int | None = None, *, flow: int | None = None,
-             unit: str | None = None, detail: str = "", before: Place | None = None, times: int = 1, ask: str = "") -> None:
+             unit: str | None = None, detail: str = "", before: Place | None = None, times: int = 1, ask: str = "", flows: tuple[int, ...] = ()) -> None:
         """A deviation is met, or is met again, so many times. Its text is what it is of; the detail is of its place alone. One that is of two places is
         told with the one before."""
         known = self._met.get(text)
@@ -100,17 +101,22 @@ class Found:
             return
         place = Place(line, at, value)
         if known is None:
-            known = self._met[text] = Deviation(kind, text, flow, unit, place, detail, times, [before] if before else [], ask)
+            known = self._met[text] = Deviation(kind, text, flow, unit, place, detail, times, [before] if before else [], ask, flows)
             is_heard = True
         else:
             known.times += times
-            is_heard = self._keeps_all
+            is_heard = self.keeps_all
             if self._is_worse(known, place):
                 known.place, known.detail = place, detail
-        if self._keeps_all or before:
+            known.flows = (*known.flows, *(number for number in flows if number not in known.flows))
+        if self.keeps_all or before:
             known.places.append(place)
         if is_heard and self._hear:
             self._hear(known, place)
+
+    def met(self, text: str) -> Deviation | None:
+        """The deviation of a text, if it was met."""
+        return self._met.get(text)
 
     def withdraw(self, text: str) -> None:
         """What was told doesn't hold, by what came after it."""

@@ -5,19 +5,20 @@ import heapq
 import math
 import re
 from collections.abc import Callable, Iterator, Mapping
-from dataclasses import dataclass
 from typing import Any, NamedTuple
 
 from j39plan.log.checks.deviations import Found
+from j39plan.log.checks.outages import Outages
 from j39plan.log.checks.rows import CLOCKS, Row
+from j39plan.log.checks.tracks import Heard, Limits, Track, Way, way_of
 from j39plan.log.clock import MILLISECOND, SECOND
 from j39plan.plan.tables import Flow
 
 # After how many periods without a message a flow is silent, where it isn't said.
 SILENCE = 5
 
-# Group, sender and destination.
-Way = tuple[str, str, str]
+# So many flows that are silent at once, of several units, tell that the log is.
+SILENCED = 3
 
 # Distances are told apart by so many nanoseconds where the usual one is looked for.
 STEP = 10_000
@@ -48,16 +49,6 @@ class Tolerance(NamedTuple):
     def at(self, period: int) -> int:
         """In nanoseconds, for a period in ms."""
         return self.duration + period * self.share
-
-
-class Limits(NamedTuple):
-    """How near messages of a flow may come in nanoseconds, and how far apart, infinite where no silence is told; what the plan has of that; and how
-    long one may wait on the bus, so that it comes as much nearer or later."""
-
-    least: int
-    most: float
-    why: str
-    wait: int
 
 
 def limits_of(flow: Flow, tolerance: Tolerance, silence: int, wait: int) -> Limits | None:
@@ -96,51 +87,17 @@ class Rule(NamedTuple):
         return 0 if number in self.events and flow.pause is None else self.silence
 
 
-@dataclass(slots=True)
-class Track:
-    """A flow as it was sent so far: its limits and rows, how often, the line and time of its last message, None where there is none to count from, and how
-    long that one may have waited for others of its unit."""
-
-    number: int
-    flow: Flow
-    limits: Limits | None
-    often: Row | None
-    seldom: Row | None
-    count: int = 0
-    line: int = 0
-    at: int | None = None
-    waited: int = 0
-    is_known: bool = False  # whether it was sent before the clock was set, or nothing was heard
-
-    @property
-    def name(self) -> str:
-        """The flow in words."""
-        return f"flow {self.number}, {self.flow.what}"
-
-    def row_ends(self) -> None:
-        """The next message begins a row."""
-        if self.often:
-            self.often.ends()
-        if self.seldom:
-            self.seldom.ends()
-
-
-class Heard(NamedTuple):
-    """When each unit was heard first, and from when on one may send that claimed another address than before."""
-
-    first: Mapping[str, int]
-    free: Mapping[str, int]
-
-
 class Distances:
     """The distances of messages of flows. What a flow has begun in the order of the log counts; where a clock was set, from there on."""
 
     def __init__(self, flows: list[Flow], tolerance: Tolerance, rule: Rule, waits: dict[int, int], heard: Heard, found: Found) -> None:
-        self._heard, self._found = heard, found
+        self._heard, self._found, self.events = heard, found, rule.events
         self._tracks = [Track(number, flow, limits_of(flow, tolerance, rule.silence_of(number, flow), waits.get(number, 0)),
                               *rows_of(flow, tolerance, waits.get(number, 0))) for number, flow in enumerate(flows, 1)]
+        self.outages = Outages(self._tracks, heard, found)
         self._usual: dict[int, dict[int, int]] | None = {} if rule.is_whole else None
         self._since: tuple[int, int] | None = None  # where the clock was set last
+        self._units = 0  # of how many units flows had come until then
         self._due: list[tuple[float, int]] | None = None  # when flows are silent, by their numbers, where that is told as time goes by
         self._watched: set[int] = set()
         self._overdue: dict[int, str] = {}  # of those that are told as silent the text
@@ -149,7 +106,7 @@ class Distances:
 
     def anew(self, line: int, at: int) -> None:
         """The clock was set, or nothing was heard: distances begin here."""
-        self._since = line, at
+        self._since, self._units = (line, at), len({track.flow.sender for track in self._tracks if track.at is not None})
         for track in self._tracks:
             track.is_known = track.is_known or track.at is not None
             track.at = None
@@ -159,15 +116,42 @@ class Distances:
         """Whether distances begin behind a line."""
         return self._since is not None and line < self._since[0]
 
-    def alive(self, at: int) -> int:
-        """How many flows aren't silent at a time."""
-        return sum(track.limits is not None and track.limits.most < math.inf and track.at is not None and at - track.at <= track.limits.most
-                   for track in self._tracks)
+    def alive(self, at: int) -> list[Track]:
+        """The flows that aren't silent at a time."""
+        return [track for track in self._tracks if track.limits is not None and track.limits.most < math.inf and track.at is not None and at - track.at <= track.limits.most]
+
+    @property
+    def least(self) -> float:
+        """How long the first flow may be silent that is told then."""
+        return min((track.limits.most for track in self._tracks if track.limits is not None), default=math.inf)
+
+    def stood_still(self, at: int, duration: int, gap: float) -> bool:
+        """Whether all stood still where nothing at all came for so long after a time: for longer than a gap, though two flows were alive; or for so long that
+        several, of two units at least, are silent at once."""
+        if duration > gap and len(self.alive(at)) > 1:
+            return True
+        silenced = [track.flow.sender for track in self.alive(at) if track.limits and track.at is not None and track.limits.most + track.limits.wait < at + duration - track.at]
+        return len(silenced) >= SILENCED and len(set(silenced)) > 1
+
+    def has_resumed(self) -> bool:
+        """Whether flows came again of two of the units of which some did before distances began anew, or of all."""
+        return len({track.flow.sender for track in self._tracks if track.at is not None}) >= min(2, self._units)
 
     def sent(self, number: int, line: int, at: int | None, waited: int = 0) -> None:
         """A message of a flow, by when it began, and how long it may have waited for others of its unit. The first one counts from when its unit was heard
         first."""
         self.comes(self._tracks[number - 1], line, at, waited)
+
+    def besides(self, number: int, at: int | None) -> None:
+        """A message of a flow comes that was asked for besides, or isn't as planned, which is told by itself: it ends a silence, and no more."""
+        track = self._tracks[number - 1]
+        if at is None:
+            return
+        if number in self._overdue:
+            self._comes_again(track, track.at)
+        track.besides = at
+        if track.seldom:
+            track.seldom.ends()
 
     def track(self, number: int) -> Track:
         """A flow as it was sent so far."""
@@ -202,6 +186,11 @@ class Distances:
             if mean is not None:
                 self._tell_row("silent", track, self._why(track), line, at, mean)
 
+    def begins(self, unit: str) -> None:
+        """A unit begins anew: its rows do."""
+        for track in self.outages.of(unit):
+            track.row_ends()
+
     def touched(self, unit: str, pgns: Mapping[str, int], pgn: int, line: int, at: int | None) -> None:
         """A second box of a unit sends a group: distances of its flows begin anew with that, as far as the group tells which ones."""
         for track in self._tracks:
@@ -231,22 +220,19 @@ class Distances:
         if distance < limits.least:
             self._near(track, line, at, distance, waited if waited < limits.least else 0)
         elif distance > limits.most:
-            since = self._counted_from(track, last)
-            if since > last:
+            silence = self.outages.silence(track, last, at)
+            if silence < distance:
                 track.row_ends()
-            self._silence(track, line, at, at - since, limits)
-
-    def _counted_from(self, track: Track, last: int) -> int:
-        """From when on a flow is silent whose last message came then: not before the unit that it is for was heard, nor before its own unit may send
-        behind a claim."""
-        flow = track.flow
-        return max(last, self._heard.first.get(flow.to, last), self._heard.free.get(flow.sender, last))
+            if silence > limits.most + limits.wait + track.waited and self.outages.returns(track, last, line, at):
+                track.row_ends()
+            else:
+                self._silence(track, line, at, silence, limits)
 
     def _near(self, track: Track, line: int, at: int, distance: int, waited: int) -> None:
         """Two messages are nearer than the period, of which the first one may have waited so long for others of its unit."""
         assert track.limits is not None
         least = track.limits.least - waited
-        if distance >= least:
+        if distance >= least or self.outages.has_returned(track.flow.sender, at - distance):
             return
         if distance >= least - track.limits.wait:
             self.explained[track.number] = self.explained.get(track.number, 0) + 1
@@ -295,9 +281,9 @@ class Distances:
     def _limit(self, track: Track, limits: Limits) -> float:
         """From when on a flow is silent."""
         assert track.at is not None
-        return self._counted_from(track, track.at) + limits.most + limits.wait
+        return self.outages.begin(track, track.at) + limits.most + limits.wait
 
-    def goes_by(self, at: int, is_under_way: Callable[[Way], bool]) -> None:
+    def goes_by(self, at: int, is_under_way: Callable[[Way, int], bool]) -> None:
         """Time goes by, where silences are told as soon as they are, but of what is under way: a heap has when each flow is due, at the latest as of when
         it was looked at."""
         due = self._due
@@ -309,7 +295,7 @@ class Distances:
                 continue
             if self._limit(track, track.limits) >= at:
                 self._is_due(track)
-            elif is_under_way((track.flow.group, track.flow.sender, track.flow.to)):
+            elif is_under_way(way_of(track.flow), at):
                 self._watched.add(number)
                 heapq.heappush(due, (at + SECOND, number))
             else:
@@ -325,12 +311,16 @@ class Distances:
 
     def end(self, last: int | None) -> None:
         """Tells what has stopped, where the last time of the log is this one."""
+        since = self._since[0] if self._since else 0
+        if last is None:
+            return
+        told = self.outages.tell_stopped(self.outages.stopped(last, since), last) | set(self._overdue)
         for track in self._tracks:
             limits = track.limits
             begin = (track.line, track.at) if track.at is not None else self._since if track.is_known else None
-            if not limits or not begin or last is None or track.number in self._overdue:
+            if not limits or not begin or track.number in told:
                 continue
-            silence = last - self._counted_from(track, begin[1])
+            silence = self.outages.silence(track, begin[1], self.outages.heard_to(track.flow.to, last, since))
             if silence > limits.most + limits.wait:
                 self._tell("stopped", track, f"not sent any more, for {{}} ms to the log's end, {limits.why}", begin[0], begin[1], silence)
 

@@ -9,17 +9,18 @@ from collections.abc import Iterator
 from typing import NamedTuple, Protocol
 
 from j39plan.j1939 import ACKNOWLEDGEMENT, ADDRESS_CLAIMED, GLOBAL_ADDRESS, REQUEST, destination_in, pgn_in
+from j39plan.log.checks.lines import FRAME, first_word
 from j39plan.log.checks.meter import Meter
+from j39plan.log.checks.twice import Twice
 from j39plan.log.files import LINE_MOST, interface_of
 from j39plan.plan.tables import Timing
 
-# A line with a frame at its end, or before a direction; and one with an 11-bit identifier.
-FRAME = re.compile(rb"(?:^|[ \t\r])([01][0-9A-Fa-f]{7})#((?:[0-9A-Fa-f]{2}){0,8})(?:[ \t\r]+[RT])?[ \t\r]*\n?$")
+# A line with a frame of an 11-bit identifier.
 SHORT = re.compile(rb"(?:^|[ \t\r])([0-9A-Fa-f]{3})#([^ \t\r]*)(?:[ \t\r]+[RT])?[ \t\r]*\n?$")
 
 # A line with a remote frame, or one of CAN FD, of a 29-bit identifier.
 ODD = re.compile(rb"(?:^|[ \t\r])([01][0-9A-Fa-f]{7})#(#[0-9A-Fa-f]+|[Rr][0-8]?)(?:[ \t\r]+[RT])?[ \t\r]*\n?$")
-REMOTE, FD = "remote", "fd"
+REMOTE, FD, BAD = "remote", "fd", "bad"
 REMOTE_MARK = b"#R"
 ODD_KINDS = {REMOTE: "a remote frame", FD: "a CAN FD frame"}
 
@@ -66,11 +67,6 @@ class Noted(NamedTuple):
         return self.identifier >> 26
 
 
-def first_word(line: bytes) -> str:
-    """The first word of a line, where its time stands."""
-    return (line.split(maxsplit=1) or [b""])[0].decode(errors="replace")
-
-
 class Feed:
     """A log, whose lines are looked at as they are handed on. A meter takes all of them, if there is one."""
 
@@ -83,6 +79,7 @@ class Feed:
         self._interface: bytes | None = None
         self._last = b""
         self.unread: int | None = None  # a line that spells no frame, the first that was seen
+        self.twice = Twice(timing)
 
     @property
     def last_time(self) -> str:
@@ -90,21 +87,29 @@ class Feed:
         return first_word(self._last)
 
     def pieces(self, log: Read) -> Iterator[bytes]:
-        """What comes of a log, as soon as it is there, when its lines were looked at; one that is too long isn't."""
+        """What comes of a log, line by line as soon as it is there, when its lines were looked at; one that is too long isn't. A line that has the frame of the
+        one before once more is handed on as an empty one."""
         number, rest, is_long = 1, b"", False
         while block := log.read1(BLOCK):
-            whole = rest + block
-            *lines, rest = whole.split(b"\n")
+            *lines, rest = (rest + block).split(b"\n")
+            head = b""
             if lines and is_long:
-                number, is_long = number + 1, False
-                del lines[0]
-            self._take_all(number, whole[:len(whole) - len(rest)], lines)
+                number, is_long, head = number + 1, False, lines.pop(0) + b"\n"
+            yield head + self._taken(number, lines)
             number += len(lines)
             if is_long or len(rest) >= LINE_MOST:
+                yield rest
                 rest, is_long = b"", True
-            yield block
         if rest:
-            self._take(number, rest)
+            yield self._taken(number, [rest])[:-1]
+
+    def _taken(self, number: int, lines: list[bytes]) -> bytes:
+        """Whole lines are looked at; what of them is handed on."""
+        for place in self.twice.look(number, lines):
+            lines[place] = b""
+        block = b"\n".join((*lines, b""))
+        self._take_all(number, block, lines)
+        return block
 
     def unheard(self, line: float) -> Iterator[Noted]:
         """The frames of the lines before this one of which `follow` says nothing, on the interface that it reads."""
@@ -164,11 +169,14 @@ class Feed:
                 self._beside.append(noted_of(number, line, found))
             elif self._interface:
                 self._plain.add(spelled)
+        elif self._interface is not None and interface_of(line) not in (None, self._interface):
+            return
         elif found := ERROR.search(line) or ODD.search(line) or SHORT.search(line):
             if found.re is not SHORT or self._timing:
                 self._unheard.append(noted_of(number, line, found))
-        elif end and self.unread is None and (self._interface is None or interface_of(line) in (None, self._interface)):
-            self.unread = number
+        elif end:
+            self.unread = number if self.unread is None else self.unread
+            self._unheard.append(Noted(number, 0, b"", first_word(line), None, kind=BAD))
 
     def _is_noted(self, identifier: int) -> bool:
         """Whether a frame of which `follow` says who sent it, and no more, is to be looked at."""

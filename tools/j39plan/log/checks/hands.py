@@ -5,6 +5,7 @@ from typing import NamedTuple
 from j39plan.j1939 import CONTESTED, POOL, RESPONSE, WAIT, identity_in
 from j39plan.log.checks.deviations import Found
 from j39plan.log.checks.ignition import Again, Ignition
+from j39plan.log.checks.tracks import Off
 from j39plan.log.clock import MILLISECOND, SECOND, milliseconds
 from j39plan.log.reports import Who
 from j39plan.plan.tables import Tables, Unit
@@ -21,6 +22,9 @@ HEARD, PERIODS = SECOND, 2
 # So long others may hold a session with who went off: they answer, wait, and send an Abort as promptly as they answer.
 HELD = (RESPONSE + WAIT + RESPONSE) * MILLISECOND
 
+# So long behind a move frames may still leave the address of before that were queued there.
+QUEUED = 50 * MILLISECOND
+
 # An address that changes hands this often is told.
 HANDS = 3
 
@@ -36,13 +40,14 @@ Heard = tuple[int, int | None, int | None]
 
 class Claimed(NamedTuple):
     """A claim: its line and time, who made it, who held the address before and wasn't heard of elsewhere since, and whether that one is on and
-    has the smaller NAME."""
+    has the smaller NAME; and when that one moved, if it did."""
 
     line: int
     at: int | None
     who: Who
     before: Who | None
     is_contest: bool
+    moved: int | None = None
 
 
 class Taken(NamedTuple):
@@ -135,6 +140,7 @@ class Hands:
         self.begun: dict[Key, tuple[int, int | None]] = {}  # the line and the time of that
         self.free: dict[Key, int] = {}  # from when on each may send that claimed another address than it had
         self.last: dict[Key, Heard] = {}
+        self.off: dict[Key, Off] = {}  # when each was off last that has come back
         self.ignition = Ignition(found)
         self._heard: dict[Box, Heard] = {}
         self._since = 0  # the line at which the clock was set last
@@ -163,6 +169,7 @@ class Hands:
         self._contests.clear()
         self._fresh.clear()
         self._restarts.clear()
+        self.off.clear()
 
     def stood_still(self, line: int, at: int, silence: int) -> None:
         """Nothing at all came for so long before: who holds which address is to be claimed anew where the ignition was off."""
@@ -195,9 +202,10 @@ class Hands:
             self._pass(at)
             self._frees(at, key, address)
         is_start = self._is_start(self._heard.get(box) or self._heard.get(f"?{key}"))
-        if is_start:
+        if is_start and not self.was_asked(at):
             self.ignition.starts(box)
-        if (unclaimed := self._heard.pop(f"?{key}", None)) is not None:
+        unclaimed = self._heard.pop(f"?{key}", None)
+        if unclaimed is not None:
             self._heard.setdefault(box, unclaimed)
         before = self._holders.get(address) if address is not None else None
         is_defence = self._defends(who, at)
@@ -206,10 +214,10 @@ class Hands:
         if address is not None and contest:
             self._contests[address] = contest
         changed = self._leaves(box, at, who)
-        self._settles(box)
-        if address is not None and before is not None and box_of(before) == box:
+        self._settles(box, at)
+        if address is not None and (before is not None and box_of(before) == box or self._was_off(unclaimed, key, at, address)):
             self._claims_again(line, at, who, is_start)
-        elif address is not None:
+        if address is not None and (before is None or box_of(before) != box):
             if before is not None or self._guessed(address) != who.label:
                 changed.append(address)
             self._takes(line, at, who, before, is_defence)
@@ -238,6 +246,12 @@ class Hands:
             self.begun.setdefault(key, (line, at))
             if at is not None:
                 self.first[key] = at
+
+    def _was_off(self, heard: Heard | None, key: Key, at: int | None, address: int) -> bool:
+        """Whether a unit that claims now and sends at a period was heard from this address without a claim in the log, and then for a while not."""
+        before = self._time_of(heard)
+        is_of_it = heard is not None and heard[2] == address and key in self._times
+        return is_of_it and at is not None and before is not None and at - before >= self._times[key]
 
     def _is_start(self, heard: Heard | None) -> bool:
         """Whether a box was heard before all was silent, and not since, by when it was heard last."""
@@ -284,13 +298,13 @@ class Hands:
         self._left[left] = Left(who, at)
         return [left]
 
-    def _settles(self, box: Box) -> None:
+    def _settles(self, box: Box, at: int | None) -> None:
         """Somebody is heard of: of claims of its address, it has defended this, or moved."""
         for address, claimed in list(self._fresh.items()):
             if claimed.before and box_of(claimed.before) == box:
                 del self._fresh[address]
                 if not claimed.is_contest and address != self._at.get(box):
-                    self._fresh[address] = claimed._replace(before=None)
+                    self._fresh[address] = claimed._replace(before=None, moved=at)
 
     def _takes(self, line: int, at: int | None, who: Who, before: Who | None, is_defence: bool) -> None:
         """Somebody claims an address that it doesn't hold."""
@@ -314,12 +328,12 @@ class Hands:
         if at is None or self.was_asked(at) or last is not None and 0 <= at - last < CONTEST:
             return
         text = f"{named(who)} claims address {who.address}, which it holds, and nobody asked: has it restarted?"
-        if is_start:
-            self.ignition.claims_again(Again(line, at, who.label, text))
-            return
-        self._found.tell("restart", text, line, at, unit=who.label)
         before = self._time_of(self._heard.get(box_of(who)))
-        if self._is_live and before is not None:
+        self.ignition.claims_again(Again(line, at, who.label, text, None if before is None else max(at - before, 0)), is_start)
+        if before is None:
+            return
+        self.off[key_of(who)] = Off(before, at)
+        if self._is_live and not is_start:
             self._restarts[key_of(who)] = Restart(at, before)
 
     def announces(self, line: int, at: int | None, who: Who) -> None:
@@ -366,6 +380,15 @@ class Hands:
         """Whether somebody was heard so lately that it is on."""
         return self._is_lately(self.last.get(key), key, at)
 
+    def is_off(self, key: Key, at: int | None) -> bool:
+        """Whether a unit that sends at a period was heard, and so long not any more that it is off."""
+        return key in self._times and at is not None and self._time_of(self.last.get(key)) is not None and not self.is_on(key, at)
+
+    def was_off_since(self, key: Key, at: int | None) -> bool:
+        """Whether a unit went off since then, or was off then, and is back."""
+        off = self.off.get(key)
+        return off is not None and at is not None and at < off.back
+
     def _is_box_on(self, who: Who, at: int | None) -> bool:
         """The same of a box that claimed."""
         return self._is_lately(self._heard.get(box_of(who)), key_of(who), at)
@@ -389,6 +412,10 @@ class Hands:
         distance = None if at is None or known.at is None else at - known.at
         nearest = known.nearest if distance is None or known.nearest is not None and known.nearest < distance else distance
         self._changes[who.address] = known._replace(times=known.times + 1, nearest=nearest, at=at)
+
+    def has_left(self, who: Who) -> bool:
+        """Whether somebody left an address from which one sends who isn't known."""
+        return who.address in self._left and not who.label and not who.name
 
     def former(self, at: int | None, who: Who) -> Who | None:
         """Who left an address, from which somebody sends who isn't known, long enough ago that nothing of it is on its way any more."""
@@ -423,6 +450,8 @@ class Hands:
         claimed = self._fresh.get(who.address) if who.address is not None else None
         if not claimed or claimed.is_contest or claimed.before or self._contest(claimed.who.address or 0, at):
             return
+        if claimed.moved is not None and at - claimed.moved <= QUEUED:
+            return
         if key_of(claimed.who) == key_of(who):
             del self._fresh[claimed.who.address or 0]
             text = f"{who.spelled} sends before {milliseconds(CONTEST)} ms have passed after its claim of address {who.address}"
@@ -446,7 +475,7 @@ class Hands:
             if taken.was_on:
                 self._tell_taken(taken, "claims no other")
         self._tell_changes()
-        self.ignition.end()
+        self.ignition.end(True)
 
     def _tell_changes(self) -> None:
         """Tells the addresses that changed hands often since the begin, or since all was silent."""

@@ -7,13 +7,14 @@ import os
 import subprocess
 from collections import Counter
 from collections.abc import Iterable, Iterator, Mapping
-from typing import NamedTuple, Self
+from typing import NamedTuple
 
 from j39plan import program
 from j39plan.j1939 import CONNECTION_MANAGEMENT, FRAME_BYTES, GLOBAL_ADDRESS, NULL_ADDRESS, destination_in, pgn_in
 from j39plan.log.audit import WORDS, lines_of
 from j39plan.log.checks.deviations import MEASURE, Found
-from j39plan.log.checks.feed import FRAME, Noted, noted_of
+from j39plan.log.checks.feed import Noted, noted_of
+from j39plan.log.checks.lines import FRAME
 from j39plan.log.checks.wording import fields_of, lengths_of
 from j39plan.log.clock import nanoseconds
 from j39plan.log.files import LINE_MOST, Log, whole
@@ -55,16 +56,30 @@ def kind_of(line: Line) -> str:
 class Beside:
     """What is known of a log beside `audit`, by which some of what that accuses of has another name, or is told otherwise."""
 
-    def __init__(self) -> None:
+    def __init__(self, urgent: Mapping[str, int] | None = None) -> None:
         self.claims: dict[int, dict[str, list[int]]] = {}  # where each NAME of no unit first claimed an address, and how often: `audit` names one alone
         self.sent: dict[int | str | None, dict[str, None]] = {}  # the planned groups that came from a NAME or an address of no unit
         self.left: set[int | None] = set()  # addresses from which a unit goes on to send that has left them, or where a box of a unit is
         self.obeyed: set[tuple[str, int]] = set()  # units that claim an address that they were commanded to
         self.given_back: Counter[str] = Counter()  # how often a unit gave back the address that it held
+        self._urgent: Mapping[str, int] = {} if urgent is None else urgent  # how many frames of planned long messages a unit sends more urgently than what isn't planned
+        self.answered: Counter[tuple[str, str]] = Counter()  # how often a unit answered by a group what no flow brings
+        self.unasked: dict[tuple[str, str], list[int]] = {}  # where it first sent such a message otherwise, and how often
+
+    def takes(self, unit: str, group: str, line: int, is_answer: bool) -> None:
+        """A message comes that no flow brings: an answer to a request, or another one."""
+        if is_answer:
+            self.answered[unit, group] += 1
+        else:
+            self.unasked.setdefault((unit, group), [line, 0])[1] += 1
 
     def names(self, line: Line) -> bool:
         """Whether what is accused is told by another name."""
         word, unit = line.word("word"), line.word("unit")
+        if word == "urgent":
+            return self._urgent.get(unit, 0) == line.number("times")
+        if word == "no_flow":
+            return self.answered[unit, line.word("group")] == line.number("times")
         if word == "nobody":
             return line.number("address") in self.left
         if word == "address":
@@ -78,6 +93,10 @@ class Beside:
 
     def each(self, line: Line) -> list[Line]:
         """A line that accuses, of strangers at an address one for each NAME."""
+        way = line.word("unit"), line.word("group")
+        if line.word("word") == "no_flow" and self.answered[way] and way in self.unasked:
+            first, times = self.unasked[way]
+            return [line._replace(parts={**line.parts, "first": first, "times": times})]
         claims = self.claims.get(line.number("address"), {}) if line.word("word") == "stranger" else {}
         named: list[dict[str, str | int]] = [{"name": f"#{name}", "first": first, "times": times} for name, (first, times) in claims.items()]
         return [line._replace(parts={**line.parts, **parts}) for parts in named] or [line]
@@ -91,10 +110,10 @@ class Audit:
         self.findings = "" if lines_of(answer) else answer.partition("\n")[0]  # what `check` finds, where `audit` answers that
         words = [program.path(), "audit", *["--part"] * is_part, "--", plan, "/dev/stdin"]
         # A group of its own: an interrupt from the keyboard is to end the log, and not what reads it.
-        self._process = subprocess.Popen(words, stdin=subprocess.PIPE, stdout=subprocess.PIPE, process_group=0)
+        self._process = subprocess.Popen(words, stdin=subprocess.PIPE, stdout=subprocess.PIPE, start_new_session=True)
         self.lines: list[Line] = []
 
-    def __enter__(self) -> Self:
+    def __enter__(self) -> "Audit":
         return self
 
     def __exit__(self, *_: object) -> None:

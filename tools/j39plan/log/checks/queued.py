@@ -2,7 +2,8 @@
 
 from dataclasses import dataclass
 
-from j39plan.log.checks.distances import Way
+from j39plan.log.checks.sessions import Session
+from j39plan.log.checks.tracks import Way
 from j39plan.log.checks.transfers import Pair
 from j39plan.log.clock import MILLISECOND
 
@@ -12,8 +13,8 @@ PACED = 200 * MILLISECOND
 
 @dataclass
 class Begun:
-    """An announced message: the line and the time of its announcement, what it is, its ends and its way, how long it may have waited for others of its
-    unit, and what has come in between."""
+    """An announced message: the line and the time of its announcement, what it is, its ends, its way and the units at its ends, its session, how long it may
+    have waited for others of its unit, what has come in between, and whether frames of it may be missing in the log."""
 
     line: int
     at: int | None
@@ -21,8 +22,11 @@ class Begun:
     pair: Pair
     way: Way
     unit: str | None
+    to: str | None
+    session: Session | None
     waited: int = 0
     between: str = ""
+    is_unsure: bool = False
 
 
 class Queued:

@@ -8,10 +8,12 @@ from itertools import islice
 from operator import itemgetter
 from typing import NamedTuple
 
-from j39plan.j1939 import FRAME_BYTES
-from j39plan.log.checks.comparison import Comparison
+from j39plan.j1939 import FRAME_BYTES, GLOBAL_ADDRESS, NULL_ADDRESS, SERVICES
+from j39plan.log.checks.comparison import LAST_GROUP, UNPLANNED, Comparison
+from j39plan.log.checks.deviations import Deviation
 from j39plan.log.checks.feed import Feed
-from j39plan.log.checks.distances import Track
+from j39plan.log.checks.tracks import Track
+from j39plan.log.checks.wording import no_group
 from j39plan.log.reports import GROUP, KIND, Claim, Counts, Frame, Message, Who, below_of, report_of
 from j39plan.plan.tables import Tables
 
@@ -34,6 +36,14 @@ class Plain(NamedTuple):
     source: Source
 
 
+class Passing(NamedTuple):
+    """A frame of no planned group by its line without time and data: what is told of it, if something is, its identifier, and as whom its sender is heard."""
+
+    told: Deviation | None
+    identifier: int
+    source: Source
+
+
 class Reader:
     """Takes the lines of `follow` for a comparison: of most of them what is kept, without a report."""
 
@@ -42,18 +52,22 @@ class Reader:
         self._below = below_of(tables)
         self._unheard, self._beside = feed.noted
         self._plain: dict[str, Plain] = {}
+        self._passing: dict[str, Passing] = {}
         self._heard: dict[Source, tuple[int, int]] = {}  # who was heard while all was calm: the line and the time of the last message of each
         self._frames: dict[str, Frame] = {}  # the last frame of no planned group, by its line without time and data
 
     def take(self, lines: Iterator[str], most: int | None = None) -> None:
-        """Takes the lines, so many of them at most. Messages that are as planned change nothing but counts and distances while all is calm."""
+        """Takes the lines, so many of them at most. Messages that are as planned, and frames of no planned group, change nothing but counts and distances while
+        all is calm."""
         plain_of, unheard, beside, comparison, heard = self._plain.get, self._unheard, self._beside, self._comparison, self._heard
         see, comes, busy, is_calm, last, calm = comparison.clock.see, comparison.distances.comes, comparison.busy, False, 0, -1.0
+        passing_of, came = self._passing.get, comparison.unplanned.came
         for line in islice(lines, most):
             words = line.split(" ", 2)
             head, _, data = words[-1].rpartition(" ")
             plain = plain_of(head) if len(data) <= DIGITS else None
-            if plain is None or unheard or beside:
+            passing = passing_of(head) if plain is None else None
+            if plain is None and passing is None or unheard and unheard[0].line < int(words[0]) or beside and beside[0].line <= int(words[0]):
                 self._other(line, words, head, data, lines, plain)
                 is_calm = False
                 continue
@@ -62,17 +76,37 @@ class Reader:
                 is_calm = True
             number = int(words[0])
             at = see(number, words[1])
-            if at is not None and 0 <= at - last <= calm:
-                if at - last > busy.idle:
-                    busy.since = at
-                last = at
+            if at is None or not 0 <= at - last <= calm:
+                self._at_once(plain, passing, number, at, words, data, head)
+                is_calm = False
+                continue
+            if at - last > busy.idle:
+                busy.since = at
+            last = at
+            if plain is not None:
                 heard[plain.source] = number, at
                 plain.times[0] += 1
                 comes(plain.track, number, at)
-            else:
-                self._plainly(plain, number, at)
-                is_calm = False
+            elif passing is not None:
+                heard[passing.source] = number, at
+                came(number, at, passing.identifier)
+                if passing.told is not None:
+                    passing.told.times += 1
         self._was_heard()
+
+    def _at_once(self, plain: Plain | None, passing: Passing | None, number: int, at: int | None, words: list[str], data: str, head: str) -> None:
+        """A message that is as planned, or a frame of no planned group, while not all is calm."""
+        if plain is not None:
+            self._plainly(plain, number, at)
+        elif passing is not None:
+            self._was_heard()
+            self._frame(self._frames[head], number, words[1], at, data)
+
+    def _frame(self, known: Frame, number: int, time: str, at: int | None, data: str) -> None:
+        """A frame that differs from one of before in its time and data alone."""
+        if at is not None:
+            self._comparison.looks_at_time(number, at)
+        self._comparison.frame(number, at, Frame(number, time, *known[2:6], bytes.fromhex(data)))
 
     def _was_heard(self) -> None:
         """Whom messages came of while all was calm is heard, by the last one of each."""
@@ -95,22 +129,22 @@ class Reader:
             comparison.hands.sends(number, at, sender)
         if comparison.asked.open or comparison.others.open:
             comparison.answers(number, at, sender, to, pgn)
+        if at is not None and comparison.asked_for.is_open(at):
+            comparison.sends(plain.track.number, number, at)
+            return
         times[0] += 1
         comparison.distances.comes(plain.track, number, at)
 
     def _other(self, line: str, words: list[str], head: str, data: str, lines: Iterator[str], plain: Plain | None) -> None:
         """Another line, or one beside which something is noted."""
         self._was_heard()
-        comparison, is_noted = self._comparison, bool(self._unheard or self._beside)
-        if plain is not None and (not is_noted or self._is_before(int(words[0]))):
-            self._plainly(plain, int(words[0]), comparison.clock.see(int(words[0]), words[1]))
-        elif not is_noted and (frame := self._frames.get(head)) is not None:
-            number = int(words[0])
-            at = comparison.clock.see(number, words[1])
-            if at is not None:
-                comparison.looks_at_time(number, at)
-            comparison.frame(number, at, Frame(number, words[1], *frame[2:6], bytes.fromhex(data)))
-        elif line[0].isdigit():
+        see, number = self._comparison.clock.see, int(words[0]) if line[0].isdigit() else 0
+        is_first = number > 0 and self._is_before(number)
+        if plain is not None and is_first:
+            self._plainly(plain, number, see(number, words[1]))
+        elif is_first and (frame := self._frames.get(head)) is not None:
+            self._frame(frame, number, words[1], see(number, words[1]), data)
+        elif number > 0:
             self._report(line, lines, head)
         else:
             self._counts.take(line)
@@ -130,10 +164,23 @@ class Reader:
         self._comparison.report(report, self._feed.beside(report.line))
         if isinstance(report, Claim):
             self._plain.clear()
+            self._passing.clear()
+            self._frames.clear()
         elif isinstance(report, Message) and not below and len(report.data) < DIGITS and len(self._plain) < KEPT:
             self._keep(head, report)
         elif isinstance(report, Frame) and report.data and len(self._frames) < KEPT:
             self._frames[head] = report
+            if self._is_passing(report):
+                told = None if report.pgn in UNPLANNED else self._comparison.found.met(no_group(report.pgn, report.sender))
+                self._passing[head] = Passing(told, report.identifier, (*self._comparison.hands.source_of(report.sender), report.sender.address))
+
+    def _is_passing(self, frame: Frame) -> bool:
+        """Whether a frame is of a number that no planned group and no service has, and its like tell nothing new of their sender, as long as nobody claims."""
+        comparison, sender = self._comparison, frame.sender
+        is_urgent = comparison.timing is not None and frame.identifier >> 26 < comparison.timing.unplanned_priority
+        is_known = sender.label is not None or not (comparison.is_unjudged or is_urgent or sender.address in (NULL_ADDRESS, GLOBAL_ADDRESS))
+        is_single = frame.pgn <= LAST_GROUP and frame.pgn not in SERVICES and frame.pgn not in comparison.groups
+        return is_single and is_known and comparison.hands.is_named(sender) and not comparison.hands.has_left(sender) and not comparison.found.keeps_all
 
     def _keep(self, head: str, message: Message) -> None:
         """Keeps what the rest of a message's line means, where it is as planned, and it is known who sent it."""

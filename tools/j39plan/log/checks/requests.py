@@ -3,12 +3,12 @@
 from __future__ import annotations
 
 from collections import deque
-from collections.abc import Callable
 from typing import NamedTuple
 
 from j39plan.j1939 import RESPONSE, WAIT
 from j39plan.log.checks.deviations import Found
 from j39plan.log.checks.distances import Tolerance
+from j39plan.log.checks.hands import Hands
 from j39plan.log.clock import MILLISECOND, milliseconds
 from j39plan.log.reports import REFUSALS, Acknowledgement, Who
 from j39plan.log.reports import Request as Asking
@@ -32,8 +32,8 @@ class Open(NamedTuple):
 class Asked:
     """The requests of a plan, by what a log has of them. Of a request to all each unit whose flow serves it has to answer, if it is on."""
 
-    def __init__(self, tables: Tables, tolerance: Tolerance, waits: dict[str, int], found: Found, is_on: Callable[[str, int | None], bool]) -> None:
-        self._requests, self._found, self._is_on = tables.requests, found, is_on
+    def __init__(self, tables: Tables, tolerance: Tolerance, waits: dict[str, int], found: Found, hands: Hands) -> None:
+        self._requests, self._found, self._hands = tables.requests, found, hands
         servers = [{flow.sender for flow in tables.flows if serves(flow.group, flow.sender, flow.to, request)} for request in tables.requests]
         self._servers = [some if len(some) > 1 else set() for some in servers]
         self._left: list[tuple[Open, set[str]] | None] = [None] * len(self._requests)  # who hasn't answered the last one to all
@@ -58,7 +58,7 @@ class Asked:
         self._pass(number, at)
         self.times[number] += 1
         self._open[number].append(Open(line, at))
-        left = {label for label in self._servers[number] if self._is_on(label, at)}
+        left = {label for label in self._servers[number] if self._hands.is_on(label, at)}
         self._left[number] = (Open(line, at), left) if left else None
         self.open.add(self._numbers[self._requests[number].group])
         period, last = self._requests[number].period, self._last[number]
@@ -127,12 +127,14 @@ class Asked:
             asked = waiting[0].at
             if asked is None or 0 <= at - asked <= WAITED:
                 return
-            self._unanswered(number, waiting.popleft())
+            self._unanswered(number, waiting.popleft(), at)
             self._left[number] = None
 
-    def _unanswered(self, number: int, one: Open) -> None:
-        """A request stays without an answer."""
-        self._tell("unanswered", number, f"no answer within {milliseconds(WAITED)} ms", one.line, one.at)
+    def _unanswered(self, number: int, one: Open, at: int | None) -> None:
+        """A request stays without an answer up to a time. Who is off, or was, isn't accused."""
+        to = self._requests[number].to
+        if not self._hands.is_off(to, at) and not self._hands.was_off_since(to, one.at):
+            self._tell("unanswered", number, f"no answer within {milliseconds(WAITED)} ms", one.line, one.at)
 
     def _tell(self, kind: str, number: int, text: str, line: int, at: int | None, value: int | None = None, unit: str = "") -> None:
         """A deviation of a request: of a unit that is named, else of who asks too often, else of who is asked."""
@@ -152,4 +154,4 @@ class Asked:
             self._pass(number, last)
             for one in waiting:
                 if one.at is None:
-                    self._unanswered(number, one)
+                    self._unanswered(number, one, None)

@@ -82,8 +82,8 @@ class Requirements:
 
     def _flows_of(self, found: Deviation) -> list[int]:
         """The flows that a deviation is of: the one that it names, or those of the group and the sender with which it begins."""
-        if found.flow is not None:
-            return [found.flow]
+        if found.flow is not None or found.flows:
+            return [*found.flows] if found.flow is None else [found.flow]
         sent = [flow for flow in self._comparison.flows if found.text.startswith(f"{flow.group} from {flow.sender} ")]
         to_one = [flow.number for flow in sent if found.text.startswith(f"{flow.group} from {flow.sender} to {flow.to}:")]
         return to_one or ([] if found.kind == "no-flow" else [flow.number for flow in sent])

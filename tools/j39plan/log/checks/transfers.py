@@ -1,5 +1,7 @@
 """How long messages are carried on a real bus: what comes of each, and by the times and the priority that `load` takes (SAE J1939-21)."""
 
+from collections import Counter
+from collections.abc import Callable
 from dataclasses import dataclass
 from typing import NamedTuple
 
@@ -19,10 +21,10 @@ SIZES = range(9, 1786)
 ANSWER, WAITED = RESPONSE * MILLISECOND, WAIT * MILLISECOND
 
 # So long after it was refused since its receiver has too many sessions a message may be tried again.
-TRIED, TOO_MANY = 5 * SECOND, 1
+TRIED, TOO_MANY, TIMEOUT = 5 * SECOND, 1, 3
 
 # Why a transfer is given up, by the byte of an Abort.
-REASONS = {1: "too many sessions", 2: "no resources", 3: "timeout", 4: "packets while it sends none", 5: "too many repetitions",
+REASONS = {TOO_MANY: "too many sessions", 2: "no resources", TIMEOUT: "timeout", 4: "packets while it sends none", 5: "too many repetitions",
            6: "an unexpected packet", 7: "a wrong sequence number", 8: "a sequence number twice", 9: "too long"}
 
 # Who sends and who gets a long message, without whether that is sure.
@@ -67,20 +69,19 @@ class Route(NamedTuple):
 
 @dataclass
 class Transfer:
-    """A long message under way: its group, its bytes and the number of its packets, and how many may be cleared to send at once; which ones came,
+    """A long message under way: its group and the number of its packets; which ones came, and the first one of another length than a packet has, with that;
     whether it was cleared to send; when its last frame came, how long that may have waited for the bus, and whose answer is waited for since then, if one
     is."""
 
     route: Route
     pgn: int
-    size: int
     count: int
-    most: int
     at: int | None
     waited: int
     is_broadcast: bool
     waits_for: str = ""
     came: int = 0
+    odd: tuple[int, int] | None = None
     is_cleared: bool = False
     is_acknowledged: bool = False
 
@@ -100,10 +101,11 @@ class Refusal(NamedTuple):
 
 
 class Cause(NamedTuple):
-    """Why a message wasn't carried whole, and the packet that is missing."""
+    """Why a message wasn't carried whole, the packet that is missing, and the unit whose doing it is, where that isn't who sends."""
 
     text: str
     packet: int | None = None
+    unit: str | None = None
 
 
 def pair_of(sender: Who, to: Who) -> Pair:
@@ -114,9 +116,10 @@ def pair_of(sender: Who, to: Who) -> Pair:
 class Transfers:
     """The long messages of a log. Their times and priorities are looked at only where the plan has `timing`."""
 
-    def __init__(self, timing: Timing | None, busy: Busy, found: Found) -> None:
-        self._timing, self._busy, self._found = timing, busy, found
+    def __init__(self, timing: Timing | None, busy: Busy, found: Found, is_off: Callable[[str, int | None], bool]) -> None:
+        self._timing, self._busy, self._found, self._is_off = timing, busy, found, is_off
         self._open: dict[Pair, Transfer] = {}
+        self.urgent: Counter[str] = Counter()  # of each unit the frames that are more urgent than what isn't planned, though the message is
         self.refused: dict[Pair, list[Refusal]] = {}  # what may be tried again, and is then carried whole
         self.waits: dict[Pair, tuple[int, int | None]] = {}  # what came whole, by the line and time of its last packet, and isn't acknowledged yet
 
@@ -124,10 +127,13 @@ class Transfers:
         """A long message is announced by the rules."""
         is_broadcast, pair = frame.to.address is None, pair_of(frame.sender, frame.to)
         self._is_unanswered(pair)
-        size, count = int.from_bytes(frame.data[1:3], "little"), frame.data[3]
-        most = count if is_broadcast else min(count, frame.data[4] or count)
-        self._open[pair] = Transfer(route, pgn_of(frame), size, count, most, at, self._busy.waited, is_broadcast, "" if is_broadcast else "answer")
+        self._open[pair] = Transfer(route, pgn_of(frame), frame.data[3], at, self._busy.waited, is_broadcast, "" if is_broadcast else "answer")
         self._look_at_priority(line, at, route, frame)
+
+    def forget(self, pair: Pair) -> None:
+        """What was carried between two ends is done: no answer is one to it."""
+        self._is_unanswered(pair)
+        self._open.pop(pair, None)
 
     def came(self, line: int, at: int | None, frame: Frame) -> bool:
         """A packet, or a frame that manages a connection; whether the plan has the message."""
@@ -165,10 +171,23 @@ class Transfers:
         if transfer is None:
             return None
         if not transfer.is_broadcast and not transfer.is_cleared:
-            return Cause("no clear to send")
+            return Cause("no clear to send", unit=transfer.route.to)
+        if transfer.odd is not None:
+            return Cause(f"packet {transfer.odd[0]} has {transfer.odd[1]} bytes, by the standard {FRAME_BYTES}")
         if transfer.missing is None:
             return Cause("its packets came out of order")
         return Cause(f"packet {{}} of {transfer.count} didn't come", transfer.missing)
+
+    def anew(self) -> None:
+        """Frames may be missing: what was waited for isn't any more, and how far apart packets come isn't known."""
+        self.waits.clear()
+        for transfer in self._open.values():
+            transfer.at, transfer.waits_for = None, ""
+
+    def ended(self, pair: Pair) -> int | None:
+        """When the last frame of a message came."""
+        transfer = self._open.get(pair)
+        return None if transfer is None else transfer.at
 
     def may_go_on(self, pair: Pair, last: int | None) -> bool:
         """Whether a message that was announced may go on behind the log's last time: packets or an answer may still come."""
@@ -190,14 +209,17 @@ class Transfers:
     def _is_unanswered(self, pair: Pair) -> None:
         """Tells that a message isn't acknowledged, if it was to be."""
         waiting, transfer = self.waits.pop(pair, None), self._open.get(pair)
-        if waiting and transfer:
+        if waiting and transfer and not self._is_off(transfer.route.to or "", self._busy.last):
             self._found.tell("not-acknowledged", f"{transfer.route.text}: carried whole, and not acknowledged", *waiting, unit=transfer.route.to)
 
     def _packet(self, line: int, at: int | None, transfer: Transfer, frame: Frame) -> None:
         """A packet of a message."""
         before, transfer.at = transfer.at, at
         waited, transfer.waited = transfer.waited, self._busy.waited
-        transfer.came |= 1 << (frame.data[0] if frame.data else 0)
+        number = frame.data[0] if frame.data else 0
+        transfer.came |= 1 << number
+        if len(frame.data) != FRAME_BYTES and transfer.odd is None:
+            transfer.odd = number, len(frame.data)
         if self._timing is None or at is None or before is None or at < before:
             return
         if not transfer.is_broadcast:
@@ -219,8 +241,6 @@ class Transfers:
         before, is_waited_for = transfer.at, transfer.waits_for == "answer"
         if frame.data[0] not in (CLEAR, WHOLE):
             return
-        if transfer.route.to and pgn_of(frame) == transfer.pgn:
-            self._fits(line, at, transfer, frame)
         transfer.at, transfer.waits_for = at, "packet" if frame.data[0] == CLEAR and frame.data[1] else ""
         if frame.data[0] == WHOLE and pgn_of(frame) == transfer.pgn:
             transfer.is_acknowledged = True
@@ -231,17 +251,6 @@ class Transfers:
             transfer.came &= ~((1 << frame.data[1]) - 1 << frame.data[2])  # what is asked for again hasn't come
         if self._timing and is_waited_for and at is not None and before is not None:
             self._late(line, at, at - before, transfer, transfer.route.to)
-
-    def _fits(self, line: int, at: int | None, transfer: Transfer, frame: Frame) -> None:
-        """Whether an answer fits what was announced: a clear to send for no more packets than that allows, an acknowledgement of as many bytes."""
-        route, (control, count, high, packets) = transfer.route, frame.data[:4]
-        if control == CLEAR and count > transfer.most:
-            text = f"cleared to send {count} packets at once, its announcement allows {transfer.most}"
-        elif control == WHOLE and (count | high << 8, packets) != (transfer.size, transfer.count):
-            text = f"{count | high << 8} bytes in {packets} packets are acknowledged, announced were {transfer.size} in {transfer.count}"
-        else:
-            return
-        self._found.tell("wrong-answer", f"{route.text}: {text}", line, at, unit=route.to)
 
     def _late(self, line: int, at: int, duration: int, transfer: Transfer, unit: str | None) -> None:
         """An answer that was waited for so long, by whom it is."""
@@ -256,7 +265,9 @@ class Transfers:
             return
         transfer = self._open.pop(pair)
         self.waits.pop(pair, None)
-        reason = frame.data[1]
+        reason, other = frame.data[1], transfer.route.to if pair == there else transfer.route.sender
+        if reason == TIMEOUT and self._is_off(other or "", at):
+            return
         text = f"{transfer.route.text}: given up by {frame.sender.shown}, reason {reason} ({REASONS.get(reason, 'of its own')})"
         self.refused.setdefault(pair, []).append(Refusal(line, at, text, frame.sender.label))
         if reason != TOO_MANY or pair == there or transfer.is_cleared:
@@ -270,6 +281,7 @@ class Transfers:
     def _look_at_priority(self, line: int, at: int | None, route: Route, frame: Frame) -> None:
         """The priority of a transport frame of a planned message."""
         if self._timing and route.is_planned and frame.priority < self._timing.transport_priority:
+            self.urgent[frame.sender.label or ""] += frame.priority < self._timing.unplanned_priority
             behind = f"priority {frame.priority}, by 'load' {self._timing.transport_priority}"
             self._found.tell("transport-priority", f"{route.text}: frames of the transport protocol have {behind}", line, at, unit=route.sender)
 

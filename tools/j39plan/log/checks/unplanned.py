@@ -82,6 +82,9 @@ class Unplanned:
         self._longest = max((bound.within for bound in bounds), default=0)
         self._came: deque[tuple[int, int]] = deque()
         self._most: dict[int, tuple[int, int, int]] = {}  # of each flow the most that came within its bound, the line and the time
+        self._mosts = [tables.timing.unplanned if tables.timing else 0] * len(bounds)  # how many that is, or what the plan allows
+        self._frames = 0  # how many came in all
+        self._dues = [0] * len(bounds)  # with which one more than the most may have come of each flow
 
     def came(self, line: int, at: int | None, identifier: int) -> None:
         """A frame that isn't planned."""
@@ -93,18 +96,22 @@ class Unplanned:
         came.append((at, identifier))
         while at - came[0][0] > self._longest:
             came.popleft()
+        self._frames += 1
         if len(came) > self._timing.unplanned:
             self._count(line, at)
 
     def _count(self, line: int, at: int) -> None:
-        """How many came within each flow's bound."""
-        assert self._timing is not None
-        for number, within, greatest in self._bounds:
-            most = self._most.get(number, (self._timing.unplanned, 0, 0))[0]
-            if len(self._came) > most:
-                count = sum(at - time <= within and identifier < greatest for time, identifier in self._came)
-                if count > most:
-                    self._most[number] = count, line, at
+        """How many came within the bound of each flow of which it may be more than the most so far: each frame adds one at most, and so many have to be there
+        that came within the bound, whatever their identifiers."""
+        came, dues, mosts = self._came, self._dues, self._mosts
+        for place, (number, within, greatest) in enumerate(self._bounds):
+            most = mosts[place]
+            if dues[place] > self._frames or len(came) <= most or at - came[-1 - most][0] > within:
+                continue
+            count = len([None for time, identifier in came if at - time <= within and identifier < greatest])
+            if count > most:
+                mosts[place], self._most[number] = count, (count, line, at)
+            dues[place] = self._frames + max(most + 1 - count, 1)
 
     def end(self) -> None:
         """Tells of the flow that most may go before."""

@@ -1,6 +1,7 @@
-"""What deviations say of groups and of NAMEs."""
+"""What deviations say of groups, of NAMEs, and of who sends what."""
 
 from j39plan.j1939 import NAME_FIELDS
+from j39plan.log.reports import Who
 from j39plan.plan.tables import Group
 
 
@@ -14,3 +15,8 @@ def fields_of(name: str) -> str:
     number = int(name, 16)
     return ", ".join(f"{key} {number >> first & (1 << width) - 1}" for key, first, width in NAME_FIELDS
                      if key in ("manufacturer", "function", "identity"))
+
+
+def no_group(pgn: int, sender: Who) -> str:
+    """That somebody sends a message of no group."""
+    return f"PGN {pgn} from {sender.shown}: no group has it"

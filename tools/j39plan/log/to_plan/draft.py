@@ -117,7 +117,10 @@ class Draft:
         survey = Survey()
         with program.file_of(NOTHING) as plan, Log(self._logs, self._interface) as log:
             survey.take(told_reports(all_of(plan, log, self.counts, feed_of()), self._progress))
-            self.counts.refuse_without_frames(log)
+            if self.counts.frames or self.counts.bad or self.counts.elsewhere:
+                self.counts.refuse_without_frames(log)
+            if not survey.frames and not survey.claims:
+                raise program.Refused(program.UNREADABLE, f"{', '.join(self._logs)}: no frame has an identifier of 29 bits, so there is nothing to plan")
             self.counts.refuse_a_guess(log)
             self.counts.say(log)
         return survey
@@ -159,6 +162,7 @@ class Draft:
             before = 0 if begin is None else begin - measures.hands.first.get(flow.sender.label, begin)
             flow.times = times_of(flow.sent, before, 0 if end is None or last is None else last - end)
         self.flows = [flow for flow in self.flows if flow.sent.count]
+        self._name_receivers(measures.others.rows())
         sent = {flow.group.label for flow in self.flows}
         for group in self.groups.groups:
             if group.label not in sent and group.part is None:
@@ -166,6 +170,19 @@ class Draft:
         self.groups.groups = [group for group in self.groups.groups if group.label in sent]
         for asked in measures.others.rows():
             self._asks(asked)
+
+    def _name_receivers(self, requests: list[Asked]) -> None:
+        """Answers of a group whose longer messages name a receiver are for the one that asks, also those of one frame, which names none."""
+        for flow in [flow for flow in self.flows if flow.to is None and flow.is_asked and flow.group.is_to_one]:
+            asked = [one for one in requests if one.pgn == flow.group.pgn and (one.to.address is None or self._unit(one.to) is flow.sender)]
+            receivers = [self._unit(one.sender) for one in asked if one.to.address is not None]
+            if len(receivers) < len(asked) or not all(receivers):
+                continue  # some ask all, or are no units
+            known = {other.to.label: other for other in self.flows if other.to and (other.group, other.sender) == (flow.group, flow.sender)}
+            at = self.flows.index(flow)
+            self.flows[at:at + 1] = [Flow(flow.group, flow.sender, unit, flow.sent) for unit in receivers if unit and unit.label not in known]
+            if len(receivers) == len(known) == 1:
+                known.popitem()[1].sent.joins(flow.sent)
 
     def _unit(self, who: Who) -> Unit | None:
         """The unit of a label."""

@@ -9,6 +9,7 @@ from typing import NamedTuple
 
 from j39plan.j1939 import FRAME_BYTES, PROPRIETARY, is_pdu2
 from j39plan.left_out import Notes
+from j39plan.log.to_plan.selectors import Selector, selector_of, values_of
 from j39plan.log.to_plan.survey import Box, Seen, Survey, Way
 from j39plan.log.to_plan.units import Unit, Units, place_of
 from j39plan.plan.parts import Part, Source
@@ -38,11 +39,15 @@ def counted(numbers: Counter[int], word: str) -> str:
 
 @dataclass
 class Group:
-    """A group of the plan: its label, its number, the known one that it is, if there is one, and what the log has of it."""
+    """A group of the plan: its label, its number, the known one that it is, if there is one, or the selector by which it is told apart from others of its
+    number and what that is; whether it came in packets to all; and what the log has of it."""
 
     label: str
     pgn: int
     part: Part | None = None
+    selector: Selector | None = None
+    value: int = 0
+    is_broadcast: bool = False
     lengths: Counter[int] = field(default_factory=Counter)
     priorities: Counter[int] = field(default_factory=Counter)
     data: dict[int, Bytes] = field(default_factory=dict)
@@ -51,6 +56,11 @@ class Group:
     def is_private(self) -> bool:
         """Whether its number is a maker's own."""
         return self.pgn in PROPRIETARY
+
+    @property
+    def is_to_one(self) -> bool:
+        """Whether its single frames name no receiver, and longer messages of it do, of which none went to all."""
+        return is_pdu2(self.pgn) and self.range[1] > FRAME_BYTES and not self.is_broadcast
 
     @property
     def range(self) -> tuple[int, int]:
@@ -66,6 +76,22 @@ class Group:
             return self.priorities.most_common(1)[0][0]
         return self.part.number("priority") if self.part else PRIORITY
 
+    def take(self, seen: Seen, is_only: bool) -> None:
+        """Takes what came on a way, whose messages may be of this group alone."""
+        for (first, length, priority), count in seen.kinds.items():
+            if self._has(first, length, is_only):
+                self.lengths[length] += count
+                self.priorities.update({} if priority is None else {priority: count})
+
+    def _has(self, first: int | None, length: int, is_only: bool) -> bool:
+        """Whether messages with this first byte and of this length are its own."""
+        if self.selector:
+            return first is not None and self.selector.value(first) == self.value
+        if is_only or self.part is None:
+            return True
+        least = self.part.number("length")
+        return least <= length <= max(least, self.part.number("most"))
+
     def head(self) -> Table:
         """Its table without signals."""
         length, most = self.range
@@ -75,6 +101,8 @@ class Group:
         for key in ("every", "when"):
             if self.part and key in self.part.said:
                 keys[key] = self.part.said[key]
+        if self.selector:
+            keys["when"] = self.selector.when(self.value)
         return Table("group", keys, self._remarks(), beside=self._beside())
 
     def table(self) -> Table:
@@ -100,6 +128,8 @@ class Group:
             beside["priority"] = counted(self.priorities, "")
         elif not self.priorities:
             beside["priority"] = f"{'by that plan' if self.part else 'a guess'}: only packets of it are in the log"
+        if self.selector:
+            beside["when"] = "a guess: by these bits of their first byte messages come regularly, and not so all together"
         if self.part and self.priorities and self.part.number("priority") != self.priority:
             beside["priority"] = "; ".join(filter(None, (beside.get("priority", ""), f"{self.part.number('priority')} there")))
         return beside
@@ -167,26 +197,45 @@ class Groups:
         self._of: dict[object, list[Group]] = {}
         self.ways: dict[Way, list[Group]] = {}
         self._private = self._private_in(survey)
-        for way, seen in sorted(survey.ways.items(), key=lambda pair: pair[0][0]):
-            sender = units.of(way[1])
-            if sender is not None and (groups := self._groups_of(way, sender, seen)):
+        known_ways = [(way, sender, self._parts(way, sender)) for way in sorted(survey.ways, key=lambda way: way[0]) if (sender := units.of(way[1]))]
+        self._selectors = self._selectors_of([(self._key(way, parts), survey.ways[way]) for way, _, parts in known_ways if not parts])
+        for way, sender, parts in known_ways:
+            if groups := self._groups_of(way, sender, parts, survey.ways[way]):
                 self.ways[way] = groups
 
-    def _groups_of(self, way: Way, sender: Unit, seen: Seen) -> list[Group]:
+    def _key(self, way: Way, parts: list[Part]) -> object:
+        """What ways have in common whose messages are of the same groups, which are these of a known plan."""
+        return way[0] if way[0] not in PROPRIETARY else (self._private[way], *(part.at() for part in parts))
+
+    def _selectors_of(self, ways: list[tuple[object, Seen]]) -> dict[object, tuple[Selector, list[int]]]:
+        """By what ways have in common the selector that tells their messages apart, and its values, where there is one."""
+        alike: dict[object, list[Seen]] = {}
+        for key, seen in ways:
+            alike.setdefault(key, []).append(seen)
+        return {key: (selector, values_of(selector, all_seen)) for key, all_seen in alike.items() if (selector := selector_of(all_seen))}
+
+    def _new_groups(self, way: Way, sender: Unit, parts: list[Part]) -> list[Group]:
+        """The groups of which messages of a way are."""
+        if parts:
+            return [Group(self._label(way[0], part, sender), way[0], part) for part in parts]
+        if found := self._selectors.get(self._key(way, parts)):
+            selector, values = found
+            return [Group(self._label(way[0], None, sender, f"_WHEN_{value}"), way[0], None, selector, value) for value in values]
+        return [Group(self._label(way[0], None, sender), way[0])]
+
+    def _groups_of(self, way: Way, sender: Unit, parts: list[Part], seen: Seen) -> list[Group]:
         """The groups of which a message may be, with what was seen of it on a way."""
-        pgn, parts = way[0], self._parts(way, sender) or [None]
-        key: object = pgn if pgn not in PROPRIETARY else (self._private[way], *(part and part.at() for part in parts))
+        key = self._key(way, parts)
         if key not in self._of:
-            if len(self.groups) + len(parts) > GROUPS:
-                self._notes.say(f"PGN {pgn}", f"a plan has at most {GROUPS} groups")
+            groups = self._new_groups(way, sender, parts)
+            if len(self.groups) + len(groups) > GROUPS:
+                self._notes.say(f"PGN {way[0]}", f"a plan has at most {GROUPS} groups")
                 return []
-            self._of[key] = [Group(self._label(pgn, part, sender), pgn, part) for part in parts]
-            self.groups += self._of[key]
+            self._of[key] = groups
+            self.groups += groups
         for group in self._of[key]:
-            for length, count in seen.lengths.items():
-                if len(self._of[key]) == 1 or length in range(*self._span(group)):
-                    group.lengths[length] += count
-            group.priorities.update(seen.priorities)
+            group.take(seen, len(self._of[key]) == 1)
+            group.is_broadcast |= way[2] is None and max(seen.lengths) > FRAME_BYTES
         return self._of[key]
 
     def _private_in(self, survey: Survey) -> dict[Way, object]:
@@ -206,22 +255,16 @@ class Groups:
                 found[pgn, box, to] = pgn, self._maker(sender), frozenset(lengths), frozenset(priorities)
         return found
 
-    def _span(self, group: Group) -> tuple[int, int]:
-        """From which length to behind which one the known group goes."""
-        assert group.part is not None
-        least = group.part.number("length")
-        return least, max(least, group.part.number("most")) + 1
-
     def _maker(self, sender: Unit) -> object:
         """Whose a private group is: a maker's, or a unit's own, where the maker isn't known."""
         maker = sender.name >> 21 & 0x7FF
         return maker if sender.claims and maker else sender.box
 
-    def _parts(self, way: Way, sender: Unit) -> list[Part | None]:
+    def _parts(self, way: Way, sender: Unit) -> list[Part]:
         """The groups of a number in the first known plan that has it; private ones where it sends them on this way."""
         for source in self._known:
-            found: list[Part | None] = [part for part in source["group"] if part.number("pgn") == way[0] and
-                                        (way[0] not in PROPRIETARY or self._is_sent(source, part, sender, way[2]))]
+            found = [part for part in source["group"] if part.number("pgn") == way[0] and
+                     (way[0] not in PROPRIETARY or self._is_sent(source, part, sender, way[2]))]
             if found:
                 return found
         return []
@@ -235,8 +278,8 @@ class Groups:
                 return True
         return False
 
-    def _label(self, pgn: int, part: Part | None, sender: Unit) -> str:
-        """What a group is called: as in the known plan, else by its number."""
+    def _label(self, pgn: int, part: Part | None, sender: Unit, selected: str = "") -> str:
+        """What a group is called: as in the known plan, else by its number, and by what selects it."""
         if part is not None:
             return self._labels.label(part.label)
-        return self._labels.label(f"PGN_{pgn}_{sender.label}" if pgn in PROPRIETARY else f"PGN_{pgn}")
+        return self._labels.label((f"PGN_{pgn}_{sender.label}" if pgn in PROPRIETARY else f"PGN_{pgn}") + selected)

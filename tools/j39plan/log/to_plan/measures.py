@@ -55,6 +55,11 @@ class Sent:
         whole = distance // MILLISECOND
         self.longest[whole] = max(distance, self.longest.get(whole, 0))
 
+    def joins(self, other: Sent) -> None:
+        """Answers of another flow are of this one: how often they came and were asked for."""
+        self.count += other.count
+        self.asked += other.asked
+
 
 class Measures(Comparison):
     """A log by a plan that has its units, groups and flows, and no times."""
@@ -63,7 +68,6 @@ class Measures(Comparison):
         super().__init__(tables, Bounds([], {}, {}), Settings(Tolerance(0, 0, ""), Rule(0, frozenset(), False)), Found())
         self.by_flow = {number: Sent() for number, _ in enumerate(tables.flows, 1)}
         self.data: dict[str, dict[int, Bytes]] = {}
-        self._numbers = {group.label: group.pgn for group in tables.groups}
         self._asks: dict[tuple[int, str], int] = {}  # when a group was asked for last, of a unit or of all
         self._answered: dict[tuple[int, str, str], int] = {}  # when a unit answered whom last
         self._last: dict[int, int] = {}  # when each flow was sent last, since the clock was set
@@ -106,7 +110,7 @@ class Measures(Comparison):
     def _is_asked(self, number: int, at: int) -> bool:
         """Whether a message is the first one of its unit since a request that it may answer."""
         flow = self.flows[number - 1]
-        pgn = self._numbers[flow.group]
+        pgn = self._pgns[flow.group]
         for to in (flow.sender, "all"):
             asked = self._asks.get((pgn, to))
             if asked is not None and 0 <= at - asked <= WAITED and self._answered.get((pgn, flow.sender, to)) != asked:

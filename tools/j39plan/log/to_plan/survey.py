@@ -2,22 +2,31 @@
 
 from __future__ import annotations
 
+from array import array
 from collections import Counter
 from collections.abc import Iterable
 from dataclasses import dataclass, field
+from typing import NamedTuple
 
 from j39plan.j1939 import (
-    ACKNOWLEDGEMENT, DATA_TRANSFER, CONNECTION_MANAGEMENT, GLOBAL_ADDRESS, NULL_ADDRESS, OTHER_SERVICES, REQUEST, SERVICES,
+    ACKNOWLEDGEMENT, DATA_TRANSFER, CONNECTION_MANAGEMENT, FRAME_BYTES, GLOBAL_ADDRESS, NULL_ADDRESS, OTHER_SERVICES, REQUEST, SERVICES,
 )
 from j39plan.log.checks.transfers import CLEAR, announcement_in, is_managing
+from j39plan.log.clock import nanoseconds
 from j39plan.log.reports import Claim, Frame, Report, Request, Who
 from j39plan.plan.schema import default_of
 
 # The greatest number of a group that a plan can have.
 LAST_GROUP = (1 << 17) - 1
 
+# The number of the first packet of a long message.
+FIRST = b"\x01"
+
 # How many packets a receiver grants at a time, where it isn't limited.
 WINDOW = default_of("unit", "window")
+
+# Of so many messages of a way it is kept when each began, and its first byte.
+KEPT = 4096
 
 # Somebody on the bus: by the NAME that it claims, as 16 hex digits, or by the address from which it sends and of which no claim came.
 Box = str | int
@@ -26,18 +35,49 @@ Box = str | int
 Way = tuple[int, Box, Box | None]
 
 
+# The first byte of a message, None where no packet came; its length; its priority, None where it is a long one.
+Kind = tuple[int | None, int, int | None]
+
+
 @dataclass
 class Seen:
-    """What came on one way: how often messages of each length and of each priority began, and whether any was long."""
+    """What came on one way: how often messages of each kind began; of the first ones when they did, in nanoseconds, with their first bytes."""
 
-    lengths: Counter[int] = field(default_factory=Counter)
-    priorities: Counter[int] = field(default_factory=Counter)
-    is_long: bool = False
+    kinds: Counter[Kind] = field(default_factory=Counter)
+    times: array[int] = field(default_factory=lambda: array("q"))
+    firsts: array[int] = field(default_factory=lambda: array("B"))
+
+    def take(self, kind: Kind, time: str) -> None:
+        """A message began."""
+        self.kinds[kind] += 1
+        if len(self.times) < KEPT and kind[0] is not None and (at := nanoseconds(time)) is not None:
+            self.times.append(at)
+            self.firsts.append(kind[0])
 
     @property
-    def count(self) -> int:
-        """How many messages began."""
-        return self.lengths.total()
+    def lengths(self) -> Counter[int]:
+        """How often messages of each length began."""
+        found = Counter[int]()
+        for (_, length, _), count in self.kinds.items():
+            found[length] += count
+        return found
+
+    @property
+    def priorities(self) -> Counter[int]:
+        """How often those of each priority did."""
+        found = Counter[int]()
+        for (*_, priority), count in self.kinds.items():
+            if priority is not None:
+                found[priority] += count
+        return found
+
+
+class Announced(NamedTuple):
+    """A long message of which no packet came yet: what came on its way, its length, and its time as the log spells it."""
+
+    seen: Seen
+    length: int
+    time: str
 
 
 @dataclass
@@ -62,6 +102,7 @@ class Survey:
         self.beyond: Counter[int] = Counter()  # numbers that no plan can have
         self.nobody: Counter[int] = Counter()  # addresses that nobody may send from
         self._left: dict[tuple[Box, Box | None], int] = {}  # packets of a long message that a receiver didn't grant yet
+        self._announced: dict[tuple[Box, Box | None], Announced] = {}
 
     def take(self, reports: Iterable[Report]) -> None:
         """Takes all reports of a log."""
@@ -72,6 +113,8 @@ class Survey:
                 self._claim(report)
             elif isinstance(report, Request):
                 self._asks(report)
+        for pair in list(self._announced):
+            self._begins(pair, None)
 
     def box(self, who: Who) -> Box | None:
         """Who somebody is; None of all, and of one without an address. An address that nobody claimed until then may be claimed later on."""
@@ -107,18 +150,19 @@ class Survey:
         """A frame of any other group."""
         self.frames += 1
         sender = self._sends(frame.line, frame.sender)
-        if sender is None or frame.pgn in (DATA_TRANSFER, ACKNOWLEDGEMENT):
+        if sender is None or frame.pgn == ACKNOWLEDGEMENT:
             return
-        if frame.pgn == CONNECTION_MANAGEMENT:
+        if frame.pgn == DATA_TRANSFER:
+            if frame.data[:1] == FIRST and len(frame.data) == FRAME_BYTES:
+                self._begins((sender, self.box(frame.to)), frame.data[1])
+        elif frame.pgn == CONNECTION_MANAGEMENT:
             self._manages(frame, sender)
         elif frame.pgn > LAST_GROUP:
             self.beyond[frame.pgn] += 1
         elif frame.pgn in SERVICES or frame.pgn in OTHER_SERVICES:
             self.others[frame.pgn] += frame.pgn != REQUEST
         elif frame.data:
-            seen = self._way(frame.pgn, sender, frame.to)
-            seen.lengths[len(frame.data)] += 1
-            seen.priorities[frame.priority] += 1
+            self._way(frame.pgn, sender, frame.to).take((frame.data[0], len(frame.data), frame.priority), frame.time)
 
     def _way(self, pgn: int, sender: Box, to: Who) -> Seen:
         """What came on a way so far."""
@@ -134,12 +178,18 @@ class Survey:
             return
         announced = announcement_in(frame)
         if announced and announced.is_sound and announced.pgn <= LAST_GROUP and announced.pgn not in SERVICES | OTHER_SERVICES:
-            seen = self._way(announced.pgn, sender, frame.to)
-            seen.lengths[announced.length] += 1
-            seen.is_long = True
-            self._left[sender, self.box(frame.to)] = min(frame.data[3], frame.data[4])
+            pair = sender, self.box(frame.to)
+            self._begins(pair, None)
+            self._announced[pair] = Announced(self._way(announced.pgn, sender, frame.to), announced.length, frame.time)
+            self._left[pair] = min(frame.data[3], frame.data[4])
         elif frame.data[0] == CLEAR and frame.data[1]:
             self._clears(frame, sender)
+
+    def _begins(self, pair: tuple[Box, Box | None], first: int | None) -> None:
+        """The first packet of a message comes, with this byte, or none does any more."""
+        announced = self._announced.pop(pair, None)
+        if announced is not None:
+            announced.seen.take((first, announced.length, None), announced.time)
 
     def _clears(self, frame: Frame, sender: Box) -> None:
         """A receiver clears so many packets to be sent: less than it might, where it has a limit."""

@@ -6,6 +6,7 @@ from collections import Counter
 from collections.abc import Iterable
 from typing import NamedTuple
 
+from j39plan.log.checks.distances import SILENCE
 from j39plan.log.checks.rows import CLOCKS
 from j39plan.log.clock import MILLISECOND, in_words, milliseconds
 from j39plan.log.to_plan.measures import GAP, STEP, Sent
@@ -24,6 +25,11 @@ MANY, RARE = 20, 100
 
 # So many pauses are tried at most between a period and twice that.
 TRIES = 50
+
+# A drive shows less than the next one may: a jitter is more than what was seen, by a half, and a hundredth of the period at least; a pause is as much
+# longer than the period, so that a missing message breaks it and nothing less, and than the longest distance by this part of the period. A flow that
+# is silent for more than so many periods has no pause.
+MORE, ROOM, EVENT = 2, 20, SILENCE
 
 # The longest period and the longest pause of a plan, in ms.
 LONGEST = most_of("flow", "period")
@@ -91,7 +97,11 @@ def times_of(sent: Sent, before: int, behind: int) -> Times:
     core, apart = parted(sent.distances, count, period)
     longest = sent.longest[core[-1][0] * STEP // MILLISECOND]
     kept = Row(sent.times, range(core[0][0] * STEP, longest + 1))
-    return Times(keys_of(kept, slower(core, period), before, behind), told_of(core, apart, ends_of(before, behind, longest)))
+    keys, said = keys_of(kept, slower(core, period), before, behind), told_of(core, apart, ends_of(before, behind, longest))
+    if distances[-1][0] * STEP > EVENT * period * MILLISECOND:
+        keys.pop("pause", None)
+        said += "; no pause: it may be sent on events"
+    return Times(keys, said)
 
 
 def span_of(sent: Sent) -> int:
@@ -148,16 +158,17 @@ def slower(core: list[tuple[int, int]], period: int) -> int:
 
 
 def keys_of(row: Row, period: int, *silences: int) -> dict[str, int]:
-    """The keys of a flow: how much nearer messages come than its period, one after another, is its jitter, and how far apart its pause, where silences
-    at the log's begin and end count, as long as these are no longer than one and a half periods."""
+    """The keys of a flow: its jitter has room for how much nearer messages come than its period, one after another, and its pause for how far apart, where
+    silences at the log's begin and end count, as long as these are no longer than one and a half periods."""
     most = max(row.core[-1], *(silence for silence in silences if 2 * silence <= 3 * period * MILLISECOND), 0)
-    jitter = up(max(period * MILLISECOND - row.core[0], row.ahead(period * (1000 - CLOCKS) * MILLISECOND // 1000), 0))
+    early = max(period * MILLISECOND - row.core[0], row.ahead(period * (1000 - CLOCKS) * MILLISECOND // 1000), 0)
+    jitter = max(up(early + early // MORE), period // SHARE if early else 0)
     if jitter >= period:  # two that came at once
         jitter = 0
     pause = max(period, up(most) - jitter)
     while pause < 2 * period and row.behind(pause * (1000 + CLOCKS) * MILLISECOND // 1000) > jitter * MILLISECOND:
         pause += max(1, period // TRIES)
-    keys = {"period": period, "jitter": jitter, "pause": pause}
+    keys = {"period": period, "jitter": jitter, "pause": max(pause + max(1, period // ROOM), period + period // MORE)}
     return {key: number for key, number in keys.items() if number and number <= LONGEST}
 
 

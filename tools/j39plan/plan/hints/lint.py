@@ -2,13 +2,17 @@
 
 from __future__ import annotations
 
-from collections.abc import Iterator
+from collections.abc import Callable, Iterable, Iterator
+from functools import partial
 from itertools import combinations
 from typing import NamedTuple
 
+from j39plan import program
 from j39plan.j1939 import FRAME_BYTES, PACKET_BYTES, POOL
 from j39plan.plan import scales
-from j39plan.plan.hints import ends, needs, variants
+from j39plan.plan.hints import alternatives, needs, omitted, variants
+from j39plan.plan.hints.names import ON_DEMAND, Asked, Silence
+from j39plan.plan.hints.words import likely
 from j39plan.plan.parts import Part, Source
 from j39plan.plan.tables import Flow, Unit
 from j39plan.plan.toml_places import Place
@@ -16,6 +20,16 @@ from j39plan.plan.variants import Line as Choices
 
 # The line of a place, and a hint.
 Hint = tuple[int, str]
+
+
+class Named(NamedTuple):
+    """A hint with its line, and the name by which it is silenced."""
+
+    line: int
+    text: str
+    name: str
+
+
 
 # The priorities above that of control, which is 3 by default; that of information is 6 (SAE J1939-21).
 HIGH_PRIORITY = range(3)
@@ -50,18 +64,32 @@ class Lint:
         """Whether a vehicle has all of these units, groups, flows and needs, of which a line of vehicles has alternatives."""
         return self.choices is None or self.choices.are_together(*((str(place[0]), int(place[1])) for place in places))
 
-    def of_line(self) -> Iterator[Hint]:
-        """Hints at the choices of a line of vehicles."""
-        if self.choices:
-            yield from variants.unnamed(self.source)
-            yield from variants.silent_without(self.source)
+    def found(self) -> dict[str, tuple[Callable[[], Iterable[Hint]], ...]]:
+        """What looks for hints, by their names."""
+        plan = self.source
+        whole: dict[str, tuple[Callable[[], Iterable[Hint]], ...]] = {
+            "unsent": (self.unsent,), "idle": (self.idle,), "pool": (self.fixed_in_pool,), "prefer": (self.preferred,), "spn": (self.spns,),
+            "short": (self.short,), "urgent": (self.urgent,), "identity": (self.equal_identities,), "broadcast": (self.unsendable, self.passed),
+            "single": (self.single,), "queue": (self.unordered,), "untaken": (self.untaken,), "twice": (self.met_twice,), "late": (self.met_late,),
+            "unasked": (self.unasked,), "live": (self.not_live,), "drift": (self.agreeing,), "maker": (partial(omitted.makers, plan),),
+            "measure": (partial(omitted.measures, plan),), "codes": (partial(omitted.codes, plan),), "address": (partial(omitted.addresses, plan),)}
+        of_line: dict[str, tuple[Callable[[], Iterable[Hint]], ...]] = {
+            "choice": (partial(variants.unnamed, plan),), "silent": (partial(variants.silent_without, plan),),
+            "unbuilt": (partial(alternatives.nowhere, plan),), "alike": (partial(alternatives.alike, plan),)}
+        return {**whole, **(of_line if self.choices else {})}
+
+    def named(self, asked: Asked = Asked()) -> list[Named]:
+        """The hints that are asked for and that no comment silences, in the order of the file."""
+        silence = Silence(self.source)
+        told = {Named(line, text, name) for name, parts in self.found().items() if asked.tells(name) and name not in silence.everywhere
+                for part in parts for line, text in part() if not silence.is_silent(name, line)}
+        names = [*self.found(), "lint"]
+        told |= {Named(line, f"lint: no hint is called {word}{likely(word, names)}", "lint") for line, word in silence.strange if asked.tells("lint")}
+        return sorted(told)
 
     def hints(self) -> list[Hint]:
-        """All hints, in the order of the file."""
-        found = (self.unsent, self.idle, self.fixed_in_pool, self.preferred, self.spns, self.short, self.urgent, self.equal_identities,
-                 self.unsendable, self.passed, self.single, self.unordered, self.untaken, self.met_twice, self.met_late, self.unasked,
-                 self.not_live, self.of_line, self.agreeing)
-        return sorted({hint for part in found for hint in part()})
+        """All hints but those that come with nearly every plan, in the order of the file."""
+        return [(hint.line, hint.text) for hint in self.named(Asked(unwanted=ON_DEMAND))]
 
     def at(self, place: Place, key: str, text: str) -> Hint:
         """A hint at a key of a table."""
@@ -205,8 +233,8 @@ class Lint:
                     yield self.of_unit(unit, "queue", f"its controller keeps no order, so {text}")
 
     def untaken(self) -> Iterator[Hint]:
-        """Flows to one unit that it doesn't need, in a plan with needs; of many all in one hint."""
-        flows = [flow for flow in self.tables.flows if self.tables.needs and flow.to not in self.used | {"all"}
+        """Flows to one unit that it neither needs nor asks for, in a plan with needs; of many all in one hint."""
+        flows = [flow for flow in self.tables.flows if self.tables.needs and flow.to not in self.used | {"all"} and not flow.is_asked
                  and not any(need.is_met_by(flow) for need in self.tables.needs)]
         if len(flows) > UNTAKEN_MOST:
             numbers = ", ".join(str(flow.number) for flow in flows)
@@ -239,9 +267,9 @@ class Lint:
                 yield self.of_flow(flow, "on_request", "it is sent only as an answer, and no request of the plan asks for it")
 
     def not_live(self) -> Iterator[Hint]:
-        """That a plan of the latest version could say that its bus is live, and have no finding by that."""
-        tables, kept = self.tables, self.source.kept
-        if self.source.version == 4 and not tables.live and tables.flows and not any(ends.contested(tables, kept, flow) for flow in tables.flows):
+        """That a plan of the latest version could say that its bus is live, and have no further finding by that."""
+        plan = self.source
+        if plan.version == 4 and not self.tables.live and self.tables.flows and findings_of(live_text(plan)) <= findings_of(plan.text):
             yield self.at((), "version", "live = true adds no finding: then what check promises holds while units claim, and go off in mid-message")
 
     def agreeing(self) -> Iterator[Hint]:
@@ -249,3 +277,20 @@ class Lint:
         timing = self.tables.timing
         if self.source.version == 4 and timing is not None and timing.drift == 0:
             yield self.at(("timing",), "drift", "drift 0: no two clocks agree for ever")
+
+
+def live_text(plan: Source) -> str:
+    """The text of a plan that says that its bus is live."""
+    key = ("live",) if ("live",) in plan.places.pairs else ("version",)
+    _, end, _ = plan.places.pairs[key]
+    begin, more = (end - len(plan.places.spelled[key]), "true") if key == ("live",) else (end, "\nlive = true")
+    return plan.text[:begin] + more + plan.text[end:]
+
+
+def findings_of(text: str) -> set[str]:
+    """What `check` finds in a plan."""
+    with program.file_of(text) as name:
+        status, answer = program.call(["check", "--", name])
+    if status not in (0, 1):
+        raise program.Refused(status, answer.strip())
+    return {line for line in answer.splitlines() if line.startswith("F")}

@@ -2,12 +2,13 @@
 
 import bisect
 import re
-import tempfile
 import unicodedata
 from collections.abc import Iterator
 from typing import NamedTuple
 
 from j39plan import program
+from j39plan.plan.hints.names_in_numbers import name_meant
+from j39plan.plan.hints.quantities import quantity
 from j39plan.plan.schema import schema
 from j39plan.plan.toml_places import KEY, MARK, STRING, Place, Places, fault_of
 
@@ -30,6 +31,19 @@ SAID = (
     ("Expected ']' at the end of a table declaration", "[ is closed by ]"), ("Invalid initial character for a key part", "a key is letters, digits, _ and -"),
     ("Invalid statement", "neither key = value nor a header in [ ]"),
 )
+
+# How files of other kinds begin, and what to do with them.
+OTHERS = (
+    (re.compile(r'(?:\s*VERSION\s+".*"|\s*NS_\s*:|\s*BU_\s*:|\s*BO_ \d)'), "this is a DBC: dbc2plan makes a plan of it"),
+    (re.compile(r"\s*<(?:\?xml|[A-Za-z!])"), "this is XML, and a plan is TOML: dbc2plan makes one of KCD and ARXML files"),
+    (re.compile(r"[^\n=\[{#]*[;,\t][^\n=\[{#]*[;,\t][^\n=\[{#]*\n"), "this is a table, and a plan is TOML: dbc2plan makes one of a DBC"),
+)
+
+# The marks with which files of two bytes a character begin.
+WIDE = (b"\xff\xfe", b"\xfe\xff")
+
+# A number with a mark between its digits.
+MARKED = re.compile(r"\d{1,3}(?:[,'’]\d{3})+")
 
 # What begins a comment in other languages, behind a value; the marks of a merge that isn't finished.
 COMMENT = re.compile(r"\s*(;|--|//)")
@@ -66,10 +80,8 @@ class Statement(NamedTuple):
 
 def is_no_toml(text: str) -> bool:
     """Whether the program refuses a text as no TOML."""
-    with tempfile.NamedTemporaryFile(suffix=".toml") as file:
-        file.write(text.encode())
-        file.flush()
-        return program.call(["check", "--", file.name])[1].startswith("refused Text")
+    with program.file_of(text) as file:
+        return program.call(["check", "--", file])[1].startswith("refused Text")
 
 
 def faulty_statement(text: str, places: Places) -> Statement:
@@ -122,7 +134,14 @@ def unclosed(statement: Statement) -> Told | None:
     if not opened:
         return None
     at, char = opened[0] if opened[0][1] == "{" else opened[-1]
+    if text_line(statement, at).lstrip().startswith("[["):
+        return statement.line(at), "[[ is closed by ]]"
     return statement.line(at), f"{char} isn't closed"
+
+
+def text_line(statement: Statement, at: int) -> str:
+    """The line of a position."""
+    return statement.text[statement.text.rfind("\n", 0, at) + 1:].partition("\n")[0]
 
 
 def wants(key: str) -> set[str]:
@@ -145,7 +164,10 @@ def value_hint(key: str, spelled: str) -> str | None:
     if "integer" not in types:
         return f'{key} = {spelled}: a text needs quotes: "{spelled}"' if len(spelled) <= SHOWN else f"key {key}: a text needs quotes"
     number = HEX.fullmatch(spelled) if len(spelled) <= SHOWN else None
-    return f"{key} = {spelled[:SHOWN]}: " + (f"a hexadecimal number is 0x{number.group(1).upper()}" if number else "an integer is wanted")
+    if number:
+        return f"{key} = {spelled}: a hexadecimal number is 0x{number.group(1).upper()}"
+    meant = quantity(key, spelled)
+    return f"{key} = {spelled[:SHOWN]}: an integer is wanted{f': {meant}' if meant and meant != spelled else ''}"
 
 
 def value_at(statement: Statement, line: int, column: int) -> tuple[str, str] | None:
@@ -213,8 +235,13 @@ def said_by_reader(statement: Statement, line: int, said: str) -> Told:
     if at and said.startswith(("Invalid value", BEHIND)):
         if mark := COMMENT.match(statement.text.split("\n")[line - 1], int(at.group(1)) - 1):
             return line, f"a comment begins with #, and not with {mark.group(1)}"
+        if marked := MARKED.search(statement.text.split("\n")[line - 1]):
+            return line, f"a number has no {marked.group().strip('0123456789')[:1]} in it: {re.sub('[^0-9]', '', marked.group())}"
         value = value_at(statement, line, int(at.group(1)))
         return line, value and value_hint(*value) or ("after a value the line ends" if said.startswith(BEHIND) else said)
+    if at and said.startswith(("Unclosed inline table", "Unclosed array")):
+        behind = re.match(r"[^\s,}\]]*", statement.text.split("\n")[line - 1][int(at.group(1)) - 1:])
+        return line, f"a comma is missing before {behind.group()}" if behind and behind.group() else said
     if MERGE.match(statement.text.split("\n")[line - 1]):
         return line, "a merge of two versions that isn't finished: keep one of them, without these marks"
     if said.startswith("Invalid statement") and statement.text.split("\n")[line - 1].lstrip().startswith("{"):
@@ -259,7 +286,8 @@ def statement_fault(statement: Statement) -> Told:
                 return said_by_reader(statement, line, said)
     for place, spelled in places.spelled.items():
         if first <= places.line(place) <= last and is_beyond_64_bits(spelled):
-            return places.line(place), "an integer beyond 64 bits"
+            is_name = place[-1] == "name" and 0 <= int(spelled, 0) < 1 << 64
+            return places.line(place), f"name is a table of the fields: {name_meant(int(spelled, 0))}" if is_name else "an integer beyond 64 bits"
     return missing_comma(statement) or (first, None)
 
 
@@ -268,5 +296,11 @@ def text_fault(places: Places, data: bytes) -> Told:
     try:
         text = data.decode()
     except UnicodeDecodeError as fault:
-        return data.count(b"\n", 0, fault.start) + 1, f"byte {data[fault.start]:02X} is no UTF-8"
-    return statement_fault(faulty_statement(text, places))
+        if data.startswith(WIDE):
+            return 1, "this is UTF-16: save the file as UTF-8"
+        meant = data[fault.start:fault.start + 1].decode("cp1252", errors="replace")
+        shown = f", {meant} by Windows-1252" if meant.isprintable() and meant != "\ufffd" else ""
+        return data.count(b"\n", 0, fault.start) + 1, f"byte {data[fault.start]:02X} is no UTF-8{shown}: save the file as UTF-8"
+    statement = faulty_statement(text, places)
+    other = next((said for begin, said in OTHERS if begin.match(text.removeprefix(MARK))), None)
+    return (1, other) if other and statement.start <= len(MARK) else statement_fault(statement)

@@ -12,6 +12,7 @@ from j39plan.plan.toml_places import Place, table_of
 WORDS = {
     "per": ", a product of 2s and 5s", "most": ", at least the length", "broadcast_gap_most": ", at least broadcast_gap",
     "value": ", which the bits hold", "jitter": ", below the period", "pause": ", at least the period", "claims": ", and true where the NAME is arbitrary",
+    "name": ", as { manufacturer = 310, function = 9 }", "when": ", as { byte = 1, bits = 8, value = 1 }",
     "values": " of raw numbers, as decimal numbers that the signal's bits hold, with labels, and none of a dtc",
 }
 
@@ -53,6 +54,9 @@ def wanted(plan: Source, place: Place, key: str) -> str:
         return f"{rule['type']} {rule['minimum']}..{rule['maximum']}" + WORDS.get(key, "")
     if rule.get("items", {}).get("type") == "integer":
         return f"an array of integers {rule['items']['minimum']}..{rule['items']['maximum']}, each once"
+    if rule.get("items", {}).get("type") == "string":
+        most = "two or more" if rule.get("minItems") == 2 else "one or more"
+        return f'an array of {most} labels, each once, as ["A", "B"]: {rule["description"].partition(": ")[2] or rule["description"]}'
     header = ".".join(str(part) for part in (*place, key) if isinstance(part, str))
     kinds = {"array": f"an array of tables: [[{header}]]", "object": "a table", "boolean": "true or false"}
     kind = kinds.get(rule.get("type", ""))

@@ -4,8 +4,9 @@ import contextlib
 import re
 from collections.abc import Iterable, Iterator
 
-from j39plan.plan.hints.refusals import OF_VEHICLES, likely
+from j39plan.plan.hints.refusals import OF_VEHICLES
 from j39plan.plan.hints.text_faults import Told, text_fault
+from j39plan.plan.hints.words import likely
 from j39plan.plan.parts import Source
 from j39plan.plan.toml_places import Place, place_of, table_of
 from j39plan.vehicle.files import Vehicle, plan_file, read

@@ -1,0 +1,12 @@
+/* How long an instance lives. */
+
+#ifndef J39_INSTANCE_H
+#define J39_INSTANCE_H
+
+#include "j39plan.h"
+
+/* A session of an instance is begun; it is dropped. */
+void instance_entered(j39_instance *);
+void instance_left(j39_instance *);
+
+#endif

@@ -1,0 +1,1 @@
+"""A box on a bench, brought into the situations that plan and standard have."""
