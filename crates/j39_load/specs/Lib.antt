@@ -1,4 +1,5 @@
 pub mod Ages
+pub mod Answers
 pub mod AnyQueues
 pub mod Asked
 pub mod AskedLoads
