@@ -3,6 +3,7 @@ pub mod Answers
 pub mod AnyQueues
 pub mod Asked
 pub mod AskedLoads
+pub mod AskedMore
 pub mod Broadcasts
 pub mod BusTimes
 pub mod Clocks
