@@ -5,7 +5,7 @@ use Rattle.std.specs.Option.{option_map_or}
 use Rattle.std.proofs.lemmas.Bool.{and_from, and_parts}
 use Rattle.j39_findings.specs.declared.checking.finding.Finding.TheVariants.{BadPgn}
 use Rattle.j39_load.specs.declared.findings.load_finding.LoadFinding.{LoadFinding}
-use Rattle.j39_load.specs.declared.findings.load_finding.LoadFinding.TheVariants.{NoPeriod, Overload, LateFlow, NeedTooOld}
+use Rattle.j39_load.specs.declared.findings.load_finding.LoadFinding.TheVariants.{NoPeriod, Overload, LateFlow, NeedTooOld, AskedTooOften}
 use Rattle.j39_network.specs.declared.plan.need_plan.NeedPlan.{NeedPlan}
 use Rattle.j39_variants.specs.VariantPlans.{group_places, moved_from, place_at, unit_places}
 use Rattle.j39_variants.specs.declared.line.ProductLine.{ProductLine}
@@ -64,6 +64,10 @@ module _ (line : ProductLine) (v : List ℕ) (here : List LineFinding) (of_here 
         where
           not_late : (i : ℕ) → LateFlow i ≡ NeedTooOld d → ⊥
           not_late i same = cc
+      go (AskedTooOften f) among is = absurd (not_asked (place_in_file of_here.there.flows.items f) is)
+        where
+          not_asked : (i : ℕ) → AskedTooOften i ≡ NeedTooOld d → ⊥
+          not_asked i same = cc
       go (NeedTooOld k) among is = (k, among, old_same (place_in_file of_here.there.needs.items k) is)
         where
           old_same : (i : ℕ) → NeedTooOld i ≡ NeedTooOld d → i ≡ d

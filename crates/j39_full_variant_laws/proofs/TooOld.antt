@@ -15,9 +15,10 @@ use Rattle.j39_load.specs.Asked.{asked_of, total_load}
 use Rattle.j39_load.specs.BusTimes.{timing_of, with_claims}
 use Rattle.j39_load.specs.LineLists.{lines_of_each}
 use Rattle.j39_load.specs.LiveClaims.{unplanned_of}
-use Rattle.j39_load.specs.LoadFindings.{all_findings, AreLoadFindings, lateness, load_findings, overload, without_period}
+use Rattle.j39_load.specs.LoadFindings.{all_findings, AreLoadFindings, asked_too_often, further_findings, lateness, load_findings, overload, without_period}
+use Rattle.j39_load.proofs.ReportedLines.{of_asked}
 use Rattle.j39_load.specs.declared.findings.load_finding.LoadFinding.{LoadFinding}
-use Rattle.j39_load.specs.declared.findings.load_finding.LoadFinding.TheVariants.{NoPeriod, Overload, LateFlow, NeedTooOld}
+use Rattle.j39_load.specs.declared.findings.load_finding.LoadFinding.TheVariants.{NoPeriod, Overload, LateFlow, NeedTooOld, AskedTooOften}
 use Rattle.j39_load.specs.declared.waits.delay.Delay.{Delay}
 use Rattle.j39_load.specs.inside.FewClaims.{few_unplanned}
 use Rattle.j39_variants.specs.declared.line.ProductLine.{ProductLine}
@@ -75,10 +76,14 @@ module _ (timing : Timing) (plan : Plan) (delays : List (Option Delay)) where
 
   is_old : (load k : ℕ) → Contains (all_findings plan timing load delays) (NeedTooOld k) → IsOld timing plan delays k
   is_old load k found =
-      elim (Contains-append_cases (load_findings timing load delays) (old_needs timing plan.requests.items plan.flows.items delays plan.needs.items) (NeedTooOld k) found) [
-        | inr old ↦
-            let its = reported_at reports 0 plan.needs.items (NeedTooOld k) old in
-            old_at k (0 + its.k) its.value (ap (slice_get plan.needs.items) (let e : 0 + its.k ≡ its.k = omega arith in e) ∙ its.value_is) its.reported
+      elim (Contains-append_cases (load_findings timing load delays) (further_findings plan timing delays) (NeedTooOld k) found) [
+        | inr further ↦ elim (Contains-append_cases (old_needs timing plan.requests.items plan.flows.items delays plan.needs.items)
+          (asked_too_often plan.requests.items plan.flows.items) (NeedTooOld k) further) [
+          | inl old ↦
+              let its = reported_at reports 0 plan.needs.items (NeedTooOld k) old in
+              old_at k (0 + its.k) its.value (ap (slice_get plan.needs.items) (let e : 0 + its.k ≡ its.k = omega arith in e) ∙ its.value_is) its.reported
+          | inr asked ↦ absurd (let its = of_asked plan.requests.items plan.flows.items (NeedTooOld k) asked in not_asked its.0 k its.4)
+        ]
         | inl others ↦ elim (Contains-append_cases (lines_of_each without_period 0 delays) (overload timing load ++ lines_of_each lateness 0 delays) (NeedTooOld k) others) [
           | inl unpaced ↦
               let its = reported_at without_period 0 delays (NeedTooOld k) unpaced in
@@ -95,6 +100,9 @@ module _ (timing : Timing) (plan : Plan) (delays : List (Option Delay)) where
       no_period : (i j : ℕ) → NeedTooOld j ≡ NoPeriod i → ⊥
       no_period i j is = cc
 
+      not_asked : (i j : ℕ) → NeedTooOld j ≡ AskedTooOften i → ⊥
+      not_asked i j is = cc
+
       no_load : (i j : ℕ) → NeedTooOld j ≡ Overload i → ⊥
       no_load i j is = cc
 
@@ -103,11 +111,12 @@ module _ (timing : Timing) (plan : Plan) (delays : List (Option Delay)) where
 
   reported_old : (load k : ℕ) → IsOld timing plan delays k → Contains (all_findings plan timing load delays) (NeedTooOld k)
   reported_old load k its =
-      Contains-append_right (load_findings timing load delays) (old_needs timing plan.requests.items plan.flows.items delays plan.needs.items) (NeedTooOld k)
+      Contains-append_right (load_findings timing load delays) (further_findings plan timing delays) (NeedTooOld k)
+      (Contains-append_left (old_needs timing plan.requests.items plan.flows.items delays plan.needs.items) (asked_too_often plan.requests.items plan.flows.items) (NeedTooOld k)
       (line_reported reports 0 plan.needs.items k its.need (NeedTooOld k) its.at
       (subst (λ o. Contains (option_map_or (λ limit. if is_too_old timing plan.requests.items plan.flows.items delays its.need limit then NeedTooOld (0 + k) ∷ [] else []) o []) (NeedTooOld k))
       (sym its.within) (subst (λ b. Contains (if b then NeedTooOld (0 + k) ∷ [] else []) (NeedTooOld k)) (sym its.old)
-      (subst (λ n. Contains (NeedTooOld n ∷ []) (NeedTooOld k)) (let e : k ≡ 0 + k = omega arith in e) (itself (NeedTooOld k))))))
+      (subst (λ n. Contains (NeedTooOld n ∷ []) (NeedTooOld k)) (let e : k ≡ 0 + k = omega arith in e) (itself (NeedTooOld k)))))))
 
 -- a need of which it is reported asks for an age
 pub old_need : (plan : Plan) (others : List LoadFinding) → AreLoadFindings plan (timing_of plan) others → (k : ℕ) → Contains others (NeedTooOld k)

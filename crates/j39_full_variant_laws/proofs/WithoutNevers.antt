@@ -9,7 +9,7 @@ use Rattle.j39_findings.specs.declared.checking.finding.Finding.TheVariants.{Pri
 use Rattle.j39_findings.specs.declared.checking.finding.Finding.TheVariants.{RequestUnheard, AnswerAstray, WhenOutside, RequestRepeated, SilentAddress}
 use Rattle.j39_findings.specs.declared.checking.finding.Finding.TheVariants.{SilentInPool, FlowContested}
 use Rattle.j39_load.specs.declared.findings.load_finding.LoadFinding.{LoadFinding}
-use Rattle.j39_load.specs.declared.findings.load_finding.LoadFinding.TheVariants.{NoPeriod, Overload, LateFlow, NeedTooOld}
+use Rattle.j39_load.specs.declared.findings.load_finding.LoadFinding.TheVariants.{NoPeriod, Overload, LateFlow, NeedTooOld, AskedTooOften}
 use Rattle.j39_network.specs.declared.plan.Plan.{Plan}
 use Rattle.j39_variants.specs.VariantPlans.{IsVariantPlan}
 use Rattle.j39_variants.specs.declared.line.Alternative.{Alternative}
@@ -88,7 +88,7 @@ change_nothing line nevers v = record {
 -- ---- whether a finding counts what is there is reported by its number and its place
 
 abbrev goes_by : ProductLine → Rank → Bool
-goes_by line rank = not (((rank.number == 3) || ((rank.number == 17) || ((rank.number == 18) || (rank.number == 20)))) || ((rank.number == 28) && has_end_in_pool line rank.first))
+goes_by line rank = not (((rank.number == 3) || ((rank.number == 17) || ((rank.number == 18) || ((rank.number == 20) || (rank.number == 31))))) || ((rank.number == 28) && has_end_in_pool line rank.first))
 
 plan_by_rank : (line : ProductLine) (finding : Finding) → goes_by_conditions line (OfPlan finding) ≡ goes_by line (rank_of (OfPlan finding))
 plan_by_rank line (SameName i j) = refl
@@ -122,6 +122,7 @@ by_rank line (OfLoad (NoPeriod f)) = refl
 by_rank line (OfLoad (Overload n)) = refl
 by_rank line (OfLoad (LateFlow f)) = refl
 by_rank line (OfLoad (NeedTooOld d)) = refl
+by_rank line (OfLoad (AskedTooOften f)) = refl
 
 -- what doesn't go by conditions doesn't come by absence, but for ages
 pub plan_present : (line : ProductLine) (finding : Finding) → goes_by_conditions line (OfPlan finding) ≡ false → is_by_absence (OfPlan finding) ≡ false
@@ -150,7 +151,7 @@ plan_present line (SilentAddress i j) counts = refl
 plan_present line (SilentInPool i) counts = refl
 plan_present line (FlowContested f) counts = refl
 
--- ---- the five
+-- ---- the six
 
 module _ (line : ProductLine) (nevers : LineNevers) (count : CountNothingWith line nevers) (v : List ℕ)
     (possible : IsPossible line v) (here : List LineFinding) (of_here : AreVariantFindings line v here) where
@@ -194,6 +195,7 @@ module _ (line : ProductLine) (nevers : LineNevers) (count : CountNothingWith li
   goes (OfLoad (Overload n)) one = load_goes (Overload n) one refl
   goes (OfLoad (LateFlow f)) one = load_goes (LateFlow f) one refl
   goes (OfLoad (NeedTooOld d)) one = age_goes d one
+  goes (OfLoad (AskedTooOften f)) one = load_goes (AskedTooOften f) one refl
 
 pub count_all : (line : ProductLine) (nevers : LineNevers) → FullVariantsCountAll line nevers
 count_all line nevers count v possible here of_here finding one = goes line nevers count v possible here of_here finding one

@@ -3,7 +3,7 @@ use Rattle.std.proofs.Common.{◌≡◌, ℕ, zero, suc, ◌<◌, ◌≤◌, Lis
 use Rattle.std.specs.List.{slice_get}
 use Rattle.std.proofs.lemmas.Bool.{and_parts, false≢true, not-true, true≢false}
 use Rattle.std.proofs.lemmas.Option.{same_Some}
-use Rattle.j39_load.specs.declared.findings.load_finding.LoadFinding.TheVariants.{NoPeriod, Overload, LateFlow, NeedTooOld}
+use Rattle.j39_load.specs.declared.findings.load_finding.LoadFinding.TheVariants.{NoPeriod, Overload, LateFlow, NeedTooOld, AskedTooOften}
 use Rattle.j39_variants.specs.Variants.{IsEarlier}
 use Rattle.j39_variants.specs.declared.line.ProductLine.{ProductLine}
 use Rattle.j39_line_findings.specs.AllVariants.{IsOneOf}
@@ -51,6 +51,7 @@ module _ (line : ProductLine) (covers : FullVariantsHaveWhatIsFound line) (ages 
   looked_at v (OfLoad (Overload n)) possible takes = are.are_looked_at.complete v (looked_at_full line x.full are.are_full v possible takes)
   looked_at v (OfLoad (LateFlow f)) possible takes = are.are_looked_at.complete v (looked_at_full line x.full are.are_full v possible takes)
   looked_at v (OfLoad (NeedTooOld d)) possible takes = are.are_looked_at.complete v (looked_at_need line x.full are.are_full v possible d takes)
+  looked_at v (OfLoad (AskedTooOften f)) possible takes = are.are_looked_at.complete v (looked_at_full line x.full are.are_full v possible takes)
 
   -- ---- what is reported for what a possible variant has
 
@@ -107,6 +108,8 @@ module _ (line : ProductLine) (covers : FullVariantsHaveWhatIsFound line) (ages 
       (λ w possible there are_there covering. covering.loads (no_bad sure w possible there are_there) (Overload n) has.one)
   counted_reported v (OfLoad (LateFlow f)) has counts sure = by_cover v (OfLoad (LateFlow f)) counts refl has.possible has.findings has.are_findings
       (λ w possible there are_there covering. covering.loads (no_bad sure w possible there are_there) (LateFlow f) has.one)
+  counted_reported v (OfLoad (AskedTooOften f)) has counts sure = by_cover v (OfLoad (AskedTooOften f)) counts refl has.possible has.findings has.are_findings
+      (λ w possible there are_there covering. covering.loads (no_bad sure w possible there are_there) (AskedTooOften f) has.one)
   counted_reported v (OfLoad (NeedTooOld d)) has counts sure =
       let old = ages v has.possible has.findings has.are_findings d has.one in
       let (w, full, found_there) = old.1 in

@@ -7,7 +7,7 @@ use Rattle.j39_findings.specs.declared.checking.finding.Finding.TheVariants.{Sig
 use Rattle.j39_findings.specs.declared.checking.finding.Finding.TheVariants.{PrivateUnsent, RecordOverlap, TextOutside, NeedUnmet, RequestUnanswered}
 use Rattle.j39_findings.specs.declared.checking.finding.Finding.TheVariants.{RequestUnheard, AnswerAstray, WhenOutside, RequestRepeated, SilentAddress}
 use Rattle.j39_findings.specs.declared.checking.finding.Finding.TheVariants.{SilentInPool, FlowContested}
-use Rattle.j39_load.specs.declared.findings.load_finding.LoadFinding.TheVariants.{NoPeriod, Overload, LateFlow, NeedTooOld}
+use Rattle.j39_load.specs.declared.findings.load_finding.LoadFinding.TheVariants.{NoPeriod, Overload, LateFlow, NeedTooOld, AskedTooOften}
 use Rattle.j39_variants.specs.declared.line.ProductLine.{ProductLine}
 use Rattle.j39_line_findings.specs.Conditions.{goes_by_conditions}
 use Rattle.j39_line_findings.specs.InFile.{rank_of}
@@ -16,10 +16,10 @@ use Rattle.j39_line_findings.specs.declared.line_finding.LineFinding.{LineFindin
 use Rattle.j39_line_findings.specs.declared.line_finding.LineFinding.TheVariants.{OfPlan, OfLoad}
 use Rattle.j39_line_findings.specs.declared.rank.Rank.{Rank}
 
--- too few addresses, too high a load, a late flow, an old need, or a contested end in the pool
+-- too few addresses, too high a load, a late flow, an old need, a flow that is asked for too often, or a contested end in the pool
 abbrev goes_by_rank : ProductLine → Rank → Bool
-goes_by_rank line r = not ((r.number == 3) || ((r.number == 17) || ((r.number == 18) || ((r.number == 20)
-    || ((r.number == 28) && has_end_in_pool line r.first)))))
+goes_by_rank line r = not ((r.number == 3) || ((r.number == 17) || ((r.number == 18) || ((r.number == 20) || ((r.number == 31)
+    || ((r.number == 28) && has_end_in_pool line r.first))))))
 
 by_rank : (line : ProductLine) (f : LineFinding) → goes_by_conditions line f ≡ goes_by_rank line (rank_of f)
 by_rank line (OfPlan (SameName i j)) = refl
@@ -50,6 +50,7 @@ by_rank line (OfLoad (NoPeriod f)) = refl
 by_rank line (OfLoad (Overload n)) = refl
 by_rank line (OfLoad (LateFlow f)) = refl
 by_rank line (OfLoad (NeedTooOld d)) = refl
+by_rank line (OfLoad (AskedTooOften f)) = refl
 
 -- findings that are reported alike go alike
 pub same_way : (line : ProductLine) (f g : LineFinding) → rank_of f ≡ rank_of g → goes_by_conditions line f ≡ goes_by_conditions line g

@@ -6,7 +6,7 @@ use Rattle.j39_findings.specs.declared.checking.finding.Finding.TheVariants.{Sig
 use Rattle.j39_findings.specs.declared.checking.finding.Finding.TheVariants.{PrivateUnsent, RecordOverlap, TextOutside, NeedUnmet, RequestUnanswered}
 use Rattle.j39_findings.specs.declared.checking.finding.Finding.TheVariants.{RequestUnheard, AnswerAstray, WhenOutside, RequestRepeated, SilentAddress}
 use Rattle.j39_findings.specs.declared.checking.finding.Finding.TheVariants.{SilentInPool, FlowContested}
-use Rattle.j39_load.specs.declared.findings.load_finding.LoadFinding.TheVariants.{NoPeriod, Overload, LateFlow, NeedTooOld}
+use Rattle.j39_load.specs.declared.findings.load_finding.LoadFinding.TheVariants.{NoPeriod, Overload, LateFlow, NeedTooOld, AskedTooOften}
 use Rattle.j39_variants.specs.declared.line.ProductLine.{ProductLine}
 use Rattle.j39_line_findings.specs.Conditions.{goes_by_conditions}
 use Rattle.j39_line_findings.specs.InFile.{amount_of}
@@ -47,6 +47,7 @@ amount_kinds line (OfLoad (NoPeriod f)) = inl refl
 amount_kinds line (OfLoad (Overload n)) = inr (refl, refl)
 amount_kinds line (OfLoad (LateFlow f)) = inl refl
 amount_kinds line (OfLoad (NeedTooOld d)) = inl refl
+amount_kinds line (OfLoad (AskedTooOften f)) = inl refl
 
 pub no_amount : (line : ProductLine) (f : LineFinding) → goes_by_conditions line f ≡ true → amount_of f ≡ 0
 no_amount line f goes = elim (amount_kinds line f) [
@@ -68,3 +69,4 @@ full_for line full v (OfLoad (NoPeriod f)) there = refl
 full_for line full v (OfLoad (Overload n)) there = refl
 full_for line full v (OfLoad (LateFlow f)) there = refl
 full_for line full v (OfLoad (NeedTooOld d)) there = absurd (false≢true (sym there))
+full_for line full v (OfLoad (AskedTooOften f)) there = refl

@@ -4,7 +4,7 @@ use Rattle.std.specs.List.{Contains}
 use Rattle.j39_findings.specs.declared.checking.finding.Finding.{Finding}
 use Rattle.j39_findings.specs.declared.checking.finding.Finding.TheVariants.{BadPgn}
 use Rattle.j39_load.specs.declared.findings.load_finding.LoadFinding.{LoadFinding}
-use Rattle.j39_load.specs.declared.findings.load_finding.LoadFinding.TheVariants.{NoPeriod, Overload, LateFlow, NeedTooOld}
+use Rattle.j39_load.specs.declared.findings.load_finding.LoadFinding.TheVariants.{NoPeriod, Overload, LateFlow, NeedTooOld, AskedTooOften}
 use Rattle.j39_variants.specs.declared.line.ProductLine.{ProductLine}
 use Rattle.j39_line_findings.specs.PossibleVariants.{IsPossible}
 use Rattle.j39_line_findings.specs.LineFound.{AreVariantFindings, IsFound}
@@ -29,6 +29,7 @@ module _ (line : ProductLine) (reported : AreReported line None []) where
   sure (OfLoad (Overload n)) = good
   sure (OfLoad (LateFlow f)) = good
   sure (OfLoad (NeedTooOld d)) = good
+  sure (OfLoad (AskedTooOften f)) = good
 
   all_empty : (v : List ℕ) → IsPossible line v → (findings all : List LineFinding) → AreVariantFindings line v all
       → ((f : LineFinding) → IsFound findings f → IsFound all f) → findings ≡ []

@@ -5,7 +5,7 @@ use Rattle.std.proofs.lemmas.Bool.{cases_Bool, false≢true}
 use Rattle.j39_findings.specs.Found.{found}
 use Rattle.j39_findings.specs.declared.checking.finding.Finding.{Finding}
 use Rattle.j39_findings.specs.declared.checking.finding.Finding.TheVariants.{BadPgn}
-use Rattle.j39_load.specs.declared.findings.load_finding.LoadFinding.TheVariants.{NoPeriod, Overload, LateFlow, NeedTooOld}
+use Rattle.j39_load.specs.declared.findings.load_finding.LoadFinding.TheVariants.{NoPeriod, Overload, LateFlow, NeedTooOld, AskedTooOften}
 use Rattle.j39_variants.specs.declared.line.ProductLine.{ProductLine}
 use Rattle.j39_line_findings.specs.Best.{IsWitnessAmong}
 use Rattle.j39_line_findings.specs.Conditions.{goes_by_conditions}
@@ -81,6 +81,7 @@ module _ (line : ProductLine) (presence : FoundByPresence) (built : NeversChange
   bare_sure (OfLoad (Overload n)) = bare_good
   bare_sure (OfLoad (LateFlow f)) = bare_good
   bare_sure (OfLoad (NeedTooOld d)) = bare_good
+  bare_sure (OfLoad (AskedTooOften f)) = bare_good
 
   -- so nothing that counts what is there is found of a possible variant
   pub nothing_counted : FullVariantsHaveWhatIsFound bare → OldNeedsAreFoundOfFull bare → (v : List ℕ) (f : LineFinding) → HasIt line v f

@@ -1,7 +1,7 @@
 -- What comes by absence and what comes by what is there, together.
 use Rattle.std.proofs.Common.{◌≡◌, ◌↔◌, ℕ, true, List, sym, ◌∙◌, inl, inr}
 use Rattle.std.proofs.lemmas.Bool.{cases_Bool, false≢true, true≢false}
-use Rattle.j39_load.specs.declared.findings.load_finding.LoadFinding.TheVariants.{NoPeriod, Overload, LateFlow, NeedTooOld}
+use Rattle.j39_load.specs.declared.findings.load_finding.LoadFinding.TheVariants.{NoPeriod, Overload, LateFlow, NeedTooOld, AskedTooOften}
 use Rattle.j39_line_findings.specs.Conditions.{conditions_of, goes_by_conditions, meets_any}
 use Rattle.j39_line_findings.specs.LineFound.{AreVariantFindings, IsFound}
 use Rattle.j39_line_findings.specs.declared.line_finding.LineFinding.{LineFinding}
@@ -21,6 +21,7 @@ module _ (line : ProductLine) (v : List ℕ) (findings : List LineFinding) (has 
   absent_found (OfLoad (Overload n)) goes absent = absurd (false≢true absent)
   absent_found (OfLoad (LateFlow f)) goes absent = absurd (false≢true absent)
   absent_found (OfLoad (NeedTooOld d)) goes absent = absurd (false≢true goes)
+  absent_found (OfLoad (AskedTooOften f)) goes absent = absurd (false≢true absent)
 
   by_conditions : (finding : LineFinding) → goes_by_conditions line finding ≡ true
       → IsFound findings finding ↔ (MayBeFound line finding × (meets_any line v (conditions_of line finding) ≡ true))

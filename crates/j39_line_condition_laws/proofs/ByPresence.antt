@@ -4,7 +4,7 @@ use Rattle.std.specs.List.{slice_get}
 use Rattle.std.proofs.lemmas.Bool.{and_from, and_parts, false≢true}
 use Rattle.std.proofs.lemmas.Option.{same_Some}
 use Rattle.j39_load.specs.declared.findings.load_finding.LoadFinding.{LoadFinding}
-use Rattle.j39_load.specs.declared.findings.load_finding.LoadFinding.TheVariants.{NoPeriod, Overload, LateFlow, NeedTooOld}
+use Rattle.j39_load.specs.declared.findings.load_finding.LoadFinding.TheVariants.{NoPeriod, Overload, LateFlow, NeedTooOld, AskedTooOften}
 use Rattle.j39_network.specs.declared.plan.flow_plan.FlowPlan.{FlowPlan}
 use Rattle.j39_network.specs.declared.plan.pace.Pace.{Pace}
 use Rattle.j39_variants.specs.declared.line.ProductLine.{ProductLine}
@@ -57,6 +57,7 @@ module _ (line : ProductLine) (v : List ℕ) (findings : List LineFinding) (has 
       by (Overload n) among same = cc
       by (LateFlow i) among same = cc
       by (NeedTooOld d) among same = cc
+      by (AskedTooOften i) among same = cc
 
   unpaced : (o : Option Pace) → not (is_some o) ≡ true → o ≡ None
   unpaced None none = refl
@@ -82,6 +83,7 @@ module _ (line : ProductLine) (v : List ℕ) (findings : List LineFinding) (has 
   by_presence (OfLoad (Overload n)) goes present = absurd (false≢true goes)
   by_presence (OfLoad (LateFlow f)) goes present = absurd (false≢true goes)
   by_presence (OfLoad (NeedTooOld d)) goes present = absurd (false≢true goes)
+  by_presence (OfLoad (AskedTooOften f)) goes present = absurd (false≢true goes)
 
 pub found_by_presence : FoundByPresence
 found_by_presence = by_presence

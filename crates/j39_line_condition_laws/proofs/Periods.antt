@@ -10,10 +10,11 @@ use Rattle.j39_load.specs.Asked.{asked_of, total_load}
 use Rattle.j39_load.specs.BusTimes.{timing_of, with_claims}
 use Rattle.j39_load.specs.Delays.{HasDelay}
 use Rattle.j39_load.specs.LineLists.{lines_of_each}
-use Rattle.j39_load.specs.LoadFindings.{all_findings, AreLoadFindings, AsksOfBus, lateness, load_findings, overload, without_period}
+use Rattle.j39_load.proofs.ReportedLines.{of_asked}
+use Rattle.j39_load.specs.LoadFindings.{all_findings, AreLoadFindings, asked_too_often, AsksOfBus, further_findings, lateness, load_findings, overload, without_period}
 use Rattle.j39_load.specs.Loads.{flow_load, load_of_flow}
 use Rattle.j39_load.specs.declared.findings.load_finding.LoadFinding.{LoadFinding}
-use Rattle.j39_load.specs.declared.findings.load_finding.LoadFinding.TheVariants.{NoPeriod, Overload, LateFlow, NeedTooOld}
+use Rattle.j39_load.specs.declared.findings.load_finding.LoadFinding.TheVariants.{NoPeriod, Overload, LateFlow, NeedTooOld, AskedTooOften}
 use Rattle.j39_load.specs.declared.loads.flow_load.FlowLoad.{FlowLoad}
 use Rattle.j39_load.specs.declared.waits.delay.Delay.{Delay}
 use Rattle.j39_network.specs.declared.plan.Plan.{Plan}
@@ -74,8 +75,12 @@ module _ (plan : Plan) (timing : Timing) (stays : UnitPlan → Bool) (ds : List 
 
   reported_unpaced : (f : ℕ) → Contains (all_findings plan timing load ds) (NoPeriod f) → IsUnpaced plan f
   reported_unpaced f reported =
-      elim (Contains-append_cases (load_findings timing load ds) (old_needs timing plan.requests.items plan.flows.items ds plan.needs.items) (NoPeriod f) reported) [
-        | inr old ↦ let (d, is_it) = of_old timing plan ds (NoPeriod f) old in absurd (not_old f d is_it)
+      elim (Contains-append_cases (load_findings timing load ds) (further_findings plan timing ds) (NoPeriod f) reported) [
+        | inr further ↦ elim (Contains-append_cases (old_needs timing plan.requests.items plan.flows.items ds plan.needs.items)
+          (asked_too_often plan.requests.items plan.flows.items) (NoPeriod f) further) [
+          | inl old ↦ let (d, is_it) = of_old timing plan ds (NoPeriod f) old in absurd (not_old f d is_it)
+          | inr asked ↦ absurd (let its = of_asked plan.requests.items plan.flows.items (NoPeriod f) asked in not_asked f its.0 its.4)
+        ]
         | inl others ↦ elim (Contains-append_cases (lines_of_each without_period 0 ds) (overload timing load ++ lines_of_each lateness 0 ds) (NoPeriod f) others) [
           | inl here ↦ found here
           | inr more ↦ elim (Contains-append_cases (overload timing load) (lines_of_each lateness 0 ds) (NoPeriod f) more) [
@@ -89,6 +94,9 @@ module _ (plan : Plan) (timing : Timing) (stays : UnitPlan → Bool) (ds : List 
     where
       not_old : (a b : ℕ) → NoPeriod a ≡ NeedTooOld b → ⊥
       not_old a b same = cc
+
+      not_asked : (a b : ℕ) → NoPeriod a ≡ AskedTooOften b → ⊥
+      not_asked a b same = cc
 
       not_much : (a b : ℕ) → NoPeriod a ≡ Overload b → ⊥
       not_much a b same = cc
@@ -123,7 +131,7 @@ module _ (plan : Plan) (timing : Timing) (stays : UnitPlan → Bool) (ds : List 
       let below : f < length ds = omega (arith, inside, count) in
       let none = no_delay f its.flow its.flow_is its.unpaced (slice_index_or ds f None) (has_delay f below) in
       let zero : f ≡ 0 + f = omega arith in
-      Contains-append_left (load_findings timing load ds) (old_needs timing plan.requests.items plan.flows.items ds plan.needs.items) (NoPeriod f)
+      Contains-append_left (load_findings timing load ds) (further_findings plan timing ds) (NoPeriod f)
       (Contains-append_left (lines_of_each without_period 0 ds) (overload timing load ++ lines_of_each lateness 0 ds) (NoPeriod f)
       (line_reported without_period 0 ds f None (NoPeriod f) (slice_get-get_or ds f None below ∙ ap Some none)
       (subst (λ n. Contains (without_period n None) (NoPeriod f)) zero (itself (NoPeriod f)))))

@@ -6,7 +6,7 @@ use Rattle.j39_findings.specs.declared.checking.finding.Finding.TheVariants.{Sam
 use Rattle.j39_findings.specs.declared.checking.finding.Finding.TheVariants.{SignalOutside, SignalOverlap, FlowToOne, FlowToSelf, FlowRepeated, KeptAddress}
 use Rattle.j39_findings.specs.declared.checking.finding.Finding.TheVariants.{PrivateUnsent, RecordOverlap, TextOutside, NeedUnmet, RequestUnanswered, RequestUnheard}
 use Rattle.j39_findings.specs.declared.checking.finding.Finding.TheVariants.{AnswerAstray, WhenOutside, RequestRepeated, SilentAddress, SilentInPool, FlowContested}
-use Rattle.j39_load.specs.declared.findings.load_finding.LoadFinding.TheVariants.{NoPeriod, Overload, LateFlow, NeedTooOld}
+use Rattle.j39_load.specs.declared.findings.load_finding.LoadFinding.TheVariants.{NoPeriod, Overload, LateFlow, NeedTooOld, AskedTooOften}
 use Rattle.j39_load.specs.LoadFindings.{load_finding_number}
 use Rattle.j39_load.specs.declared.findings.load_finding.LoadFinding.{LoadFinding}
 use Rattle.j39_line_findings.specs.There.{place_in_file}
@@ -47,6 +47,7 @@ load_finding_in_file there (NoPeriod f) = NoPeriod (place_in_file there.flows.it
 load_finding_in_file there (Overload n) = Overload n
 load_finding_in_file there (LateFlow f) = LateFlow (place_in_file there.flows.items f)
 load_finding_in_file there (NeedTooOld d) = NeedTooOld (place_in_file there.needs.items d)
+load_finding_in_file there (AskedTooOften f) = AskedTooOften (place_in_file there.flows.items f)
 
 -- the findings of the plan of a variant in which this is there, and of its load, at their places in the file, and each need that is missed
 abbrev pub findings_in_file : WhatIsThere → List Finding → List LoadFinding → List ℕ → List LineFinding
@@ -91,6 +92,7 @@ load_finding_rank (NoPeriod f) = rank_by 16 f 0 0
 load_finding_rank (Overload n) = rank_by 17 0 0 0
 load_finding_rank (LateFlow f) = rank_by 18 f 0 0
 load_finding_rank (NeedTooOld d) = rank_by 20 d 0 0
+load_finding_rank (AskedTooOften f) = rank_by 31 f 0 0
 
 abbrev pub rank_of : LineFinding → Rank
 rank_of (OfPlan finding) = finding_rank finding

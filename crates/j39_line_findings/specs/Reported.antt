@@ -1,5 +1,5 @@
 -- Which alternatives of the witness of a finding are reported.
-use Rattle.std.specs.Prelude.{ℕ, ◌==◌, List, Bool, true, false, ◌&&◌, ◌||◌, not, length, if◌then◌else◌, Option, Some, None}
+use Rattle.std.specs.Prelude.{ℕ, ◌==◌, List, Bool, true, false, ◌&&◌, ◌||◌, not, length, if◌then◌else◌, is_some, Option, Some, None}
 use Rattle.std.specs.List.{list_any, range_with_len, slice_get}
 use Rattle.std.specs.Option.{option_map_or}
 use Rattle.j39_id.specs.Addresses.{in_pool}
@@ -9,8 +9,9 @@ use Rattle.j39_findings.specs.declared.checking.finding.Finding.TheVariants.{Sig
 use Rattle.j39_findings.specs.declared.checking.finding.Finding.TheVariants.{PrivateUnsent, RecordOverlap, TextOutside, NeedUnmet, RequestUnanswered}
 use Rattle.j39_findings.specs.declared.checking.finding.Finding.TheVariants.{RequestUnheard, AnswerAstray, WhenOutside, RequestRepeated, SilentAddress}
 use Rattle.j39_findings.specs.declared.checking.finding.Finding.TheVariants.{SilentInPool, FlowContested}
+use Rattle.j39_load.specs.Answers.{asked_every}
 use Rattle.j39_load.specs.declared.findings.load_finding.LoadFinding.{LoadFinding}
-use Rattle.j39_load.specs.declared.findings.load_finding.LoadFinding.TheVariants.{NoPeriod, Overload, LateFlow, NeedTooOld}
+use Rattle.j39_load.specs.declared.findings.load_finding.LoadFinding.TheVariants.{NoPeriod, Overload, LateFlow, NeedTooOld, AskedTooOften}
 use Rattle.j39_network.specs.Serving.{is_to, serves}
 use Rattle.j39_network.specs.declared.plan.flow_plan.FlowPlan.{FlowPlan}
 use Rattle.j39_network.specs.declared.plan.need_plan.NeedPlan.{NeedPlan}
@@ -121,6 +122,16 @@ module _ (line : ProductLine) (alternatives : List Alternative) (c : ℕ) where
   unfoldable pub lacks_unit_at_end : ℕ → Bool
   lacks_unit_at_end f = option_map_or (has_lacking_unit f) (slice_get line.plan.flows.items f) false
 
+  -- of a flow that is asked for, of each request with a period that it answers
+  abbrev pub is_lacking_asking : FlowPlan → ℕ → Bool
+  is_lacking_asking flow r = option_map_or (λ request. is_some (asked_every flow request) && lacks (part.Request r)) (slice_get line.plan.requests.items r) false
+
+  unfoldable pub has_lacking_asking : FlowPlan → Bool
+  has_lacking_asking flow = list_any (is_lacking_asking flow) (range_with_len 0 (length line.plan.requests.items))
+
+  unfoldable pub lacks_asking : ℕ → Bool
+  lacks_asking f = option_map_or has_lacking_asking (slice_get line.plan.flows.items f) false
+
   abbrev pub is_reported_of_plan : Finding → Bool
   is_reported_of_plan (SameName i j) = lacks_either (part.Unit i) (part.Unit j)
   is_reported_of_plan (SameFixedAddress i j) = lacks_either (part.Unit i) (part.Unit j)
@@ -152,6 +163,7 @@ module _ (line : ProductLine) (alternatives : List Alternative) (c : ℕ) where
   is_reported_of_load (Overload n) = true
   is_reported_of_load (LateFlow f) = true
   is_reported_of_load (NeedTooOld d) = true
+  is_reported_of_load (AskedTooOften f) = lacks (part.Flow f) || lacks_asking f
 
   -- the alternative that the witness takes of the choice is reported
   abbrev pub is_reported : LineFinding → Bool

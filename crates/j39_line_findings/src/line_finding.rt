@@ -87,6 +87,7 @@ pub(crate) fn load_finding_in_file(there: &WhatIsThere, finding: LoadFinding) ->
         LoadFinding::Overload(n) => LoadFinding::Overload(n),
         LoadFinding::LateFlow(f) => LoadFinding::LateFlow(place_in_file(&there.flows, f)),
         LoadFinding::NeedTooOld(d) => LoadFinding::NeedTooOld(place_in_file(&there.needs, d)),
+        LoadFinding::AskedTooOften(f) => LoadFinding::AskedTooOften(place_in_file(&there.flows, f)),
     }
 }
 
@@ -140,6 +141,7 @@ fn load_finding_rank(finding: LoadFinding) -> Rank
         LoadFinding::Overload(_) => rank_by(17, 0, 0, 0),
         LoadFinding::LateFlow(f) => rank_by(18, f, 0, 0),
         LoadFinding::NeedTooOld(d) => rank_by(20, d, 0, 0),
+        LoadFinding::AskedTooOften(f) => rank_by(31, f, 0, 0),
     }
 }
 

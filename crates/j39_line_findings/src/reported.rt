@@ -8,7 +8,7 @@ use crate::line_finding::LineFinding;
 use crate::part::{LinePart, do_meet, does_lack};
 use j39_findings::Finding;
 use j39_id::addresses::is_in_pool;
-use j39_load::LoadFinding;
+use j39_load::{LoadFinding, asked_every};
 use j39_network::{FlowPlan, NeedPlan, RequestPlan, To, serves};
 use j39_variants::{Alternative, ProductLine};
 
@@ -267,6 +267,34 @@ impl Reporting<'_> {
         }
     }
 
+    fn is_lacking_asking(&self, flow: &FlowPlan, asked: usize) -> bool
+        ensures { result ≡ reported.is_lacking_asking self.now.line.now self.now.alternatives.now self.now.choice flow.now asked }
+    {
+        match self.line.plan.requests.get(asked) {
+            Some(request) => {
+                asked_every(flow, request).is_some() && self.lacks(LinePart::Request(asked))
+            }
+            None => false,
+        }
+    }
+
+    #[tactic(auto, unfolding(crate::specs::Reported::has_lacking_asking))]
+    fn has_lacking_asking(&self, flow: &FlowPlan) -> bool
+        ensures { result ≡ reported.has_lacking_asking self.now.line.now self.now.alternatives.now self.now.choice flow.now }
+    {
+        (0..self.line.plan.requests.len()).any(|asked| self.is_lacking_asking(flow, asked))
+    }
+
+    #[tactic(auto, unfolding(crate::specs::Reported::lacks_asking))]
+    fn lacks_asking(&self, place: usize) -> bool
+        ensures { result ≡ reported.lacks_asking self.now.line.now self.now.alternatives.now self.now.choice place }
+    {
+        match self.line.plan.flows.get(place) {
+            Some(flow) => self.has_lacking_asking(flow),
+            None => false,
+        }
+    }
+
     fn is_reported_of_plan(&self, finding: Finding) -> bool
         ensures { result ≡ reported.is_reported_of_plan self.now.line.now self.now.alternatives.now self.now.choice finding }
     {
@@ -312,6 +340,9 @@ impl Reporting<'_> {
             LoadFinding::NoPeriod(f) => self.lacks(LinePart::Flow(f)),
             LoadFinding::Overload(_) | LoadFinding::LateFlow(_) | LoadFinding::NeedTooOld(_) => {
                 true
+            }
+            LoadFinding::AskedTooOften(f) => {
+                self.lacks(LinePart::Flow(f)) || self.lacks_asking(f)
             }
         }
     }

@@ -1,3 +1,4 @@
+mod AskedKept
 mod KeptFindings
 mod KeptLists
 mod KeptParts

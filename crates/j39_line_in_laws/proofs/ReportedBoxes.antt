@@ -1,9 +1,10 @@
 -- Which choices are reported: those of which a box lacks an alternative that meets the first ones.
-use Rattle.std.proofs.Common.{◌≡◌, ℕ, ◌<◌, ◌==◌, Bool, true, false, not, ◌&&◌, ◌||◌, if◌then◌else◌, List, [], length, Option, Some, ◌∙◌, ap}
+use Rattle.std.proofs.Common.{◌≡◌, ℕ, ◌<◌, ◌==◌, Bool, true, false, not, ◌&&◌, ◌||◌, if◌then◌else◌, List, [], is_some, length, Option, Some, ◌∙◌, ap}
 use Rattle.std.specs.List.{range_with_len, slice_get}
 use Rattle.std.specs.Option.{option_map_or}
 use Rattle.std.proofs.lemmas.Bool.{and_from, and_parts}
 use Rattle.std.proofs.lemmas.Option.{slice_get_within}
+use Rattle.j39_load.specs.Answers.{asked_every}
 use Rattle.j39_network.specs.Serving.{serves}
 use Rattle.j39_network.specs.declared.plan.flow_plan.FlowPlan.{FlowPlan}
 use Rattle.j39_network.specs.declared.plan.need_plan.NeedPlan.{NeedPlan}
@@ -13,8 +14,8 @@ use Rattle.j39_variants.specs.declared.line.ProductLine.{ProductLine}
 use Rattle.j39_line_findings.specs.Boxes.{do_meet, does_lack}
 use Rattle.j39_line_findings.specs.Conditions.{is_beside_end}
 use Rattle.j39_line_findings.specs.FullVariants.{alternatives_of, does_bring}
-use Rattle.j39_line_findings.specs.Reported.{are_at_one_address, has_lacking_server, has_lacking_source, has_lacking_unit, is_at_end, is_end, is_lacking_answer, is_lacking_flow_of}
-use Rattle.j39_line_findings.specs.Reported.{is_lacking_server, is_lacking_source, is_lacking_unit, lacks_answer, lacks_beside, lacks_either, lacks_flow_of, lacks_server, lacks_source, lacks_unit_at_end}
+use Rattle.j39_line_findings.specs.Reported.{are_at_one_address, has_lacking_asking, has_lacking_server, has_lacking_source, has_lacking_unit, is_at_end, is_end, is_lacking_answer, is_lacking_flow_of}
+use Rattle.j39_line_findings.specs.Reported.{is_lacking_asking, is_lacking_server, is_lacking_source, is_lacking_unit, lacks_answer, lacks_asking, lacks_beside, lacks_either, lacks_flow_of, lacks_server, lacks_source, lacks_unit_at_end}
 use Rattle.j39_line_findings.specs.declared.part.LinePart.TheVariants.{Unit as AUnit, Group, Flow, Need, Request}
 use Rattle.j39_line_findings.proofs.Tests.{any_at, at_any}
 use Rattle.j39_line_condition_laws.proofs.Tests.{range_any}
@@ -46,6 +47,15 @@ module _ (line : ProductLine) (c : ℕ) where
       (of_option (λ (x : FlowPlan). serves request x && lacks_beside line all c (Request r) (Request r) (Flow f)) (slice_get line.plan.flows.items f) flow at_f
       (and_from (serves request flow) (lacks_beside line all c (Request r) (Request r) (Flow f)) serves_it
       (and_from (do_meet line all (Request r) (Request r) (Flow f)) (does_lack line all (Flow f) c) meet lacks))))
+
+  pub lacking_asking : (f r : ℕ) (flow : FlowPlan) (request : RequestPlan) → slice_get line.plan.flows.items f ≡ Some flow → slice_get line.plan.requests.items r ≡ Some request
+      → is_some (asked_every flow request) ≡ true → does_lack line all (Request r) c ≡ true → lacks_asking line all c f ≡ true
+  unfolding lacks_asking has_lacking_asking
+  lacking_asking f r flow request at_f at_r asks lacks =
+      of_option (has_lacking_asking line all c) (slice_get line.plan.flows.items f) flow at_f
+      (range_any (is_lacking_asking line all c flow) (length line.plan.requests.items) r (slice_get_within line.plan.requests.items r request at_r)
+      (of_option (λ (x : RequestPlan). is_some (asked_every flow x) && does_lack line all (Request r) c) (slice_get line.plan.requests.items r) request at_r
+      (and_from (is_some (asked_every flow request)) (does_lack line all (Request r) c) asks lacks)))
 
   -- ---- flows that bring what is needed
 

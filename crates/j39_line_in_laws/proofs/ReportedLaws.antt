@@ -7,7 +7,7 @@ use Rattle.j39_findings.specs.declared.checking.finding.Finding.TheVariants.{Sig
 use Rattle.j39_findings.specs.declared.checking.finding.Finding.TheVariants.{PrivateUnsent, RecordOverlap, TextOutside, NeedUnmet, RequestUnanswered}
 use Rattle.j39_findings.specs.declared.checking.finding.Finding.TheVariants.{RequestUnheard, AnswerAstray, WhenOutside, RequestRepeated, SilentAddress}
 use Rattle.j39_findings.specs.declared.checking.finding.Finding.TheVariants.{SilentInPool, FlowContested}
-use Rattle.j39_load.specs.declared.findings.load_finding.LoadFinding.TheVariants.{NoPeriod, Overload, LateFlow, NeedTooOld}
+use Rattle.j39_load.specs.declared.findings.load_finding.LoadFinding.TheVariants.{NoPeriod, Overload, LateFlow, NeedTooOld, AskedTooOften}
 use Rattle.j39_variants.specs.declared.line.ProductLine.{ProductLine}
 use Rattle.j39_variants.specs.Variants.{IsEarlier}
 use Rattle.j39_line_findings.specs.Conditions.{conditions_of, goes_by_conditions, meets_any}
@@ -19,10 +19,11 @@ use Rattle.j39_line_findings.specs.declared.part.LinePart.TheVariants.{Unit as A
 use Rattle.j39_line_condition_laws.proofs.AllByConditions.{found_by_conditions}
 use Rattle.j39_line_condition_laws.specs.BoxedParts.{ListsNameChoices}
 use Rattle.j39_line_condition_laws.specs.ByConditions.{MayBeFound}
+use Rattle.j39_line_in_laws.proofs.AskedKept.{asked_kept}
 use Rattle.j39_line_in_laws.proofs.KeptFindings.{astray_found_kept, contested_kept, either_kept, groups_kept, Kept, lone_kept, unanswered_kept, unheard_kept, unmet_kept, unpaced_kept, unsent_kept}
 use Rattle.j39_line_in_laws.proofs.KeptParts.{AreTwo}
 use Rattle.j39_line_in_laws.proofs.TakenReported.{agreed, is_reported_of, own_taken, same_places}
-use Rattle.j39_line_in_laws.specs.ReportedConditions.{HasFound, TakesWhatIsReported, ReportedIsCondition, ReportedIsHad, ReportedLeads, ReportedMayBeAll}
+use Rattle.j39_line_in_laws.specs.ReportedConditions.{HasFound, is_of_requests, TakesWhatIsReported, ReportedIsCondition, ReportedIsHad, ReportedLeads, ReportedMayBeAll}
 
 -- ---- each finding that goes by conditions
 
@@ -59,6 +60,7 @@ module _ (line : ProductLine) (w v : List ℕ) (two : AreTwo line w v) where
   all_kept (OfLoad (Overload n)) goes = absurd (false≢true goes)
   all_kept (OfLoad (LateFlow f)) goes = absurd (false≢true goes)
   all_kept (OfLoad (NeedTooOld d)) goes = absurd (false≢true goes)
+  all_kept (OfLoad (AskedTooOften f)) goes = absurd (false≢true goes)
 
 two_of : (line : ProductLine) → ListsNameChoices line → (finding : LineFinding) (w v : List ℕ) → TakesWhatIsReported line finding w v → AreTwo line w v
 two_of line names finding w v takes = record { names = names; one = takes.is_witness; other = takes.is_variant }
@@ -98,15 +100,16 @@ module _ (line : ProductLine) (c : ℕ) where
     | inr outside ↦ absurd (true≢false (sym (ap not outside) ∙ counts))
   ]
 
-  reported_of_counts : (finding : LineFinding) → goes_by_conditions line finding ≡ false → is_reported_of line finding c ≡ true
-  reported_of_counts (OfPlan x) counts = reported_of_plan x counts
-  reported_of_counts (OfLoad (NoPeriod f)) counts = absurd (true≢false counts)
-  reported_of_counts (OfLoad (Overload n)) counts = refl
-  reported_of_counts (OfLoad (LateFlow f)) counts = refl
-  reported_of_counts (OfLoad (NeedTooOld d)) counts = refl
+  reported_of_counts : (finding : LineFinding) → goes_by_conditions line finding ≡ false → is_of_requests finding ≡ false → is_reported_of line finding c ≡ true
+  reported_of_counts (OfPlan x) counts whole = reported_of_plan x counts
+  reported_of_counts (OfLoad (NoPeriod f)) counts whole = absurd (true≢false counts)
+  reported_of_counts (OfLoad (Overload n)) counts whole = refl
+  reported_of_counts (OfLoad (LateFlow f)) counts whole = refl
+  reported_of_counts (OfLoad (NeedTooOld d)) counts whole = refl
+  reported_of_counts (OfLoad (AskedTooOften f)) counts whole = absurd (true≢false whole)
 
 pub reported_may_be_all : ReportedMayBeAll
-reported_may_be_all line finding counts w v takes = same_places v w (λ c. agreed line finding w v takes c (reported_of_counts line c finding counts))
+reported_may_be_all line finding counts whole w v takes = same_places v w (λ c. agreed line finding w v takes c (reported_of_counts line c finding counts whole))
 
 -- ---- all of them
 
@@ -117,9 +120,26 @@ had_met : (line : ProductLine) (finding : LineFinding) → goes_by_conditions li
 had_met line finding goes w findings are (inl in_all) = (found_by_conditions line w findings are finding goes).0 (in_all findings are)
 had_met line finding goes w findings are (inr one) = (found_by_conditions line w one.findings one.are_findings finding goes).0 one.one
 
+-- of one that counts what is there the witness alone takes what is reported, or the same requests ask for the flow
+counted_had : (line : ProductLine) → ListsNameChoices line → (finding : LineFinding) (w v : List ℕ) → TakesWhatIsReported line finding w v
+    → (findings : List LineFinding) → AreVariantFindings line w findings → HasFound line w finding → goes_by_conditions line finding ≡ false → HasFound line v finding
+counted_had line names (OfLoad (AskedTooOften f)) w v takes findings are (inl in_all) counts =
+    inl (asked_kept line w v (two_of line names (OfLoad (AskedTooOften f)) w v takes) f (agreed line (OfLoad (AskedTooOften f)) w v takes) findings are (in_all findings are))
+counted_had line names (OfLoad (AskedTooOften f)) w v takes findings are (inr one) counts =
+    inl (asked_kept line w v (two_of line names (OfLoad (AskedTooOften f)) w v takes) f (agreed line (OfLoad (AskedTooOften f)) w v takes) one.findings one.are_findings one.one)
+counted_had line names (OfPlan x) w v takes findings are has counts =
+    subst (λ y. HasFound line y (OfPlan x)) (sym (reported_may_be_all line (OfPlan x) counts refl w v takes)) has
+counted_had line names (OfLoad (NoPeriod f)) w v takes findings are has counts = absurd (true≢false counts)
+counted_had line names (OfLoad (Overload n)) w v takes findings are has counts =
+    subst (λ y. HasFound line y (OfLoad (Overload n))) (sym (reported_may_be_all line (OfLoad (Overload n)) counts refl w v takes)) has
+counted_had line names (OfLoad (LateFlow f)) w v takes findings are has counts =
+    subst (λ y. HasFound line y (OfLoad (LateFlow f))) (sym (reported_may_be_all line (OfLoad (LateFlow f)) counts refl w v takes)) has
+counted_had line names (OfLoad (NeedTooOld d)) w v takes findings are has counts =
+    subst (λ y. HasFound line y (OfLoad (NeedTooOld d))) (sym (reported_may_be_all line (OfLoad (NeedTooOld d)) counts refl w v takes)) has
+
 pub reported_is_had : ReportedIsHad
 reported_is_had line names finding w v takes findings are has = elim (cases_Bool (goes_by_conditions line finding)) [
-  | inr counts ↦ subst (λ x. HasFound line x finding) (sym (reported_may_be_all line finding counts w v takes)) has
+  | inr counts ↦ counted_had line names finding w v takes findings are has counts
   | inl goes ↦ inl (λ others are_others.
       let (may, met) = had_met line finding goes w findings are has in
       (found_by_conditions line v others are_others finding goes).1 (may, reported_is_condition line names finding goes w v takes met))
@@ -133,7 +153,7 @@ not_earlier (p ∷ v) (inl less) = absurd (omega (arith, less))
 not_earlier (p ∷ v) (inr (same, earlier)) = not_earlier v earlier
 
 pub reported_leads : ReportedLeads
-reported_leads line names finding w possible first = record {
+reported_leads line names finding whole w possible first = record {
   is_taking = record { is_variant = possible.is_variant; possible = possible.possible; takes_these = own_taken line finding w };
   first = λ v taking earlier.
       let takes : TakesWhatIsReported line finding w v = record { is_witness = possible.is_variant; is_variant = taking.is_variant; takes = taking.takes_these } in
@@ -141,6 +161,6 @@ reported_leads line names finding w possible first = record {
         | inl goes ↦
             let its = first goes in
             its.first v (record { is_variant = taking.is_variant; possible = taking.possible }) (reported_is_condition line names finding goes w v takes its.meets) earlier
-        | inr counts ↦ not_earlier w (subst (λ x. IsEarlier x w) (reported_may_be_all line finding counts w v takes) earlier)
+        | inr counts ↦ not_earlier w (subst (λ x. IsEarlier x w) (reported_may_be_all line finding counts whole w v takes) earlier)
       ];
 }

@@ -1,6 +1,7 @@
 -- What is reported of the witness of a finding is a condition: each variant that takes it has the finding.
-use Rattle.std.specs.Prelude.{◌≡◌, ◌⊎◌, ℕ, List, [], ◌∷◌, true, false, if◌then◌else◌}
+use Rattle.std.specs.Prelude.{◌≡◌, ◌⊎◌, ℕ, List, [], ◌∷◌, Bool, true, false, if◌then◌else◌}
 use Rattle.j39_load.specs.LineLists.{lines_of_each}
+use Rattle.j39_load.specs.declared.findings.load_finding.LoadFinding.TheVariants.{AskedTooOften}
 use Rattle.j39_variants.specs.declared.line.Alternative.{Alternative}
 use Rattle.j39_variants.specs.declared.line.ProductLine.{ProductLine}
 use Rattle.j39_variants.specs.Variants.{IsFirstTaking, IsVariant, takes_all}
@@ -10,6 +11,7 @@ use Rattle.j39_line_findings.specs.LineFound.{AreVariantFindings, IsFound}
 use Rattle.j39_line_findings.specs.PossibleVariants.{IsPossible}
 use Rattle.j39_line_findings.specs.Reported.{is_reported}
 use Rattle.j39_line_findings.specs.declared.line_finding.LineFinding.{LineFinding}
+use Rattle.j39_line_findings.specs.declared.line_finding.LineFinding.TheVariants.{OfLoad}
 use Rattle.j39_line_condition_laws.specs.BoxedParts.{ListsNameChoices}
 use Rattle.j39_line_witnesses.specs.FirstMeeting.{IsFirstMeeting}
 
@@ -38,6 +40,12 @@ pub record HasInSome (line : ProductLine) (variant : List ℕ) (finding : LineFi
 abbrev pub HasFound : ProductLine → List ℕ → LineFinding → Type 0
 HasFound line variant finding = HasInAll line variant finding ⊎ HasInSome line variant finding
 
+-- of a flow that is asked for too often not all alternatives of a witness are reported, though it counts what is there: those alone by which the
+-- flow and the requests for it are there
+abbrev pub is_of_requests : LineFinding → Bool
+is_of_requests (OfLoad (AskedTooOften f)) = true
+is_of_requests finding = false
+
 -- ---- the laws, of lines whose lists name their choices
 
 abbrev pub ReportedIsCondition : Type 0
@@ -46,7 +54,7 @@ ReportedIsCondition = (line : ProductLine) → ListsNameChoices line → (findin
     → meets_any line witness (conditions_of line finding) ≡ true → meets_any line variant (conditions_of line finding) ≡ true
 
 abbrev pub ReportedMayBeAll : Type 0
-ReportedMayBeAll = (line : ProductLine) (finding : LineFinding) → goes_by_conditions line finding ≡ false
+ReportedMayBeAll = (line : ProductLine) (finding : LineFinding) → goes_by_conditions line finding ≡ false → is_of_requests finding ≡ false
     → (witness variant : List ℕ) → TakesWhatIsReported line finding witness variant → variant ≡ witness
 
 -- of a witness of which it is known what is found
@@ -54,8 +62,8 @@ abbrev pub ReportedIsHad : Type 0
 ReportedIsHad = (line : ProductLine) → ListsNameChoices line → (finding : LineFinding) (witness variant : List ℕ) → TakesWhatIsReported line finding witness variant
     → (findings : List LineFinding) → AreVariantFindings line witness findings → HasFound line witness finding → HasFound line variant finding
 
--- a witness is possible, and the first that meets a condition of the finding, where this goes by conditions
+-- a witness is possible, and the first that meets a condition of the finding, where this goes by conditions; but for flows that are asked for too often
 abbrev pub ReportedLeads : Type 0
-ReportedLeads = (line : ProductLine) → ListsNameChoices line → (finding : LineFinding) (witness : List ℕ) → IsPossible line witness
+ReportedLeads = (line : ProductLine) → ListsNameChoices line → (finding : LineFinding) → is_of_requests finding ≡ false → (witness : List ℕ) → IsPossible line witness
     → (goes_by_conditions line finding ≡ true → IsFirstMeeting line (conditions_of line finding) witness)
     → IsFirstTaking line (reported_with line finding witness) witness

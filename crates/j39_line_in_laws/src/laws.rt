@@ -8,7 +8,8 @@ pub fn what_is_reported_is_a_condition()
     ensures { ReportedIsCondition }
 {}
 
-/// With each other finding all alternatives of its witness are reported, so that no other variant takes them.
+/// With each other finding, but for a flow that is asked for too often, all alternatives of its witness are reported, so that
+/// no other variant takes them.
 pub fn what_is_reported_may_be_all()
     ensures { ReportedMayBeAll }
 {}
@@ -18,7 +19,8 @@ pub fn findings_are_had_by_what_is_reported()
     ensures { ReportedIsHad }
 {}
 
-/// The witness is the first possible variant that takes the alternatives that are reported with the finding.
+/// The witness is the first possible variant that takes the alternatives that are reported with the finding, unless this is
+/// of a flow that is asked for too often: then the witness is the first full variant, and others before it may take them.
 pub fn what_is_reported_leads_to_witnesses()
     ensures { ReportedLeads }
 {}

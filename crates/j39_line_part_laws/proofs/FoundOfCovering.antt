@@ -10,7 +10,7 @@ use Rattle.j39_findings.specs.declared.checking.finding.Finding.TheVariants.{Pri
 use Rattle.j39_findings.specs.declared.checking.finding.Finding.TheVariants.{RequestUnheard, AnswerAstray, WhenOutside, RequestRepeated, SilentAddress}
 use Rattle.j39_findings.specs.declared.checking.finding.Finding.TheVariants.{SilentInPool, FlowContested}
 use Rattle.j39_load.specs.declared.findings.load_finding.LoadFinding.{LoadFinding}
-use Rattle.j39_load.specs.declared.findings.load_finding.LoadFinding.TheVariants.{NoPeriod, Overload, LateFlow, NeedTooOld}
+use Rattle.j39_load.specs.declared.findings.load_finding.LoadFinding.TheVariants.{NoPeriod, Overload, LateFlow, NeedTooOld, AskedTooOften}
 use Rattle.j39_network.specs.declared.plan.Plan.{Plan}
 use Rattle.j39_network.specs.declared.plan.flow_plan.FlowPlan.{FlowPlan}
 use Rattle.j39_network.specs.declared.plan.group_plan.GroupPlan.{GroupPlan}
@@ -225,6 +225,9 @@ module _ (line : ProductLine) (v w : List ℕ) (covered : IsCoveredBy line v w) 
       let (flow, at_f) = value_at part.flows.items f inside in
       inr (OfLoad (LateFlow (place_in_file those.flows.items (p.flow f))), of_load_reported line w there of_there (LateFlow (p.flow f)) among, refl, one_place 18 0 0 _ _ (flow_is f flow at_f), omega arith)
   load_also (NeedTooOld d) its = inl refl
+  load_also (AskedTooOften f) (inside, among) =
+      let (flow, at_f) = value_at part.flows.items f inside in
+      inr (OfLoad (AskedTooOften (place_in_file those.flows.items (p.flow f))), of_load_reported line w there of_there (AskedTooOften (p.flow f)) among, refl, one_place 31 0 0 _ _ (flow_is f flow at_f), omega arith)
 
   -- ---- all of them
 

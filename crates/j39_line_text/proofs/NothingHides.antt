@@ -3,7 +3,7 @@ use Rattle.std.proofs.Common.{◌≡◌, List, Bool, true, false, inl, inr, None
 use Rattle.std.specs.List.{Contains, list_any}
 use Rattle.std.proofs.lemmas.Bool.{cases_Bool, false≢true, true≢false}
 use Rattle.std.proofs.lemmas.List.Folds.{list_any_at}
-use Rattle.j39_load.specs.declared.findings.load_finding.LoadFinding.TheVariants.{NoPeriod, Overload, LateFlow, NeedTooOld}
+use Rattle.j39_load.specs.declared.findings.load_finding.LoadFinding.TheVariants.{NoPeriod, Overload, LateFlow, NeedTooOld, AskedTooOften}
 use Rattle.j39_variants.specs.declared.line.ProductLine.{ProductLine}
 use Rattle.j39_line_findings.specs.declared.line_finding.LineFinding.{LineFinding}
 use Rattle.j39_line_findings.specs.declared.line_finding.LineFinding.TheVariants.{OfPlan, OfLoad}
@@ -25,9 +25,11 @@ sure line asked (OfLoad (NoPeriod f)) is = tt
 sure line Addresses (OfLoad (Overload n)) is = absurd (false≢true is)
 sure line Addresses (OfLoad (LateFlow f)) is = absurd (false≢true is)
 sure line Addresses (OfLoad (NeedTooOld d)) is = absurd (false≢true is)
+sure line Addresses (OfLoad (AskedTooOften f)) is = absurd (false≢true is)
 sure line Times (OfLoad (Overload n)) is = absurd (false≢true is)
 sure line Times (OfLoad (LateFlow f)) is = absurd (false≢true is)
 sure line Times (OfLoad (NeedTooOld d)) is = absurd (false≢true is)
+sure line Times (OfLoad (AskedTooOften f)) is = absurd (false≢true is)
 
 all_shown : (asked : Asked) (line : ProductLine) (reported : List ReportedFinding) → SomePossible line → AreReported line None reported → is_any_hiding asked reported ≡ false
     → AreAllShown asked line

@@ -11,7 +11,7 @@ use Rattle.j39_findings.specs.declared.checking.finding.Finding.TheVariants.{Sig
 use Rattle.j39_findings.specs.declared.checking.finding.Finding.TheVariants.{PrivateUnsent, RecordOverlap, TextOutside, NeedUnmet, RequestUnanswered}
 use Rattle.j39_findings.specs.declared.checking.finding.Finding.TheVariants.{RequestUnheard, AnswerAstray, WhenOutside, RequestRepeated, SilentAddress}
 use Rattle.j39_findings.specs.declared.checking.finding.Finding.TheVariants.{SilentInPool, FlowContested}
-use Rattle.j39_load.specs.declared.findings.load_finding.LoadFinding.TheVariants.{NoPeriod, Overload, LateFlow, NeedTooOld}
+use Rattle.j39_load.specs.declared.findings.load_finding.LoadFinding.TheVariants.{NoPeriod, Overload, LateFlow, NeedTooOld, AskedTooOften}
 use Rattle.j39_network.specs.Serving.{is_to_one}
 use Rattle.j39_network.specs.declared.plan.request_plan.RequestPlan.{RequestPlan}
 use Rattle.j39_part_laws.specs.ByAbsence.{comes_by_absence}
@@ -239,3 +239,4 @@ module _ (line : ProductLine) where
     is_candidate (OfLoad (Overload n)) goes may met = absurd (false≢true goes)
     is_candidate (OfLoad (LateFlow f)) goes may met = absurd (false≢true goes)
     is_candidate (OfLoad (NeedTooOld d)) goes may met = absurd (false≢true goes)
+    is_candidate (OfLoad (AskedTooOften f)) goes may met = absurd (false≢true goes)

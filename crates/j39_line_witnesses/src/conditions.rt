@@ -284,9 +284,10 @@ fn conditions_of_load(alloc: Global, line: &ProductLine, finding: LoadFinding) -
 {
     match finding {
         LoadFinding::NoPeriod(f) => conditions_of_no_period(alloc, line, f),
-        LoadFinding::Overload(_) | LoadFinding::LateFlow(_) | LoadFinding::NeedTooOld(_) => {
-            Ok(Vec::new(alloc))
-        }
+        LoadFinding::Overload(_)
+        | LoadFinding::LateFlow(_)
+        | LoadFinding::NeedTooOld(_)
+        | LoadFinding::AskedTooOften(_) => Ok(Vec::new(alloc)),
     }
 }
 

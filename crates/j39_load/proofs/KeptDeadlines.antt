@@ -16,13 +16,12 @@ use Rattle.j39_load.specs.declared.loads.flow_load.FlowLoad.{FlowLoad}
 use Rattle.j39_load.specs.declared.waits.delay.Delay.{Delay}
 use Rattle.j39_load.specs.declared.waits.turn.Turn.{Turn}
 use Rattle.j39_load.specs.declared.waits.whole_time.WholeTime.{WholeTime}
-use Rattle.j39_load.specs.Ages.{old_needs}
 use Rattle.j39_load.specs.AnyQueues.{Buffering}
 use Rattle.j39_load.specs.Asked.{Asked, asked_of, total_load}
 use Rattle.j39_load.specs.Delays.{IsTurn, keeps_up}
 use Rattle.j39_load.specs.Delays.{whole_time}
 use Rattle.j39_load.specs.KeptDeadlines.{AreEachInTime, whole_from}
-use Rattle.j39_load.specs.LoadFindings.{AreLoadFindings, AsksOfBus, load_findings}
+use Rattle.j39_load.specs.LoadFindings.{AreLoadFindings, AsksOfBus, further_findings, load_findings}
 use Rattle.j39_load.specs.Loads.{bits_at_least, bits_at_most, bits_inside}
 use Rattle.j39_load.specs.SentFrames.{IsWithinUnitMs}
 use Rattle.j39_load.proofs.Milliseconds.{before_bits, behind_bits, in_ms, within_bits}
@@ -110,4 +109,4 @@ module _ (plan : Plan) (timing : Timing) (clean : Clean plan) (stays : UnitPlan 
 pub kept_deadlines : (plan : Plan) (timing : Timing) → Clean plan → AreLoadFindings plan (Some timing) [] → AreEachInTime plan timing
 kept_deadlines plan timing clean (stays, delays, asks, none) = each_in_time plan timing clean stays delays asks
     (none_of_two (load_findings timing (total_load timing (asked_of timing plan stays)) delays)
-    (old_needs timing plan.requests.items plan.flows.items delays plan.needs.items) (sym none)).0
+    (further_findings plan timing delays) (sym none)).0

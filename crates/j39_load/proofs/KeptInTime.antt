@@ -10,11 +10,10 @@ use Rattle.j39_network.specs.declared.plan.timing.Timing.{Timing}
 use Rattle.j39_network.specs.declared.plan.unit_plan.UnitPlan.{UnitPlan}
 use Rattle.j39_load.specs.declared.waits.delay.Delay.{Delay}
 use Rattle.j39_load.specs.declared.loads.flow_load.FlowLoad.{FlowLoad}
-use Rattle.j39_load.specs.Ages.{old_needs}
 use Rattle.j39_load.specs.Asked.{asked_of, frames_asked, total_load}
 use Rattle.j39_load.specs.KeepsErrors.{AreInTimeWithErrors, AreInTimeWithErrorsInAnyOrder, origins_with, planned_with}
 use Rattle.j39_load.specs.KeepsPlan.{AreFramesInTime, AreSentInTime, IsSingleFlow, KeepsToPlan, origins_of, source_place}
-use Rattle.j39_load.specs.LoadFindings.{AreLoadFindings, AsksOfBus, load_findings}
+use Rattle.j39_load.specs.LoadFindings.{AreLoadFindings, AsksOfBus, further_findings, load_findings}
 use Rattle.j39_load.specs.Loads.{bits_at_least, bits_inside, limit_by, time_limit}
 use Rattle.j39_load.specs.PlannedFrames.{IsBounded}
 use Rattle.j39_load.specs.SentFrames.{FrameSources, Held, IsFrameOf, IsMsBefore, IsSingleFrame, IsWithinMs, Single, Source}
@@ -140,14 +139,14 @@ pub kept_with_errors_in_any_order : (plan : Plan) (timing : Timing) → Clean pl
     → AreInTimeWithErrorsInAnyOrder plan timing
 kept_with_errors_in_any_order plan timing clean (stays, delays, asks, none) = with_errors_in_any_order plan timing clean stays delays asks
     (none_of_two (load_findings timing (total_load timing (asked_of timing plan stays)) delays)
-    (old_needs timing plan.requests.items plan.flows.items delays plan.needs.items) (sym none)).0
+    (further_findings plan timing delays) (sym none)).0
 
 pub kept_with_errors : (plan : Plan) (timing : Timing) → Clean plan → AreLoadFindings plan (Some timing) [] → AreInTimeWithErrors plan timing
 kept_with_errors plan timing clean (stays, delays, asks, none) = with_errors_in_time plan timing clean stays delays asks
     (none_of_two (load_findings timing (total_load timing (asked_of timing plan stays)) delays)
-    (old_needs timing plan.requests.items plan.flows.items delays plan.needs.items) (sym none)).0
+    (further_findings plan timing delays) (sym none)).0
 
 pub kept_in_time : (plan : Plan) (timing : Timing) → Clean plan → AreLoadFindings plan (Some timing) [] → AreFramesInTime plan timing
 kept_in_time plan timing clean (stays, delays, asks, none) = in_time plan timing clean stays delays asks
     (none_of_two (load_findings timing (total_load timing (asked_of timing plan stays)) delays)
-    (old_needs timing plan.requests.items plan.flows.items delays plan.needs.items) (sym none)).0
+    (further_findings plan timing delays) (sym none)).0

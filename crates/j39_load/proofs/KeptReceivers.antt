@@ -22,13 +22,12 @@ use Rattle.j39_load.specs.declared.frames.messages.Messages.TheVariants.{Short, 
 use Rattle.j39_load.specs.declared.loads.unit_load.UnitLoad.{UnitLoad}
 use Rattle.j39_load.specs.declared.waits.turn.Turn.{Turn}
 use Rattle.j39_load.specs.declared.waits.whole_time.WholeTime.{WholeTime}
-use Rattle.j39_load.specs.Ages.{old_needs}
 use Rattle.j39_load.specs.AnyQueues.{IsBuffering, Buffering}
 use Rattle.j39_load.specs.Asked.{Asked, asked_of, frames_asked, total_load}
 use Rattle.j39_load.specs.Delays.{IsTurn, IsTurnBy, IsWaitIn, known_turn, longest_pause, packet_time, packets_place, flow_turn, whole_time}
 use Rattle.j39_load.specs.KeepsPlan.{origins_of, source_place}
 use Rattle.j39_load.specs.KeptReceivers.{AreNotGivenUp}
-use Rattle.j39_load.specs.LoadFindings.{AreLoadFindings, AsksOfBus, load_findings}
+use Rattle.j39_load.specs.LoadFindings.{AreLoadFindings, AsksOfBus, further_findings, load_findings}
 use Rattle.j39_load.specs.Loads.{bits_inside, broadcast_of, load_of_flow, long_messages}
 use Rattle.j39_load.specs.SentFrames.{Carrying, IsFrameOf, Source}
 use Rattle.j39_load.proofs.BoundedFlows.{sent_in_any_order}
@@ -129,4 +128,4 @@ module _ (plan : Plan) (timing : Timing) (clean : Clean plan) (stays : UnitPlan 
 pub kept_receivers : (plan : Plan) (timing : Timing) → Clean plan → AreLoadFindings plan (Some timing) [] → AreNotGivenUp plan timing
 kept_receivers plan timing clean (stays, delays, asks, none) = not_given_up plan timing clean stays delays asks
     (none_of_two (load_findings timing (total_load timing (asked_of timing plan stays)) delays)
-    (old_needs timing plan.requests.items plan.flows.items delays plan.needs.items) (sym none)).0
+    (further_findings plan timing delays) (sym none)).0

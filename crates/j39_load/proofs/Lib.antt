@@ -1,7 +1,10 @@
 pub mod AgeLaws
 pub mod AnyQueues
 pub mod AnyTraffic
+pub mod AskedMore
+pub mod AskedParts
 pub mod AskedPlaces
+pub mod AskedShares
 pub mod Attempts
 pub mod Before
 pub mod BoundedFlows
@@ -46,6 +49,7 @@ pub mod PartFrames
 pub mod PlacedFrames
 pub mod PositivePeriods
 pub mod Ranks
+pub mod ReportedLines
 pub mod ReadingInTime
 pub mod Sending
 pub mod SessionParts

@@ -26,7 +26,7 @@ use Rattle.j39_load.specs.Asked.{Asked, asked_of, total_load}
 use Rattle.j39_load.specs.Delays.{AreFlowDelays}
 use Rattle.j39_load.specs.BusTimes.{timing_of, with_claims}
 use Rattle.j39_load.specs.LiveClaims.{claiming, claims_stated, unplanned_of}
-use Rattle.j39_load.specs.LoadFindings.{AreLoadFindings, AsksOfBus, all_findings, load_findings}
+use Rattle.j39_load.specs.LoadFindings.{AreLoadFindings, AsksOfBus, all_findings, asked_too_often, load_findings}
 use Rattle.j39_findings.specs.Standing.{DecidesWhoStays}
 use Rattle.j39_load.specs.VehicleLoads.{AreLoadsAlike, StandAlike}
 use Rattle.j39_load.proofs.OneLoad.{AreSeenAlike, asked_alike, stated_once}
@@ -154,10 +154,12 @@ module _ (plan vehicle : Plan) (is : IsVehicleOf plan vehicle) (apart : AreDisti
   pub same_findings : (timing : Timing) (load : ℕ) (delays : List (Option Delay))
       → all_findings plan timing load delays ≡ all_findings vehicle timing load delays
   same_findings timing load delays =
-      ap (λ (requests : List RequestPlan). load_findings timing load delays ++ old_needs timing requests plan.flows.items delays plan.needs.items) (sym is.requests)
-      ∙ ap (λ (flows : List FlowPlan). load_findings timing load delays ++ old_needs timing vehicle.requests.items flows delays plan.needs.items) (sym is.flows)
-      ∙ ap (λ (needs : List NeedPlan). load_findings timing load delays ++ old_needs timing vehicle.requests.items vehicle.flows.items delays needs)
-      (sym is.needs)
+      ap (λ (requests : List RequestPlan). found requests plan.flows.items plan.needs.items) (sym is.requests)
+      ∙ ap (λ (flows : List FlowPlan). found vehicle.requests.items flows plan.needs.items) (sym is.flows)
+      ∙ ap (λ (needs : List NeedPlan). found vehicle.requests.items vehicle.flows.items needs) (sym is.needs)
+    where
+      found : List RequestPlan → List FlowPlan → List NeedPlan → List LoadFinding
+      found requests flows needs = load_findings timing load delays ++ (old_needs timing requests flows delays needs ++ asked_too_often requests flows)
 
   pub asks_alike : (timing : Timing) (stays : UnitPlan → Bool) (delays : List (Option Delay)) → AsksOfBus plan timing stays delays
       → (stated : UnitPlan → Bool) → DecidesWhoStays vehicle stated → AsksOfBus vehicle timing stated delays

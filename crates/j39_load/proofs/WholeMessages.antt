@@ -25,14 +25,14 @@ use Rattle.j39_load.specs.declared.loads.request_load.RequestLoad.{RequestLoad}
 use Rattle.j39_load.specs.declared.loads.unit_load.UnitLoad.{UnitLoad}
 use Rattle.j39_load.specs.declared.waits.turn.Turn.{Turn}
 use Rattle.j39_load.specs.declared.waits.whole_time.WholeTime.{WholeTime}
-use Rattle.j39_load.specs.Ages.{is_in_limit, old_needs}
+use Rattle.j39_load.specs.Ages.{is_in_limit}
 use Rattle.j39_load.specs.AnyQueues.{IsBuffering, Buffering}
 use Rattle.j39_load.specs.Asked.{Asked, announcements_of_unit, asked_of, frames_asked, frames_of_flow, frames_of_request, packets_of_unit, singles_of_flow}
 use Rattle.j39_load.specs.Asked.{total_load}
 use Rattle.j39_load.specs.Broadcasts.{broadcasts_by, known_unit_load, unit_loads_of}
 use Rattle.j39_load.specs.Delays.{IsDelayOf, IsTurnBy, IsWaitIn, IsWholeTime, announcements_place, known_turn, longest_pause, packet_time}
 use Rattle.j39_load.specs.Delays.{packets_place, flow_turn, turn_time, whole_time}
-use Rattle.j39_load.specs.LoadFindings.{AreLoadFindings, AsksOfBus, is_whole_late, lateness, load_findings, time_of_each, without_period}
+use Rattle.j39_load.specs.LoadFindings.{AreLoadFindings, AsksOfBus, further_findings, is_whole_late, lateness, load_findings, time_of_each, without_period}
 use Rattle.j39_load.specs.Loads.{bits_at_most}
 use Rattle.j39_load.specs.LineLists.{lines_of_each}
 use Rattle.j39_load.specs.PlannedFrames.{AreAllOrdered, AreDeadlinesKept, AreMessagesOf, ArePlannedFramesInTime, AreTimesBounds, AreWholeInAnyOrder}
@@ -303,5 +303,5 @@ module _ (plan : Plan) (timing : Timing) (stays : UnitPlan → Bool) where
 
 pub in_time_where_checked : (plan : Plan) (timing : Timing) → AreLoadFindings plan (Some timing) [] → ArePlannedFramesInTime plan timing
 in_time_where_checked plan timing (stays, delays, asks, none) =
-    let both = none_of_two (load_findings timing (total_load timing (asked_of timing plan stays)) delays) (old_needs timing plan.requests.items plan.flows.items delays plan.needs.items) (sym none) in
+    let both = none_of_two (load_findings timing (total_load timing (asked_of timing plan stays)) delays) (further_findings plan timing delays) (sym none) in
     (stays, delays, asks, short_bounded plan timing stays delays asks both.0, deadlines_kept plan timing stays delays asks both.0)

@@ -15,7 +15,7 @@ use Rattle.j39_load.specs.Ages.{old_needs, oldness}
 use Rattle.j39_load.specs.Asked.{Asked, asked_by, total_load}
 use Rattle.j39_load.specs.Broadcasts.{unit_loads_of}
 use Rattle.j39_load.specs.Damage.{load_of_damage}
-use Rattle.j39_load.specs.LoadFindings.{load_findings, overload}
+use Rattle.j39_load.specs.LoadFindings.{asked_too_often, further_findings, load_findings, overload}
 use Rattle.j39_load.specs.Loads.{bits_of_second, load_of_flow}
 use Rattle.j39_load.specs.LineLists.{lines_of_each}
 use Rattle.j39_load.specs.RequestLoads.{load_of_request}
@@ -47,7 +47,7 @@ asked_by_both timing plan stays flows requests =
 by_flows : (timing : Timing) (plan : Plan) (stays : UnitPlan → Bool) (flows : List FlowPlan) (requests : List RequestPlan) (needs : List NeedPlan)
     (delays : List (Option Delay)) → flows ≡ [] → requests ≡ [] → delays ≡ []
     → load_findings timing (total_load timing (asked_by_both timing plan stays flows requests)) delays
-    ++ old_needs timing requests flows delays needs ≢ []
+    ++ (old_needs timing requests flows delays needs ++ asked_too_often requests flows) ≢ []
     → bits_of_second timing.bitrate < load_of_damage timing
 unfolding lines_of_each
 by_flows timing plan stays (f ∷ fs) requests needs delays none silent empty some =
@@ -63,15 +63,16 @@ by_flows timing plan stays [] [] needs [] none silent empty some =
           let load : ℕ = load_of_damage timing + (0 + (0 + 0)) in
           let over : overload timing load ≡ [] =
           ap (λ (b : Bool). if b then Overload load ∷ [] else []) (le-ltb (bits_of_second timing.bitrate) load (omega arith)) in
-          let all : (overload timing load ++ []) ++ lines_of_each (oldness timing [] [] []) 0 needs ≡ [] =
-          ap (λ (xs : List LoadFinding). (xs ++ []) ++ lines_of_each (oldness timing [] [] []) 0 needs) over ∙ no_old timing [] 0 needs in
+          let all : (overload timing load ++ []) ++ (lines_of_each (oldness timing [] [] []) 0 needs ++ []) ≡ [] =
+          ap (λ (xs : List LoadFinding). (xs ++ []) ++ (lines_of_each (oldness timing [] [] []) 0 needs ++ [])) over
+          ∙ ap (λ (xs : List LoadFinding). xs ++ []) (no_old timing [] 0 needs) in
           absurd (some all)
     ]
 
 pub full_of_damage : (timing : Timing) (plan : Plan) (stays : UnitPlan → Bool) (delays : List (Option Delay)) → length plan.flows.items ≡ 0
     → length plan.requests.items ≡ 0 → length delays ≡ 0
     → load_findings timing (total_load timing (asked_by_both timing plan stays plan.flows.items plan.requests.items)) delays
-    ++ old_needs timing plan.requests.items plan.flows.items delays plan.needs.items ≢ []
+    ++ further_findings plan timing delays ≢ []
     → bits_of_second timing.bitrate < load_of_damage timing
 full_of_damage timing plan stays delays none silent empty some =
     by_flows timing plan stays plan.flows.items plan.requests.items plan.needs.items delays (none_of_length plan.flows.items none)

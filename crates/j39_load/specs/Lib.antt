@@ -1,7 +1,9 @@
 pub mod Ages
+pub mod Answers
 pub mod AnyQueues
 pub mod Asked
 pub mod AskedLoads
+pub mod AskedMore
 pub mod Broadcasts
 pub mod BusTimes
 pub mod Clocks

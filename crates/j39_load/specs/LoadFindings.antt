@@ -1,16 +1,19 @@
 -- What is wrong with what the flows of a plan ask of its bus, in the order in which it is reported: flows without a period, a load above the
--- bitrate, flows that aren't shown to be in time, and needs for what isn't shown to be young enough.
+-- bitrate, flows that aren't shown to be in time, needs for what isn't shown to be young enough, and flows that are asked for too often.
 use Rattle.std.specs.Prelude.{◌≡◌, ℕ, ◌<◌, Bool, false, not, nat_lt, if◌then◌else◌, List, [], ◌∷◌, ◌++◌, Option, Some, None}
 use Rattle.std.specs.Option.{option_map_or}
 use Rattle.j39_network.specs.declared.plan.Plan.{Plan}
+use Rattle.j39_network.specs.declared.plan.flow_plan.FlowPlan.{FlowPlan}
+use Rattle.j39_network.specs.declared.plan.request_plan.RequestPlan.{RequestPlan}
 use Rattle.j39_network.specs.declared.plan.timing.Timing.{Timing}
 use Rattle.j39_network.specs.declared.plan.unit_plan.UnitPlan.{UnitPlan}
 use Rattle.j39_load.specs.declared.waits.delay.Delay.{Delay}
 use Rattle.j39_load.specs.declared.waits.delay.Delay.TheVariants.{Beyond, Late, Whole}
 use Rattle.j39_load.specs.declared.findings.load_finding.LoadFinding.{LoadFinding}
-use Rattle.j39_load.specs.declared.findings.load_finding.LoadFinding.TheVariants.{NoPeriod, Overload, LateFlow, NeedTooOld}
+use Rattle.j39_load.specs.declared.findings.load_finding.LoadFinding.TheVariants.{NoPeriod, Overload, LateFlow, NeedTooOld, AskedTooOften}
 use Rattle.j39_load.specs.declared.waits.whole_time.WholeTime.{WholeTime}
 use Rattle.j39_load.specs.Ages.{is_in_limit, old_needs}
+use Rattle.j39_load.specs.Answers.{is_asked_too_often}
 use Rattle.j39_load.specs.Asked.{asked_of, total_load}
 use Rattle.j39_load.specs.Damage.{load_of_damage}
 use Rattle.j39_load.specs.Delays.{AreFlowDelays}
@@ -24,6 +27,7 @@ load_finding_number (NoPeriod flow) = 16
 load_finding_number (Overload bits) = 17
 load_finding_number (LateFlow flow) = 18
 load_finding_number (NeedTooOld need) = 20
+load_finding_number (AskedTooOften flow) = 31
 
 -- the flow at a place has no period, and so no delay is reported of it
 abbrev pub without_period : ℕ → Option Delay → List LoadFinding
@@ -58,9 +62,21 @@ abbrev pub IsFullOfDamage : Option Timing → Type 0
 IsFullOfDamage None = ⊥
 IsFullOfDamage (Some timing) = bits_of_second timing.bitrate < load_of_damage timing
 
--- with what is wrong with the ages of what units need
+-- the flow at a place is asked for too often
+abbrev pub too_often : List RequestPlan → ℕ → FlowPlan → List LoadFinding
+too_often requests flow planned = if is_asked_too_often requests planned then AskedTooOften flow ∷ [] else []
+
+abbrev pub asked_too_often : List RequestPlan → List FlowPlan → List LoadFinding
+asked_too_often requests flows = lines_of_each (too_often requests) 0 flows
+
+-- what is wrong with the ages of what units need, and with how often flows are asked for
+abbrev pub further_findings : Plan → Timing → List (Option Delay) → List LoadFinding
+further_findings plan timing delays =
+    old_needs timing plan.requests.items plan.flows.items delays plan.needs.items ++ asked_too_often plan.requests.items plan.flows.items
+
+-- with these
 abbrev pub all_findings : Plan → Timing → ℕ → List (Option Delay) → List LoadFinding
-all_findings plan timing load delays = load_findings timing load delays ++ old_needs timing plan.requests.items plan.flows.items delays plan.needs.items
+all_findings plan timing load delays = load_findings timing load delays ++ further_findings plan timing delays
 
 -- what a plan asks of a bus: what each flow does, by who stays, and how long its frames wait
 pub record AsksOfBus (plan : Plan) (timing : Timing) (stays : UnitPlan → Bool) (delays : List (Option Delay)) : Type 0 where

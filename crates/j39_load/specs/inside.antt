@@ -1,4 +1,5 @@
 -- What only private contracts and proofs need.
+pub mod AskedShares
 pub mod Broadcasting
 pub mod Extremes
 pub mod FlowSearch

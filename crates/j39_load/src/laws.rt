@@ -16,6 +16,7 @@ ghost use Rattle.j39_network.specs.declared.plan.timing.Timing.{Timing as Timing
 ghost use Rattle.j39_network.specs.declared.plan.to.To.TheVariants.{All as ToAllUnits, One};
 ghost use Rattle.j39_network.specs.declared.plan.unit_plan.UnitPlan.{UnitPlan as PlannedUnits};
 ghost use Rattle.j39_load.specs.declared.waits.delay.Delay.{Delay as Delays};
+ghost use Rattle.j39_load.specs.AskedMore.{AreAskedMore};
 ghost use Rattle.j39_load.specs.FreshNeeds.{AreNeedAgesBounds, AreNeedsFresh};
 ghost use Rattle.j39_load.specs.KeepsBroadcasts.{KeepsTurns};
 ghost use Rattle.j39_load.specs.KeepsErrors.{AreInTimeWithErrors, AreInTimeWithErrorsInAnyOrder, KeepsErrors};
@@ -84,6 +85,12 @@ pub fn delays_are_bounds()
         → AreDeadlinesKept timing (asked_of timing plan stays) delays }
     ensures checked { (plan : Plans) (timing : Timings) → AreLoadFindings plan (Some timing) []
         → ArePlannedFramesInTime plan timing }
+{}
+
+/// A flow is reported as asked for too often exactly where it comes only as an answer, has a period, and in each time that
+/// is a whole number of the periods of the requests for it more of them come than the flow has periods.
+pub fn flows_asked_for_too_often_are_reported()
+    ensures { (plan : Plans) (timing : Timings) → AreAskedMore plan timing }
 {}
 
 /// Of a clean plan with whose load nothing is wrong either, each need that asks for an age has a flow that meets it and

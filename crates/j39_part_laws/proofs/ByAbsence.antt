@@ -10,7 +10,7 @@ use Rattle.j39_findings.specs.declared.checking.finding.Finding.TheVariants.{Req
 use Rattle.j39_findings.specs.declared.checking.finding.Finding.TheVariants.{SilentInPool, FlowContested}
 use Rattle.j39_network.specs.declared.plan.Plan.{Plan}
 use Rattle.j39_load.specs.declared.findings.load_finding.LoadFinding.{LoadFinding}
-use Rattle.j39_load.specs.declared.findings.load_finding.LoadFinding.TheVariants.{NoPeriod, Overload, LateFlow, NeedTooOld}
+use Rattle.j39_load.specs.declared.findings.load_finding.LoadFinding.TheVariants.{NoPeriod, Overload, LateFlow, NeedTooOld, AskedTooOften}
 use Rattle.j39_part_laws.specs.ByAbsence.{comes_by_absence, IsFoundThere, load_comes_by_absence, OnlyAbsenceStays}
 use Rattle.j39_part_laws.specs.PlanParts.{HoldsThere, IsPlanPart, Places}
 use Rattle.j39_part_laws.proofs.Findings.{holds_there}
@@ -54,3 +54,4 @@ only_absence_stays part whole (at, is) here there are are_there only = record {
     by_load (Overload n) (m, more, found) = only.loads (Overload m) found
     by_load (LateFlow f) (inside, found) = only.loads (LateFlow (at.flow f)) found
     by_load (NeedTooOld d) found = refl
+    by_load (AskedTooOften f) (inside, found) = only.loads (AskedTooOften (at.flow f)) found

@@ -1,3 +1,4 @@
+pub mod AskedMore
 mod AllFrames
 mod Buffering
 mod Busier

@@ -16,69 +16,26 @@ use Rattle.j39_load.specs.Asked.{asked_of, total_load}
 use Rattle.j39_load.specs.BusTimes.{timing_of, with_claims}
 use Rattle.j39_load.specs.LineLists.{lines_of_each}
 use Rattle.j39_load.specs.LiveClaims.{claims_stated, unplanned_of}
-use Rattle.j39_load.specs.LoadFindings.{all_findings, AreLoadFindings, AsksOfBus, is_whole_late, lateness, load_findings, overload, time_of_each, without_period}
+use Rattle.j39_load.specs.LoadFindings.{all_findings, AreLoadFindings, asked_too_often, AsksOfBus, further_findings, is_whole_late, lateness, load_findings, overload, time_of_each, without_period}
 use Rattle.j39_load.specs.Loads.{bits_of_second, load_of_flow}
 use Rattle.j39_load.specs.declared.findings.load_finding.LoadFinding.{LoadFinding}
-use Rattle.j39_load.specs.declared.findings.load_finding.LoadFinding.TheVariants.{NoPeriod, Overload, LateFlow, NeedTooOld}
+use Rattle.j39_load.specs.declared.findings.load_finding.LoadFinding.TheVariants.{NoPeriod, Overload, LateFlow, NeedTooOld, AskedTooOften}
 use Rattle.j39_load.specs.declared.waits.delay.Delay.{Delay}
 use Rattle.j39_load.specs.declared.waits.delay.Delay.TheVariants.{Beyond, Late, Long, Whole, Within}
 use Rattle.j39_load.specs.declared.waits.whole_time.WholeTime.{WholeTime}
 use Rattle.j39_load.specs.inside.FewClaims.{few_unplanned}
+pub use Rattle.j39_load.proofs.ReportedLines.{itself, line_reported, none_of, of_late, of_old, of_overload, of_unpaced, one_of, reported_at}
+use Rattle.j39_load.proofs.ReportedLines.{asked_reported, of_asked}
 use Rattle.j39_part_laws.specs.ByAbsence.{AreFoundThere, IsFoundThere}
 use Rattle.j39_part_laws.specs.PartDelays.{IsNoLater, IsWholeNoLater}
 use Rattle.j39_part_laws.specs.PartLoads.{counting, HasGoodNumbers}
 use Rattle.j39_part_laws.specs.PlanParts.{IsPartAt, IsSame, Places}
+use Rattle.j39_part_laws.proofs.AskedMore.{too_often_there}
 use Rattle.j39_part_laws.proofs.FlowDelays.{delays_no_later}
 use Rattle.j39_part_laws.proofs.Loads.{ask_no_more}
-use Rattle.j39_part_laws.proofs.Places.{no_value, value_at}
+use Rattle.j39_part_laws.proofs.Places.{value_at}
 use Rattle.j39_part_laws.proofs.Shares.{sum-no-more}
 use Rattle.j39_part_laws.proofs.Sublists.{sub_of_some}
-
--- ---- lists of lines
-
--- what is reported at some place
-pub record IsReportedAt {X Y : Type 0} (report : ℕ → X → List Y) (place : ℕ) (xs : List X) (line : Y) : Type 0 where
-  pub k : ℕ
-  pub value : X
-  pub value_is : slice_get xs k ≡ Some value
-  pub reported : Contains (report (place + k) value) line
-
-pub reported_at : {X Y : Type 0} (report : ℕ → X → List Y) (place : ℕ) (xs : List X) (line : Y) → Contains (lines_of_each report place xs) line → IsReportedAt report place xs line
-unfolding lines_of_each
-reported_at report place [] line found = let none = found.1 in absurd (omega (arith, none))
-reported_at report place (x ∷ xs) line found = elim (Contains-append_cases (report place x) (lines_of_each report (place + 1) xs) line found) [
-  | inl here ↦
-      let same : place ≡ place + 0 = omega arith in
-      record { k = 0; value = x; value_is = refl; reported = subst (λ n. Contains (report n x) line) same here }
-  | inr later ↦
-      let its = reported_at report (place + 1) xs line later in
-      let same : place + 1 + its.k ≡ place + suc its.k = omega arith in
-      record { k = suc its.k; value = its.value; value_is = its.value_is; reported = subst (λ n. Contains (report n its.value) line) same its.reported }
-]
-
-pub line_reported : {X Y : Type 0} (report : ℕ → X → List Y) (place : ℕ) (xs : List X) (k : ℕ) (x : X) (line : Y) → slice_get xs k ≡ Some x
-    → Contains (report (place + k) x) line → Contains (lines_of_each report place xs) line
-unfolding lines_of_each
-line_reported report place [] k x line at reported = absurd (no_value k x at)
-line_reported report place (y ∷ ys) zero x line at reported =
-    let same : place + 0 ≡ place = omega arith in
-    let is_y : x ≡ y = sym (same_Some y x at) in
-    Contains-append_left (report place y) (lines_of_each report (place + 1) ys) line
-    (subst (λ z. Contains (report place z) line) is_y (subst (λ n. Contains (report n x) line) same reported))
-line_reported report place (y ∷ ys) (suc k) x line at reported =
-    let same : place + suc k ≡ place + 1 + k = omega arith in
-    Contains-append_right (report place y) (lines_of_each report (place + 1) ys) line
-    (line_reported report (place + 1) ys k x line at (subst (λ n. Contains (report n x) line) same reported))
-
-pub one_of : {Y : Type 0} (x y : Y) → Contains (x ∷ []) y → x ≡ y
-one_of x y (zero, below, is) = is
-one_of x y (suc k, below, is) = absurd (omega (arith, below))
-
-pub none_of : {Y : Type 0} (y : Y) → Contains [] y → ⊥
-none_of y (k, below, is) = omega (arith, below)
-
-pub itself : {Y : Type 0} (y : Y) → Contains (y ∷ []) y
-itself y = (0, omega arith, refl)
 
 -- ---- late flows
 
@@ -119,19 +76,6 @@ late_here f v finding found = go (is_whole_late v) refl found
     go true is_b reported = is_b
     go false is_b reported = absurd (none_of finding reported)
 
--- only a late flow is reported
-pub of_late : (f : ℕ) (d : Option Delay) (finding : LoadFinding) → Contains (lateness f d) finding → finding ≡ LateFlow f
-of_late f None finding found = absurd (none_of finding found)
-of_late f (Some Late) finding found = sym (one_of (LateFlow f) finding found)
-of_late f (Some (Beyond n)) finding found = sym (one_of (LateFlow f) finding found)
-of_late f (Some (Within n)) finding found = absurd (none_of finding found)
-of_late f (Some (Long n)) finding found = absurd (none_of finding found)
-of_late f (Some (Whole w)) finding found = go (is_whole_late w) found
-  where
-    go : (b : Bool) → Contains (if b then LateFlow f ∷ [] else []) finding → finding ≡ LateFlow f
-    go true reported = sym (one_of (LateFlow f) finding reported)
-    go false reported = absurd (none_of finding reported)
-
 late_there : (f g : ℕ) (here there : Option Delay) → IsNoLater here there → (finding : LoadFinding) → Contains (lateness f here) finding
     → Contains (lateness g there) (LateFlow g)
 late_there f g here None none finding found = absurd (none_of finding (subst (λ d. Contains (lateness f d) finding) none found))
@@ -144,10 +88,6 @@ late_there f g here (Some (Whole w)) (v, is_v, no_later) finding found =
 
 -- ---- flows without a period
 
-pub of_unpaced : (f : ℕ) (d : Option Delay) (finding : LoadFinding) → Contains (without_period f d) finding → (d ≡ None) × (finding ≡ NoPeriod f)
-of_unpaced f None finding found = (refl, sym (one_of (NoPeriod f) finding found))
-of_unpaced f (Some d) finding found = absurd (none_of finding found)
-
 unpaced_there : (there : Option Delay) → IsNoLater None there → there ≡ None
 unpaced_there None none = refl
 unpaced_there (Some Late) (d, is_d) = absurd (none-some d is_d)
@@ -158,15 +98,6 @@ unpaced_there (Some (Long n)) is_n = absurd (none-some (Long n) is_n)
 unpaced_there (Some (Whole w)) (v, is_v, no_later) = absurd (none-some (Whole v) is_v)
 
 -- ---- the load
-
-pub of_overload : (timing : Timing) (load : ℕ) (finding : LoadFinding) → Contains (overload timing load) finding
-    → (bits_of_second timing.bitrate < load) × (finding ≡ Overload load)
-of_overload timing load finding found = go (nat_lt (bits_of_second timing.bitrate) load) refl found
-  where
-    go : (b : Bool) → nat_lt (bits_of_second timing.bitrate) load ≡ b → Contains (if b then Overload load ∷ [] else []) finding
-        → (bits_of_second timing.bitrate < load) × (finding ≡ Overload load)
-    go true above reported = (ltb-true (bits_of_second timing.bitrate) load above, sym (one_of (Overload load) finding reported))
-    go false above reported = absurd (none_of finding reported)
 
 overload_there : (timing : Timing) (load : ℕ) → bits_of_second timing.bitrate < load → Contains (overload timing load) (Overload load)
 overload_there timing load above = subst (λ b. Contains (if b then Overload load ∷ [] else []) (Overload load))
@@ -194,24 +125,6 @@ unplanned_there at part whole is timing =
     either false claims = omega arith
 
 -- ---- all of them
-
--- what is reported of a need is that it is too old
-pub of_old : (timing : Timing) (plan : Plan) (delays : List (Option Delay)) (finding : LoadFinding)
-    → Contains (old_needs timing plan.requests.items plan.flows.items delays plan.needs.items) finding → (d : ℕ) × (finding ≡ NeedTooOld d)
-of_old timing plan delays finding found =
-    let its = reported_at (oldness timing plan.requests.items plan.flows.items delays) 0 plan.needs.items finding found in
-    (0 + its.k, go (0 + its.k) its.value its.reported)
-  where
-    if_old : (k : ℕ) (b : Bool) → Contains (if b then NeedTooOld k ∷ [] else []) finding → finding ≡ NeedTooOld k
-    if_old k true reported = sym (one_of (NeedTooOld k) finding reported)
-    if_old k false reported = absurd (none_of finding reported)
-
-    within : (k : ℕ) (F : ℕ → Bool) (o : Option ℕ) → Contains (option_map_or (λ n. if F n then NeedTooOld k ∷ [] else []) o []) finding → finding ≡ NeedTooOld k
-    within k F None reported = absurd (none_of finding reported)
-    within k F (Some n) reported = if_old k (F n) reported
-
-    go : (k : ℕ) (need : NeedPlan) → Contains (oldness timing plan.requests.items plan.flows.items delays k need) finding → finding ≡ NeedTooOld k
-    go k need reported = within k _ need.within reported
 
 module _ (at : Places) (part whole : Plan) (is : IsPartAt at part whole) (good : HasGoodNumbers whole) (timing : Timing) (unplanned : ℕ) (range : unplanned ≤ 1000)
     (busier : timing.unplanned ≤ unplanned) (reported stays : UnitPlan → Bool) (ds es : List (Option Delay)) (here : AsksOfBus part timing reported ds)
@@ -263,7 +176,7 @@ module _ (at : Places) (part whole : Plan) (is : IsPartAt at part whole) (good :
       (subst (λ n. Contains (NoPeriod n ∷ []) (NoPeriod (at.flow its.k))) (sym zero_there) (itself (NoPeriod (at.flow its.k)))) in
       subst (IsFoundThere at part all_there) (sym (is_it ∙ ap NoPeriod zero_here)) (
         inside,
-        Contains-append_left (load_findings busy load_there es) (old_needs busy whole.requests.items whole.flows.items es whole.needs.items) (NoPeriod (at.flow its.k))
+        Contains-append_left (load_findings busy load_there es) (further_findings whole busy es) (NoPeriod (at.flow its.k))
             (Contains-append_left (lines_of_each without_period 0 es) (overload busy load_there ++ lines_of_each lateness 0 es) (NoPeriod (at.flow its.k))
             (line_reported without_period 0 es (at.flow its.k) e (NoPeriod (at.flow its.k)) at_e reported_there)),
       )
@@ -275,7 +188,7 @@ module _ (at : Places) (part whole : Plan) (is : IsPartAt at part whole) (good :
       subst (IsFoundThere at part all_there) (sym is_it) (
         load_there,
         more,
-        Contains-append_left (load_findings busy load_there es) (old_needs busy whole.requests.items whole.flows.items es whole.needs.items) (Overload load_there)
+        Contains-append_left (load_findings busy load_there es) (further_findings whole busy es) (Overload load_there)
             (Contains-append_right (lines_of_each without_period 0 es) (overload busy load_there ++ lines_of_each lateness 0 es) (Overload load_there)
             (Contains-append_left (overload busy load_there) (lines_of_each lateness 0 es) (Overload load_there)
             (overload_there busy load_there (omega (arith, above, more))))),
@@ -291,17 +204,34 @@ module _ (at : Places) (part whole : Plan) (is : IsPartAt at part whole) (good :
       let late = late_there (0 + its.k) (at.flow its.k) its.value e no_later finding its.reported in
       subst (IsFoundThere at part all_there) (sym (is_it ∙ ap LateFlow zero_here)) (
         inside,
-        Contains-append_left (load_findings busy load_there es) (old_needs busy whole.requests.items whole.flows.items es whole.needs.items) (LateFlow (at.flow its.k))
+        Contains-append_left (load_findings busy load_there es) (further_findings whole busy es) (LateFlow (at.flow its.k))
             (Contains-append_right (lines_of_each without_period 0 es) (overload busy load_there ++ lines_of_each lateness 0 es) (LateFlow (at.flow its.k))
             (Contains-append_right (overload busy load_there) (lines_of_each lateness 0 es) (LateFlow (at.flow its.k))
             (line_reported lateness 0 es (at.flow its.k) e (LateFlow (at.flow its.k)) at_e
             (subst (λ n. Contains (lateness n e) (LateFlow (at.flow its.k))) zero_there late)))),
       )
 
+  asked_found : (finding : LoadFinding) → Contains (asked_too_often part.requests.items part.flows.items) finding → IsFoundThere at part all_there finding
+  asked_found finding found =
+      let (f, flow, at_f, too_often, is_it) = of_asked part.requests.items part.flows.items finding found in
+      let stands = is.flows.each f flow at_f in
+      subst (IsFoundThere at part all_there) (sym is_it) (
+        slice_get_within part.flows.items f flow at_f,
+        Contains-append_right (load_findings busy load_there es) (further_findings whole busy es) (AskedTooOften (at.flow f))
+            (Contains-append_right (old_needs busy whole.requests.items whole.flows.items es whole.needs.items)
+            (asked_too_often whole.requests.items whole.flows.items) (AskedTooOften (at.flow f))
+            (asked_reported whole.requests.items whole.flows.items (at.flow f) stands.value stands.value_is
+            (too_often_there at part whole is flow stands.value stands.meets too_often))),
+      )
+
   found_there : (finding : LoadFinding) → Contains (all_findings part timing load_here ds) finding → IsFoundThere at part all_there finding
   found_there finding found =
-      elim (Contains-append_cases (load_findings timing load_here ds) (old_needs timing part.requests.items part.flows.items ds part.needs.items) finding found) [
-        | inr old ↦ let (d, is_it) = of_old timing part ds finding old in subst (IsFoundThere at part all_there) (sym is_it) tt
+      elim (Contains-append_cases (load_findings timing load_here ds) (further_findings part timing ds) finding found) [
+        | inr further ↦ elim (Contains-append_cases (old_needs timing part.requests.items part.flows.items ds part.needs.items)
+          (asked_too_often part.requests.items part.flows.items) finding further) [
+          | inl old ↦ let (d, is_it) = of_old timing part ds finding old in subst (IsFoundThere at part all_there) (sym is_it) tt
+          | inr asked ↦ asked_found finding asked
+        ]
         | inl others ↦ elim (Contains-append_cases (lines_of_each without_period 0 ds) (overload timing load_here ++ lines_of_each lateness 0 ds) finding others) [
           | inl unpaced ↦ unpaced_found finding unpaced
           | inr more ↦ elim (Contains-append_cases (overload timing load_here) (lines_of_each lateness 0 ds) finding more) [

@@ -7,7 +7,7 @@ use Rattle.j39_network.specs.declared.plan.Plan.{Plan}
 use Rattle.j39_load.specs.BusTimes.{timing_of}
 use Rattle.j39_load.specs.LoadFindings.{AreLoadFindings}
 use Rattle.j39_load.specs.declared.findings.load_finding.LoadFinding.{LoadFinding}
-use Rattle.j39_load.specs.declared.findings.load_finding.LoadFinding.TheVariants.{NoPeriod, Overload, LateFlow, NeedTooOld}
+use Rattle.j39_load.specs.declared.findings.load_finding.LoadFinding.TheVariants.{NoPeriod, Overload, LateFlow, NeedTooOld, AskedTooOften}
 use Rattle.j39_part_laws.specs.PlanParts.{Places}
 
 -- ---- on the load
@@ -19,6 +19,7 @@ IsFoundThere at part there (NoPeriod f) = (f < length part.flows.items) × Conta
 IsFoundThere at part there (Overload n) = (m : ℕ) × (n ≤ m) × Contains there (Overload m)
 IsFoundThere at part there (LateFlow f) = (f < length part.flows.items) × Contains there (LateFlow (at.flow f))
 IsFoundThere at part there (NeedTooOld d) = Unit {0}
+IsFoundThere at part there (AskedTooOften f) = (f < length part.flows.items) × Contains there (AskedTooOften (at.flow f))
 
 -- so it is with all that is found of the load of either
 abbrev pub AreFoundThere : Places → Plan → Plan → Type 0

@@ -13,7 +13,7 @@ use Rattle.j39_load.specs.declared.waits.delay.Delay.{Delay}
 use Rattle.j39_load.specs.declared.waits.delay.Delay.TheVariants.{Within, Beyond, Late, Long, Whole}
 use Rattle.j39_load.specs.declared.waits.whole_time.WholeTime.{WholeTime}
 use Rattle.j39_load.specs.declared.findings.load_finding.LoadFinding.{LoadFinding}
-use Rattle.j39_load.specs.declared.findings.load_finding.LoadFinding.TheVariants.{NoPeriod, Overload, LateFlow, NeedTooOld}
+use Rattle.j39_load.specs.declared.findings.load_finding.LoadFinding.TheVariants.{NoPeriod, Overload, LateFlow, NeedTooOld, AskedTooOften}
 use Rattle.j39_load.specs.Ages.{has_several, least_age, youngest_flow}
 use Rattle.j39_load.specs.Asked.{Asked, total_load}
 use Rattle.j39_load.specs.LoadFindings.{load_finding_number, time_of_each}
@@ -30,6 +30,7 @@ load_finding_text (NoPeriod f) = place_field (codes "F16 NoPeriod ") f
 load_finding_text (Overload bits) = field (codes "F17 Overload ") bits
 load_finding_text (LateFlow f) = place_field (codes "F18 LateFlow ") f
 load_finding_text (NeedTooOld n) = place_field (codes "F20 NeedTooOld ") n
+load_finding_text (AskedTooOften f) = place_field (codes "F31 AskedTooOften ") f
 
 unfoldable pub load_finding_line : LoadFinding → List ℕ
 load_finding_line finding = load_finding_text finding ++ 10 ∷ []

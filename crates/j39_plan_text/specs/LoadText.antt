@@ -30,7 +30,7 @@ shows_times findings = list_all (λ finding. not (hides_times (finding_number fi
 
 -- those of which the lines of the load don't report: of a bus that is too full, of late flows and of old needs they do
 abbrev pub is_unshown : LoadFinding → Bool
-is_unshown finding = is_between 16 17 (load_finding_number finding)
+is_unshown finding = is_between 16 17 (load_finding_number finding) || is_between 31 32 (load_finding_number finding)
 
 -- how many findings are written behind the lines of the load
 abbrev pub unshown_count : List Finding → List LoadFinding → ℕ
@@ -42,7 +42,8 @@ unshown_lines plan findings others = finding_lines 1 16 plan findings
     ++ (load_finding_lines 16 17 others
     ++ (finding_lines 19 20 plan findings
     ++ (finding_lines 21 29 plan findings
-    ++ (field (codes "findings ") (unshown_count findings others) ++ 10 ∷ []))))
+    ++ (load_finding_lines 31 32 others
+    ++ (field (codes "findings ") (unshown_count findings others) ++ 10 ∷ [])))))
 
 -- where there are any
 unfoldable pub unshown_text : Plan → List Finding → List LoadFinding → List ℕ

@@ -34,7 +34,7 @@ fn shows_times(findings: &[Finding]) -> bool
 fn is_unshown(finding: LoadFinding) -> bool
     ensures { result ≡ is_unshown finding }
 {
-    is_between(16, 17, finding.number())
+    is_between(16, 17, finding.number()) || is_between(31, 32, finding.number())
 }
 
 // How many of these there are.
@@ -68,6 +68,7 @@ fn write_unshown_lines(
     write_load_findings(text, others, 16, 17)?;
     write_lines(alloc, text, plan, findings, 19, 20)?;
     write_lines(alloc, text, plan, findings, 21, 29)?;
+    write_load_findings(text, others, 31, 32)?;
     text.field("findings ", count)?;
     text.end_line()
 }

@@ -31,6 +31,7 @@ pub fn write_load_finding(text: &mut TextBuffer, finding: LoadFinding) -> WriteR
         LoadFinding::Overload(bits) => text.field("F17 Overload ", bits),
         LoadFinding::LateFlow(flow) => text.place("F18 LateFlow ", flow),
         LoadFinding::NeedTooOld(need) => text.place("F20 NeedTooOld ", need),
+        LoadFinding::AskedTooOften(flow) => text.place("F31 AskedTooOften ", flow),
     }
 }
 

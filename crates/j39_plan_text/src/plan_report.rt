@@ -39,6 +39,7 @@ pub(super) fn write_findings(
     write_lines(alloc, text, plan, findings, 19, 20)?;
     write_load_findings(text, others, 20, 21)?;
     write_lines(alloc, text, plan, findings, 21, 29)?;
+    write_load_findings(text, others, 31, 32)?;
     text.field("findings ", findings.len() + others.len())?;
     text.end_line()
 }

@@ -5,6 +5,7 @@ ghost use Rattle.j39_load.specs.LineLists.{lines_of_each};
 ghost use Rattle.j39_load.specs.inside.FlowSearch.{found_at};
 
 use crate::findings::ages::{find_old_needs, is_in_limit};
+use crate::findings::asking::find_asked_too_often;
 use crate::findings::load_finding::LoadFinding;
 use crate::frames::bits_of_second;
 use crate::waits::{Delay, WholeTime};
@@ -84,7 +85,7 @@ fn load_findings(
     Ok(findings)
 }
 
-/// With what is wrong with the ages of what the units of the plan need.
+/// With what is wrong with the ages of what the units of the plan need, and with how often its flows are asked for.
 pub(crate) fn all_findings(
     alloc: Global,
     plan: &Plan,
@@ -105,5 +106,6 @@ pub(crate) fn all_findings(
         delays,
         &plan.needs,
     )?;
+    find_asked_too_often(&mut findings, &plan.requests, &plan.flows)?;
     Ok(findings)
 }

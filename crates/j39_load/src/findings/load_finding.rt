@@ -12,6 +12,8 @@ pub enum LoadFinding {
     LateFlow(usize),
     /// What a unit needs isn't shown to be young enough when it comes.
     NeedTooOld(usize),
+    /// Requests ask for a flow that only answers them oftener together than once in its period.
+    AskedTooOften(usize),
 }
 
 impl LoadFinding {
@@ -26,6 +28,7 @@ impl LoadFinding {
             LoadFinding::Overload(_) => 17,
             LoadFinding::LateFlow(_) => 18,
             LoadFinding::NeedTooOld(_) => 20,
+            LoadFinding::AskedTooOften(_) => 31,
         }
     }
 }

@@ -11,6 +11,7 @@ returns c =
       c.in_ok-write_lines-2.ensures,
       c.in_ok-write_load_findings-2.ensures,
       c.in_ok-write_lines-3.ensures,
+      c.in_ok-write_load_findings-3.ensures,
       c.in_ok-field.ensures,
       append_assoc,
     ) at c.end_line.ensures

@@ -1,10 +1,9 @@
 use Rattle.std.proofs.Common.{◌≡◌, ◌≢◌, ◌⊎◌, ◌++◌, ℕ, [], length, Some, inl, inr, ap, subst, ◌∙◌, arith}
 use Rattle.std.proofs.lemmas.Bool.{cases_lt}
 use Rattle.j39_network.specs.declared.plan.timing.Timing.{Timing}
-use Rattle.j39_load.specs.Ages.{old_needs}
 use Rattle.j39_load.specs.Asked.{asked_of, total_load}
 use Rattle.j39_load.specs.AskedLoads.{asked_in}
-use Rattle.j39_load.specs.LoadFindings.{IsFullOfDamage, load_findings}
+use Rattle.j39_load.specs.LoadFindings.{IsFullOfDamage, further_findings, load_findings}
 use Rattle.j39_load.proofs.LoadAnswers.{answered}
 use Rattle.j39_search.proofs.WantedMemory.{on_err}
 use Rattle.j39_load.proofs.WithoutFlows.{full_of_damage}
@@ -34,7 +33,7 @@ returns-in_err-findings-clause-memory c =
         | inl requests ↦ inl (λ silent. absurd (omega (arith, requests, ap length silent)))
         | inr silent ↦ inr (full_of_damage timing plan stays delays (omega (arith, none)) (omega (arith, silent))
             (omega (arith, none, c.in_ok-loads.ensures.count, c.in_ok-delays.ensures.delays.count))
-            (subst (λ (n : ℕ). load_findings timing n delays ++ old_needs timing plan.requests.items plan.flows.items delays plan.needs.items ≢ [])
+            (subst (λ (n : ℕ). load_findings timing n delays ++ further_findings plan timing delays ≢ [])
             total found))
       ])
     ] in
