@@ -137,13 +137,13 @@ known = record {
   own_first = λ b p its own. omega arith;
   own_jitter = λ b p its own. own_jitter_at b own;
   own_release = λ b p its own. refl;
-  own_spaced = λ b p q its other differ own source turn. absurd (differ (only p q its.0 other.0));
+  own_spaced = λ b p q its other differ own source turn paced. absurd (differ (only p q its.0 other.0));
   own_apart = λ b i p q its other differ single own. absurd (differ (only p q its.0 other.0));
   handed = handed;
-  single = λ b i is. refl;
-  input_single = λ b i is. refl;
+  single = λ b i is. (refl, refl);
+  input_single = λ b i is. (refl, refl);
   input_begun = λ b i by is seen streams. begun_until (one_bus 0).schedule (one_bus 0).traffic (one_bus 0).others 160 (one_bus 0).planned (one_bus 0).of 0
-      by seen (known_until 0 by streams) (legal 0) 160 (λ j in_j. omega arith) (demand_fits 0 i) refl (omega arith);
+      by seen (known_until 0 by streams) (legal 0) 160 (λ j in_j. omega arith) (demand_fits 0 i) (refl, refl) (omega arith);
   jitter_enough = late_first;
   often_enough = λ b i is. omega arith;
   behind_own = behind_its_own;

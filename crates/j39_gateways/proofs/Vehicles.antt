@@ -71,11 +71,11 @@ module _ (v : Vehicle) (is : IsKnown v) where
           release_first = keeps.first;
           jitter_at_most = keeps.jitter;
         };
-    spaced = λ p q in_p in_q differ it other same turn.
+    spaced = λ p q in_p in_q differ it other same turn paced.
         let (planned, early) = parts p it in
         let (also, soon_too) = parts q other in
         elim (cases_Bool (v.direct a (source_of a p))) [
-          | inr own ↦ is.own_spaced a p q (in_p, planned) (in_q, also) differ own same turn
+          | inr own ↦ is.own_spaced a p q (in_p, planned) (in_q, also) differ own same turn paced
           | inl direct ↦
               let its : IsIts (carrier v a (source_of a p)) p = (in_p, planned, refl) in
               let there : IsIts (carrier v a (source_of a p)) q = (in_q, also, sym same) in
@@ -257,8 +257,8 @@ module _ (v : Vehicle) (is : IsKnown v) where
           release_first = keeps.first;
           jitter_at_most = keeps.jitter;
         };
-    spaced = λ p q in_p in_q differ it other same turn. elim (cases_Bool (v.direct b (source_of b p))) [
-      | inr own ↦ is.own_spaced b p q (in_p, it) (in_q, other) differ own same turn
+    spaced = λ p q in_p in_q differ it other same turn paced. elim (cases_Bool (v.direct b (source_of b p))) [
+      | inr own ↦ is.own_spaced b p q (in_p, it) (in_q, other) differ own same turn paced
       | inl direct ↦
           let its : IsIts (carrier v b (source_of b p)) p = (in_p, it, refl) in
           let there : IsIts (carrier v b (source_of b p)) q = (in_q, other, sym same) in

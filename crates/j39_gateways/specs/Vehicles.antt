@@ -5,6 +5,7 @@ use Rattle.j39_timing.specs.FrameStreams.{Origins, AreOfStreams}
 use Rattle.j39_timing.specs.Traffic.{Traffic, Others, IsSingle, delay_of}
 use Rattle.j39_timing.specs.Prefixes.{AreBegunUntil, planned_until}
 use Rattle.j39_gateways.specs.Gateways.{Clock, Carrier, IsClock, IsHandedOn, IsIts, time_of}
+use Rattle.j39_timing.specs.Waits.{IsSpaced}
 use Rattle.j39_timing.specs.declared.stream.Stream.{Stream}
 
 pub record Bus : Type 0 where
@@ -76,6 +77,7 @@ pub record IsKnown (v : Vehicle) : Type 0 where
       → (v.bus b).release p ≡ time_of (v.bus b).clock ((v.bus b).of.since p)
   pub own_spaced : (b p q : ℕ) → IsPlannedOn (v.bus b) p → IsPlannedOn (v.bus b) q → p ≢ q → v.direct b ((v.bus b).of.source p) ≡ false
       → (v.bus b).of.source p ≡ (v.bus b).of.source q → (v.bus b).of.turn p ≡ (v.bus b).of.turn q
+      → IsSpaced (stream_at v b ((v.bus b).of.source p))
       → ((v.bus b).of.since p + (stream_at v b ((v.bus b).of.source p)).period ≤ (v.bus b).of.since q)
       ⊎ ((v.bus b).of.since q + (stream_at v b ((v.bus b).of.source p)).period ≤ (v.bus b).of.since p)
   -- the moments of a unit are as far apart in true time, whatever the clock of its bus shows

@@ -96,7 +96,7 @@ three_planned = record {
       release_first = omega arith;
       jitter_at_most = omega arith;
     };
-    spaced = λ p q in_p in_q differ is other same _.
+    spaced = λ p q in_p in_q differ is other same _ _.
         let later_p = behind p is in
         let later_q = behind q other in
         absurd (differ (omega (arith, in_p, in_q, later_p, later_q, same)));

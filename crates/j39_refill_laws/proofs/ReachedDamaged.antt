@@ -133,7 +133,7 @@ tried_planned = record {
   longest_at_most = five (λ p. all.bits p ≤ 160) (omega arith) (omega arith) (omega arith) (omega arith) (omega arith);
   of_streams = record {
     keeps = keeps;
-    spaced = λ p q in_p in_q differ is other same _. absurd (differ (sym (placed p in_p is) ∙ (ap place_of same ∙ placed q in_q other)));
+    spaced = λ p q in_p in_q differ is other same _ _. absurd (differ (sym (placed p in_p is) ∙ (ap place_of same ∙ placed q in_q other)));
   };
   as_wanted = nothing_wanted all but_the_first each_its_own [] four_streams.stream (λ j. refl);
   refill_by_stream = five (λ p. but_the_first p ≡ true → slow (units.unit p) ≤ refill_of (each_its_own.source p)) (λ is. absurd (false≢true is))

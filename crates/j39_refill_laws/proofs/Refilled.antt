@@ -7,7 +7,7 @@ use Rattle.j39_timing.specs.FrameStreams.{AreOfStreams, Origins}
 use Rattle.j39_timing.specs.Messages.{AreSentWithin}
 use Rattle.j39_timing.specs.QueueGroups.{unplanned_queued}
 use Rattle.j39_timing.specs.TimedFrames.{IsOnBusAt, Schedule, Waits}
-use Rattle.j39_timing.specs.Traffic.{IsStreamInTime, Traffic}
+use Rattle.j39_timing.specs.Traffic.{AreAsWanted, IsStreamInTime, Traffic}
 use Rattle.j39_timing.specs.declared.stream.Stream.{Stream}
 use Rattle.j39_timing.proofs.FullWindows.{some_wait, too_full}
 use Rattle.j39_timing.proofs.QueueGroupTraffic.{others_are_unplanned}
@@ -68,6 +68,9 @@ module _ (s : Schedule) (controllers : Controllers) (refill : ℕ → ℕ) (traf
     spaced = known.of_streams.spaced;
   }
 
+  as_wanted : AreAsWanted longer planned of traffic.demands streams
+  as_wanted = record { by_sender = known.as_wanted.by_sender; by_askers = known.as_wanted.by_askers }
+
   -- all frames go, and all streams
   abbrev any : ℕ → Bool
   any p = true
@@ -96,7 +99,7 @@ module _ (s : Schedule) (controllers : Controllers) (refill : ℕ → ℕ) (traf
     module _ (seen : s.queued x + wait < s.now) (late : s.queued x + wait < s.start x) where
       some : 1 ≤ wait
       some =
-          some_wait longer traffic.count streams traffic.demands planned of of_streams known.as_wanted positive any any all_go wait (longest + most) unplanned
+          some_wait longer traffic.count streams traffic.demands planned of of_streams as_wanted positive any any all_go wait (longest + most) unplanned
           ((traffic.stream i).bits + refill_of i) x in_x is_planned refl x_bits (omega (arith, small, few_more)) (some_bits x in_x) (short x in_x) demand_fits
 
       closed : (from : ℕ) → GoingWait longer planned first x from (s.queued x + wait) → (p q : ℕ) → p < s.count → q < s.count → planned p ≡ true
@@ -121,7 +124,7 @@ module _ (s : Schedule) (controllers : Controllers) (refill : ℕ → ℕ) (traf
       not_late =
           let (begin, is_busy) = busy_with longer planned first (longest + most) wait some_bits legal.queued_first never_idle short x in_x is_planned seen late
           closed in
-          too_full longer traffic.count streams traffic.demands planned of of_streams known.as_wanted positive any any all_go wait (longest + most) unplanned
+          too_full longer traffic.count streams traffic.demands planned of of_streams as_wanted positive any any all_go wait (longest + most) unplanned
           ((traffic.stream i).bits + refill_of i) x in_x is_planned refl x_bits (omega (arith, small, few_more)) (some_bits x in_x) (short x in_x) demand_fits
           first itself (λ p is one. refl) begin is_busy.before is_busy (fewer begin is_busy.waiting)
 

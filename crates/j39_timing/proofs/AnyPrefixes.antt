@@ -3,13 +3,13 @@ use Rattle.std.proofs.Common.{◌≡◌, ℕ, ◌<◌, ◌≤◌, Bool, true, no
 use Rattle.std.proofs.lemmas.Bool.{and_parts, and_from, cases_Bool, leb-true, both_ways}
 use Rattle.j39_timing.specs.TimedFrames.{Schedule}
 use Rattle.j39_timing.specs.FrameStreams.{Origins}
-use Rattle.j39_timing.specs.Traffic.{Traffic, Others, DemandFits, IsSingle, delay_of}
+use Rattle.j39_timing.specs.Traffic.{Traffic, Others, DemandFits, IsSingle, OwnDemandFits, delay_of}
 use Rattle.j39_timing.specs.AnyOrder.{Controllers, IsLegalInAnyOrder, IsOrderedStream, buffered_traffic}
 use Rattle.j39_timing.specs.QueueGroups.{QueueGroup, QueueGroupWaits, QueueGroupDemandFits, IsTrafficOfQueueGroup, is_unplanned_queued, is_with_queue_group}
 use Rattle.j39_timing.specs.QueueGroups.{unplanned_queued}
 use Rattle.j39_timing.specs.Prefixes.{seen_until, planned_until, IsPlannedUntil, AreBegunUntil, IsQueueGroupUntil, HaveWaitsUntil}
 use Rattle.j39_timing.proofs.QueueGroupTraffic.{begun_within}
-use Rattle.j39_timing.proofs.Buffering.{ordered_begun}
+use Rattle.j39_timing.proofs.Buffering.{ordered_begun, own_ordered_begun}
 use Rattle.j39_timing.proofs.Prefixes.{its_own, is_planned_then, still_of_streams, then_is_planned, then_known}
 use Rattle.j39_timing.proofs.Sums.{total-le}
 
@@ -81,7 +81,7 @@ module _ (s : Schedule) (controllers : Controllers) (traffic : Traffic) (unplann
   then_queue_group = record {
     longest_at_most = known.longest_at_most;
     of_streams = still_of_streams s by 0 (λ p. then_planned p ≡ true) traffic.count traffic.stream of known.of_streams;
-    as_wanted = known.as_wanted;
+    as_wanted = record { by_sender = known.as_wanted.by_sender; by_askers = known.as_wanted.by_askers };
     from_least = λ p in_p is.
         let (plain, early) = is_planned_then s planned by p is in
         let least = known.from_least p in_p plain in
@@ -140,3 +140,16 @@ ordered_begun_until s controllers traffic others longest planned of i by seen kn
     (λ q in_q it same. ordered q in_q (is_planned_then s planned by q it).0 same) waits
     (λ q in_q it goes loses until. have q in_q (is_planned_then s planned by q it).0 goes loses until)
     demand_fits single fits p in_p (then_is_planned s planned by p is (omega arith)) source before
+
+pub own_ordered_until : (s : Schedule) (controllers : Controllers) (traffic : Traffic) (others : Others) (longest : ℕ) (planned : ℕ
+    → Bool) (of : Origins) (i by : ℕ)
+    → by ≤ s.now → IsPlannedUntil s traffic others longest planned of i by → IsLegalInAnyOrder s controllers
+    → ((j : ℕ) → j < traffic.count → 0 < (traffic.stream j).period) → IsOrderedStream s controllers planned of i
+    → (wait : ℕ) (waits : ℕ → ℕ) → HaveWaitsUntil s controllers traffic planned of i waits by → (traffic.stream i).bits ≤ longest
+    → OwnDemandFits (buffered_traffic traffic waits) others longest i wait → AreBegunUntil s planned of i wait by
+own_ordered_until s controllers traffic others longest planned of i by seen known legal positive ordered wait waits have small own_fits p in_p is source before =
+    own_ordered_begun (seen_until s by others.least) controllers (still_legal_in_any_order s controllers by others.least legal seen) traffic others longest
+    (planned_until s planned by) of i wait (then_known s traffic others longest planned of i by seen known) positive
+    (λ q in_q it same. ordered q in_q (is_planned_then s planned by q it).0 same) waits
+    (λ q in_q it goes loses until. have q in_q (is_planned_then s planned by q it).0 goes loses until)
+    small own_fits p in_p (then_is_planned s planned by p is (omega arith)) source before

@@ -2,6 +2,7 @@
 -- and those whose releases lie in this time.
 use Rattle.std.proofs.Common.{◌≡◌, ℕ, zero, suc, ◌+◌, ◌*◌, ◌<◌, ◌≤◌, ◌⊎◌, Bool, true, false, cond, ◌&&◌, eqb, ltb, leb, List, [], ◌∷◌, length, take, get_or}
 use Rattle.std.proofs.Common.{sum_by, refl, sym, subst, ap, ◌∙◌, inl, inr, arith}
+use Rattle.std.proofs.Math.Nat.{mul-le-mul_left}
 use Rattle.std.proofs.Math.Seq.{take-suc}
 use Rattle.std.proofs.lemmas.Bool.{and_parts, and_from, cases_lt, cases_eq, cases_Bool, le-leb, lt-ltb, leb-true, ltb-true, eqb-true, eq-eqb, both_ways}
 use Rattle.std.proofs.lemmas.Grind.{div_ceil_times}
@@ -14,11 +15,11 @@ use Rattle.j39_timing.specs.Sums.{total}
 use Rattle.j39_timing.specs.TimedFrames.{Schedule}
 use Rattle.j39_timing.specs.Traffic.{releases_in}
 use Rattle.j39_timing.specs.Waits.{Demand, frames_of_want, frames_wanted}
-use Rattle.j39_timing.specs.WantedMessages.{AreAnnouncements, AreFramesOfMessages, AreWantedInTurn, HasLongest, HavePeriods, UnitMessages, nothing, want_at}
-use Rattle.j39_timing.specs.WantedMessages.{want_for}
+use Rattle.j39_timing.specs.WantedMessages.{AreAnnouncements, AreFramesOfMessages, AreReleasedApart, AreWantedInTurn, HasLongest, HavePeriods, UnitMessages}
+use Rattle.j39_timing.specs.WantedMessages.{WantNoMore, nothing, want_at, want_for, wanted_in}
 use Rattle.j39_timing.specs.declared.wants.Want.{Want}
-use Rattle.j39_timing.proofs.StreamSums.{at_most_one, inside, inside_from, windows_sum}
-use Rattle.j39_timing.proofs.Sums.{total-le, total-none, total-two}
+use Rattle.j39_timing.proofs.StreamSums.{at_most_one, inside, inside_from, inside_parts, windows_sum}
+use Rattle.j39_timing.proofs.Sums.{total-le, total-none, total-times, total-two}
 
 -- ---- sums
 
@@ -73,7 +74,7 @@ all_grouped n passes group weight k below =
     omega (arith, all, same)
 
 -- as many as have places of their own below k
-placed : (n : ℕ) (passes : ℕ → Bool) (place : ℕ → ℕ)
+pub placed : (n : ℕ) (passes : ℕ → Bool) (place : ℕ → ℕ)
     → ((i j : ℕ) → i < n → j < n → passes i ≡ true → passes j ≡ true → place i ≡ place j → i ≡ j)
     → (k : ℕ) → ((i : ℕ) → i < n → passes i ≡ true → place i < k) → total n (λ i. cond (passes i) 1 0) ≤ k
 unfolding total
@@ -133,9 +134,50 @@ by_elements g xs (suc k) le =
     let one : sum_by g (get_or xs k nothing ∷ []) ≡ g (get_or xs k nothing) + sum_by g [] = sum_by-cons g (get_or xs k nothing) [] in
     omega (arith, before, next, one)
 
+-- ---- messages whose releases are a period apart
+
+module _ (demand : Demand) (messages : UnitMessages) (f : ℕ) (released : AreReleasedApart demand messages f) where
+  abbrev its : Want
+  its = want_at demand f
+
+  -- their releases lie in a time where they are wanted in it, or up to their lateness before
+  released_in : (t span : ℕ) → 0 < its.period → wanted_in messages f t span ≤ div_ceil (span + its.jitter) its.period
+  released_in t span some =
+      let most : total messages.count (λ m. cond (eqb (messages.flow m) f && inside t (span + its.jitter) (messages.release m + its.jitter)) 1 0)
+      ≤ div_ceil (span + its.jitter) its.period * 1 = windows_sum messages.count (λ m. eqb (messages.flow m) f) (λ m. messages.release m + its.jitter) (λ m. 1)
+      its.period 1 (λ m below is. omega arith)
+      (λ m n in_m in_n other is_m is_n.
+      let at_m = eqb-true (messages.flow m) f is_m in
+      let at_n = eqb-true (messages.flow n) f is_n in
+      elim (cases_lt m n) [
+        | inl less ↦ let far = released.apart m n (less, in_n, at_m ∙ sym at_n) at_n in inl (omega (arith, far))
+        | inr more ↦ let far = released.apart n m (omega (arith, more, other), in_m, at_n ∙ sym at_m) at_m in inr (omega (arith, far))
+      ])
+      (div_ceil (span + its.jitter) its.period) t (span + its.jitter) (div_ceil_times (span + its.jitter) its.period some).0 in
+      let wider : wanted_in messages f t span
+      ≤ total messages.count (λ m. cond (eqb (messages.flow m) f && inside t (span + its.jitter) (messages.release m + its.jitter)) 1 0) =
+      total-le messages.count (λ m. cond (eqb (messages.flow m) f && inside t span (messages.wanted m)) 1 0)
+      (λ m. cond (eqb (messages.flow m) f && inside t (span + its.jitter) (messages.release m + its.jitter)) 1 0) (λ m below.
+      elim (cases_Bool (eqb (messages.flow m) f && inside t span (messages.wanted m))) [
+        | inr fails ↦ rw (fails) (omega arith)
+        | inl is ↦
+            let two = and_parts (eqb (messages.flow m) f) (inside t span (messages.wanted m)) is in
+            let (low, high) = inside_parts t span (messages.wanted m) two.1 in
+            let at = eqb-true (messages.flow m) f two.0 in
+            let release = released.release_first m below at in
+            let late = released.jitter_at_most m below at in
+            let there = and_from (eqb (messages.flow m) f) (inside t (span + its.jitter) (messages.release m + its.jitter)) two.0
+            (inside_from t (span + its.jitter) (messages.release m + its.jitter) (omega (arith, low, late)) (omega (arith, high, release))) in
+            rw (is, there) (omega arith)
+      ]) in
+      omega (arith, most, wider)
+
+  pub apart_want_no_more : HavePeriods demand → 1 ≤ its.more → WantNoMore demand messages f
+  apart_want_no_more periods one t span = let few = released_in t span (periods f) in omega (arith, few, one)
+
 -- ---- messages
 
-module _ (s : Schedule) (planned : ℕ → Bool) (of : Origins) (j : ℕ) (demand : Demand) (messages : UnitMessages) (periods : HavePeriods demand)
+module _ (s : Schedule) (planned : ℕ → Bool) (of : Origins) (j : ℕ) (demand : Demand) (messages : UnitMessages)
     (wanted : AreWantedInTurn demand messages) (frames : AreFramesOfMessages s planned of j demand messages) (t span : ℕ) where
   -- a frame of the stream whose release lies in the time
   abbrev counts : ℕ → Bool
@@ -237,28 +279,12 @@ module _ (s : Schedule) (planned : ℕ → Bool) (of : Origins) (j : ℕ) (deman
     abbrev passes : ℕ → Bool
     passes m = is_announced m && eqb (messages.flow m) f
 
-    -- the releases of those behind the first lie in it too, or up to their lateness before
+    -- those behind the first are wanted in it too
     abbrev later : ℕ → Bool
-    later m = eqb (messages.flow m) f && inside t (span + want.jitter) (messages.release m + want.jitter)
+    later m = eqb (messages.flow m) f && inside t span (messages.wanted m)
 
-    of_flow_later : total messages.count (λ m. cond (later m) want.frames 0) ≤ div_ceil (span + want.jitter) want.period * want.frames
-    of_flow_later = windows_sum messages.count (λ m. eqb (messages.flow m) f) (λ m. messages.release m + want.jitter) (λ m. want.frames) want.period want.frames
-        (λ m below is. omega arith)
-        (λ m n in_m in_n other is_m is_n.
-        let at_m = eqb-true (messages.flow m) f is_m in
-        let at_n = eqb-true (messages.flow n) f is_n in
-        elim (cases_lt m n) [
-          | inl less ↦
-              let far : messages.release m + want.period ≤ messages.release n =
-              subst (λ (k : ℕ). messages.release m + (want_at demand k).period ≤ messages.release n) at_n (wanted.apart m n (less, in_n, at_m ∙ sym at_n)) in
-              inl (omega (arith, far))
-          | inr more ↦
-              let far : messages.release n + want.period ≤ messages.release m =
-              subst (λ (k : ℕ). messages.release n + (want_at demand k).period ≤ messages.release m) at_m
-              (wanted.apart n m (omega (arith, more, other), in_m, at_n ∙ sym at_m)) in
-              inr (omega (arith, far))
-        ])
-        (div_ceil (span + want.jitter) want.period) t (span + want.jitter) (div_ceil_times (span + want.jitter) want.period (periods f)).0
+    of_flow_later : total messages.count (λ m. cond (later m) want.frames 0) ≤ want.frames * wanted_in messages f t span
+    of_flow_later = total-times messages.count later later (λ m. want.frames) want.frames (λ m below is. (is, omega arith))
 
     -- behind the first one
     comes_later : (first m : ℕ) → first < m → m < messages.count → passes first ≡ true → passes m ≡ true → later m ≡ true
@@ -270,12 +296,9 @@ module _ (s : Schedule) (planned : ℕ → Bool) (of : Origins) (j : ℕ) (deman
         let (from, _) = announced_parts first two_first.0 in
         let (_, until) = announced_parts m two.0 in
         let waits : messages.announced first ≤ messages.wanted m = wanted.one_waits first m (less, below, at_first ∙ sym at) in
-        let late : messages.wanted m ≤ messages.release m + want.jitter =
-        subst (λ (k : ℕ). messages.wanted m ≤ messages.release m + (want_at demand k).jitter) at (wanted.jitter_at_most m below) in
-        let release : messages.release m ≤ messages.wanted m = wanted.release_first m below in
         let first_wanted : messages.wanted m ≤ messages.announced m = wanted.wanted_first m below in
-        and_from (eqb (messages.flow m) f) (inside t (span + want.jitter) (messages.release m + want.jitter)) two.1
-        (inside_from t (span + want.jitter) (messages.release m + want.jitter) (omega (arith, from, waits, late)) (omega (arith, until, release, first_wanted)))
+        and_from (eqb (messages.flow m) f) (inside t span (messages.wanted m)) two.1
+        (inside_from t span (messages.wanted m) (omega (arith, from, waits)) (omega (arith, until, first_wanted)))
 
     of_flow : total messages.count (λ m. cond (passes m) want.frames 0) ≤ frames_of_want span want
     of_flow = elim (first_passing messages.count passes) [
@@ -304,9 +327,8 @@ module _ (s : Schedule) (planned : ℕ → Bool) (of : Origins) (j : ℕ) (deman
               ]
             ]
           ]) in
-          let turned : div_ceil (span + want.jitter) want.period * want.frames ≡ want.frames * div_ceil (span + want.jitter) want.period = grind arith in
-          let all : frames_of_want span want ≡ want.frames * div_ceil (span + want.jitter) want.period + want.frames = grind arith in
-          omega (arith, rest, one, two, turned, all)
+          let all : want.frames * (wanted_in messages f t span + 1) ≤ frames_of_want span want = mul-le-mul_left want.frames (wanted.few f t span) in
+          omega (arith, rest, one, two, all)
     ]
 
   announced_most : total messages.count (λ m. cond (is_announced m) (want_for demand messages m).frames 0) ≤ sum_by (frames_of_want span) demand.wants

@@ -4,14 +4,15 @@ use Rattle.std.proofs.Common.{◌≡◌, ℕ, zero, suc, ◌+◌, ◌*◌, ◌-�
 use Rattle.std.proofs.Common.{sym, subst, arith, inl, inr}
 use Rattle.std.proofs.Math.Nat.{mul-le-mul_left, div-mul-le_self, lt-div-mul-add}
 use Rattle.std.specs.Int.{div_ceil}
-use Rattle.std.proofs.lemmas.Bool.{and_parts, and_from, cases_lt, cases_Bool, le-leb, lt-ltb, leb-true, ltb-true, eqb-true}
+use Rattle.std.proofs.lemmas.Bool.{and_parts, and_from, both_ways, cases_lt, cases_Bool, le-leb, lt-ltb, leb-true, ltb-true, eqb-true}
 use Rattle.std.proofs.lemmas.Grind.{div_ceil_times}
 use Rattle.j39_timing.specs.Sums.{total}
 use Rattle.j39_timing.specs.TimedFrames.{Schedule, demand}
 use Rattle.j39_timing.specs.declared.stream.Stream.{Stream}
 use Rattle.j39_timing.specs.FrameStreams.{Origins, AreOfStreams}
-use Rattle.j39_timing.specs.Traffic.{AreAsWanted, releases_in}
-use Rattle.j39_timing.specs.Waits.{Demand, demand_of, frames_wanted, lesser, lesser_share, share}
+use Rattle.j39_timing.specs.Traffic.{AreAsWanted, queuings_in, releases_in}
+use Rattle.j39_timing.specs.Waits.{Demand, IsSpaced, asked_share, askers_want, demand_of, frames_of_want, frames_wanted, lesser_share, share, wanted_share}
+use Rattle.j39_timing.specs.declared.wants.Want.{Want}
 use Rattle.j39_timing.proofs.StreamSums.{all_streams, inside as in_window, inside_from, inside_parts, is_of, of_stream, queued_in}
 use Rattle.j39_timing.proofs.Sums.{total-le, total-less, total-none, total-times, total-two}
 use Rattle.j39_timing.proofs.WaitingWindow.{IsBusyWith, going_demand, is_within, others_going}
@@ -128,8 +129,8 @@ module _ (s : Schedule) (count : ℕ) (stream : ℕ → Stream) (demands : List 
           release_first = keeps.release_first;
           jitter_at_most = keeps.jitter_at_most;
         };
-    spaced = λ p q in_p in_q differ less_p less_q same turn.
-        known.spaced p q in_p in_q differ (its_parts p less_p).0 (its_parts q less_q).0 same turn;
+    spaced = λ p q in_p in_q differ less_p less_q same turn paced.
+        known.spaced p q in_p in_q differ (its_parts p less_p).0 (its_parts q less_q).0 same turn paced;
   }
 
   abbrev shares : ℕ
@@ -140,12 +141,12 @@ module _ (s : Schedule) (count : ℕ) (stream : ℕ → Stream) (demands : List 
   queued t j = queued_in going_only 1 count before of of_streams t (wait + 1) j
 
   -- is no more than its pace allows
-  at_pace : (t j : ℕ) → j < count → queued t j ≤ cond (may j) (share (wait + 1) (stream j)) 0
-  at_pace t j below =
+  at_pace : (t j : ℕ) → j < count → IsSpaced (stream j) → queued t j ≤ cond (may j) (share (wait + 1) (stream j)) 0
+  at_pace t j below paced =
       let cover : wait + 1 + (stream j).jitter ≤ slots j * (stream j).period =
       (div_ceil_times (wait + 1 + (stream j).jitter) (stream j).period (positive j below)).0 in
       let most : queued t j ≤ (before j).frames * (slots j * (before j).bits) =
-      of_stream going_only 1 count before of of_streams j (slots j) t (wait + 1) cover in
+      of_stream going_only 1 count before of of_streams j (slots j) t (wait + 1) paced cover in
       let same : (before j).frames * (slots j * (before j).bits) ≤ cond (may j) (share (wait + 1) (stream j)) 0 =
       elim (may j) as (λ e. cond e (stream j).frames 0 * (slots j * (stream j).bits) ≤ cond e (share (wait + 1) (stream j)) 0) [
         | true ↦ omega arith
@@ -158,7 +159,7 @@ module _ (s : Schedule) (count : ℕ) (stream : ℕ → Stream) (demands : List 
       → queued t j ≤ frames_wanted (wait + 1 + (stream j).jitter) wanted * (stream j).bits
   at_demand t j wanted its =
       let few : releases_in s planned of j (t - (stream j).jitter) (wait + 1 + (stream j).jitter) ≤ frames_wanted (wait + 1 + (stream j).jitter) wanted =
-      as_wanted j (t - (stream j).jitter) (wait + 1 + (stream j).jitter) wanted its in
+      as_wanted.by_sender j (t - (stream j).jitter) (wait + 1 + (stream j).jitter) wanted its in
       let each : queued t j ≤ (stream j).bits * releases_in s planned of j (t - (stream j).jitter) (wait + 1 + (stream j).jitter) =
       total-times s.count (λ p. is_of going_only 1 count before of of_streams j p && in_window t (wait + 1) (s.queued p))
       (λ p. planned p && (eqb (of.source p) j && (leb (t - (stream j).jitter) (of.since p) && ltb (of.since p) (t - (stream j).jitter + (wait + 1 + (stream j).jitter)))))
@@ -182,15 +183,55 @@ module _ (s : Schedule) (count : ℕ) (stream : ℕ → Stream) (demands : List 
       grind arith in
       omega (arith, each, most, turned)
 
+  -- nor than others ask for
+  at_asked : (t j : ℕ) (want : Want) → askers_want (stream j) ≡ Some want → queued t j ≤ asked_share (wait + 1) (stream j) want
+  at_asked t j want its =
+      let few : queuings_in s planned of j t (wait + 1) ≤ frames_of_want (wait + 1 + (stream j).jitter) want = as_wanted.by_askers j t (wait + 1) want its in
+      let each : queued t j ≤ (stream j).bits * queuings_in s planned of j t (wait + 1) =
+      total-times s.count (λ p. is_of going_only 1 count before of of_streams j p && in_window t (wait + 1) (s.queued p))
+      (λ p. planned p && (eqb (of.source p) j && in_window t (wait + 1) (s.queued p)))
+      (λ p. (stream (of.source p)).bits) (stream j).bits (λ p in_p is.
+      let one = and_parts (is_of going_only 1 count before of of_streams j p) (in_window t (wait + 1) (s.queued p)) is in
+      let two = and_parts (ltb (going_only.ident p) 1) (eqb (of.source p) j) one.0 in
+      let (of_plan, _) = its_parts p (ltb-true (going_only.ident p) 1 two.0) in (
+        and_from (planned p) (eqb (of.source p) j && in_window t (wait + 1) (s.queued p)) of_plan
+            (and_from (eqb (of.source p) j) (in_window t (wait + 1) (s.queued p)) two.1 one.1),
+        subst (λ i. (stream i).bits ≤ (stream j).bits) (sym (eqb-true (of.source p) j two.1)) (omega arith),
+      )) in
+      let most : (stream j).bits * queuings_in s planned of j t (wait + 1) ≤ (stream j).bits * frames_of_want (wait + 1 + (stream j).jitter) want =
+      mul-le-mul_left (stream j).bits few in
+      let turned : (stream j).bits * frames_of_want (wait + 1 + (stream j).jitter) want ≡ asked_share (wait + 1) (stream j) want = grind arith in
+      omega (arith, each, most, turned)
+
+  -- of one that may not go there is nothing
+  at_none : (t j : ℕ) → may j ≡ false → queued t j ≡ 0
+  at_none t j cannot =
+      total-none s.count (λ p. cond (is_of going_only 1 count before of of_streams j p && in_window t (wait + 1) (s.queued p)) ((stream (of.source p)).bits) 0)
+      (λ p in_p.
+      elim (cases_Bool (is_of going_only 1 count before of of_streams j p && in_window t (wait + 1) (s.queued p))) [
+        | inr fails ↦ rw (fails) refl
+        | inl is ↦
+            let one = and_parts (is_of going_only 1 count before of of_streams j p) (in_window t (wait + 1) (s.queued p)) is in
+            let two = and_parts (ltb (going_only.ident p) 1) (eqb (of.source p) j) one.0 in
+            let (of_plan, with_p) = its_parts p (ltb-true (going_only.ident p) 1 two.0) in
+            absurd (both_ways (may j) cannot (subst (λ i. may i ≡ true) (eqb-true (of.source p) j two.1) (goes p in_p of_plan with_p)))
+      ])
+
   at_lesser : (t j : ℕ) → j < count → queued t j ≤ cond (may j) (lesser_share demands (wait + 1) (stream j)) 0
-  at_lesser t j below = go (may j) (demand_of demands (stream j)) (at_pace t j below) (λ wanted is. at_demand t j wanted is)
+  at_lesser t j below = elim (cases_Bool (may j)) [
+    | inr cannot ↦ let none = at_none t j cannot in rw (cannot) (omega (arith, none))
+    | inl can ↦ rw (can) (go (askers_want (stream j)) (demand_of demands (stream j))
+        (λ spaced. subst (λ (e : Bool). queued t j ≤ cond e (share (wait + 1) (stream j)) 0) can (at_pace t j below spaced))
+        (λ wanted is. at_demand t j wanted is) (λ want is. at_asked t j want is))
+  ]
     where
-      go : (e : Bool) (wanted : Option Demand) → queued t j ≤ cond e (share (wait + 1) (stream j)) 0
+      go : (asked : Option Want) (wanted : Option Demand) → (asked ≡ None → queued t j ≤ share (wait + 1) (stream j))
           → ((d : Demand) → wanted ≡ Some d → queued t j ≤ frames_wanted (wait + 1 + (stream j).jitter) d * (stream j).bits)
-          → queued t j ≤ cond e (lesser (wait + 1) (stream j) wanted) 0
-      go false wanted paced by = paced
-      go true None paced by = paced
-      go true (Some d) paced by = let few = by d refl in omega (arith, paced, few)
+          → ((w : Want) → asked ≡ Some w → queued t j ≤ asked_share (wait + 1) (stream j) w)
+          → queued t j ≤ wanted_share (wait + 1) (stream j) asked wanted
+      go (Some w) wanted paced by asked = asked w refl
+      go None None paced by asked = paced refl
+      go None (Some d) paced by asked = let few = by d refl in let most = paced refl in omega (arith, most, few)
 
   window : (t : ℕ) → demand going_only 1 t (wait + 1) ≤ shares
   window t = all_streams going_only 1 count before of of_streams t (wait + 1) (λ j. cond (may j) (lesser_share demands (wait + 1) (stream j)) 0) (at_lesser t)

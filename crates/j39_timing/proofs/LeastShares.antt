@@ -10,7 +10,7 @@ use Rattle.std.proofs.lemmas.Option.{slice_get-map}
 use Rattle.std.proofs.lemmas.List.Sums.{sum_by_more}
 use Rattle.std.proofs.Math.Nat.{div-mul-le_self, div-le_self, lt-mul-div-succ, mul-le-mul_left}
 use Rattle.j39_timing.specs.LeastShares.{NoneFitsFrom, IsLineBelow, IsStretchBelow, line_at, part_of}
-use Rattle.j39_timing.specs.Waits.{Demand, NoShorterFits, IsStream, IsWant, as_demand, demand_of, frames_of_want, frames_wanted, lesser, lesser_share, need}
+use Rattle.j39_timing.specs.Waits.{Demand, NoShorterFits, IsStream, IsWant, as_demand, frames_of_want, frames_wanted, lesser, lesser_share, need}
 use Rattle.j39_timing.specs.Waits.{share}
 use Rattle.j39_timing.specs.declared.lines.Line.{Line}
 use Rattle.j39_timing.specs.declared.lines.Stretch.{Stretch}
@@ -21,7 +21,7 @@ use Rattle.j39_timing.proofs.Needs.{AreDemands, none_fits, want-mono}
 
 pub part-small : (x : Stream) → IsStream x → part_of x ≤ 2 ^ 50
 part-small x ok =
-    let (_, bits, frames, _) = ok in
+    let (_, bits, frames, _, _) = ok in
     let some : x.frames * x.bits ≤ x.frames * 2 ^ 8 = mul-le-mul_left x.frames bits in
     let all : part_of x ≤ x.frames * x.bits * 2 ^ 32 = div-le_self (x.frames * x.bits * 2 ^ 32) x.period in
     omega (arith, some, frames, all)
@@ -51,23 +51,21 @@ wants-before x span bits want ok from =
     let more : bits * frames_of_want span want ≤ bits * frames_of_want x want = mul-le-mul_left bits (want-mono span x want from ok) in
     omega (arith, more)
 
--- a flow asks for a message at least, and its part of the bus
+-- the messages that come beside are wanted at least, and a part of the bus
 pub wants-part : (x bits : ℕ) (want : Want) → IsWant want
-    → 2 ^ 32 * (want.frames * bits) + want.frames * bits * 2 ^ 32 / want.period * x ≤ 2 ^ 32 * (frames_of_want x want * bits)
+    → 2 ^ 32 * (want.frames * bits * want.more) + want.frames * bits * 2 ^ 32 / want.period * x ≤ 2 ^ 32 * (frames_of_want x want * bits)
 wants-part x bits want ok =
     let part : want.frames * bits * 2 ^ 32 / want.period * x ≤ 2 ^ 32 * (want.frames * (div_ceil (x + want.jitter) want.period * bits)) =
     takes x want.jitter want.period want.frames bits ok.0 in
-    let more : frames_of_want x want * bits ≡ want.frames * (div_ceil (x + want.jitter) want.period * bits) + want.frames * bits = grind arith in
+    let more : frames_of_want x want * bits ≡ want.frames * (div_ceil (x + want.jitter) want.period * bits) + want.frames * bits * want.more = grind arith in
     omega (arith, part, more)
 
--- ---- what is wanted of a stream
-pub wanted-of : (all : List Wanted) (stream : Stream) (place : ℕ) (wanted : Wanted) → stream.wanted ≡ Some place → slice_get all place ≡ Some wanted
-    → demand_of (map as_demand all) stream ≡ Some (as_demand wanted)
-wanted-of all stream place wanted is found = rw (is) (slice_get-map as_demand all place ∙ ap (option_map as_demand) found)
+-- ---- what its sender wants of a stream
+pub wanted-of : (all : List Wanted) (place : ℕ) (wanted : Wanted) → slice_get all place ≡ Some wanted → slice_get (map as_demand all) place ≡ Some (as_demand wanted)
+wanted-of all place wanted found = slice_get-map as_demand all place ∙ ap (option_map as_demand) found
 
-pub nothing-of : (all : List Wanted) (stream : Stream) (place : ℕ) → stream.wanted ≡ Some place → slice_get all place ≡ None
-    → demand_of (map as_demand all) stream ≡ None
-nothing-of all stream place is none = rw (is) (slice_get-map as_demand all place ∙ ap (option_map as_demand) none)
+pub nothing-of : (all : List Wanted) (place : ℕ) → slice_get all place ≡ None → slice_get (map as_demand all) place ≡ None
+nothing-of all place none = slice_get-map as_demand all place ∙ ap (option_map as_demand) none
 
 -- ---- its pace, and what is wanted of it: lines that cross in some time
 module _ (paced asked k : ℕ) (less : asked < paced) where

@@ -10,9 +10,11 @@ use Rattle.std.proofs.lemmas.List.Sums.{sum_by-cons, sum_by-le}
 use Rattle.std.proofs.Math.Nat.{mul-le-mul_left, lt_of_mul-lt-mul_right}
 use Rattle.std.specs.List.{slice_get}
 use Rattle.std.specs.Option.{option_and_then}
-use Rattle.j39_timing.specs.Waits.{Demand, IsDemand, IsStream, IsWant, IsWanted, NoShorterFits, as_demand, demand_of, frames_of_want, frames_wanted, lesser}
-use Rattle.j39_timing.specs.Waits.{lesser_share, need, share}
+use Rattle.j39_timing.specs.Waits.{Demand, IsDemand, IsStream, IsWant, IsWanted, NoShorterFits, as_demand, askers_want, demand_of, frames_of_want}
+use Rattle.j39_timing.specs.Waits.{frames_wanted, lesser, lesser_share, need, of_sender, share, wanted_share}
 use Rattle.j39_timing.specs.declared.stream.Stream.{Stream}
+use Rattle.j39_timing.specs.declared.stream.WantedBy.{WantedBy}
+use Rattle.j39_timing.specs.declared.stream.WantedBy.TheVariants.{Askers, Sender}
 use Rattle.j39_timing.specs.declared.wants.Want.{Want}
 use Rattle.j39_timing.specs.declared.wants.Wanted.{Wanted}
 use Rattle.j39_timing.proofs.Demands.{lesser-most}
@@ -38,7 +40,7 @@ ceil-mono a b k some le =
 pub share-small : (span : ℕ) (x : Stream) → span < 2 ^ 32 → IsStream x → share span x ≤ 2 ^ 51
 share-small span x small ok =
     let few : div_ceil (span + x.jitter) x.period ≤ span + x.jitter = ceil-le (span + x.jitter) x.period ok.0 in
-    let (_, bits, frames, late) = ok in
+    let (_, bits, frames, late, _) = ok in
     let messages : div_ceil (span + x.jitter) x.period ≤ 2 ^ 33 = omega arith in
     let all : div_ceil (span + x.jitter) x.period * x.bits ≤ div_ceil (span + x.jitter) x.period * 2 ^ 8 =
     mul-le-mul_left (div_ceil (span + x.jitter) x.period) bits in
@@ -56,9 +58,9 @@ share-mono a b x le ok =
 want-small : (span : ℕ) (x : Want) → span < 2 ^ 33 → IsWant x → frames_of_want span x ≤ 2 ^ 43
 want-small span x small ok =
     let few : div_ceil (span + x.jitter) x.period ≤ span + x.jitter = ceil-le (span + x.jitter) x.period ok.0 in
-    let (_, frames, late) = ok in
-    let messages : div_ceil (span + x.jitter) x.period + 1 ≤ 2 ^ 34 = omega (arith, few, small, late) in
-    let most : x.frames * (div_ceil (span + x.jitter) x.period + 1) ≤ x.frames * 2 ^ 34 = mul-le-mul_left x.frames messages in
+    let (_, frames, late, more) = ok in
+    let messages : div_ceil (span + x.jitter) x.period + x.more ≤ 2 ^ 34 = omega (arith, few, small, late, more) in
+    let most : x.frames * (div_ceil (span + x.jitter) x.period + x.more) ≤ x.frames * 2 ^ 34 = mul-le-mul_left x.frames messages in
     omega (arith, most, frames)
 
 pub wants-small : (span : ℕ) (xs : List Want) → span < 2 ^ 33 → All IsWant xs → length xs ≤ 2048 → sum_by (frames_of_want span) xs ≤ 2 ^ 54
@@ -104,19 +106,36 @@ demand-sound demands x all = go x.wanted
     at place (Some demand) is = rw (is) (subst IsDemand (get_or_from_slice_get demands place demand demand is)
         (All-get_or IsDemand demands place demand (slice_get_within demands place demand is) all))
 
-    go : (place : Option ℕ) → IfSome (option_and_then (λ p. slice_get demands p) place) IsDemand
+    go : (wanted : Option WantedBy) → IfSome (option_and_then (of_sender demands) wanted) IsDemand
     go None = tt
-    go (Some place) = at place (slice_get demands place) refl
+    go (Some (Askers want)) = tt
+    go (Some (Sender place)) = at place (slice_get demands place) refl
 
 pub lesser_share-mono : (demands : List Demand) (a b : ℕ) (x : Stream) → AreDemands demands → a ≤ b → IsStream x
     → lesser_share demands a x ≤ lesser_share demands b x
-lesser_share-mono demands a b x known le ok = lesser-mono a b x (demand_of demands x) le ok (demand-sound demands x known)
+lesser_share-mono demands a b x known le ok = go (askers_want x) ok.4
+  where
+    go : (asked : Option Want) → IfSome asked IsWant → wanted_share a x asked (demand_of demands x) ≤ wanted_share b x asked (demand_of demands x)
+    go None sound = lesser-mono a b x (demand_of demands x) le ok (demand-sound demands x known)
+    go (Some want) sound =
+        let more : frames_of_want (a + x.jitter) want ≤ frames_of_want (b + x.jitter) want = want-mono (a + x.jitter) (b + x.jitter) want (omega (arith, le)) sound in
+        let bits : x.bits * frames_of_want (a + x.jitter) want ≤ x.bits * frames_of_want (b + x.jitter) want = mul-le-mul_left x.bits more in
+        omega (arith, bits)
 
 pub lesser_share-small : (demands : List Demand) (span : ℕ) (x : Stream) → span < 2 ^ 32 → IsStream x → lesser_share demands span x ≤ 2 ^ 51
-lesser_share-small demands span x small ok =
-    let most : share span x ≤ 2 ^ 51 = share-small span x small ok in
-    let less = lesser-most span x (demand_of demands x) in
-    omega (arith, most, less)
+lesser_share-small demands span x small ok = go (askers_want x) ok.4
+  where
+    go : (asked : Option Want) → IfSome asked IsWant → wanted_share span x asked (demand_of demands x) ≤ 2 ^ 51
+    go None sound =
+        let most : share span x ≤ 2 ^ 51 = share-small span x small ok in
+        let less = lesser-most span x (demand_of demands x) in
+        omega (arith, most, less)
+    go (Some want) sound =
+        let (_, bits, _, late, _) = ok in
+        let few : frames_of_want (span + x.jitter) want ≤ 2 ^ 43 = want-small (span + x.jitter) want (omega (arith, small, late)) sound in
+        let all : frames_of_want (span + x.jitter) want * x.bits ≤ frames_of_want (span + x.jitter) want * 2 ^ 8 =
+        mul-le-mul_left (frames_of_want (span + x.jitter) want) bits in
+        omega (arith, few, all)
 
 shares-mono : (demands : List Demand) (a b : ℕ) (xs : List Stream) → AreDemands demands → a ≤ b → All IsStream xs
     → sum_by (lesser_share demands a) xs ≤ sum_by (lesser_share demands b) xs

@@ -8,6 +8,7 @@ use Rattle.j39_timing.specs.FreshFrames.{ComeOneByOne, HasEnded, IsNewest, IsNew
 use Rattle.j39_timing.specs.AnyOrder.{Controllers, IsLegalInAnyOrder}
 use Rattle.j39_timing.specs.Messages.{frame_end}
 use Rattle.j39_timing.specs.Traffic.{delay_of}
+use Rattle.j39_timing.specs.Waits.{IsSpaced}
 use Rattle.j39_timing.proofs.Searching.{greatest}
 
 -- ---- there is a newest one
@@ -53,7 +54,7 @@ module _ (s : Schedule) (positive : (p : ℕ) → p < s.count → 1 ≤ s.bits p
   first_turn p inside is source =
       let turns = (come.of_streams.keeps p inside is).turns in
       let here : of.turn p < (stream i).frames = subst (λ (k : ℕ). of.turn p < (stream k).frames) source turns in
-      let single = come.single in
+      let single = come.single.0 in
       omega (arith, here, single)
 
   -- one that had its release before another has ended before this one ends
@@ -62,7 +63,8 @@ module _ (s : Schedule) (positive : (p : ℕ) → p < s.count → 1 ≤ s.bits p
   before p r in_p is_p of_p in_r is_r of_r less seen =
       let other : p ≢ r = λ same. let equal = ap of.since same in omega (arith, equal, less) in
       let turn : of.turn p ≡ of.turn r = first_turn p in_p is_p of_p ∙ sym (first_turn r in_r is_r of_r) in
-      let apart = come.of_streams.spaced p r in_p in_r other is_p is_r (of_p ∙ sym of_r) turn in
+      let apart = come.of_streams.spaced p r in_p in_r other is_p is_r (of_p ∙ sym of_r) turn
+      (subst (λ k. IsSpaced (stream k)) (sym of_p) come.single.1) in
       let late = (come.of_streams.keeps r in_r is_r).release_first in
       let begun = queued_first r in_r in
       let some = positive r in_r in

@@ -10,15 +10,16 @@ use Rattle.j39_timing.specs.Sums.{total}
 use Rattle.j39_timing.specs.TimedFrames.{Schedule, IsLegal, Waits}
 use Rattle.j39_timing.specs.declared.stream.Stream.{Stream}
 use Rattle.j39_timing.specs.FrameStreams.{Origins, AreOfStreams}
-use Rattle.j39_timing.specs.Traffic.{Traffic, Others, IsPlannedTraffic, IsSingle, DemandFits, IsStreamInTime, PlannedFramesWait, AreQueuedBehind, AreSteady}
-use Rattle.j39_timing.specs.Traffic.{delay_of}
-use Rattle.j39_timing.specs.Traffic.{may_go_before, may_share, others_before, others_queued, is_other_queued}
+use Rattle.j39_timing.specs.Traffic.{Traffic, Others, AreAsWanted, IsPlannedTraffic, IsSingle, DemandFits, IsStreamInTime, OwnDemandFits, PlannedFramesWait}
+use Rattle.j39_timing.specs.Traffic.{AreQueuedBehind, AreSteady, delay_of}
+use Rattle.j39_timing.specs.Traffic.{may_go_before, may_go_beside, may_share, others_before, others_queued, is_other_queued}
+use Rattle.j39_timing.specs.AnyOrder.{AreBegunWithin}
 use Rattle.j39_timing.specs.Messages.{AreSentWithin}
-use Rattle.j39_timing.specs.Waits.{demand_of, lesser_share, share}
+use Rattle.j39_timing.specs.Waits.{IsSpaced, lesser_share, share}
 use Rattle.j39_timing.proofs.FullWindows.{shares_of, some_wait, too_full, window_most}
 use Rattle.j39_timing.proofs.StreamSums.{at_most_one}
 use Rattle.j39_timing.proofs.Sums.{total-le, total-none, total-two}
-use Rattle.j39_timing.proofs.Demands.{lesser-most}
+use Rattle.j39_timing.proofs.Demands.{spaced-most}
 use Rattle.j39_timing.proofs.WaitingWindow.{GoingWait, IsBusyFrom, busy_from, busy_with, is_other_going, is_planned_within, is_within, others_going}
 use Rattle.j39_timing.proofs.WaitingWindow.{planned_demand}
 
@@ -31,7 +32,7 @@ counted false false itself other longest small less = omega arith
 
 module _ (s : Schedule) (traffic : Traffic) (others : Others) (longest : ℕ) (planned : ℕ → Bool) (of : Origins) (legal : IsLegal s)
     (i wait : ℕ) (known : IsPlannedTraffic s traffic others longest planned of i)
-    (positive : (j : ℕ) → j < traffic.count → 0 < (traffic.stream j).period) (demand_fits : DemandFits traffic others longest i wait) where
+    (positive : (j : ℕ) → j < traffic.count → 0 < (traffic.stream j).period) where
   abbrev own : ℕ → Bool
   own p = planned p && eqb (of.source p) i
 
@@ -90,41 +91,13 @@ module _ (s : Schedule) (traffic : Traffic) (others : Others) (longest : ℕ) (p
         rw (none) (omega arith)
   ]
 
-  -- ---- single frames whose releases are a period apart
+  -- ---- one frame of the stream, where the wait has room for what may go before it and for what the stream itself can queue, but for the frame: its frames
+  -- keep to these streams too, and count as having so many bits
 
-  module _ (single : IsSingle (traffic.stream i)) (fits : delay_of (traffic.stream i) wait ≤ (traffic.stream i).period) where
-    -- the streams, where a frame of this one is as long as any
-    abbrev streams : ℕ → Stream
-    streams j = record {
-      frames = (traffic.stream j).frames;
-      period = (traffic.stream j).period;
-      bits = cond (eqb j i) longest (traffic.stream j).bits;
-      jitter = (traffic.stream j).jitter;
-      wanted = (traffic.stream j).wanted;
-    }
-
-    of_streams : AreOfStreams s (λ p. planned p ≡ true) traffic.count streams of
-    of_streams = record {
-      keeps = λ p in_p is.
-          let keeps = known.of_streams.keeps p in_p is in
-          record {
-            known = keeps.known;
-            bits_at_most = elim (eqb (of.source p) i) as (λ e. s.bits p ≤ cond e longest (traffic.stream (of.source p)).bits) [
-              | true ↦ known.longest_at_most p in_p
-              | false ↦ keeps.bits_at_most
-            ];
-            turns = keeps.turns;
-            release_first = keeps.release_first;
-            jitter_at_most = keeps.jitter_at_most;
-          };
-      spaced = known.of_streams.spaced;
-    }
-
-    -- the stream itself, and those that may go before
-    abbrev may : ℕ → Bool
-    may j = eqb j i || may_go_before traffic i j
-
-    -- one frame
+  module _ (streams : ℕ → Stream) (of_streams : AreOfStreams s (λ p. planned p ≡ true) traffic.count streams of)
+      (as_wanted : AreAsWanted s planned of traffic.demands streams) (paced : (j : ℕ) → j < traffic.count → 0 < (streams j).period)
+      (room : ℕ) (its_room : (streams i).bits ≡ room) (small : room ≤ longest)
+      (it_fits : longest * (1 + count) + shares_of traffic.count streams traffic.demands (may_go_beside traffic i) wait ≤ wait + room) where
     module _ (x : ℕ) (in_x : x < s.count) (is_planned : planned x ≡ true) (source : of.source x ≡ i) where
       abbrev c : ℕ
       c = s.ident x
@@ -138,56 +111,11 @@ module _ (s : Schedule) (traffic : Traffic) (others : Others) (longest : ℕ) (p
       short : s.bits x ≤ longest
       short = known.longest_at_most x in_x
 
-      -- of its stream no other frame is queued in a wait and the bit behind
-      one_message : div_ceil (wait + 1 + (traffic.stream i).jitter) (traffic.stream i).period ≤ 1
-      one_message =
-          let bits : s.bits x ≤ (traffic.stream i).bits =
-          subst (λ j. s.bits x ≤ (traffic.stream j).bits) source (known.of_streams.keeps x in_x is_planned).bits_at_most in
-          let some = shortest in
-          let few_slots = (div_ceil_times (wait + 1 + (traffic.stream i).jitter) (traffic.stream i).period (omega (arith, bits, some, fits))).1 in
-          elim (cases_lt 1 (div_ceil (wait + 1 + (traffic.stream i).jitter) (traffic.stream i).period)) [
-            | inr one ↦ one
-            | inl two ↦
-                let more : (traffic.stream i).period * 2 ≤ (traffic.stream i).period * div_ceil (wait + 1 + (traffic.stream i).jitter) (traffic.stream i).period =
-                mul-le-mul_left (traffic.stream i).period two in
-                absurd (omega (arith, more, few_slots, bits, some, fits))
-          ]
-
-      shares_most : shares_of traffic.count streams traffic.demands may wait ≤ shares + longest
-      shares_most =
-          let one = one_message in
-          let itself : total traffic.count (λ j. cond (eqb j i) longest 0) ≤ longest =
-          at_most_one traffic.count (λ j. eqb j i) (λ j. longest) longest (λ j below is. omega arith)
-          (λ j k below_j below_k is_j is_k. let same_j = eqb-true j i is_j in let same_k = eqb-true k i is_k in omega (arith, same_j, same_k)) in
-          let two : shares_of traffic.count streams traffic.demands may wait ≤ shares + total traffic.count (λ j. cond (eqb j i) longest 0) =
-          total-two traffic.count (λ j. cond (may j) (lesser_share traffic.demands (wait + 1) (streams j)) 0)
-          (λ j. cond (may_go_before traffic i j) (lesser_share traffic.demands (wait + 1) (traffic.stream j)) 0) (λ j. cond (eqb j i) longest 0) (λ j below.
-          counted (eqb j i) (may_go_before traffic i j) (lesser_share traffic.demands (wait + 1) (streams j))
-          (lesser_share traffic.demands (wait + 1) (traffic.stream j)) longest (λ same.
-          let at : j ≡ i = eqb-true j i same in
-          let frames : (traffic.stream j).frames ≡ 1 = ap (λ k. (traffic.stream k).frames) at ∙ single in
-          let slots : div_ceil (wait + 1 + (traffic.stream j).jitter) (traffic.stream j).period ≤ 1 =
-          subst (λ k. div_ceil (wait + 1 + (traffic.stream k).jitter) (traffic.stream k).period ≤ 1) (sym at) one in
-          let bits : longest * div_ceil (wait + 1 + (traffic.stream j).jitter) (traffic.stream j).period ≤ longest * 1 = mul-le-mul_left longest slots in
-          let most : share (wait + 1) (streams j) ≤ longest = rw (same, frames) (omega (arith, bits)) in
-          let less : lesser_share traffic.demands (wait + 1) (streams j) ≤ share (wait + 1) (streams j) =
-          lesser-most (wait + 1) (streams j) (demand_of traffic.demands (streams j)) in
-          omega (arith, most, less))
-          (λ other.
-          let alike : streams j ≡ traffic.stream j = rw (other) refl in
-          let equal : lesser_share traffic.demands (wait + 1) (streams j) ≡ lesser_share traffic.demands (wait + 1) (traffic.stream j) =
-          ap (lesser_share traffic.demands (wait + 1)) alike in
-          omega (arith, equal))) in
-          omega (arith, itself, two)
-
-      it_fits : longest * (1 + count) + shares_of traffic.count streams traffic.demands may wait ≤ wait + longest
-      it_fits = let most = shares_most in omega (arith, most, demand_fits)
-
       -- what goes with it: frames of smaller identifiers, and of its own one those of its stream and of twins
       abbrev with_it : ℕ → Bool
       with_it p = ltb (s.ident p) c || (eqb (s.ident p) c && may_share traffic i (of.source p))
 
-      goes : (p : ℕ) → p < s.count → planned p ≡ true → with_it p ≡ true → may (of.source p) ≡ true
+      goes : (p : ℕ) → p < s.count → planned p ≡ true → with_it p ≡ true → may_go_beside traffic i (of.source p) ≡ true
       goes p in_p is with_x = elim (cases_Bool (eqb (of.source p) i)) [
         | inl same ↦ or_left (eqb (of.source p) i) (may_go_before traffic i (of.source p)) same
         | inr other ↦ or_right (eqb (of.source p) i) (may_go_before traffic i (of.source p))
@@ -211,13 +139,13 @@ module _ (s : Schedule) (traffic : Traffic) (others : Others) (longest : ℕ) (p
       x_with = or_right (ltb c c) (eqb c c && may_share traffic i (of.source x))
           (and_from (eqb c c) (may_share traffic i (of.source x)) (eq-eqb c c refl) its_own)
 
-      x_bits : (streams (of.source x)).bits ≡ longest
-      x_bits = let same = eq-eqb (of.source x) i source in rw (same) refl
+      x_bits : (streams (of.source x)).bits ≡ room
+      x_bits = subst (λ j. (streams j).bits ≡ room) (sym source) its_room
 
       some : 1 ≤ wait
       some =
-          some_wait s traffic.count streams traffic.demands planned of of_streams known.as_wanted positive may with_it goes wait longest count longest x in_x is_planned x_with x_bits
-          (omega arith) shortest short it_fits
+          some_wait s traffic.count streams traffic.demands planned of of_streams as_wanted paced (may_go_beside traffic i) with_it goes wait longest count room x
+          in_x is_planned x_with x_bits small shortest short it_fits
 
       -- what goes before it: of its own identifier only planned frames do
       abbrev first : ℕ → Bool
@@ -325,29 +253,122 @@ module _ (s : Schedule) (traffic : Traffic) (others : Others) (longest : ℕ) (p
         not_late =
             let (begin, is_busy) = busy_with s planned first longest wait legal.positive legal.queued_first legal.never_idle known.longest_at_most x in_x
             is_planned seen late closed in
-            too_full s traffic.count streams traffic.demands planned of of_streams known.as_wanted positive may with_it goes wait longest count longest x in_x is_planned x_with x_bits
-            (omega arith) shortest short it_fits first itself first_with begin is_busy.before is_busy (fewer begin is_busy.waiting)
+            too_full s traffic.count streams traffic.demands planned of of_streams as_wanted paced (may_go_beside traffic i) with_it goes wait longest count room x
+            in_x is_planned x_with x_bits small shortest short it_fits first itself first_with begin is_busy.before is_busy (fewer begin is_busy.waiting)
 
-    pub begun_in_time : (p : ℕ) → p < s.count → planned p ≡ true → of.source p ≡ i → s.queued p + wait < s.now → s.start p ≤ s.queued p + wait
-    begun_in_time p in_p is same seen = elim (cases_lt (s.queued p + wait) (s.start p)) [
+    begun_beside : AreBegunWithin s planned of i wait
+    begun_beside p in_p is same seen = elim (cases_lt (s.queued p + wait) (s.start p)) [
       | inr in_time ↦ in_time
       | inl later ↦ absurd (not_late p in_p is same seen later)
     ]
 
+  in_time_from : AreBegunWithin s planned of i wait → IsStreamInTime s planned of i (traffic.stream i) wait
+  in_time_from begun p in_p is same seen =
+      let late : s.queued p ≤ of.since p + (traffic.stream i).jitter =
+      subst (λ j. s.queued p ≤ of.since p + (traffic.stream j).jitter) same (known.of_streams.keeps p in_p is).jitter_at_most in
+      let begins = begun p in_p is same (omega (arith, late, seen)) in
+      let most : s.bits p ≤ (traffic.stream i).bits = subst (λ j. s.bits p ≤ (traffic.stream j).bits) same (known.of_streams.keeps p in_p is).bits_at_most in
+      (begins, omega (arith, begins, most, late))
+
+  -- ---- frames of which two may be queued at once
+
+  module _ (small : (traffic.stream i).bits ≤ longest) (own_fits : OwnDemandFits traffic others longest i wait) where
+    pub own_begun : AreBegunWithin s planned of i wait
+    own_begun = begun_beside traffic.stream known.of_streams known.as_wanted positive (traffic.stream i).bits refl small own_fits
+
+    pub own_in_time : IsStreamInTime s planned of i (traffic.stream i) wait
+    own_in_time = in_time_from own_begun
+
+  -- ---- single frames whose releases are a period apart
+
+  module _ (demand_fits : DemandFits traffic others longest i wait) (single : IsSingle (traffic.stream i))
+      (fits : delay_of (traffic.stream i) wait ≤ (traffic.stream i).period) where
+    -- the streams, where a frame of this one is as long as any
+    abbrev streams : ℕ → Stream
+    streams j = record {
+      frames = (traffic.stream j).frames;
+      period = (traffic.stream j).period;
+      bits = cond (eqb j i) longest (traffic.stream j).bits;
+      jitter = (traffic.stream j).jitter;
+      wanted = (traffic.stream j).wanted;
+    }
+
+    of_streams : AreOfStreams s (λ p. planned p ≡ true) traffic.count streams of
+    of_streams = record {
+      keeps = λ p in_p is.
+          let keeps = known.of_streams.keeps p in_p is in
+          record {
+            known = keeps.known;
+            bits_at_most = elim (eqb (of.source p) i) as (λ e. s.bits p ≤ cond e longest (traffic.stream (of.source p)).bits) [
+              | true ↦ known.longest_at_most p in_p
+              | false ↦ keeps.bits_at_most
+            ];
+            turns = keeps.turns;
+            release_first = keeps.release_first;
+            jitter_at_most = keeps.jitter_at_most;
+          };
+      spaced = known.of_streams.spaced;
+    }
+
+    as_wanted : AreAsWanted s planned of traffic.demands streams
+    as_wanted = record { by_sender = known.as_wanted.by_sender; by_askers = known.as_wanted.by_askers }
+
+    -- of the stream no other frame is queued in a wait and the bit behind
+    module _ (some_bits : 1 ≤ (traffic.stream i).bits) where
+      one_message : div_ceil (wait + 1 + (traffic.stream i).jitter) (traffic.stream i).period ≤ 1
+      one_message =
+          let few_slots = (div_ceil_times (wait + 1 + (traffic.stream i).jitter) (traffic.stream i).period (omega (arith, some_bits, fits))).1 in
+          elim (cases_lt 1 (div_ceil (wait + 1 + (traffic.stream i).jitter) (traffic.stream i).period)) [
+            | inr one ↦ one
+            | inl two ↦
+                let more : (traffic.stream i).period * 2 ≤ (traffic.stream i).period * div_ceil (wait + 1 + (traffic.stream i).jitter) (traffic.stream i).period =
+                mul-le-mul_left (traffic.stream i).period two in
+                absurd (omega (arith, more, few_slots, some_bits, fits))
+          ]
+
+      shares_most : shares_of traffic.count streams traffic.demands (may_go_beside traffic i) wait ≤ shares + longest
+      shares_most =
+          let one = one_message in
+          let itself : total traffic.count (λ j. cond (eqb j i) longest 0) ≤ longest =
+          at_most_one traffic.count (λ j. eqb j i) (λ j. longest) longest (λ j below is. omega arith)
+          (λ j k below_j below_k is_j is_k. let same_j = eqb-true j i is_j in let same_k = eqb-true k i is_k in omega (arith, same_j, same_k)) in
+          let two : shares_of traffic.count streams traffic.demands (may_go_beside traffic i) wait ≤ shares + total traffic.count (λ j. cond (eqb j i) longest 0) =
+          total-two traffic.count (λ j. cond (may_go_beside traffic i j) (lesser_share traffic.demands (wait + 1) (streams j)) 0)
+          (λ j. cond (may_go_before traffic i j) (lesser_share traffic.demands (wait + 1) (traffic.stream j)) 0) (λ j. cond (eqb j i) longest 0) (λ j below.
+          counted (eqb j i) (may_go_before traffic i j) (lesser_share traffic.demands (wait + 1) (streams j))
+          (lesser_share traffic.demands (wait + 1) (traffic.stream j)) longest (λ same.
+          let at : j ≡ i = eqb-true j i same in
+          let frames : (traffic.stream j).frames ≡ 1 = ap (λ k. (traffic.stream k).frames) at ∙ single.0 in
+          let slots : div_ceil (wait + 1 + (traffic.stream j).jitter) (traffic.stream j).period ≤ 1 =
+          subst (λ k. div_ceil (wait + 1 + (traffic.stream k).jitter) (traffic.stream k).period ≤ 1) (sym at) one in
+          let bits : longest * div_ceil (wait + 1 + (traffic.stream j).jitter) (traffic.stream j).period ≤ longest * 1 = mul-le-mul_left longest slots in
+          let most : share (wait + 1) (streams j) ≤ longest = rw (same, frames) (omega (arith, bits)) in
+          let less : lesser_share traffic.demands (wait + 1) (streams j) ≤ share (wait + 1) (streams j) =
+          spaced-most traffic.demands (wait + 1) (streams j) (subst (λ k. IsSpaced (traffic.stream k)) (sym at) single.1) in
+          omega (arith, most, less))
+          (λ other.
+          let alike : streams j ≡ traffic.stream j = rw (other) refl in
+          let equal : lesser_share traffic.demands (wait + 1) (streams j) ≡ lesser_share traffic.demands (wait + 1) (traffic.stream j) =
+          ap (lesser_share traffic.demands (wait + 1)) alike in
+          omega (arith, equal))) in
+          omega (arith, itself, two)
+
+      it_fits : longest * (1 + count) + shares_of traffic.count streams traffic.demands (may_go_beside traffic i) wait ≤ wait + longest
+      it_fits = let most = shares_most in omega (arith, most, demand_fits)
+
+    pub begun_in_time : AreBegunWithin s planned of i wait
+    begun_in_time p in_p is same seen =
+        let bits : s.bits p ≤ (traffic.stream i).bits = subst (λ j. s.bits p ≤ (traffic.stream j).bits) same (known.of_streams.keeps p in_p is).bits_at_most in
+        let some = legal.positive p in_p in
+        let its_own = eq-eqb i i refl in
+        begun_beside streams of_streams as_wanted positive longest (rw (its_own) refl) (omega arith) (it_fits (omega (arith, bits, some))) p in_p is same seen
+
     pub stream_in_time : IsStreamInTime s planned of i (traffic.stream i) wait
-    stream_in_time p in_p is same seen =
-        let late : s.queued p ≤ of.since p + (traffic.stream i).jitter =
-        subst (λ j. s.queued p ≤ of.since p + (traffic.stream j).jitter) same (known.of_streams.keeps p in_p is).jitter_at_most in
-        let begins : s.start p ≤ s.queued p + wait = elim (cases_lt (s.queued p + wait) (s.start p)) [
-          | inr in_time ↦ in_time
-          | inl later ↦ absurd (not_late p in_p is same (omega arith) later)
-        ] in
-        let most : s.bits p ≤ (traffic.stream i).bits = subst (λ j. s.bits p ≤ (traffic.stream j).bits) same (known.of_streams.keeps p in_p is).bits_at_most in
-        (begins, omega arith)
+    stream_in_time = in_time_from begun_in_time
 
   -- ---- frames of which each is queued after the end of the one before, of a stream without twins
 
-  module _ (alone : (j : ℕ) → traffic.are_twins i j ≡ false) (behind : AreQueuedBehind s planned of i) (steady : AreSteady s planned of i) where
+  module _ (demand_fits : DemandFits traffic others longest i wait) (alone : (j : ℕ) → traffic.are_twins i j ≡ false) (behind : AreQueuedBehind s planned of i) (steady : AreSteady s planned of i) where
     own_source : (q : ℕ) → may_share traffic i (of.source q) ≡ true → of.source q ≡ i
     own_source q shared = elim (or_cases (eqb (of.source q) i) (traffic.are_twins i (of.source q)) shared) [
       | inl same ↦ eqb-true (of.source q) i same

@@ -4,9 +4,10 @@ use Rattle.std.proofs.lemmas.Bool.{and_parts, and_from, cases_Bool, lt-ltb, leb-
 use Rattle.j39_timing.specs.TimedFrames.{Schedule, IsLegal}
 use Rattle.j39_timing.specs.declared.stream.Stream.{Stream}
 use Rattle.j39_timing.specs.FrameStreams.{AreOfStreams, Origins}
-use Rattle.j39_timing.specs.Traffic.{Traffic, Others, IsPlannedTraffic, IsSingle, DemandFits, PlannedFramesWait, delay_of, is_other_queued, others_queued}
+use Rattle.j39_timing.specs.Traffic.{Traffic, Others, IsPlannedTraffic, IsSingle, DemandFits, OwnDemandFits, PlannedFramesWait, delay_of, is_other_queued}
+use Rattle.j39_timing.specs.Traffic.{others_queued}
 use Rattle.j39_timing.specs.Prefixes.{seen_until, planned_until, IsPlannedUntil, AreBegunUntil}
-use Rattle.j39_timing.proofs.PlannedTraffic.{begun_in_time}
+use Rattle.j39_timing.proofs.PlannedTraffic.{begun_in_time, own_begun}
 use Rattle.j39_timing.proofs.Sums.{total-le}
 
 module _ (s : Schedule) (by ident : ℕ) where
@@ -105,7 +106,7 @@ module _ (s : Schedule) (traffic : Traffic) (others : Others) (longest : ℕ) (p
   then_known = record {
     longest_at_most = known.longest_at_most;
     of_streams = still_of_streams s by others.least (λ p. then_planned p ≡ true) traffic.count traffic.stream of known.of_streams;
-    as_wanted = known.as_wanted;
+    as_wanted = record { by_sender = known.as_wanted.by_sender; by_askers = known.as_wanted.by_askers };
     from_least = λ p in_p is.
         let (plain, early) = is_planned p is in
         let least = known.from_least p in_p plain in
@@ -153,4 +154,10 @@ module _ (s : Schedule) (traffic : Traffic) (others : Others) (longest : ℕ) (p
       → IsSingle (traffic.stream i) → delay_of (traffic.stream i) wait ≤ (traffic.stream i).period → AreBegunUntil s planned of i wait by
   begun_until legal wait positive demand_fits single fits p in_p is source before =
       begun_in_time then_seen traffic others longest then_planned of (still_legal s by others.least legal seen) i wait then_known positive demand_fits single fits
+      p in_p (then_is p is (omega arith)) source before
+
+  pub own_begun_until : IsLegal s → (wait : ℕ) → ((j : ℕ) → j < traffic.count → 0 < (traffic.stream j).period) → (traffic.stream i).bits ≤ longest
+      → OwnDemandFits traffic others longest i wait → AreBegunUntil s planned of i wait by
+  own_begun_until legal wait positive small own_fits p in_p is source before =
+      own_begun then_seen traffic others longest then_planned of (still_legal s by others.least legal seen) i wait then_known positive small own_fits
       p in_p (then_is p is (omega arith)) source before

@@ -22,7 +22,7 @@ two_planned = record {
   longest_at_most = λ p _. omega arith;
   of_streams = record {
     keeps = λ p _ _. keeps_single 2 1 two.ident at_once.source p (omega arith);
-    spaced = λ p q in_p in_q differ is_p is_q _ _.
+    spaced = λ p q in_p in_q differ is_p is_q _ _ _.
         let some_p = ltb-true 0 p is_p in
         let some_q = ltb-true 0 q is_q in
         absurd (differ (omega (arith, in_p, in_q, some_p, some_q)));

@@ -56,7 +56,7 @@ three_of_queue_group = record {
   longest_at_most = λ p _. omega arith;
   of_streams = record {
     keeps = λ p _ _. keeps_single 3 3 three.ident last_first.source p (omega arith);
-    spaced = λ p q in_p in_q differ _ _ same _. absurd (differ (omega (arith, in_p, in_q, same)));
+    spaced = λ p q in_p in_q differ _ _ same _ _. absurd (differ (omega (arith, in_p, in_q, same)));
   };
   as_wanted = nothing_wanted three all_planned last_first [] three_streams.stream (λ j. refl);
   from_least = λ p in_p _. omega (arith, in_p);

@@ -26,7 +26,7 @@ three_planned = record {
   longest_at_most = λ p _. omega arith;
   of_streams = record {
     keeps = λ p _ is. keeps_single 3 2 three.ident last_first.source p (let some = ltb-true 0 p is in omega (arith, some));
-    spaced = λ p q in_p in_q differ is_p is_q same _.
+    spaced = λ p q in_p in_q differ is_p is_q same _ _.
         let some_p = ltb-true 0 p is_p in
         let some_q = ltb-true 0 q is_q in
         absurd (differ (omega (arith, in_p, in_q, some_p, some_q, same)));

@@ -1,11 +1,12 @@
 -- A flow of two packets that wants its messages as soon as it may, each after 51 bits: six packets have their releases in 51 bits, of three messages.
-use Rattle.std.proofs.Common.{◌≡◌, ℕ, zero, suc, ◌+◌, ◌*◌, ◌/◌, ◌%◌, ◌<◌, ◌≤◌, Bool, true, [], ◌∷◌, refl, arith}
+use Rattle.std.proofs.Common.{◌≡◌, ℕ, zero, suc, ◌+◌, ◌*◌, ◌/◌, ◌%◌, ◌<◌, ◌≤◌, Bool, true, [], ◌∷◌, refl, subst, arith}
 use Rattle.j39_timing.specs.FrameStreams.{Origins}
 use Rattle.j39_timing.specs.Sums.{total}
 use Rattle.j39_timing.specs.TimedFrames.{Schedule}
 use Rattle.j39_timing.specs.Traffic.{releases_in}
 use Rattle.j39_timing.specs.Waits.{Demand, frames_wanted}
-use Rattle.j39_timing.specs.WantedMessages.{AreFramesOfMessages, AreWantedInTurn, HasLongest, HavePeriods, UnitMessages}
+use Rattle.j39_timing.specs.WantedMessages.{AreFramesOfMessages, AreReleasedApart, AreWantedInTurn, HasLongest, HavePeriods, UnitMessages, want_at}
+use Rattle.j39_timing.proofs.AskedFrames.{apart_want_no_more}
 
 -- the packets come each ten bits, from bit 72 on
 abbrev six : Schedule
@@ -18,7 +19,7 @@ abbrev as_queued : Origins
 as_queued = record { source = λ p. 0; turn = λ p. 0; since = λ p. 72 + 10 * p }
 
 abbrev of_two : Demand
-of_two = record { under_way = 2; wants = record { frames = 2; period = 51; jitter = 0 } ∷ [] }
+of_two = record { under_way = 2; wants = record { frames = 2; period = 51; jitter = 0; more = 1 } ∷ [] }
 
 abbrev announced_at : ℕ → ℕ
 announced_at zero = 0
@@ -54,12 +55,21 @@ one_waits zero n less below = omega arith
 one_waits (suc zero) n less below = omega (arith, less, below)
 one_waits (suc (suc m)) n less below = absurd (omega (arith, less, below))
 
+released : (f : ℕ) → AreReleasedApart of_two three f
+released f = record {
+  apart = λ m n one its. let (less, _, _) = one in subst (λ k. 51 * m + (want_at of_two k).period ≤ 51 * n) its (omega (arith, less));
+  release_first = λ m below its. omega arith;
+  jitter_at_most = λ m below its. omega arith;
+}
+
+some_more : (f : ℕ) → 1 ≤ (want_at of_two f).more
+some_more zero = omega arith
+some_more (suc f) = omega arith
+
 wanted_in_turn : AreWantedInTurn of_two three
 wanted_in_turn = record {
   flows = λ m below. omega arith;
-  apart = λ m n one. let (less, _, _) = one in omega (arith, less);
-  release_first = λ m below. omega arith;
-  jitter_at_most = λ m below. omega arith;
+  few = λ f. apart_want_no_more of_two three f (released f) periods (some_more f);
   wanted_first = wanted_first;
   one_waits = λ m n one. let (less, below, _) = one in one_waits m n less below;
 }
@@ -91,7 +101,7 @@ reached : releases_in six all_planned as_queued 0 72 51 ≡ frames_wanted 51 of_
 unfolding total
 reached = refl
 
-pub reached_by_wanted : (s : Schedule) × (planned : ℕ → Bool) × (of : Origins) × (demand : Demand) × (messages : UnitMessages) × HavePeriods demand
+pub reached_by_wanted : (s : Schedule) × (planned : ℕ → Bool) × (of : Origins) × (demand : Demand) × (messages : UnitMessages)
     × AreWantedInTurn demand messages × AreFramesOfMessages s planned of 0 demand messages × HasLongest demand
     × (releases_in s planned of 0 72 51 ≡ frames_wanted 51 demand)
-reached_by_wanted = (six, all_planned, as_queued, of_two, three, periods, wanted_in_turn, of_messages, longest, reached)
+reached_by_wanted = (six, all_planned, as_queued, of_two, three, wanted_in_turn, of_messages, longest, reached)

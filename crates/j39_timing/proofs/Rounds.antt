@@ -138,7 +138,7 @@ module _ (x : Senders) (is : AreSenders x) (count : ℕ) where
         release_first = omega arith;
         jitter_at_most = omega arith;
       };
-      spaced = λ p q _ _ differ _ _ same _. elim (cases_lt p q) [
+      spaced = λ p q _ _ differ _ _ same _ _. elim (cases_lt p q) [
         | inl less ↦ inl (spaced p q less same)
         | inr more ↦ inr (subst (λ j. q * x.step + gaps j * x.gap ≤ p * x.step) (sym same) (spaced q p (omega (arith, more, differ)) (sym same)))
       ];

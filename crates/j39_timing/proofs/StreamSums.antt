@@ -6,6 +6,7 @@ use Rattle.j39_timing.specs.Sums.{total}
 use Rattle.j39_timing.specs.TimedFrames.{Schedule, demand}
 use Rattle.j39_timing.specs.declared.stream.Stream.{Stream}
 use Rattle.j39_timing.specs.FrameStreams.{Origins, AreOfStreams}
+use Rattle.j39_timing.specs.Waits.{IsSpaced}
 use Rattle.j39_timing.proofs.Sums.{total-le, total-none, total-two}
 
 -- the sum over the places that pass, of which there is one at most
@@ -122,9 +123,9 @@ module _ (s : Schedule) (c count : ℕ) (stream : ℕ → Stream) (of : Origins)
   jitter j = (stream j).jitter
 
   -- one turn of one stream, by the messages
-  of_messages : (j i k t span : ℕ) → span ≤ k * (stream j).period
+  of_messages : (j i k t span : ℕ) → IsSpaced (stream j) → span ≤ k * (stream j).period
       → total s.count (λ p. cond (is_turn j i p && inside t span (of.since p + jitter j)) (s.bits p) 0) ≤ k * (stream j).bits
-  of_messages j i k t span le = windows_sum s.count (is_turn j i) (λ p. of.since p + jitter j) s.bits (stream j).period (stream j).bits
+  of_messages j i k t span paced le = windows_sum s.count (is_turn j i) (λ p. of.since p + jitter j) s.bits (stream j).period (stream j).bits
       (λ p in_p is.
       let two = and_parts (ltb (s.ident p) c) (eqb (of.source p) j) (and_parts (is_of j p) (eqb (of.turn p) i) is).0 in
       subst (λ i. s.bits p ≤ (stream i).bits) (eqb-true (of.source p) j two.1) (known.keeps p in_p (ltb-true (s.ident p) c two.0)).bits_at_most)
@@ -141,15 +142,16 @@ module _ (s : Schedule) (c count : ℕ) (stream : ℕ → Stream) (of : Origins)
       let same_turn : of.turn p ≡ of.turn q = omega arith in
       let far : (of.since p + (stream j).period ≤ of.since q) ⊎ (of.since q + (stream j).period ≤ of.since p) =
       subst (λ i. (of.since p + (stream i).period ≤ of.since q) ⊎ (of.since q + (stream i).period ≤ of.since p)) at_p
-      (known.spaced p q in_p in_q apart (ltb-true (s.ident p) c two_p.0) (ltb-true (s.ident q) c two_q.0) same same_turn) in
+      (known.spaced p q in_p in_q apart (ltb-true (s.ident p) c two_p.0) (ltb-true (s.ident q) c two_q.0) same same_turn
+      (subst (λ i. IsSpaced (stream i)) (sym at_p) paced)) in
       elim far [ inl before ↦ inl (omega arith) | inr after ↦ inr (omega arith) ])
       k t span le
 
   -- by the frames
-  of_turn : (j i k t span : ℕ) → span + jitter j ≤ k * (stream j).period
+  of_turn : (j i k t span : ℕ) → IsSpaced (stream j) → span + jitter j ≤ k * (stream j).period
       → total s.count (λ p. cond (is_turn j i p && inside t span (s.queued p)) (s.bits p) 0) ≤ k * (stream j).bits
-  of_turn j i k t span le =
-      let messages = of_messages j i k t (span + jitter j) le in
+  of_turn j i k t span paced le =
+      let messages = of_messages j i k t (span + jitter j) paced le in
       let wider : total s.count (λ p. cond (is_turn j i p && inside t span (s.queued p)) (s.bits p) 0)
       ≤ total s.count (λ p. cond (is_turn j i p && inside t (span + jitter j) (of.since p + jitter j)) (s.bits p) 0) =
       total-le s.count (λ p. cond (is_turn j i p && inside t span (s.queued p)) (s.bits p) 0)
@@ -174,9 +176,9 @@ module _ (s : Schedule) (c count : ℕ) (stream : ℕ → Stream) (of : Origins)
   abbrev of_turns : ℕ → ℕ → ℕ → ℕ → ℕ → Bool
   of_turns j m t span p = is_of j p && (ltb (of.turn p) m && inside t span (s.queued p))
 
-  first_turns : (j k t span m : ℕ) → span + jitter j ≤ k * (stream j).period
+  first_turns : (j k t span m : ℕ) → IsSpaced (stream j) → span + jitter j ≤ k * (stream j).period
       → total s.count (λ p. cond (of_turns j m t span p) (s.bits p) 0) ≤ m * (k * (stream j).bits)
-  first_turns j k t span zero le =
+  first_turns j k t span zero paced le =
       let none : total s.count (λ p. cond (of_turns j 0 t span p) (s.bits p) 0) ≡ 0 =
       total-none s.count (λ p. cond (of_turns j 0 t span p) (s.bits p) 0) (λ p in_p.
       elim (cases_Bool (of_turns j 0 t span p)) [
@@ -187,9 +189,9 @@ module _ (s : Schedule) (c count : ℕ) (stream : ℕ → Stream) (of : Origins)
         | inr fails ↦ rw (fails) refl
       ]) in
       omega arith
-  first_turns j k t span (suc m) le =
-      let earlier : total s.count (λ p. cond (of_turns j m t span p) (s.bits p) 0) ≤ m * (k * (stream j).bits) = first_turns j k t span m le in
-      let this : total s.count (λ p. cond (is_turn j m p && inside t span (s.queued p)) (s.bits p) 0) ≤ k * (stream j).bits = of_turn j m k t span le in
+  first_turns j k t span (suc m) paced le =
+      let earlier : total s.count (λ p. cond (of_turns j m t span p) (s.bits p) 0) ≤ m * (k * (stream j).bits) = first_turns j k t span m paced le in
+      let this : total s.count (λ p. cond (is_turn j m p && inside t span (s.queued p)) (s.bits p) 0) ≤ k * (stream j).bits = of_turn j m k t span paced le in
       let parts : total s.count (λ p. cond (of_turns j (suc m) t span p) (s.bits p) 0)
       ≤ total s.count (λ p. cond (of_turns j m t span p) (s.bits p) 0) + total s.count (λ p. cond (is_turn j m p && inside t span (s.queued p)) (s.bits p) 0) =
       total-two s.count (λ p. cond (of_turns j (suc m) t span p) (s.bits p) 0) (λ p. cond (of_turns j m t span p) (s.bits p) 0)
@@ -215,10 +217,10 @@ module _ (s : Schedule) (c count : ℕ) (stream : ℕ → Stream) (of : Origins)
       omega arith
 
   -- one stream
-  pub of_stream : (j k t span : ℕ) → span + jitter j ≤ k * (stream j).period
+  pub of_stream : (j k t span : ℕ) → IsSpaced (stream j) → span + jitter j ≤ k * (stream j).period
       → total s.count (λ p. cond (is_of j p && inside t span (s.queued p)) (s.bits p) 0) ≤ (stream j).frames * (k * (stream j).bits)
-  of_stream j k t span le =
-      let turns = first_turns j k t span (stream j).frames le in
+  of_stream j k t span paced le =
+      let turns = first_turns j k t span (stream j).frames paced le in
       let all : total s.count (λ p. cond (is_of j p && inside t span (s.queued p)) (s.bits p) 0)
       ≤ total s.count (λ p. cond (of_turns j (stream j).frames t span p) (s.bits p) 0) =
       total-le s.count (λ p. cond (is_of j p && inside t span (s.queued p)) (s.bits p) 0)

@@ -3,6 +3,7 @@
 use Rattle.std.specs.Prelude.{◌≡◌, ◌≢◌, ℕ, ◌+◌, ◌<◌, ◌≤◌, ◌⊎◌}
 use Rattle.j39_timing.specs.declared.stream.Stream.{Stream}
 use Rattle.j39_timing.specs.TimedFrames.{Schedule}
+use Rattle.j39_timing.specs.Waits.{IsSpaced}
 
 -- what a frame is of its stream
 pub record Origins : Type 0 where
@@ -26,6 +27,6 @@ pub record KeepsStream (s : Schedule) (count : ℕ) (stream : ℕ → Stream) (o
 -- such frames keep to their streams
 pub record AreOfStreams (s : Schedule) (Is : ℕ → Type 0) (count : ℕ) (stream : ℕ → Stream) (of : Origins) : Type 0 where
   pub keeps : (p : ℕ) → p < s.count → Is p → KeepsStream s count stream of p
-  -- the releases of two messages of a stream are a period apart: so are those of two frames that have one turn in them
+  -- the releases of two messages of a stream are a period apart, unless others ask for them: so are those of two frames that have one turn in them
   pub spaced : (p q : ℕ) → p < s.count → q < s.count → p ≢ q → Is p → Is q → of.source p ≡ of.source q → of.turn p ≡ of.turn q
-      → (of.since p + (stream (of.source p)).period ≤ of.since q) ⊎ (of.since q + (stream (of.source p)).period ≤ of.since p)
+      → IsSpaced (stream (of.source p)) → (of.since p + (stream (of.source p)).period ≤ of.since q) ⊎ (of.since q + (stream (of.source p)).period ≤ of.since p)

@@ -13,3 +13,4 @@ pub mod Prefixes
 pub mod Messages
 pub mod Rounds
 pub mod WantedMessages
+pub mod AnsweredRequests

@@ -4,7 +4,8 @@ use Rattle.std.specs.Prelude.{◌≡◌, ◌≢◌, ℕ, ◌+◌, ◌*◌, ◌<�
 use Rattle.j39_timing.specs.Sums.{total}
 use Rattle.j39_timing.specs.TimedFrames.{Schedule, Waits}
 use Rattle.j39_timing.specs.FrameStreams.{Origins, AreOfStreams}
-use Rattle.j39_timing.specs.Waits.{Demand, demand_of, frames_wanted, lesser_share}
+use Rattle.j39_timing.specs.Waits.{Demand, IsSpaced, askers_want, demand_of, frames_of_want, frames_wanted, lesser_share}
+use Rattle.j39_timing.specs.declared.wants.Want.{Want}
 
 -- streams of planned frames, by their places, with their identifiers, which may change
 pub record Traffic : Type 0 where
@@ -24,10 +25,17 @@ abbrev pub releases_in : Schedule → (ℕ → Bool) → Origins → ℕ → ℕ
 releases_in s planned of j t span =
     total s.count (λ p. cond (planned p && (nat_eq (of.source p) j && (nat_le t (of.since p) && nat_lt (of.since p) (t + span)))) 1 0)
 
--- of a stream of which less may be wanted than its pace allows, there are no more in any time than are wanted
-abbrev pub AreAsWanted : Schedule → (ℕ → Bool) → Origins → List Demand → (ℕ → Stream) → Type 0
-AreAsWanted s planned of demands stream = (j t span : ℕ) (demand : Demand) → demand_of demands (stream j) ≡ Some demand
-    → releases_in s planned of j t span ≤ frames_wanted span demand
+-- how many of them are queued in so many bits from bit t on
+abbrev pub queuings_in : Schedule → (ℕ → Bool) → Origins → ℕ → ℕ → ℕ → ℕ
+queuings_in s planned of j t span =
+    total s.count (λ p. cond (planned p && (nat_eq (of.source p) j && (nat_le t (s.queued p) && nat_lt (s.queued p) (t + span)))) 1 0)
+
+pub record AreAsWanted (s : Schedule) (planned : ℕ → Bool) (of : Origins) (demands : List Demand) (stream : ℕ → Stream) : Type 0 where
+  -- of a stream of which its sender may want less than its pace allows, there are no more in any time than are wanted
+  pub by_sender : (j t span : ℕ) (demand : Demand) → demand_of demands (stream j) ≡ Some demand → releases_in s planned of j t span ≤ frames_wanted span demand
+  -- of one for whose messages others ask, no more are queued in any time than are wanted in it and in the jitter before
+  pub by_askers : (j t span : ℕ) (want : Want) → askers_want (stream j) ≡ Some want
+      → queuings_in s planned of j t span ≤ frames_of_want (span + (stream j).jitter) want
 
 -- no stream is a twin of another
 abbrev pub no_twins : ℕ → ℕ → Bool
@@ -44,9 +52,9 @@ pub record Others : Type 0 where
   -- how many of them may go before a frame while it waits
   pub count : ℕ
 
--- each message of the stream is one frame
+-- each message of the stream is one frame, and the releases of two are a period apart
 abbrev pub IsSingle : Stream → Type 0
-IsSingle stream = stream.frames ≡ 1
+IsSingle stream = (stream.frames ≡ 1) × IsSpaced stream
 
 -- the frame is ready at bit t, and hasn't begun before it
 abbrev pub IsQueuedAt : Schedule → ℕ → ℕ → Type 0
@@ -103,6 +111,17 @@ abbrev pub DemandFits : Traffic → Others → ℕ → ℕ → ℕ → Type 0
 DemandFits traffic others longest i wait =
     longest * (1 + others_before others (traffic.greatest i))
     + total traffic.count (λ j. cond (may_go_before traffic i j) (lesser_share traffic.demands (wait + 1) (traffic.stream j)) 0) ≤ wait
+
+-- frames of stream j may go before one of those of stream i, whatever identifiers they have: others of stream i too
+abbrev pub may_go_beside : Traffic → ℕ → ℕ → Bool
+may_go_beside traffic i j = nat_eq j i || may_go_before traffic i j
+
+-- as `DemandFits`, where frames of stream i may be queued at once: what it can queue itself fits too, but for the frame that waits
+abbrev pub OwnDemandFits : Traffic → Others → ℕ → ℕ → ℕ → Type 0
+OwnDemandFits traffic others longest i wait =
+    longest * (1 + others_before others (traffic.greatest i))
+    + total traffic.count (λ j. cond (may_go_beside traffic i j) (lesser_share traffic.demands (wait + 1) (traffic.stream j)) 0)
+    ≤ wait + (traffic.stream i).bits
 
 -- the worst-case response time of a frame of the stream, from its release until it has been sent, where it waits for so many bits at most:
 -- release jitter, queueing delay and the bits of the frame itself (Davis, Burns, Bril, Lukkien, 2007)

@@ -1,16 +1,33 @@
 -- How long a frame waits, its queueing delay: the least wait in which all that may go before it fits (Davis, Burns, Bril, Lukkien, 2007).
-use Rattle.std.specs.Prelude.{ℕ, ◌+◌, ◌*◌, ◌^◌, ◌<◌, ◌≤◌, min, List, All, length, sum_by, Option, Some, None}
+use Rattle.std.specs.Prelude.{◌≡◌, ℕ, ◌+◌, ◌*◌, ◌^◌, ◌<◌, ◌≤◌, min, List, All, length, sum_by, Option, Some, None, IfSome}
 use Rattle.std.specs.Int.{div_ceil}
 use Rattle.std.specs.List.{slice_get}
 use Rattle.std.specs.Option.{option_and_then}
 use Rattle.j39_timing.specs.declared.stream.Stream.{Stream}
+use Rattle.j39_timing.specs.declared.stream.WantedBy.{WantedBy}
+use Rattle.j39_timing.specs.declared.stream.WantedBy.TheVariants.{Askers, Sender}
 use Rattle.j39_timing.specs.declared.wants.Want.{Want}
 use Rattle.j39_timing.specs.declared.wants.Wanted.{Wanted}
 
-abbrev pub IsStream : Stream → Type 0
-IsStream stream = (0 < stream.period) × (stream.bits ≤ 2 ^ 8) × (stream.frames ≤ 2 ^ 10) × (stream.jitter < 2 ^ 31)
+abbrev pub IsWant : Want → Type 0
+IsWant want = (0 < want.period) × (want.frames ≤ 2 ^ 9) × (want.jitter < 2 ^ 31) × (want.more ≤ 2 ^ 16)
 
--- the bits that a stream can queue in so many bits
+-- what those want of a stream that ask for its messages
+abbrev pub of_askers : WantedBy → Option Want
+of_askers (Sender place) = None
+of_askers (Askers want) = Some want
+
+abbrev pub askers_want : Stream → Option Want
+askers_want stream = option_and_then of_askers stream.wanted
+
+-- nobody asks for its messages: the releases of two are a period apart
+abbrev pub IsSpaced : Stream → Type 0
+IsSpaced stream = askers_want stream ≡ None
+
+abbrev pub IsStream : Stream → Type 0
+IsStream stream = (0 < stream.period) × (stream.bits ≤ 2 ^ 8) × (stream.frames ≤ 2 ^ 10) × (stream.jitter < 2 ^ 31) × IfSome (askers_want stream) IsWant
+
+-- the bits that a stream can queue in so many bits at its pace
 abbrev pub share : ℕ → Stream → ℕ
 share span stream = stream.frames * (div_ceil (span + stream.jitter) stream.period * stream.bits)
 
@@ -26,19 +43,15 @@ pub record Demand : Type 0 where
 abbrev pub as_demand : Wanted → Demand
 as_demand wanted = record { under_way = wanted.under_way; wants = wanted.wants.items }
 
-abbrev pub IsWant : Want → Type 0
-IsWant want = (0 < want.period) × (want.frames ≤ 2 ^ 8) × (want.jitter < 2 ^ 31)
-
 abbrev pub IsDemand : Demand → Type 0
 IsDemand demand = (demand.under_way ≤ 2 ^ 8) × (length demand.wants ≤ 2048) × All IsWant demand.wants
 
 abbrev pub IsWanted : Wanted → Type 0
 IsWanted wanted = IsDemand (as_demand wanted)
 
--- the frames that a flow can ask for in so many bits: of one message that waits, and of each whose release lies in them or so much before that it
--- may be wanted in them
+-- the frames that can be wanted in so many bits: of as many messages as periods begin in them and in the jitter before, and of so many more
 abbrev pub frames_of_want : ℕ → Want → ℕ
-frames_of_want span want = want.frames * (div_ceil (span + want.jitter) want.period + 1)
+frames_of_want span want = want.frames * (div_ceil (span + want.jitter) want.period + want.more)
 
 -- the frames that can be queued in so many bits: of the message that is under way as they begin, and what the flows ask for
 abbrev pub frames_wanted : ℕ → Demand → ℕ
@@ -49,12 +62,27 @@ abbrev pub lesser : ℕ → Stream → Option Demand → ℕ
 lesser span stream None = share span stream
 lesser span stream (Some demand) = min (share span stream) (frames_wanted (span + stream.jitter) demand * stream.bits)
 
--- what is wanted of a stream, among all of which less may be wanted
+-- what is wanted of a stream by its sender, among all of which less may be wanted
+abbrev pub of_sender : List Demand → WantedBy → Option Demand
+of_sender demands (Sender place) = slice_get demands place
+of_sender demands (Askers want) = None
+
 abbrev pub demand_of : List Demand → Stream → Option Demand
-demand_of demands stream = option_and_then (λ place. slice_get demands place) stream.wanted
+demand_of demands stream = option_and_then (of_sender demands) stream.wanted
+
+-- ---- others ask for the messages of a stream, and get them: these needn't be a period apart
+
+-- the bits that it can queue in so many bits, where this is wanted of it
+abbrev pub asked_share : ℕ → Stream → Want → ℕ
+asked_share span stream want = frames_of_want (span + stream.jitter) want * stream.bits
+
+-- whoever it is of whom it is known what they want
+abbrev pub wanted_share : ℕ → Stream → Option Want → Option Demand → ℕ
+wanted_share span stream (Some want) demand = asked_share span stream want
+wanted_share span stream None demand = lesser span stream demand
 
 abbrev pub lesser_share : List Demand → ℕ → Stream → ℕ
-lesser_share demands span stream = lesser span stream (demand_of demands stream)
+lesser_share demands span stream = wanted_share span stream (askers_want stream) (demand_of demands stream)
 
 -- ---- waits
 

@@ -4,21 +4,26 @@ ghost use Rattle.j39_timing.specs.TimedFrames.{Schedule, IsLegal};
 ghost use Rattle.j39_timing.specs.FrameStreams.{Origins};
 ghost use Rattle.j39_timing.specs.Errors.{Damaged, IsLegalInAnyOrderWithErrors, IsLegalWithErrors, damage_ordered};
 ghost use Rattle.j39_timing.specs.Errors.{with_errors};
-ghost use Rattle.j39_timing.specs.Messages.{LongMessage, AreSentInTurn, AreSentWithin, IsBroadcast, all_whole_at};
+ghost use Rattle.j39_timing.specs.Messages.{LongMessage, AreSentInTurn, AreSentWithin, IsBroadcast, IsOf};
+ghost use Rattle.j39_timing.specs.Messages.{all_whole_at};
 ghost use Rattle.j39_timing.specs.Messages.{time_of_messages};
 ghost use Rattle.j39_timing.specs.FreshFrames.{ComeOneByOne, IsFresh, IsNewest, IsNewestFresh, KeepsComing};
 ghost use Rattle.j39_timing.specs.Prefixes.{IsPlannedUntil, AreBegunUntil, HaveWaitsUntil, IsQueueGroupUntil};
 ghost use Rattle.j39_timing.specs.AnyOrder.{AreBegunWithin, Controllers, HaveWaits, IsLegalInAnyOrder, IsFromOrdered};
 ghost use Rattle.j39_timing.specs.AnyOrder.{IsOrderedStream, IsUnordered, after_buffering, buffered_traffic};
 ghost use Rattle.j39_timing.specs.QueueGroups.{QueueGroup, QueueGroupDemandFits, IsTrafficOfQueueGroup};
-ghost use Rattle.j39_timing.specs.WantedMessages.{AreAnnouncements, AreFramesOfMessages, AreWantedInTurn, HasLongest};
-ghost use Rattle.j39_timing.specs.WantedMessages.{HavePeriods, UnitMessages};
-ghost use Rattle.j39_timing.specs.Waits.{Demand, frames_wanted};
+ghost use Rattle.j39_timing.specs.AnsweredRequests.{Answered, AreAnswers, AskNoMoreThan, Requesters};
+ghost use Rattle.j39_timing.specs.WantedMessages.{AreAnnouncements, AreFramesOfMessages, AreReleasedApart};
+ghost use Rattle.j39_timing.specs.WantedMessages.{AreWantedInTurn, HasLongest, HavePeriods, UnitMessages, WantNoMore};
+ghost use Rattle.j39_timing.specs.WantedMessages.{want_at};
+ghost use Rattle.j39_timing.specs.Waits.{Demand, frames_of_want, frames_wanted};
+ghost use Rattle.j39_timing.specs.declared.wants.Want.{Want as TheWant};
 ghost use Rattle.j39_timing.specs.declared.stream.Stream.{Stream as TheStream};
 ghost use Rattle.j39_timing.specs.Rounds.{AreSenders, Senders, all_planned, in_rounds, nothing_else, of_rounds};
 ghost use Rattle.j39_timing.specs.Rounds.{traffic_of_rounds};
 ghost use Rattle.j39_timing.specs.Traffic.{Traffic, Others, IsPlannedTraffic, IsSingle, DemandFits, IsStreamInTime};
-ghost use Rattle.j39_timing.specs.Traffic.{AreQueuedBehind, AreSteady, delay_of, releases_in};
+ghost use Rattle.j39_timing.specs.Traffic.{AreQueuedBehind, AreSteady, OwnDemandFits, delay_of, queuings_in};
+ghost use Rattle.j39_timing.specs.Traffic.{releases_in};
 
 /// Of planned frames among all that are on a bus, whose identifiers may change from one to the next: in every legal
 /// schedule of such traffic, where a wait has room for the frame that has begun, for others, and for all streams of
@@ -108,16 +113,20 @@ pub fn messages_in_turn_are_whole_in_time()
 {}
 
 /// A unit that sends one message at a time, behind which one of each flow waits at most, queues no more than is wanted:
-/// of its packets those of the message that is under way as a time begins, of one of each flow, and of those whose
-/// releases lie in this time, or as much before it as they may be wanted later (`packets`); and of its announcements as
-/// many as these (`announcements`).
+/// of its packets those of the message that is under way as a time begins, and of each flow those of one message and of
+/// as many as are wanted in this time (`packets`); and of its announcements as many as these (`announcements`). Of a
+/// flow whose releases are a period apart as many are wanted as lie in this time, or as much before it as they may be
+/// wanted later (`apart`).
 pub fn messages_ask_for_no_more()
+    ensures apart { (demand : Demand) (messages : UnitMessages) (f : ℕ) → AreReleasedApart demand messages f
+        → HavePeriods demand
+        → 1 ≤ (want_at demand f).more → WantNoMore demand messages f }
     ensures packets { (s : Schedule) (planned : ℕ
-        → Bool) (of : Origins) (j : ℕ) (demand : Demand) (messages : UnitMessages) → HavePeriods demand
+        → Bool) (of : Origins) (j : ℕ) (demand : Demand) (messages : UnitMessages)
         → AreWantedInTurn demand messages → AreFramesOfMessages s planned of j demand messages → HasLongest demand
         → (t span : ℕ) → releases_in s planned of j t span ≤ frames_wanted span demand }
     ensures announcements { (s : Schedule) (planned : ℕ
-        → Bool) (of : Origins) (j : ℕ) (demand : Demand) (messages : UnitMessages) → HavePeriods demand
+        → Bool) (of : Origins) (j : ℕ) (demand : Demand) (messages : UnitMessages)
         → AreWantedInTurn demand messages → AreFramesOfMessages s planned of j demand messages
         → AreAnnouncements s planned of j messages
         → (t span : ℕ) → releases_in s planned of j t span ≤ frames_wanted span demand }
@@ -127,9 +136,78 @@ pub fn messages_ask_for_no_more()
 /// many of them as is reported.
 pub fn what_is_wanted_is_reached()
     ensures { (s : Schedule) × (planned : ℕ → Bool) × (of : Origins) × (demand : Demand) × (messages : UnitMessages)
-        × HavePeriods demand
         × AreWantedInTurn demand messages × AreFramesOfMessages s planned of 0 demand messages × HasLongest demand
         × (releases_in s planned of 0 72 51 ≡ frames_wanted 51 demand) }
+{}
+
+/// Where each message answers a request of its own, and is queued so many bits behind the moment of this at most, and n
+/// + 1 moments of a request are n times as far apart as two, there are no more of them in any time than as many as
+/// periods begin in it and in so many bits before, and for each request but one, one beside: where the requests together
+/// come no more often than a period lets (`frames`, as `AreAsWanted` asks it of a stream that is queued up to `early` bits
+/// later). So it is of the messages that are wanted of a unit that sends one at a time (`messages`).
+pub fn answers_ask_for_no_more()
+    ensures frames { (s : Schedule) (planned : ℕ → Bool) (of : Origins) (j early own : ℕ) (want : TheWant)
+        (requesters : Requesters) (answered : Answered) → 0 < requesters.bit → AskNoMoreThan requesters own
+        → 0 < want.period → want.period * requesters.bit ≤ own → requesters.count ≤ want.more + 1
+        → AreAnswers (IsOf s planned of j) s.queued (early + want.jitter) want.frames requesters answered
+        → (t span : ℕ) → queuings_in s planned of j t span ≤ frames_of_want (span + early) want }
+    ensures messages { (demand : Demand) (messages : UnitMessages) (f own : ℕ) (requesters : Requesters)
+        (answered : Answered) → 0 < requesters.bit → AskNoMoreThan requesters own → 0 < (want_at demand f).period
+        → (want_at demand f).period * requesters.bit ≤ own → 0 < (want_at demand f).more
+        → requesters.count ≤ (want_at demand f).more
+        → AreAnswers (λ m. (m < messages.count) × (messages.flow m ≡ f)) messages.wanted (want_at demand f).jitter 1 requesters answered
+        → WantNoMore demand messages f }
+{}
+
+/// So many can be asked for: two requests that come at once are answered at once, the first ones as late as they may be
+/// and the next ones at their moments.
+pub fn what_is_answered_is_reached()
+    ensures { (s : Schedule) × (planned : ℕ → Bool) × (of : Origins) × (want : TheWant) × (requesters : Requesters)
+        × (answered : Answered) × (own : ℕ) × AskNoMoreThan requesters own × (want.period * requesters.bit ≤ own)
+        × (requesters.count ≡ want.more + 1)
+        × AreAnswers (IsOf s planned of 0) s.queued want.jitter want.frames requesters answered
+        × (queuings_in s planned of 0 50 151 ≡ frames_of_want 151 want) }
+{}
+
+/// Frames of which two of a stream may be queued at once, as answers to requests that come at once, are in time where the
+/// wait has room for what the stream itself can queue too, but for the frame that waits (`in_time`); so it is beside
+/// units that keep no order (`beside`), and up to a bit by what is seen up to there (`until`, `beside_until`).
+pub fn answers_are_in_time()
+    ensures in_time { (s : Schedule) (traffic : Traffic) (others : Others) (longest : ℕ) (planned : ℕ
+        → Bool) (of : Origins) → IsLegal s
+        → (i wait : ℕ) → IsPlannedTraffic s traffic others longest planned of i
+        → ((j : ℕ) → j < traffic.count → 0 < (traffic.stream j).period) → (traffic.stream i).bits ≤ longest
+        → OwnDemandFits traffic others longest i wait → IsStreamInTime s planned of i (traffic.stream i) wait }
+    ensures beside { (s : Schedule) (controllers : Controllers) (traffic : Traffic) (others : Others) (longest : ℕ) (planned : ℕ → Bool) (of : Origins)
+        → IsLegalInAnyOrder s controllers → (i wait : ℕ) → IsPlannedTraffic s traffic others longest planned of i
+        → ((j : ℕ) → j < traffic.count → 0 < (traffic.stream j).period) → IsOrderedStream s controllers planned of i
+        → (waits : ℕ → ℕ) → HaveWaits s controllers traffic planned of i waits → (traffic.stream i).bits ≤ longest
+        → OwnDemandFits (buffered_traffic traffic waits) others longest i wait
+        → IsStreamInTime s planned of i (traffic.stream i) wait }
+    ensures until { (s : Schedule) (traffic : Traffic) (others : Others) (longest : ℕ) (planned : ℕ
+        → Bool) (of : Origins) (i by : ℕ) → by ≤ s.now
+        → IsPlannedUntil s traffic others longest planned of i by → IsLegal s → (wait : ℕ)
+        → ((j : ℕ) → j < traffic.count → 0 < (traffic.stream j).period) → (traffic.stream i).bits ≤ longest
+        → OwnDemandFits traffic others longest i wait → AreBegunUntil s planned of i wait by }
+    ensures beside_until { (s : Schedule) (controllers : Controllers) (traffic : Traffic) (others : Others) (longest : ℕ) (planned : ℕ → Bool) (of : Origins) (i by : ℕ)
+        → by ≤ s.now → IsPlannedUntil s traffic others longest planned of i by → IsLegalInAnyOrder s controllers
+        → ((j : ℕ) → j < traffic.count → 0 < (traffic.stream j).period) → IsOrderedStream s controllers planned of i
+        → (wait : ℕ) (waits : ℕ → ℕ) → HaveWaitsUntil s controllers traffic planned of i waits by
+        → (traffic.stream i).bits ≤ longest → OwnDemandFits (buffered_traffic traffic waits) others longest i wait
+        → AreBegunUntil s planned of i wait by }
+{}
+
+/// So long they may wait: there is a legal schedule in which two frames of a stream are queued at once, and the second
+/// one waits for exactly as long as the bound says.
+pub fn a_bound_of_answers_is_reached()
+    ensures { (s : Schedule) × (traffic : Traffic) × (others : Others) × (planned : ℕ → Bool) × (of : Origins)
+        × IsLegal s
+        × IsPlannedTraffic s traffic others 160 planned of 0
+        × ((j : ℕ) → j < traffic.count → 0 < (traffic.stream j).period)
+        × ((traffic.stream 0).bits ≤ 160) × OwnDemandFits traffic others 160 0 320 × (2 < s.count)
+        × (planned 1 ≡ true) × (planned 2 ≡ true) × (of.source 1 ≡ 0) × (of.source 2 ≡ 0)
+        × (s.queued 1 ≡ s.queued 2) × (s.start 1 ≡ s.queued 2 + 160) × (s.queued 2 + 320 < s.now)
+        × (s.start 2 ≡ s.queued 2 + 320) }
 {}
 
 /// The premises can be met, and there is a bus on which the bound is reached: a legal schedule of planned traffic in

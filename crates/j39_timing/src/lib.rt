@@ -12,12 +12,14 @@ mod wants;
 
 pub use frame_length::{ERROR_FRAME, frame_bits};
 pub use laws::{
-    a_bound_is_reached, a_bound_of_a_queue_group_is_reached, a_bound_of_twins_is_reached,
-    a_bus_with_errors_is_legal, ages_are_bounded, broadcasts_can_be_sent, frames_are_in_time_until,
+    a_bound_is_reached, a_bound_of_a_queue_group_is_reached, a_bound_of_answers_is_reached,
+    a_bound_of_twins_is_reached, a_bus_with_errors_is_legal, ages_are_bounded, answers_are_in_time,
+    answers_ask_for_no_more, broadcasts_can_be_sent, frames_are_in_time_until,
     frames_behind_one_another_are_in_time, frames_beside_any_order_are_in_time,
     frames_of_a_queue_group_are_in_time, messages_ask_for_no_more,
-    messages_in_turn_are_whole_in_time, planned_frames_are_in_time, what_is_wanted_is_reached,
+    messages_in_turn_are_whole_in_time, planned_frames_are_in_time, what_is_answered_is_reached,
+    what_is_wanted_is_reached,
 };
-pub use stream::Stream;
+pub use stream::{Stream, WantedBy};
 pub use waiting::least_wait;
 pub use wants::{Want, Wanted};

@@ -1,11 +1,13 @@
 //! What streams queue at least in each longer time.
-ghost use Rattle.std.specs.Prelude.{◌≡◌, ◌≤◌, ◌<◌, ◌^◌, All, Some, length, map, sum_by};
+ghost use Rattle.std.specs.Prelude.{◌≡◌, ℕ, ◌≤◌, ◌<◌, ◌^◌, All, Some, length, map, sum_by};
+ghost use Rattle.std.specs.List.{slice_get};
 ghost use Rattle.j39_timing.specs.LeastShares.{IsStretchBelow, part_of};
-ghost use Rattle.j39_timing.specs.Waits.{IsStream, IsWanted, as_demand, lesser, lesser_share};
+ghost use Rattle.j39_timing.specs.Waits.{IsStream, IsWant, IsWanted, as_demand, asked_share, lesser, lesser_share};
+ghost use Rattle.j39_timing.specs.Waits.{share};
 
-use crate::stream::Stream;
+use crate::stream::{Stream, WantedBy};
 use crate::waiting::lesser_share;
-use crate::wants::Wanted;
+use crate::wants::{Want, Wanted, want_line};
 
 /// Bits that are queued at least: `known` ones, and beside these a part of the time, of 2 ^ 32.
 #[derive(Clone, Copy)]
@@ -66,6 +68,50 @@ fn wanted_stretch(wanted: &Wanted, stream: Stream, step: u64, span: u32) -> Stre
     }
 }
 
+// What a stream queues at least at its pace: its part of the bus.
+fn paced_stretch(stream: Stream) -> Stretch
+    requires positive { IsStream stream }
+    ensures below { (span : ℕ) → IsStretchBelow result span (λ x. share x stream) }
+    ensures small { (result.line.known ≤ 2 ^ 51) × (result.line.part ≤ 2 ^ 50) }
+{
+    Stretch {
+        line: Line {
+            known: 0,
+            part: part_of(stream),
+        },
+        until: u128::MAX,
+    }
+}
+
+// What a stream queues at least of which others want this.
+fn asked_stretch(want: Want, stream: Stream, step: u64, span: u32) -> Stretch
+    requires want { IsWant want }
+    requires positive { IsStream stream }
+    requires span { span < 2 ^ 32 }
+    ensures below { IsStretchBelow result span (λ x. asked_share x stream want) }
+    ensures small { (result.line.known ≤ 2 ^ 51) × (result.line.part ≤ 2 ^ 50) }
+{
+    let from = u64::from(span) + u64::from(stream.jitter);
+    Stretch {
+        line: want_line(want, stream.bits, step, from),
+        until: u128::MAX,
+    }
+}
+
+// What a stream queues at least of which its unit wants this at a place.
+fn sender_stretch(all: &[Wanted], place: usize, stream: Stream, step: u64, span: u32) -> Stretch
+    requires positive { IsStream stream }
+    requires sound { All IsWanted all.now }
+    requires span { span < 2 ^ 32 }
+    ensures below { IsStretchBelow result span (λ x. lesser x stream (slice_get (map as_demand all.now) place)) }
+    ensures small { (result.line.known ≤ 2 ^ 51) × (result.line.part ≤ 2 ^ 50) }
+{
+    match all.get(place) {
+        Some(wanted) => wanted_stretch(wanted, stream, step, span),
+        None => paced_stretch(stream),
+    }
+}
+
 // What a stream queues at least in each time from `span` bits on: its part of the bus where it comes in each `step`
 // bits, else what it queues in `span` bits.
 fn stretch_of(all: &[Wanted], stream: Stream, step: u64, span: u32) -> Stretch
@@ -83,19 +129,12 @@ fn stretch_of(all: &[Wanted], stream: Stream, step: u64, span: u32) -> Stretch
             until: u128::MAX,
         };
     }
-    let paced = Stretch {
-        line: Line {
-            known: 0,
-            part: part_of(stream),
-        },
-        until: u128::MAX,
+    let Some(wanted) = stream.wanted else {
+        return paced_stretch(stream);
     };
-    let Some(place) = stream.wanted else {
-        return paced;
-    };
-    match all.get(place) {
-        Some(wanted) => wanted_stretch(wanted, stream, step, span),
-        None => paced,
+    match wanted {
+        WantedBy::Sender(place) => sender_stretch(all, place, stream, step, span),
+        WantedBy::Askers(want) => asked_stretch(want, stream, step, span),
     }
 }
 

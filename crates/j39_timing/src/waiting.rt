@@ -1,12 +1,13 @@
 //! The least wait of a frame.
 ghost use Rattle.std.specs.Prelude.{◌≡◌, ℕ, ◌+◌, ◌*◌, ◌<◌, ◌≤◌, ◌^◌, length, map, All, sum_by, IfSome, None};
 ghost use Rattle.j39_timing.specs.LeastShares.{NoneFitsFrom};
-ghost use Rattle.j39_timing.specs.Waits.{IsStream, IsWanted, as_demand, demand_of, frames_wanted, lesser_share, share};
-ghost use Rattle.j39_timing.specs.Waits.{need, NoShorterFits};
+ghost use Rattle.j39_timing.specs.Waits.{IsStream, IsWant, IsWanted, as_demand, asked_share, frames_wanted, lesser};
+ghost use Rattle.j39_timing.specs.Waits.{lesser_share, need, NoShorterFits, share};
+ghost use Rattle.std.specs.List.{slice_get};
 
 use crate::lines::stretch_of_all;
-use crate::stream::Stream;
-use crate::wants::Wanted;
+use crate::stream::{Stream, WantedBy};
+use crate::wants::{Want, Wanted, frames_of_want};
 
 /// The bits that a stream can queue in `span` bits at its pace.
 fn queued_bits(stream: Stream, span: u32) -> u64
@@ -28,19 +29,41 @@ fn wanted_bits(wanted: &Wanted, stream: Stream, span: u32) -> u64
     wanted.frames(u64::from(span) + u64::from(stream.jitter)) * u64::from(stream.bits)
 }
 
+// The bits that it can queue in `span` bits, where its unit may want less than its pace allows: this at a place.
+fn lesser_bits(all: &[Wanted], place: usize, stream: Stream, span: u32) -> u64
+    requires positive { IsStream stream }
+    requires sound { All IsWanted all.now }
+    ensures { result ≡ lesser span stream (slice_get (map as_demand all.now) place) }
+{
+    let paced = queued_bits(stream, span);
+    match all.get(place) {
+        Some(wanted) => wanted_bits(wanted, stream, span).min(paced),
+        None => paced,
+    }
+}
+
+// The bits that it can queue in `span` bits, where others ask for its messages and want this.
+fn asked_bits(want: Want, stream: Stream, span: u32) -> u64
+    requires want { IsWant want }
+    requires positive { IsStream stream }
+    ensures { result ≡ asked_share span stream want }
+{
+    let frames = frames_of_want(want, u64::from(span) + u64::from(stream.jitter));
+    frames * u64::from(stream.bits)
+}
+
 /// The bits that a stream can queue in `span` bits.
 pub(crate) fn lesser_share(all: &[Wanted], stream: Stream, span: u32) -> u64
     requires positive { IsStream stream }
     requires sound { All IsWanted all.now }
     ensures { result ≡ lesser_share (map as_demand all.now) span stream }
 {
-    let paced = queued_bits(stream, span);
-    let Some(place) = stream.wanted else {
-        return paced;
+    let Some(wanted) = stream.wanted else {
+        return queued_bits(stream, span);
     };
-    match all.get(place) {
-        Some(wanted) => wanted_bits(wanted, stream, span).min(paced),
-        None => paced,
+    match wanted {
+        WantedBy::Sender(place) => lesser_bits(all, place, stream, span),
+        WantedBy::Askers(want) => asked_bits(want, stream, span),
     }
 }
 

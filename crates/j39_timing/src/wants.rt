@@ -5,13 +5,16 @@ ghost use Rattle.j39_timing.specs.Waits.{IsWant, IsWanted, as_demand, frames_of_
 
 use crate::lines::Line;
 
-/// Messages of at most `frames` frames that are wanted again and again. The releases of two are at least `period` bits
-/// apart, which isn't 0, and each is wanted at most `jitter` bits after its release.
+/// Messages of at most `frames` frames that are wanted again and again: in any time `more` beside as many as periods of
+/// `period` bits begin in it and in `jitter` bits before. The period isn't 0. So it is of messages whose releases are a
+/// period apart, and of which each is wanted at most `jitter` bits after its release: where one of them waits, one comes
+/// beside.
 #[derive(Clone, Copy)]
 pub struct Want {
     pub frames: u16,
     pub period: u32,
     pub jitter: u32,
+    pub more: u16,
 }
 
 /// What all flows of such a unit want of one of its streams.
@@ -23,26 +26,25 @@ pub struct Wanted {
     pub wants: Vec<Want>,
 }
 
-// The frames that a flow can ask for in `span` bits.
-fn frames_of_want(want: Want, span: u64) -> u64
+/// The frames that can be wanted in `span` bits.
+pub(crate) fn frames_of_want(want: Want, span: u64) -> u64
     requires want { IsWant want }
     requires span { span < 2 ^ 33 }
     ensures frames { result ≡ frames_of_want span want }
     ensures few { result ≤ 2 ^ 43 }
 {
-    let messages = (span + u64::from(want.jitter)).div_ceil(u64::from(want.period)) + 1;
-    u64::from(want.frames) * messages
+    let messages = (span + u64::from(want.jitter)).div_ceil(u64::from(want.period));
+    u64::from(want.frames) * (messages + u64::from(want.more))
 }
 
-// The bits that it asks for at least in each time from `span` bits on: a message, and its part of the bus where one is
-// wanted in each
-// `step` bits; else what it asks for in `span` bits.
-fn want_line(want: Want, bits: u16, step: u64, span: u64) -> Line
+/// The bits that are wanted at least in each time from `span` bits on: those of the messages that come beside, and a
+/// part of the bus where one is wanted in each `step` bits; else what is wanted in `span` bits.
+pub(crate) fn want_line(want: Want, bits: u16, step: u64, span: u64) -> Line
     requires want { IsWant want }
     requires bits { bits ≤ 2 ^ 8 }
     requires span { span < 2 ^ 33 }
     ensures below { IsLineBelow result span (λ x. frames_of_want x want * bits) }
-    ensures small { (result.known ≤ 2 ^ 51) × (result.part ≤ 2 ^ 48) }
+    ensures small { (result.known ≤ 2 ^ 51) × (result.part ≤ 2 ^ 49) }
 {
     if u64::from(want.period) > step {
         return Line {
@@ -52,7 +54,7 @@ fn want_line(want: Want, bits: u16, step: u64, span: u64) -> Line
     }
     let message = u64::from(want.frames) * u64::from(bits);
     Line {
-        known: message,
+        known: message * u64::from(want.more),
         part: message * 4_294_967_296 / u64::from(want.period),
     }
 }
@@ -79,7 +81,7 @@ fn line_of_wants(wants: &[Want], bits: u16, step: u64, span: u64) -> Line
     requires bits { bits ≤ 2 ^ 8 }
     requires span { span < 2 ^ 33 }
     ensures below { IsLineBelow result span (λ x. sum_by (frames_of_want x) wants.now * bits) }
-    ensures small { (result.known ≤ 2 ^ 62) × (result.part ≤ 2 ^ 59) }
+    ensures small { (result.known ≤ 2 ^ 62) × (result.part ≤ 2 ^ 60) }
 {
     let mut line = Line { known: 0, part: 0 };
     for want in wants {
@@ -109,7 +111,7 @@ impl Wanted {
         requires bits { bits ≤ 2 ^ 8 }
         requires span { span < 2 ^ 33 }
         ensures below { IsLineBelow result span (λ x. frames_wanted x (as_demand self.now) * bits) }
-        ensures small { (result.known ≤ 2 ^ 63) × (result.part ≤ 2 ^ 59) }
+        ensures small { (result.known ≤ 2 ^ 63) × (result.part ≤ 2 ^ 60) }
     {
         let line = line_of_wants(self.wants.as_slice(), bits, step, span);
         Line {

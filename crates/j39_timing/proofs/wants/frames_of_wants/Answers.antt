@@ -7,7 +7,7 @@ use Rattle.j39_timing.proofs.wants.frames_of_wants.Goals as goal
 
 pub overflow_add-frames : goal.overflow_add-frames
 overflow_add-frames c =
-    let none : Want = record { frames = 0; period = 0; jitter = 0 } in
+    let none : Want = record { frames = 0; period = 0; jitter = 0; more = 0 } in
     let x : Want = get_or c.args.wants.now c.loop-want.want-index none in
     let this : c.frames_of_want-frames.result ≡ frames_of_want c.args.span x = c.frames_of_want-frames.ensures.frames in
     let sum : c.loop-want.frames ≡ sum_by (frames_of_want c.args.span) (take c.loop-want.want-index c.args.wants.now) = c.loop-want.invariant in

@@ -7,7 +7,7 @@ use Rattle.j39_timing.proofs.wants.line_of_wants.Goals as goal
 
 pub loop-want-preserved : goal.loop-want-preserved
 loop-want-preserved c =
-    let none : Want = record { frames = 0; period = 0; jitter = 0 } in
+    let none : Want = record { frames = 0; period = 0; jitter = 0; more = 0 } in
     let next : IsLineBelow c.want_line-next.result c.args.span (λ x. frames_of_want x (get_or c.args.wants.now c.loop-want.want-index none) * c.args.bits) =
     c.want_line-next.ensures.below in
     let (so_far, known, part) = c.loop-want.invariant in

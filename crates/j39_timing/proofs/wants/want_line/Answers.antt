@@ -6,4 +6,4 @@ returns-then-from-step-clause-below c =
     rw (c.frames_of_want.ensures.frames, c.from-then-from-step.ensures) (λ x from. wants-before x c.args.span c.args.bits c.args.want c.requires.want from)
 
 pub returns-clause-below : goal.returns-clause-below
-returns-clause-below c = rw (c.from-2.ensures, c.from-3.ensures, c.from-4.ensures) (λ x from. wants-part x c.args.bits c.args.want c.requires.want)
+returns-clause-below c = rw (c.from-2.ensures, c.from-3.ensures, c.from-4.ensures, c.from-5.ensures) (λ x from. wants-part x c.args.bits c.args.want c.requires.want)
