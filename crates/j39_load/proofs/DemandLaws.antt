@@ -6,8 +6,7 @@ use Rattle.std.proofs.lemmas.Bool.{and_parts, cases_Bool, eqb-true}
 use Rattle.std.proofs.lemmas.List.{append-nil}
 use Rattle.std.proofs.lemmas.List.Elements.{filter_map-append}
 use Rattle.std.proofs.lemmas.Option.{none-some}
-use Rattle.std.specs.List.{cons_option, filter_map, range_with_len, slice_get}
-use Rattle.std.specs.Option.{option_and_then}
+use Rattle.std.specs.List.{cons_option, filter_map, range_with_len}
 use Rattle.j39_id.specs.Limits.{unit_limit}
 use Rattle.j39_network.specs.declared.plan.timing.Timing.{Timing}
 use Rattle.j39_load.specs.declared.frames.broadcast.Broadcast.{Broadcast}
@@ -20,10 +19,12 @@ use Rattle.j39_load.specs.Demands.{demand_by, demands_by, demands_of, most_packe
 use Rattle.j39_load.specs.LineLists.{lines_of_each}
 use Rattle.j39_timing.specs.FrameStreams.{Origins}
 use Rattle.j39_timing.specs.TimedFrames.{Schedule}
-use Rattle.j39_timing.specs.Traffic.{AreAsWanted, releases_in}
-use Rattle.j39_timing.specs.Waits.{Demand, demand_of}
+use Rattle.j39_timing.specs.Traffic.{AreAsWanted, queuings_in, releases_in}
+use Rattle.j39_timing.specs.Waits.{Demand, askers_want, demand_of}
 use Rattle.j39_timing.specs.declared.stream.Stream.{Stream}
+use Rattle.j39_timing.proofs.Demands.{no_demand, spaced_unwanted}
 use Rattle.j39_timing.proofs.Sums.{total-none}
+use Rattle.j39_timing.specs.Sums.{total}
 
 -- ---- of two lists in which flows want the same
 
@@ -78,20 +79,26 @@ demands_where_buffered waits all = same_demands (buffered waits all) all (λ u. 
 
 pub never_wanted : (s : Schedule) (planned : ℕ → Bool) (of : Origins) (demands : List Demand) (stream : ℕ → Stream)
     → ((p : ℕ) → p < s.count → planned p ≡ true → (stream (of.source p)).wanted ≡ None) → AreAsWanted s planned of demands stream
-never_wanted s planned of demands stream none j t span demand its =
-    let counts : ℕ → Bool = λ p. planned p && (eqb (of.source p) j && (leb t (of.since p) && ltb (of.since p) (t + span))) in
-    let few : releases_in s planned of j t span ≡ 0 = total-none s.count
-    (λ p. cond (planned p && (eqb (of.source p) j && (leb t (of.since p) && ltb (of.since p) (t + span)))) 1 0) (λ p in_p.
-    elim (cases_Bool (planned p && (eqb (of.source p) j && (leb t (of.since p) && ltb (of.since p) (t + span))))) [
-      | inr fails ↦ rw (fails) refl
-      | inl is ↦
-          let one = and_parts (planned p) (eqb (of.source p) j && (leb t (of.since p) && ltb (of.since p) (t + span))) is in
-          let at = eqb-true (of.source p) j (and_parts (eqb (of.source p) j) (leb t (of.since p) && ltb (of.since p) (t + span)) one.1).0 in
-          let unwanted : demand_of demands (stream j) ≡ None =
-          ap (λ (k : ℕ). demand_of demands (stream k)) (sym at) ∙ ap (option_and_then (λ (place : ℕ). slice_get demands place)) (none p in_p one.0) in
-          absurd (none-some demand (sym unwanted ∙ its))
-    ]) in
-    omega (arith, few)
+never_wanted s planned of demands stream none = record {
+  by_sender = λ j t span demand its.
+      let few : releases_in s planned of j t span ≡ 0 = nothing_of j (λ p. leb t (of.since p) && ltb (of.since p) (t + span)) (λ p in_p is at.
+      none-some demand (sym (ap (λ (k : ℕ). demand_of demands (stream k)) (sym at) ∙ no_demand demands (stream (of.source p)) (none p in_p is)) ∙ its)) in
+      omega (arith, few);
+  by_askers = λ j t span want its.
+      let few : queuings_in s planned of j t span ≡ 0 = nothing_of j (λ p. leb t (s.queued p) && ltb (s.queued p) (t + span)) (λ p in_p is at.
+      none-some want (sym (ap (λ (k : ℕ). askers_want (stream k)) (sym at) ∙ spaced_unwanted (stream (of.source p)) (none p in_p is)) ∙ its)) in
+      omega (arith, few);
+}
+  where
+    nothing_of : (j : ℕ) (inside : ℕ → Bool) → ((p : ℕ) → p < s.count → planned p ≡ true → of.source p ≡ j → ⊥)
+        → total s.count (λ p. cond (planned p && (eqb (of.source p) j && inside p)) 1 0) ≡ 0
+    nothing_of j inside never = total-none s.count (λ p. cond (planned p && (eqb (of.source p) j && inside p)) 1 0) (λ p in_p.
+        elim (cases_Bool (planned p && (eqb (of.source p) j && inside p))) [
+          | inr fails ↦ rw (fails) refl
+          | inl is ↦
+              let one = and_parts (planned p) (eqb (of.source p) j && inside p) is in
+              absurd (never p in_p one.0 (eqb-true (of.source p) j (and_parts (eqb (of.source p) j) (inside p) one.1).0))
+        ])
 
 -- ---- one flow after another
 

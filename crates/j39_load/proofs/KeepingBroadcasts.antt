@@ -34,12 +34,16 @@ use Rattle.j39_timing.specs.FrameStreams.{Origins}
 use Rattle.j39_timing.specs.Messages.{IsOf}
 use Rattle.j39_timing.specs.TimedFrames.{Schedule}
 use Rattle.j39_timing.specs.Sums.{total}
-use Rattle.j39_timing.specs.Traffic.{AreAsWanted, releases_in}
-use Rattle.j39_timing.specs.Waits.{Demand, demand_of, frames_wanted}
+use Rattle.j39_timing.specs.Traffic.{AreAsWanted, queuings_in, releases_in}
+use Rattle.j39_timing.specs.Waits.{Demand, IsSpaced, askers_want, demand_of, frames_wanted, of_sender}
 use Rattle.j39_timing.specs.declared.stream.Stream.{Stream}
+use Rattle.j39_timing.specs.declared.stream.WantedBy.{WantedBy}
+use Rattle.j39_timing.specs.declared.stream.WantedBy.TheVariants.{Sender}
 use Rattle.j39_timing.specs.declared.wants.Want.{Want}
-use Rattle.j39_timing.specs.WantedMessages.{AreAnnouncements, AreFramesOfMessages, AreWantedInTurn, HasLongest, HavePeriods, UnitMessages, nothing, want_at}
-use Rattle.j39_timing.proofs.AskedFrames.{announcements_asked, packets_asked}
+use Rattle.j39_timing.specs.WantedMessages.{AreAnnouncements, AreFramesOfMessages, AreReleasedApart, AreWantedInTurn, HasLongest, HavePeriods, UnitMessages, nothing}
+use Rattle.j39_timing.specs.WantedMessages.{want_at}
+use Rattle.j39_timing.proofs.AskedFrames.{announcements_asked, apart_want_no_more, packets_asked}
+use Rattle.j39_timing.proofs.Demands.{no_demand, spaced_unwanted}
 
 -- ---- messages of a unit are wanted after a period only
 
@@ -186,7 +190,7 @@ module _ (plan : Plan) (timing : Timing) (stays : UnitPlan → Bool) (s : Schedu
 
   -- whatever frames are wanted of a message, it is wanted when its flow wants it
   module _ (u : ℕ) (want : Broadcast → Want) (under_way : ℕ) (its_period : (broadcast : Broadcast) → (want broadcast).period ≡ broadcast.apart)
-      (its_jitter : (broadcast : Broadcast) → (want broadcast).jitter ≡ broadcast.jitter) where
+      (its_jitter : (broadcast : Broadcast) → (want broadcast).jitter ≡ broadcast.jitter) (its_more : (broadcast : Broadcast) → 1 ≤ (want broadcast).more) where
     abbrev bs : List Broadcast
     bs = wants_of whole u
 
@@ -205,10 +209,21 @@ module _ (plan : Plan) (timing : Timing) (stays : UnitPlan → Bool) (s : Schedu
           omega (arith, is)
     ]
 
-    in_turn : AreWantedInTurn (demand u want under_way) (unit_messages u)
-    in_turn = record {
-      flows = λ m below. let (inside, is) = place_wanted u m below in let size = length-map bs want in omega (arith, inside, size);
-      apart = λ m n pair.
+    some_more : (f : ℕ) → 1 ≤ (want_at (demand u want under_way) f).more
+    some_more f = elim (cases_lt f (length bs)) [
+      | inl below ↦
+          let is = ap (λ (w : Want). w.more) (get_or-map want bs f blank nothing below) in
+          let one = its_more (get_or bs f blank) in
+          omega (arith, is, one)
+      | inr past ↦
+          let size = length-map bs want in
+          let is = ap (λ (w : Want). w.more) (get_or_past (map want bs) f nothing (omega (arith, past, size))) in
+          omega (arith, is)
+    ]
+
+    released : (f : ℕ) → AreReleasedApart (demand u want under_way) (unit_messages u) f
+    released f = record {
+      apart = λ m n pair at.
           let (less, below, same) = pair in
           let first : m < b.count u = omega (arith, less, below) in
           let flow : b.flow u m ≡ b.flow u n =
@@ -222,15 +237,21 @@ module _ (plan : Plan) (timing : Timing) (stays : UnitPlan → Bool) (s : Schedu
             is = refl;
           }) in
           let bits = behind_bits timing second.pace.period (b.release u m) (b.release u n) far in
-          let period = ap (λ (w : Want). w.period) (want_is u n below want under_way) in
+          let period = ap (λ (w : Want). w.period) (ap (want_at (demand u want under_way)) (sym at) ∙ want_is u n below want under_way) in
           let same = its_period (its u n below) in
           omega (arith, bits, period, same);
-      release_first = λ m below. (one u m below).release_first;
-      jitter_at_most = λ m below.
+      release_first = λ m below at. (one u m below).release_first;
+      jitter_at_most = λ m below at.
           let bits = within_bits timing (one u m below).pace.jitter (b.release u m) (b.wanted u m) (one u m below).jitter_at_most in
-          let late = ap (λ (w : Want). w.jitter) (want_is u m below want under_way) in
+          let late = ap (λ (w : Want). w.jitter) (ap (want_at (demand u want under_way)) (sym at) ∙ want_is u m below want under_way) in
           let same = its_jitter (its u m below) in
           omega (arith, bits, late, same);
+    }
+
+    in_turn : AreWantedInTurn (demand u want under_way) (unit_messages u)
+    in_turn = record {
+      flows = λ m below. let (inside, is) = place_wanted u m below in let size = length-map bs want in omega (arith, inside, size);
+      few = λ f. apart_want_no_more (demand u want under_way) (unit_messages u) f (released f) periods (some_more f);
       wanted_first = λ m below. (one u m below).wanted_first;
       one_waits = λ m n pair.
           let (less, below, same) = pair in
@@ -274,13 +295,13 @@ module _ (plan : Plan) (timing : Timing) (stays : UnitPlan → Bool) (s : Schedu
       pub known : message < b.count u
       pub queued : s.queued p ≡ of.since p
 
-    wanted_none : (j k : ℕ) → ((traffic plan timing stays).stream j).wanted ≡ Some k → ((traffic plan timing stays).stream j).wanted ≡ None → ⊥
+    wanted_none : (j : ℕ) (k : WantedBy) → ((traffic plan timing stays).stream j).wanted ≡ Some k → ((traffic plan timing stays).stream j).wanted ≡ None → ⊥
     wanted_none j k some none = none-some k (sym none ∙ some)
 
-    packet : (u m k p : ℕ) → m < b.count u → ((traffic plan timing stays).stream (source_place plan (Carrying u m k))).wanted ≡ Some (packets_demand u)
+    packet : (u m k p : ℕ) → m < b.count u → ((traffic plan timing stays).stream (source_place plan (Carrying u m k))).wanted ≡ Some (Sender (packets_demand u))
         → IsOf w plans of (source_place plan (Carrying u m k)) p → IsPacket u p
     packet u m k p below some (in_p, is, place) = elim (copies p in_p is) [
-      | inl none ↦ absurd (wanted_none (source_place plan (Carrying u m k)) (packets_demand u) some
+      | inl none ↦ absurd (wanted_none (source_place plan (Carrying u m k)) (Sender (packets_demand u)) some
           (subst (λ (j : ℕ). ((traffic plan timing stays).stream j).wanted ≡ None) place none))
       | inr copy ↦
           let (n, j, source) = of_packets plan timing stays s held b keeps.messages (sent.source p) u m k (sent.release p) p (frames p copy.below copy.is) below
@@ -298,10 +319,10 @@ module _ (plan : Plan) (timing : Timing) (stays : UnitPlan → Bool) (s : Schedu
     ]
 
     announcement : (u m p : ℕ) → m < b.count u
-        → ((traffic plan timing stays).stream (source_place plan (Announcing u m))).wanted ≡ Some (announcements_demand u)
+        → ((traffic plan timing stays).stream (source_place plan (Announcing u m))).wanted ≡ Some (Sender (announcements_demand u))
         → IsOf w plans of (source_place plan (Announcing u m)) p → IsAnnouncement u p
     announcement u m p below some (in_p, is, place) = elim (copies p in_p is) [
-      | inl none ↦ absurd (wanted_none (source_place plan (Announcing u m)) (announcements_demand u) some
+      | inl none ↦ absurd (wanted_none (source_place plan (Announcing u m)) (Sender (announcements_demand u)) some
           (subst (λ (j : ℕ). ((traffic plan timing stays).stream j).wanted ≡ None) place none))
       | inr copy ↦
           let (n, source) = of_announcements plan timing stays s held b keeps.messages (sent.source p) u m (sent.release p) p
@@ -311,11 +332,11 @@ module _ (plan : Plan) (timing : Timing) (stays : UnitPlan → Bool) (s : Schedu
           record { copy = copy; message = n; source = source; known = frame.known; queued = frame.at_once ∙ sym copy.since }
     ]
 
-    packets_most : (u m k : ℕ) → m < b.count u → ((traffic plan timing stays).stream (source_place plan (Carrying u m k))).wanted ≡ Some (packets_demand u)
+    packets_most : (u m k : ℕ) → m < b.count u → ((traffic plan timing stays).stream (source_place plan (Carrying u m k))).wanted ≡ Some (Sender (packets_demand u))
         → (t span : ℕ) → releases_in w plans of (source_place plan (Carrying u m k)) t span ≤ frames_wanted span (demand_by Packets (wants_of whole u))
     packets_most u m k below some t span =
         packets_asked w plans of (source_place plan (Carrying u m k)) (demand_by Packets (wants_of whole u)) (unit_messages u)
-        (periods u (want_of Packets) most (λ x. refl) (λ x. refl)) (in_turn u (want_of Packets) most (λ x. refl) (λ x. refl)) are t span (longest u)
+        (in_turn u (want_of Packets) most (λ x. refl) (λ x. refl) (λ x. omega arith)) are t span (longest u)
       where
         most : ℕ
         most = most_packets (wants_of whole u)
@@ -351,14 +372,15 @@ module _ (plan : Plan) (timing : Timing) (stays : UnitPlan → Bool) (s : Schedu
 
     -- of those announcements that count
     module _ (u m : ℕ) (want : Broadcast → Want) (its_period : (broadcast : Broadcast) → (want broadcast).period ≡ broadcast.apart)
-        (its_jitter : (broadcast : Broadcast) → (want broadcast).jitter ≡ broadcast.jitter) (below : m < b.count u)
-        (some : ((traffic plan timing stays).stream (source_place plan (Announcing u m))).wanted ≡ Some (announcements_demand u))
+        (its_jitter : (broadcast : Broadcast) → (want broadcast).jitter ≡ broadcast.jitter) (its_more : (broadcast : Broadcast) → 1 ≤ (want broadcast).more)
+        (below : m < b.count u)
+        (some : ((traffic plan timing stays).stream (source_place plan (Announcing u m))).wanted ≡ Some (Sender (announcements_demand u)))
         (one_wanted : (p : ℕ) (x : IsAnnouncement u p) → IsOf w plans of (source_place plan (Announcing u m)) p
         → 1 ≤ (want (its u x.message x.known)).frames) where
       pub announced_most : (t span : ℕ) → releases_in w plans of (source_place plan (Announcing u m)) t span ≤ frames_wanted span (demand u want 0)
       announced_most t span =
-          announcements_asked w plans of (source_place plan (Announcing u m)) (demand u want 0) (unit_messages u) (periods u want 0 its_period its_jitter)
-          (in_turn u want 0 its_period its_jitter) are t span at_once
+          announcements_asked w plans of (source_place plan (Announcing u m)) (demand u want 0) (unit_messages u)
+          (in_turn u want 0 its_period its_jitter its_more) are t span at_once
         where
           announced_at : (p : ℕ) → IsOf w plans of (source_place plan (Announcing u m)) p → of.since p ≡ b.announced u (message_of (sent.source p))
           announced_at p its =
@@ -395,9 +417,9 @@ module _ (plan : Plan) (timing : Timing) (stays : UnitPlan → Bool) (s : Schedu
           }
 
     announcements_most : (u m : ℕ) → m < b.count u
-        → ((traffic plan timing stays).stream (source_place plan (Announcing u m))).wanted ≡ Some (announcements_demand u)
+        → ((traffic plan timing stays).stream (source_place plan (Announcing u m))).wanted ≡ Some (Sender (announcements_demand u))
         → (t span : ℕ) → releases_in w plans of (source_place plan (Announcing u m)) t span ≤ frames_wanted span (demand_by Announcements (wants_of whole u))
-    announcements_most u m below some = announced_most u m (want_of Announcements) (λ x. refl) (λ x. refl) below some (λ p x is. omega arith)
+    announcements_most u m below some = announced_most u m (want_of Announcements) (λ x. refl) (λ x. refl) (λ x. omega arith) below some (λ p x is. omega arith)
 
     -- ---- all streams
 
@@ -407,12 +429,11 @@ module _ (plan : Plan) (timing : Timing) (stays : UnitPlan → Bool) (s : Schedu
       stream = (traffic plan timing stays).stream
 
       demand_none : (j : ℕ) (x : Demand) → (stream j).wanted ≡ None → demand_of (demands_of whole) (stream j) ≡ Some x → ⊥
-      demand_none j x none is = none-some x (sym (ap (option_and_then (λ (place : ℕ). slice_get (demands_of whole) place)) none) ∙ is)
+      demand_none j x none is = none-some x (sym (no_demand (demands_of whole) (stream j) none) ∙ is)
 
-      demand_stated : (j place : ℕ) (x y : Demand) → (stream j).wanted ≡ Some place → slice_get (demands_of whole) place ≡ Some y
+      demand_stated : (j place : ℕ) (x y : Demand) → (stream j).wanted ≡ Some (Sender place) → slice_get (demands_of whole) place ≡ Some y
           → demand_of (demands_of whole) (stream j) ≡ Some x → y ≡ x
-      demand_stated j place x y some at is =
-          same_Some y x (sym at ∙ (sym (ap (option_and_then (λ (k : ℕ). slice_get (demands_of whole) k)) some) ∙ is))
+      demand_stated j place x y some at is = same_Some y x (sym at ∙ (sym (ap (option_and_then (of_sender (demands_of whole))) some) ∙ is))
 
       unit_few : (u m : ℕ) → m < b.count u → u < unit_limit
       unit_few u m below =
@@ -428,32 +449,60 @@ module _ (plan : Plan) (timing : Timing) (stays : UnitPlan → Bool) (s : Schedu
       of_source (InSession f part) release p frame paced t span demand is = absurd (demand_none f demand paced.unwanted is)
       of_source (Asking r) release p frame paced t span demand is = absurd (demand_none (source_place plan (Asking r)) demand paced.unwanted is)
       of_source (Announcing u m) release p frame paced t span demand is =
-          let some : (stream (source_place plan (Announcing u m))).wanted ≡ Some (announcements_demand u) = ap (λ (x : Stream). x.wanted) paced in
+          let some : (stream (source_place plan (Announcing u m))).wanted ≡ Some (Sender (announcements_demand u)) = ap (λ (x : Stream). x.wanted) paced in
           subst (λ (x : Demand). releases_in w plans of (source_place plan (Announcing u m)) t span ≤ frames_wanted span x)
           (demand_stated (source_place plan (Announcing u m)) (announcements_demand u) demand (demand_by Announcements (wants_of whole u)) some
           (announcements_wanted u whole (unit_few u m frame.known)) is)
           (announcements_most u m frame.known some t span)
       of_source (Carrying u m k) release p frame paced t span demand is =
-          let some : (stream (source_place plan (Carrying u m k))).wanted ≡ Some (packets_demand u) = ap (λ (x : Stream). x.wanted) paced in
+          let some : (stream (source_place plan (Carrying u m k))).wanted ≡ Some (Sender (packets_demand u)) = ap (λ (x : Stream). x.wanted) paced in
           subst (λ (x : Demand). releases_in w plans of (source_place plan (Carrying u m k)) t span ≤ frames_wanted span x)
           (demand_stated (source_place plan (Carrying u m k)) (packets_demand u) demand (demand_by Packets (wants_of whole u)) some
           (packets_wanted u whole (unit_few u m frame.0.known)) is)
           (packets_most u m k frame.0.known some t span)
 
-      pub as_wanted : AreAsWanted w plans of (traffic plan timing stays).demands (traffic plan timing stays).stream
-      as_wanted j t span demand is = elim (cases_lt 0 (releases_in w plans of j t span)) [
-        | inr none ↦ omega (arith, none)
-        | inl some ↦
-            let (p, in_p, counted) = one_counts w.count (λ p. plans p && (eqb (of.source p) j && (leb t (of.since p) && ltb (of.since p) (t + span)))) some in
-            let parts = and_parts (plans p) (eqb (of.source p) j && (leb t (of.since p) && ltb (of.since p) (t + span))) counted in
-            let place : of.source p ≡ j =
-            eqb-true (of.source p) j (and_parts (eqb (of.source p) j) (leb t (of.since p) && ltb (of.since p) (t + span)) parts.1).0 in
+      -- nobody asks for what is sent
+      never_asked : (x : Source) → IsPaced plan timing stays x (stream (source_place plan x)) → IsSpaced (stream (source_place plan x))
+      never_asked (Single f) paced = spaced_unwanted (stream f) paced.unwanted
+      never_asked (First f) paced = spaced_unwanted (stream (source_place plan (First f))) paced.unwanted
+      never_asked (InSession f part) paced = spaced_unwanted (stream f) paced.unwanted
+      never_asked (Asking r) paced = spaced_unwanted (stream (source_place plan (Asking r))) paced.unwanted
+      never_asked (Announcing u m) paced = ap askers_want paced
+      never_asked (Carrying u m k) paced = ap askers_want paced
+
+      -- one of the frames that count
+      module _ (j : ℕ) (inside : ℕ → Bool) (some : 0 < total w.count (λ p. cond (plans p && (eqb (of.source p) j && inside p)) 1 0)) where
+        its_copy : ((stream j).wanted ≡ None) ⊎ ((p : ℕ) × IsCopy plan s planned sent of p × (source_place plan (sent.source p) ≡ j))
+        its_copy =
+            let (p, in_p, counted) = one_counts w.count (λ p. plans p && (eqb (of.source p) j && inside p)) some in
+            let parts = and_parts (plans p) (eqb (of.source p) j && inside p) counted in
+            let place : of.source p ≡ j = eqb-true (of.source p) j (and_parts (eqb (of.source p) j) (inside p) parts.1).0 in
             elim (copies p in_p parts.0) [
-              | inl none ↦ absurd (demand_none j demand (subst (λ (k : ℕ). (stream k).wanted ≡ None) place none) is)
-              | inr copy ↦
-                  let there : source_place plan (sent.source p) ≡ j = sym copy.place ∙ place in
-                  subst (λ (k : ℕ). releases_in w plans of k t span ≤ frames_wanted span demand) there
-                  (of_source (sent.source p) (sent.release p) p (frames p copy.below copy.is) (stated p copy.below copy.is) t span demand
-                  (subst (λ (k : ℕ). demand_of (demands_of whole) (stream k) ≡ Some demand) (sym there) is))
+              | inl none ↦ inl (subst (λ (k : ℕ). (stream k).wanted ≡ None) place none)
+              | inr copy ↦ inr (p, copy, sym copy.place ∙ place)
             ]
-      ]
+
+      pub as_wanted : AreAsWanted w plans of (traffic plan timing stays).demands (traffic plan timing stays).stream
+      as_wanted = record {
+        by_sender = λ j t span demand is. elim (cases_lt 0 (releases_in w plans of j t span)) [
+          | inr none ↦ omega (arith, none)
+          | inl some ↦ elim (its_copy j (λ p. leb t (of.since p) && ltb (of.since p) (t + span)) some) [
+            | inl none ↦ absurd (demand_none j demand none is)
+            | inr it ↦
+                let (p, copy, there) = it in
+                subst (λ (k : ℕ). releases_in w plans of k t span ≤ frames_wanted span demand) there
+                (of_source (sent.source p) (sent.release p) p (frames p copy.below copy.is) (stated p copy.below copy.is) t span demand
+                (subst (λ (k : ℕ). demand_of (demands_of whole) (stream k) ≡ Some demand) (sym there) is))
+          ]
+        ];
+        by_askers = λ j t span want is. elim (cases_lt 0 (queuings_in w plans of j t span)) [
+          | inr none ↦ omega (arith, none)
+          | inl some ↦ elim (its_copy j (λ p. leb t (w.queued p) && ltb (w.queued p) (t + span)) some) [
+            | inl none ↦ absurd (none-some want (sym (spaced_unwanted (stream j) none) ∙ is))
+            | inr it ↦
+                let (p, copy, there) = it in
+                absurd (none-some want (sym (never_asked (sent.source p) (stated p copy.below copy.is))
+                ∙ subst (λ (k : ℕ). askers_want (stream k) ≡ Some want) (sym there) is))
+          ]
+        ];
+      }

@@ -43,6 +43,7 @@ use Rattle.j39_timing.specs.Errors.{Damaged, IsBusWithErrors, IsLegalWithErrors,
 use Rattle.j39_timing.proofs.ErrorFrames.{frame_at as frame_there}
 use Rattle.j39_timing.specs.FrameStreams.{Origins, AreOfStreams, KeepsStream}
 use Rattle.j39_timing.specs.TimedFrames.{Schedule}
+use Rattle.j39_timing.specs.Waits.{IsSpaced}
 use Rattle.j39_timing.specs.declared.stream.Stream.{Stream}
 use Rattle.j39_timing.specs.Traffic.{IsQueuedAt, IsStreamInTime, may_share}
 
@@ -214,14 +215,15 @@ module _ (plan : Plan) (timing : Timing) (stays : UnitPlan → Bool) (states : D
       ]
 
   frames_apart : (p q : ℕ) → IsFrameOfPlan p → IsFrameOfPlan q → p ≢ q → planned p ≡ true → planned q ≡ true → of.source p ≡ of.source q
-      → of.turn p ≡ of.turn q → AreApart p q
+      → of.turn p ≡ of.turn q → IsSpaced (planned_at streams (of.source p)).stream → AreApart p q
   unfolding AreApart period
-  frames_apart p q at_p at_q other is_p is_q source turn =
+  frames_apart p q at_p at_q other is_p is_q source turn paced =
       let since_p = at_p.since in
       let since_q = at_q.since in
       let its = ap (λ (j : ℕ). (planned_at streams j).stream.period) at_p.source in
       elim ((of_streams plan timing stays states clean s bus.queued_first planned sent held keeps).spaced p q at_p.frame.below at_q.frame.below other is_p is_q
-      (sym at_p.source ∙ (source ∙ at_q.source)) (sym at_p.turn ∙ (turn ∙ at_q.turn))) [
+      (sym at_p.source ∙ (source ∙ at_q.source)) (sym at_p.turn ∙ (turn ∙ at_q.turn))
+      (subst (λ (j : ℕ). IsSpaced (planned_at streams j).stream) at_p.source paced)) [
         | inl before ↦ inl (omega (arith, before, since_p, since_q, its))
         | inr after ↦ inr (omega (arith, after, since_p, since_q, its))
       ]
@@ -240,9 +242,9 @@ module _ (plan : Plan) (timing : Timing) (stays : UnitPlan → Bool) (states : D
       | inl at ↦ frame_keeps p at (sym at.plans ∙ is)
       | inr at ↦ damage_keeps p at
     ];
-    spaced = λ p q in_p in_q other is_p is_q source turn. elim (kinds p in_p) [
+    spaced = λ p q in_p in_q other is_p is_q source turn paced. elim (kinds p in_p) [
       | inl at_p ↦ elim (kinds q in_q) [
-        | inl at_q ↦ frames_apart p q at_p at_q other (sym at_p.plans ∙ is_p) (sym at_q.plans ∙ is_q) source turn
+        | inl at_q ↦ frames_apart p q at_p at_q other (sym at_p.plans ∙ is_p) (sym at_q.plans ∙ is_q) source turn paced
         | inr at_q ↦ absurd (apart_sources p q at_p (sym at_p.plans ∙ is_p) at_q source)
       ]
       | inr at_p ↦ elim (kinds q in_q) [

@@ -26,7 +26,7 @@ use Rattle.j39_load.specs.Ranks.{AreHeldApart, AreHeldByPlan, AreUnitsPlanned}
 use Rattle.j39_load.specs.SentFrames.{Held, IsFrameOf, IsRequestFrame, IsSessionFrame, IsSingleFrame, Part, SendsPart}
 use Rattle.j39_load.specs.SentFrames.{HasPeriodMs, IsFirstFrame, Source, part_identifier}
 use Rattle.j39_load.specs.SentFrames.{Single, First, InSession, Asking, RequestToSend, Packet, ClearToSend, EndAcknowledged}
-use Rattle.j39_load.proofs.PlacedFrames.{announcing_read, asked, carrying_read, first_read, in_request, in_session, own, read, request_frames_read, session_read}
+use Rattle.j39_load.proofs.PlacedFrames.{announcing_read, carrying_read, first_read, in_request, in_session, own, read, request_frames_read, session_read}
 use Rattle.j39_load.proofs.PlacedFrames.{unit_asks, unit_planned}
 use Rattle.j39_load.proofs.Milliseconds.{within_bits, within_both}
 use Rattle.j39_load.proofs.Ranks as ranks

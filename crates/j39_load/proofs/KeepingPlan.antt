@@ -172,7 +172,7 @@ module _ (plan : Plan) (timing : Timing) (stays : UnitPlan → Bool) (states : D
   pub of_streams : AreOfStreams s (λ p. planned p ≡ true) (traffic plan timing stays).count (traffic plan timing stays).stream (origins_of plan sent)
   of_streams = record {
     keeps = λ p in_p is. keeps_stream p in_p is;
-    spaced = λ p q in_p in_q other is_p is_q place turn.
+    spaced = λ p q in_p in_q other is_p is_q place turn paced.
         by_source p q in_p in_q other is_p is_q (sent.source p) refl place turn ((traffic plan timing stays).stream (source_place plan (sent.source p)))
         (stated_stream p in_p is_p);
   }

@@ -25,8 +25,7 @@ use Rattle.j39_load.specs.RequestLoads.{request_ident}
 use Rattle.j39_load.specs.SentFrames.{Held, IsRequestFrame, IsSentByUnit, IsSentEvery, IsSingleFrame}
 use Rattle.j39_load.specs.SentFrames.{HasOwnIdentifier, HasTime, IsFirstFrame, Source, TakesPart, goes_to}
 use Rattle.j39_load.specs.SentFrames.{Single, First, InSession, Asking}
-use Rattle.j39_load.proofs.PlacedFrames.{all, asked, read}
-use Rattle.j39_load.proofs.Ranks as ranks
+use Rattle.j39_load.proofs.PlacedFrames.{all, asked}
 use Rattle.j39_load.specs.Broadcasts.{least_packets, spaced_stream}
 use Rattle.j39_load.specs.Demands.{announcements_demand, packets_demand}
 use Rattle.j39_load.specs.SentFrames.{Announcing, Carrying}

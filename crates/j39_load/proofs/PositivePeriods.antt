@@ -79,7 +79,7 @@ of_flow timing plan stays flow pace group = by (is_always_short group) (has_shor
       limit = time_limit timing pace;
       bits_per_second = load_of_messages timing (if short then Short single else long_messages timing plan.units.items stays flow pace group flow.to) pace.period;
     })
-    by true has = record { messages = (pos, refl, fewer); singles = tt }
+    by true has = record { messages = (pos, (refl, refl), fewer); singles = tt }
     by false true = record { messages = long flow.to; singles = pos }
     by false false = record { messages = long flow.to; singles = tt }
 

@@ -1,5 +1,5 @@
 -- The delays of flows by the turns of their units.
-use Rattle.std.proofs.Common.{◌≡◌, ℕ, List, [], length, get_or, inl, inr, Option, None, sym, subst, arith}
+use Rattle.std.proofs.Common.{◌≡◌, ℕ, List, length, get_or, inl, inr, Option, None, sym, subst, arith}
 use Rattle.std.proofs.lemmas.Bool.{cases_lt}
 use Rattle.std.proofs.lemmas.List.{get_or_past}
 use Rattle.j39_network.specs.declared.plan.timing.Timing.{Timing}

@@ -16,6 +16,7 @@ use Rattle.j39_load.specs.Demands.{announcements_demand, packets_demand}
 use Rattle.j39_load.specs.Loads.{any_unit, bits_a_second, bits_at_least, broadcast_ident, greatest_address, least_address, of_unit}
 use Rattle.j39_timing.specs.FrameBits.{longest_frame}
 use Rattle.j39_timing.specs.declared.stream.Stream.{Stream}
+use Rattle.j39_timing.specs.declared.stream.WantedBy.TheVariants.{Sender}
 
 -- the messages are broadcasts of the unit at this place
 abbrev pub broadcast_from : ℕ → Messages → Option Broadcast
@@ -43,7 +44,7 @@ spaced_stream timing gaps place = record {
   period = gaps * bits_at_least timing timing.broadcast_gap;
   bits = longest_frame frame_bytes;
   jitter = 0;
-  wanted = Some place;
+  wanted = Some (Sender place);
 }
 
 -- frames of one of the two groups of the transport protocol, from a unit to all

@@ -45,6 +45,7 @@ want_of part broadcast = record {
   frames = frames_of_part part broadcast;
   period = broadcast.apart;
   jitter = broadcast.jitter;
+  more = 1;
 }
 
 -- of the one that is under way the packets may come, and no announcement

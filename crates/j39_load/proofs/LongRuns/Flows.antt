@@ -27,6 +27,7 @@ use Rattle.j39_load.proofs.PlacedFrames.{asked, at_place, in_request, in_session
 use Rattle.j39_load.proofs.PlacedFrames.{session_read, to_one}
 use Rattle.j39_load.proofs.StreamsBefore.{with_damage}
 use Rattle.j39_timing.specs.TimedFrames.{Schedule}
+use Rattle.j39_timing.specs.Waits.{IsSpaced}
 use Rattle.j39_load.proofs.LongRuns.Frames.{Counts, at_rate, bits_at, frame_of, index, kind, more_at, some_counts, whole}
 
 module _ (plan : Plan) (timing : Timing) (stays : UnitPlan → Bool) where
@@ -74,13 +75,14 @@ module _ (plan : Plan) (timing : Timing) (stays : UnitPlan → Bool) (states : D
       Rated = bits 0 i ≤ n * rate_of_flow plan timing stays (get_or (asked plan timing stays).flows i None) + more_at plan timing stays i
 
       of_frames : (frames : FlowFrames) (ms : ℕ) (load : FlowLoad) → planned_at (whole plan timing stays) i ≡ frames → 1 ≤ ms
-          → frames.stream.period ≡ bits_at_least timing ms → load.bits_per_second ≡ load_of timing frames.stream ms
+          → frames.stream.period ≡ bits_at_least timing ms → IsSpaced frames.stream → load.bits_per_second ≡ load_of timing frames.stream ms
           → get_or (asked plan timing stays).flows i None ≡ Some load → Rated
-      of_frames frames ms load there some period rate its =
+      of_frames frames ms load there some period spaced rate its =
           let positive_period : 0 < frames.stream.period = (let bits = some_bits timing ms some in omega (arith, bits, period)) in
           at_rate plan timing stays states clean s queued_first planned sent held keeps from wait n span agree 0 i i
           (rate_of_flow plan timing stays (get_or (asked plan timing stays).flows i None)) one_place
           (subst (λ (f : FlowFrames). 0 < f.stream.period) (sym there) positive_period)
+          (subst (λ (f : FlowFrames). IsSpaced f.stream) (sym there) spaced)
           (subst (λ (f : FlowFrames). IsRate timing (f.stream.frames * f.stream.bits) f.stream.period
           (rate_of_flow plan timing stays (get_or (asked plan timing stays).flows i None)))
           (sym there)
@@ -94,7 +96,7 @@ module _ (plan : Plan) (timing : Timing) (stays : UnitPlan → Bool) (states : D
           let asks = load plan timing stays i one.flow one.pace one.group one.its one.paced one.of in
           let frames = own plan timing stays i one.flow one.pace one.group one.its one.paced one.of in
           of_frames frames one.pace.period asks
-          (there plan timing stays states clean s queued_first planned sent held keeps i (sent.release p) p one) one.pace.period_positive refl
+          (there plan timing stays states clean s queued_first planned sent held keeps i (sent.release p) p one) one.pace.period_positive refl refl
           (ap (λ (m : Messages). load_of_messages timing m one.pace.period)
           (of_one_frame plan timing stays i one.flow one.pace one.group one.its one.paced one.of one.short))
           (get_or_from_slice_get (asked plan timing stays).flows i (Some asks) None
@@ -107,7 +109,7 @@ module _ (plan : Plan) (timing : Timing) (stays : UnitPlan → Bool) (states : D
           let frames = in_session plan timing stays i one.flow one.pace one.group one.its one.paced one.of one.receiver in
           of_frames frames one.pace.period asks
           (with_damage timing (frames_asked (asked plan timing stays)) i frames
-          (session_read plan timing stays i one.flow one.pace one.group one.its one.paced one.of one.receiver one.long one.to_one)) one.pace.period_positive refl
+          (session_read plan timing stays i one.flow one.pace one.group one.its one.paced one.of one.receiver one.long one.to_one)) one.pace.period_positive refl refl
           (ap (λ (m : Messages). load_of_messages timing m one.pace.period)
           (to_one plan timing stays i one.flow one.pace one.group one.its one.paced one.of one.receiver one.long one.to_one))
           (get_or_from_slice_get (asked plan timing stays).flows i (Some asks) None
@@ -162,6 +164,7 @@ module _ (plan : Plan) (timing : Timing) (stays : UnitPlan → Bool) (states : D
           (request_frames_read plan timing stays r one.asked one.ms one.its one.paced) in
           at_rate plan timing stays states clean s queued_first planned sent held keeps from wait n span agree 1 r (request_place r) rate one_place
           (subst (λ (f : FlowFrames). 0 < f.stream.period) (sym at_its_place) (some_bits timing one.ms some))
+          (subst (λ (f : FlowFrames). IsSpaced f.stream) (sym at_its_place) refl)
           (subst (λ (f : FlowFrames). IsRate timing (f.stream.frames * f.stream.bits) f.stream.period rate) (sym at_its_place)
           (subst (λ (x : ℕ). IsRate timing (frames.stream.frames * frames.stream.bits) frames.stream.period x)
           (sym (ap (rate_of_request plan timing stays) its))

@@ -27,10 +27,10 @@ use Rattle.j39_load.proofs.PositivePeriods.{all_paced}
 use Rattle.j39_load.proofs.Sending.{all_sent}
 use Rattle.j39_timing.specs.Sums.{total}
 use Rattle.j39_timing.specs.TimedFrames.{Schedule}
-use Rattle.j39_timing.specs.Waits.{Demand, demand_of, lesser_share, share}
+use Rattle.j39_timing.specs.Waits.{Demand, IsSpaced, lesser_share, share}
 use Rattle.j39_timing.specs.declared.stream.Stream.{Stream}
 use Rattle.j39_timing.proofs.AskedFrames.{found}
-use Rattle.j39_timing.proofs.Demands.{lesser-most}
+use Rattle.j39_timing.proofs.Demands.{spaced-most}
 use Rattle.j39_timing.proofs.WaitingWindow.{is_within}
 
 -- ---- kinds of sources
@@ -156,10 +156,10 @@ module _ (plan : Plan) (timing : Timing) (stays : UnitPlan → Bool) (states : D
       (as_wanted plan timing stays states clean s queued_first planned sent held keeps)
       positive j wait from (of_index k i) (λ p in_p counts. let x = parts k i p counts in (x.is, same p in_p x, x.inside))
 
-  pub at_rate : (k i j rate : ℕ) → ((p : ℕ) → p < s.count → Counts k i p → place p ≡ j) → 0 < (streams j).period
+  pub at_rate : (k i j rate : ℕ) → ((p : ℕ) → p < s.count → Counts k i p → place p ≡ j) → 0 < (streams j).period → IsSpaced (streams j)
       → IsRate timing ((streams j).frames * (streams j).bits) (streams j).period rate → bits_at k i ≤ n * rate + more_at plan timing stays j
-  at_rate k i j rate same some is =
-      let lesser_most = lesser-most (wait + 1) (streams j) (demand_of demands (streams j)) in
+  at_rate k i j rate same some spaced is =
+      let lesser_most = spaced-most demands (wait + 1) (streams j) spaced in
       let most = at_lesser k i j same in
       let all : share (wait + 1) (streams j) ≤ n * rate + more_at plan timing stays j =
       subst (λ (x : ℕ). share x (streams j) ≤ n * rate + more_at plan timing stays j) (sym span) (stream_rate timing (streams j) n rate some is) in

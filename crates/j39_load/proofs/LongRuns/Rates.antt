@@ -15,7 +15,7 @@ use Rattle.j39_load.specs.Broadcasts.{bits_each, bits_of_announcements, bits_of_
 use Rattle.j39_load.specs.Loads.{bits_a_second, bits_at_least, bits_of_ms, bits_per_ms, load_of}
 use Rattle.j39_load.specs.LongRuns.{seconds}
 use Rattle.j39_load.proofs.KeepingBroadcasts.{IsTimed}
-use Rattle.j39_load.proofs.LongRuns.Streams.{more_bits, share_rate, want_rate}
+use Rattle.j39_load.proofs.LongRuns.Streams.{more_bits, more_wanted, share_rate, want_rate}
 use Rattle.j39_load.proofs.Milliseconds.{agreed_least, agreed_second, some_bits}
 use Rattle.j39_timing.specs.declared.stream.Stream.{Stream}
 use Rattle.j39_timing.specs.declared.wants.Want.{Want}
@@ -36,7 +36,7 @@ per_second bitrate bits ms some =
 
 -- what is more of a flow's wants, whatever the time is
 abbrev pub more_of : (Broadcast → Want) → Broadcast → ℕ
-more_of want b = more_bits ((want b).frames * 160) (want b).jitter (want b).period
+more_of want b = more_wanted (want b) 160
 
 module _ (timing : Timing) where
   abbrev bitrate : Bitrate

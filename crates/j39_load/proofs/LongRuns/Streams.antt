@@ -48,14 +48,16 @@ share_rate stream span rate positive le =
     ≡ stream.frames * stream.bits * (1 + div_ceil stream.jitter stream.period) + stream.frames * stream.bits = grind arith in
     omega (arith, slots, same, more)
 
--- so it is of what a flow wants, of which each frame has so many bits
+-- so it is of what a flow wants, of which each frame has so many bits, but for as many messages more as come beside
+abbrev pub more_wanted : Want → ℕ → ℕ
+more_wanted want bits = want.frames * bits * (1 + want.more + div_ceil want.jitter want.period)
+
 pub want_rate : (want : Want) (bits span rate : ℕ) → 0 < want.period → want.frames * bits * span ≤ rate * want.period
-    → frames_of_want span want * bits ≤ rate + more_bits (want.frames * bits) want.jitter want.period
+    → frames_of_want span want * bits ≤ rate + more_wanted want bits
 want_rate want bits span rate positive le =
     let slots = slots_rate (want.frames * bits) span want.period want.jitter rate positive le in
-    let same : frames_of_want span want * bits ≡ want.frames * bits * div_ceil (span + want.jitter) want.period + want.frames * bits = grind arith in
-    let more : more_bits (want.frames * bits) want.jitter want.period
-    ≡ want.frames * bits * (1 + div_ceil want.jitter want.period) + want.frames * bits = grind arith in
+    let same : frames_of_want span want * bits ≡ want.frames * bits * div_ceil (span + want.jitter) want.period + want.frames * bits * want.more = grind arith in
+    let more : more_wanted want bits ≡ want.frames * bits * (1 + div_ceil want.jitter want.period) + want.frames * bits * want.more = grind arith in
     omega (arith, slots, same, more)
 
 module _ (s : Schedule) (count : ℕ) (stream : ℕ → Stream) (demands : List Demand) (planned : ℕ → Bool) (of : Origins)

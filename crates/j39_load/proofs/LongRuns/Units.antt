@@ -44,7 +44,8 @@ use Rattle.j39_timing.specs.Messages.{IsOf}
 use Rattle.j39_timing.specs.Sums.{total}
 use Rattle.j39_timing.specs.TimedFrames.{Schedule}
 use Rattle.j39_timing.specs.Traffic.{releases_in}
-use Rattle.j39_timing.specs.Waits.{Demand, frames_of_want, frames_wanted, lesser, lesser_share, share}
+use Rattle.j39_timing.specs.Waits.{Demand, demand_of, frames_of_want, frames_wanted, lesser, lesser_share, of_askers, of_sender, share, wanted_share}
+use Rattle.j39_timing.specs.declared.stream.WantedBy.TheVariants.{Sender}
 use Rattle.j39_timing.specs.declared.stream.Stream.{Stream}
 use Rattle.j39_timing.specs.declared.wants.Want.{Want}
 use Rattle.j39_timing.proofs.StreamSums.{inside, inside_from, inside_parts, windows_sum}
@@ -53,7 +54,7 @@ use Rattle.j39_load.proofs.LongRuns.Frames.{Counts, at_lesser, bits_at, frame_of
 
 -- where some messages of the flow go in one frame its announcements are wanted
 abbrev first_want : Broadcast → Want
-first_want b = record { frames = cond b.has_short 1 0; period = b.apart; jitter = b.jitter }
+first_want b = record { frames = cond b.has_short 1 0; period = b.apart; jitter = b.jitter; more = 1 }
 
 module _ (plan : Plan) (timing : Timing) (stays : UnitPlan → Bool) where
   abbrev pub its_broadcasts : ℕ → List Broadcast
@@ -153,10 +154,11 @@ module _ (plan : Plan) (timing : Timing) (stays : UnitPlan → Bool) (states : D
         omega (arith, inside, few)
 
     -- where this is wanted of it
-    of_demand : (j at : ℕ) (demand : Demand) → (streams j).wanted ≡ Some at → slice_get demands at ≡ Some demand
+    of_demand : (j at : ℕ) (demand : Demand) → (streams j).wanted ≡ Some (Sender at) → slice_get demands at ≡ Some demand
         → lesser_share demands (wait + 1) (streams j) ≡ lesser (wait + 1) (streams j) (Some demand)
-    of_demand j at demand wanted its = ap (lesser (wait + 1) (streams j))
-        (ap (option_and_then (λ (place : ℕ). slice_get demands place)) wanted ∙ its)
+    of_demand j at demand wanted its =
+        ap (λ (a : Option Want). wanted_share (wait + 1) (streams j) a (demand_of demands (streams j))) (ap (option_and_then of_askers) wanted)
+        ∙ ap (lesser (wait + 1) (streams j)) (ap (option_and_then (of_sender demands)) wanted ∙ its)
 
     -- packets
     packet_bits : bits 3 u ≤ n * load_of_packets timing bs + more_packets plan timing stays u
@@ -386,7 +388,7 @@ module _ (plan : Plan) (timing : Timing) (stays : UnitPlan → Bool) (states : D
       first_most : first_bits_at ≤ n * load_of_firsts timing bs + sum_by (more_of first_want) bs
       first_most =
           let few = announced_most plan timing stays s planned sent held keeps.frames keeps.broadcasts s is_planned_first of copies u m first_want
-          (λ x. refl) (λ x. refl) below (ap (λ (x : Stream). x.wanted) stated) one_wanted from (wait + 1) in
+          (λ x. refl) (λ x. refl) (λ x. omega arith) below (ap (λ (x : Stream). x.wanted) stated) one_wanted from (wait + 1) in
           let each : first_bits_at ≤ 160 * releases_in s is_planned_first of j from (wait + 1) =
           total-times s.count (λ p. of_index plan timing stays states clean s queued_first planned sent held keeps from wait n span agree 2 u p && is_first p)
           (λ p. is_planned_first p && (eqb (of.source p) j && (leb from (of.since p) && ltb (of.since p) (from + (wait + 1))))) s.bits 160 (λ p in_p is.

@@ -12,7 +12,7 @@ ghost use Rattle.j39_timing.specs.Waits.{IsStream};
 use crate::frames::planned_bus::PlannedBus;
 use j39_id::limits::FRAME_BYTES;
 use j39_network::{Bitrate, GroupPlan, Pace, Timing};
-use j39_timing::{Stream, frame_bits};
+use j39_timing::{Stream, WantedBy, frame_bits};
 
 // How many bits the bus carries in a millisecond.
 fn bits_per_ms(bitrate: Bitrate) -> u16
@@ -211,7 +211,7 @@ pub(crate) fn spaced_stream(timing: Timing, gaps: u8, place: usize) -> Stream
         period: u32::from(gaps) * bits_at_least(timing, timing.broadcast_gap),
         bits: frame_bits(FRAME_BYTES as u8),
         jitter: 0,
-        wanted: Some(place),
+        wanted: Some(WantedBy::Sender(place)),
     }
 }
 

@@ -90,6 +90,7 @@ fn want_of(part: BroadcastPart, broadcast: &Broadcast) -> Want
         },
         period: broadcast.apart,
         jitter: broadcast.jitter,
+        more: 1,
     }
 }
 
