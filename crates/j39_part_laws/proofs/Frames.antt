@@ -19,12 +19,14 @@ use Rattle.j39_load.specs.Demands.{demands_of, most_packets, wanted_by, wanted_f
 use Rattle.j39_load.specs.LineLists.{lines_of_each}
 use Rattle.j39_load.specs.Twins.{are_twins, is_same, may_precede}
 use Rattle.j39_load.proofs.Milliseconds.{some_inside}
-use Rattle.j39_timing.specs.Waits.{Demand}
+use Rattle.j39_timing.specs.Waits.{Demand, of_askers, of_sender}
 use Rattle.j39_timing.specs.declared.stream.Stream.{Stream}
+use Rattle.j39_timing.specs.declared.stream.WantedBy.{WantedBy}
+use Rattle.j39_timing.specs.declared.stream.WantedBy.TheVariants.{Askers, Sender}
 use Rattle.j39_timing.specs.declared.wants.Want.{Want}
 use Rattle.j39_part_laws.specs.PartLoads.{counting}
 use Rattle.j39_part_laws.specs.PlanParts.{AreSome}
-use Rattle.j39_part_laws.specs.Shares.{AsksNoMore, DemandsNoMore, IsWantedNoMore, WaitNoLonger, WantsNoMore}
+use Rattle.j39_part_laws.specs.Shares.{AsksNoMore, DemandsNoMore, IsAskedNoMore, IsWantedNoMore, WaitNoLonger, WantsNoMore}
 use Rattle.j39_part_laws.specs.Sublists.{IsSub}
 use Rattle.j39_part_laws.proofs.Places.{apart}
 use Rattle.j39_part_laws.proofs.Shares.{are_bounded}
@@ -55,19 +57,22 @@ pub record AreOfUnit (unit : ℕ → ℕ) (d e : ℕ) : Type 0 where
   pub few_there : unit u < 128
   pub either : ((d ≡ u) × (e ≡ unit u)) ⊎ ((d ≡ 128 + u) × (e ≡ 128 + unit u))
 
-abbrev pub WantedAlike : (ℕ → ℕ) → Option ℕ → Option ℕ → Type 0
+abbrev pub WantedAlike : (ℕ → ℕ) → Option WantedBy → Option WantedBy → Type 0
 WantedAlike unit None None = Unit {0}
 WantedAlike unit None (Some e) = ⊥
 WantedAlike unit (Some d) None = ⊥
-WantedAlike unit (Some d) (Some e) = AreOfUnit unit d e
+WantedAlike unit (Some (Sender d)) (Some (Sender e)) = AreOfUnit unit d e
+WantedAlike unit (Some (Sender d)) (Some (Askers w)) = ⊥
+WantedAlike unit (Some (Askers v)) (Some (Sender e)) = ⊥
+WantedAlike unit (Some (Askers v)) (Some (Askers w)) = WantsNoMore v w
 
 -- ---- what is wanted of the packets of a unit, and of its announcements
 
 abbrev packets_want : Broadcast → Want
-packets_want b = record { frames = b.packets; period = b.apart; jitter = b.jitter }
+packets_want b = record { frames = b.packets; period = b.apart; jitter = b.jitter; more = 1 }
 
 abbrev announcement_want : Broadcast → Want
-announcement_want b = record { frames = 1; period = b.apart; jitter = b.jitter }
+announcement_want b = record { frames = 1; period = b.apart; jitter = b.jitter; more = 1 }
 
 abbrev packets_demand : List Broadcast → Demand
 packets_demand bs = record { under_way = most_packets bs; wants = map packets_want bs }
@@ -189,14 +194,14 @@ module _ (unit : ℕ → ℕ) (Twins : ℕ → ℕ → Type 0) (one_twin : (m n 
       let some = are.positive in
       let late = are.jitter in
       let same = are.packets in
-      record { frames = omega (arith, same); positive = omega (arith, apart, some); period = omega (arith, apart); jitter = omega (arith, late) }
+      record { frames = omega (arith, same); positive = omega (arith, apart, some); period = omega (arith, apart); jitter = omega (arith, late); more = omega arith }
 
   announcements_no_more : (b c : Broadcast) → AreBroadcast unit b c → WantsNoMore (announcement_want b) (announcement_want c)
   announcements_no_more b c are =
       let apart = are.apart in
       let some = are.positive in
       let late = are.jitter in
-      record { frames = omega arith; positive = omega (arith, apart, some); period = omega (arith, apart); jitter = omega (arith, late) }
+      record { frames = omega arith; positive = omega (arith, apart, some); period = omega (arith, apart); jitter = omega (arith, late); more = omega arith }
 
   packets_demanded : (bs cs : List Broadcast) → IsSub (AreBroadcast unit) bs cs → DemandsNoMore (packets_demand bs) (packets_demand cs)
   packets_demanded bs cs sub = record {
@@ -235,12 +240,12 @@ module _ (unit : ℕ → ℕ) (Twins : ℕ → ℕ → Type 0) (one_twin : (m n 
         (sub_of (AreFramesWhere unit Twins Counts) all others place are.rises are.each)
 
     -- what is wanted of a stream is no more
-    demanded : (d e : Option ℕ) → WantedAlike unit d e
-        → IsWantedNoMore (option_and_then (slice_get (demands_of all)) d) (option_and_then (slice_get (demands_of others)) e)
+    demanded : (d e : Option WantedBy) → WantedAlike unit d e
+        → IsWantedNoMore (option_and_then (of_sender (demands_of all)) d) (option_and_then (of_sender (demands_of others)) e)
     demanded None None alike = tt
     demanded None (Some e) alike = absurd alike
     demanded (Some d) None alike = absurd alike
-    demanded (Some d) (Some e) alike = elim alike.either [
+    demanded (Some (Sender d)) (Some (Sender e)) alike = elim alike.either [
       | inl (here, there) ↦
           rw (here, there, packets_read all alike.u alike.few, packets_read others (unit alike.u) alike.few_there)
           (packets_demanded (wants_of all alike.u) (wants_of others (unit alike.u)) (wants_there alike.u))
@@ -248,6 +253,19 @@ module _ (unit : ℕ → ℕ) (Twins : ℕ → ℕ → Type 0) (one_twin : (m n 
           rw (here, there, announcements_read all alike.u alike.few, announcements_read others (unit alike.u) alike.few_there)
           (announcements_demanded (wants_of all alike.u) (wants_of others (unit alike.u)) (wants_there alike.u))
     ]
+    demanded (Some (Sender d)) (Some (Askers w)) alike = absurd alike
+    demanded (Some (Askers v)) (Some (Sender e)) alike = absurd alike
+    demanded (Some (Askers v)) (Some (Askers w)) alike = tt
+
+    -- nor what others ask for
+    asked_no_more : (x : Stream) (d e : Option WantedBy) → WantedAlike unit d e → IsAskedNoMore x (option_and_then of_askers d) (option_and_then of_askers e)
+    asked_no_more x None None alike = tt
+    asked_no_more x None (Some e) alike = absurd alike
+    asked_no_more x (Some d) None alike = absurd alike
+    asked_no_more x (Some (Sender d)) (Some (Sender e)) alike = tt
+    asked_no_more x (Some (Sender d)) (Some (Askers w)) alike = absurd alike
+    asked_no_more x (Some (Askers v)) (Some (Sender e)) alike = absurd alike
+    asked_no_more x (Some (Askers v)) (Some (Askers w)) alike = alike
 
     pub asks_no_more : (x y : FlowFrames) → AreFrames unit Twins x y → x.stream.jitter ≤ y.stream.jitter
         → AsksNoMore (demands_of all) (demands_of others) x.stream y.stream
@@ -256,6 +274,7 @@ module _ (unit : ℕ → ℕ) (Twins : ℕ → ℕ → Type 0) (one_twin : (m n 
         record {
           stream = record { frames = alike.frames; bits = omega (arith, same); positive = alike.positive; period = alike.period; jitter = late };
           wanted = demanded x.stream.wanted y.stream.wanted alike.wanted;
+          asked = asked_no_more x.stream x.stream.wanted y.stream.wanted alike.wanted;
         }
 
   -- ---- what goes before some frames, and how long they wait
@@ -282,6 +301,7 @@ module _ (unit : ℕ → ℕ) (Twins : ℕ → ℕ → Type 0) (one_twin : (m n 
       one rate bits = record {
         stream = record { frames = omega arith; bits = omega arith; positive = some_inside timing rate.every rate.every_positive; period = omega arith; jitter = omega arith };
         wanted = tt;
+        asked = tt;
       }
 
       go : (errors : Option ErrorRate)

@@ -6,10 +6,12 @@ use Rattle.std.proofs.Math.Nat.{mul-le-mul_left, mul-le-mul_right}
 use Rattle.std.proofs.lemmas.Bool.{cases_lt}
 use Rattle.std.proofs.lemmas.Grind.{div_ceil_times}
 use Rattle.std.proofs.lemmas.List.Sums.{sum_by-cons}
-use Rattle.j39_timing.specs.Waits.{Demand, NoShorterFits, demand_of, frames_of_want, frames_wanted, lesser, lesser_share, need, share}
+use Rattle.j39_timing.specs.Waits.{Demand, NoShorterFits, askers_want, demand_of, frames_of_want, frames_wanted, lesser, lesser_share, need, share}
+use Rattle.j39_timing.specs.Waits.{wanted_share}
 use Rattle.j39_timing.specs.declared.stream.Stream.{Stream}
 use Rattle.j39_timing.specs.declared.wants.Want.{Want}
-use Rattle.j39_part_laws.specs.Shares.{AreBounded, AsksNoMore, DemandsNoMore, IsNoMore, IsWantedNoMore, WantsNoMore}
+use Rattle.j39_timing.proofs.Demands.{lesser-most}
+use Rattle.j39_part_laws.specs.Shares.{AreBounded, AsksNoMore, DemandsNoMore, IsAskedNoMore, IsNoMore, IsWantedNoMore, WantsNoMore}
 use Rattle.j39_part_laws.specs.Sublists.{IsSub}
 
 pub mul-mono : (a b c d : ℕ) → a ≤ b → c ≤ d → a * c ≤ b * d
@@ -43,7 +45,8 @@ want-no-more s t x y st is =
     let late = is.jitter in
     let slots : div_ceil (s + x.jitter) x.period ≤ div_ceil (t + y.jitter) y.period =
     ceil-mono (s + x.jitter) (t + y.jitter) x.period y.period (omega (arith, st, late)) is.positive is.period in
-    mul-mono x.frames y.frames _ _ is.frames (omega (arith, slots))
+    let more = is.more in
+    mul-mono x.frames y.frames _ _ is.frames (omega (arith, slots, more))
 
 -- ---- sums
 
@@ -81,13 +84,33 @@ lesser-no-more span x y is (Some d) (Some e) wanted =
     let part : frames_wanted (span + x.jitter) d * x.bits ≤ frames_wanted (span + y.jitter) e * y.bits = mul-mono _ _ _ _ asked is.bits in
     omega (arith, whole, part)
 
+-- also where others ask for their messages
+asked-no-more : (span : ℕ) (x y : Stream) → IsNoMore x y → (d e : Option Demand) → IsWantedNoMore d e → (v w : Option Want) → IsAskedNoMore x v w
+    → wanted_share span x v d ≤ wanted_share span y w e
+asked-no-more span x y is d e wanted None None asked = lesser-no-more span x y is d e wanted
+asked-no-more span x y is d e wanted (Some v) None asked = absurd asked
+asked-no-more span x y is d e wanted None (Some w) (frames, positive, period) =
+    let late = is.jitter in
+    let slots : div_ceil (span + x.jitter) x.period ≤ div_ceil (span + y.jitter + w.jitter) w.period =
+    ceil-mono (span + x.jitter) (span + y.jitter + w.jitter) x.period w.period (omega (arith, late)) positive period in
+    let messages : x.frames * div_ceil (span + x.jitter) x.period ≤ frames_of_want (span + y.jitter) w =
+    mul-mono x.frames w.frames (div_ceil (span + x.jitter) x.period) (div_ceil (span + y.jitter + w.jitter) w.period + w.more) frames (omega (arith, slots)) in
+    let bits : x.frames * div_ceil (span + x.jitter) x.period * x.bits ≤ frames_of_want (span + y.jitter) w * y.bits = mul-mono _ _ x.bits y.bits messages is.bits in
+    let turned : share span x ≡ x.frames * div_ceil (span + x.jitter) x.period * x.bits = grind arith in
+    let less = lesser-most span x d in
+    omega (arith, bits, turned, less)
+asked-no-more span x y is d e wanted (Some v) (Some w) asked =
+    let late = is.jitter in
+    let messages = want-no-more (span + x.jitter) (span + y.jitter) v w (omega (arith, late)) asked in
+    mul-mono _ _ x.bits y.bits messages is.bits
+
 pub are_bounded : AreBounded
 are_bounded ds es a b xs ys ab sub = record { needs = needs; least = least }
   where
     needs : (w : ℕ) → need ds a xs w ≤ need es b ys w
     needs w =
         let sums = sum-no-more (AsksNoMore ds es) (lesser_share ds (w + 1)) (lesser_share es (w + 1))
-        (λ x y asks. lesser-no-more (w + 1) x y asks.stream (demand_of ds x) (demand_of es y) asks.wanted) xs ys sub in
+        (λ x y asks. asked-no-more (w + 1) x y asks.stream (demand_of ds x) (demand_of es y) asks.wanted (askers_want x) (askers_want y) asks.asked) xs ys sub in
         omega (arith, ab, sums)
 
     least : (v w : ℕ) → NoShorterFits ds a xs v → need es b ys w ≤ w → v ≤ w

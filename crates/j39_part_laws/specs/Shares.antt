@@ -1,6 +1,6 @@
 -- Streams that ask no more of a bus than others do, and what fits among them.
 use Rattle.std.specs.Prelude.{ℕ, ◌<◌, ◌≤◌, List, Option, Some, None}
-use Rattle.j39_timing.specs.Waits.{Demand, NoShorterFits, demand_of, need}
+use Rattle.j39_timing.specs.Waits.{Demand, NoShorterFits, askers_want, demand_of, need}
 use Rattle.j39_timing.specs.declared.stream.Stream.{Stream}
 use Rattle.j39_timing.specs.declared.wants.Want.{Want}
 use Rattle.j39_part_laws.specs.Sublists.{IsSub}
@@ -18,6 +18,7 @@ pub record WantsNoMore (x y : Want) : Type 0 where
   pub positive : 0 < y.period
   pub period : y.period ≤ x.period
   pub jitter : x.jitter ≤ y.jitter
+  pub more : x.more ≤ y.more
 
 pub record DemandsNoMore (d e : Demand) : Type 0 where
   pub under_way : d.under_way ≤ e.under_way
@@ -28,10 +29,19 @@ IsWantedNoMore d None = Unit {0}
 IsWantedNoMore None (Some e) = ⊥
 IsWantedNoMore (Some d) (Some e) = DemandsNoMore d e
 
+-- nobody asks for the messages of the first, or as many do for those of the second: where these come as they are asked for, the second wants as many in
+-- each time as the first has at its pace
+abbrev pub IsAskedNoMore : Stream → Option Want → Option Want → Type 0
+IsAskedNoMore x None None = Unit {0}
+IsAskedNoMore x None (Some w) = (x.frames ≤ w.frames) × (0 < w.period) × (w.period ≤ x.period)
+IsAskedNoMore x (Some w) None = ⊥
+IsAskedNoMore x (Some w) (Some z) = WantsNoMore w z
+
 -- with what is wanted of each
 pub record AsksNoMore (ds es : List Demand) (x y : Stream) : Type 0 where
   pub stream : IsNoMore x y
   pub wanted : IsWantedNoMore (demand_of ds x) (demand_of es y)
+  pub asked : IsAskedNoMore x (askers_want x) (askers_want y)
 
 -- no wait needs more room, and none that is least is longer than one that has room among the others
 pub record WaitNoLonger (ds es : List Demand) (a b : ℕ) (xs ys : List Stream) : Type 0 where
