@@ -17,6 +17,7 @@ use Rattle.j39_gateways.proofs.Clocks.{steady_is}
 use Rattle.j39_gateways.specs.Gateways.{Carrier, IsClock, IsHandedOn, IsIts}
 use Rattle.j39_timing.specs.Prefixes.{AreBegunUntil}
 use Rattle.j39_timing.specs.Traffic.{IsSingle, Traffic, delay_of}
+use Rattle.j39_timing.specs.Waits.{IsSpaced}
 use Rattle.j39_gateways.specs.Vehicles.{Bus, IsKnown, IsPlannedOn, KeepsItsStreams, KeepsItsStreamsUntil}
 use Rattle.j39_timing.proofs.Prefixes.{then_is_planned}
 use Rattle.j39_gateways.proofs.Vehicles.{keep_their_streams}
@@ -395,11 +396,12 @@ module _ (v : Vehicle) (scope : Scope) (delays : Delays) (stated : AreDelays v d
     own_spaced = λ b. case_view v scope b (λ o. (p q : ℕ) → IsPlannedOn (with_bus b o) p → IsPlannedOn (with_bus b o) q → p ≢ q
         → direct_with v scope delays stated seen b ((with_bus b o).of.source p) o ≡ false
         → (with_bus b o).of.source p ≡ (with_bus b o).of.source q → (with_bus b o).of.turn p ≡ (with_bus b o).of.turn q
+        → IsSpaced ((with_bus b o).traffic.stream ((with_bus b o).of.source p))
         → ((with_bus b o).of.since p + ((with_bus b o).traffic.stream ((with_bus b o).of.source p)).period ≤ (with_bus b o).of.since q)
         ⊎ ((with_bus b o).of.since q + ((with_bus b o).traffic.stream ((with_bus b o).of.source p)).period ≤ (with_bus b o).of.since p))
         (λ p q its. absurd (omega (arith, its.0)))
-        (λ t p q its other differ own source turn. (keeps t).spaced p q its.0 other.0 differ its.1 other.1
-        (is_some_false (sent_from v delays (at_of b ((seen b).of.source p))) own) source turn) (view v scope b);
+        (λ t p q its other differ own source turn paced. (keeps t).spaced p q its.0 other.0 differ its.1 other.1
+        (is_some_false (sent_from v delays (at_of b ((seen b).of.source p))) own) source turn paced) (view v scope b);
     handed = λ b i direct. handed_on b i (link b i direct);
     single = λ b i direct. its_single b i (link b i direct);
     input_single = λ b i direct. input_single b i (link b i direct);

@@ -130,7 +130,7 @@ module _ (v : Vehicle) (delays : Delays) (b : ℕ) (timing : Timing) (of_bus : I
           inside = longer (frames_asked asked) (damage_frames timing) i (get_or_inside (frames_asked asked) i its_bound.frames at);
           unwanted = ap (λ (f : FlowFrames). f.stream.wanted) (sym all_same);
           some_bits = subst (λ (f : FlowFrames). 1 ≤ f.stream.bits) all_same some;
-          single = subst (λ (f : FlowFrames). f.stream.frames ≡ 1) (sym here_placed) paces.1;
+          single = subst (λ (f : FlowFrames). f.stream.frames ≡ 1) (sym here_placed) paces.1.0;
           low = subst (λ (f : FlowFrames). f.least_ident ≤ group_ident (λ u. (unit_at
               (units_of of_bus.bus.plan) u).preferred) group one) all_same between.least;
           high = subst (λ (f : FlowFrames). group_ident (λ u. (unit_at

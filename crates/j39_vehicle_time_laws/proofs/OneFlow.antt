@@ -30,6 +30,7 @@ use Rattle.j39_load.proofs.StreamsBefore.{own_read, with_damage}
 use Rattle.j39_timing.specs.AnyOrder.{AreBegunWithin}
 use Rattle.j39_gateways.specs.Gateways.{IsClock, IsIts}
 use Rattle.j39_timing.specs.Traffic.{IsSingle, delay_of}
+use Rattle.j39_timing.specs.Waits.{IsSpaced}
 use Rattle.j39_timing.specs.declared.stream.Stream.{Stream}
 use Rattle.j39_vehicle.specs.declared.vehicle.Vehicle.{Vehicle}
 use Rattle.j39_vehicle.specs.declared.vehicle.bus_plan.BusPlan.{BusPlan}
@@ -276,7 +277,7 @@ module _ (v : Vehicle) (delays : Delays) (stated : AreDelays v delays) (at : Flo
         subst (λ (j : ℕ). planned_at (frames_asked asked ++ damage_frames has.timing) j ≡ bound.frames) (sym source) placed in
         let turn : (seen at.bus).of.turn p < bound.frames.stream.frames = subst (λ (f : FlowFrames).
         (seen at.bus).of.turn p < f.stream.frames) here one.turns in
-        let single : bound.frames.stream.frames ≡ 1 = its_stream.single in
+        let single : bound.frames.stream.frames ≡ 1 = its_stream.single.0 in
         omega (arith, turn, single)
 
     apart : (p q : ℕ) → IsIts (frames_at v seen at) p → IsIts (frames_at v seen at) q → p ≢ q
@@ -287,7 +288,8 @@ module _ (v : Vehicle) (delays : Delays) (stated : AreDelays v delays) (at : Flo
         subst (λ (j : ℕ). planned_at (frames_asked asked ++ damage_frames has.timing) j ≡ bound.frames) (sym its.2) placed in
         subst (λ (f : FlowFrames). ((seen at.bus).of.since p + f.stream.period ≤ (seen at.bus).of.since q)
         ⊎ ((seen at.bus).of.since q + f.stream.period ≤ (seen at.bus).of.since p)) here
-        (frames_here.known.of_streams.spaced p q its.0 other.0 differ its.1 other.1 (its.2 ∙ sym other.2) (one_turn p its ∙ sym (one_turn q other)))
+        (frames_here.known.of_streams.spaced p q its.0 other.0 differ its.1 other.1 (its.2 ∙ sym other.2) (one_turn p its ∙ sym (one_turn q other))
+        (subst (λ (f : FlowFrames). IsSpaced f.stream) (sym here) its_stream.single.1))
 
     pub one_flow : own v delays at ≡ Some time → IsOneFlow v delays seen at time
     one_flow is = record {

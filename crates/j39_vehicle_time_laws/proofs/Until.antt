@@ -10,9 +10,10 @@ use Rattle.j39_timing.specs.FrameBits.{longest_frame}
 use Rattle.j39_timing.specs.FrameStreams.{AreOfStreams, Origins}
 use Rattle.j39_timing.specs.Prefixes.{IsPlannedUntil, planned_until, seen_until}
 use Rattle.j39_timing.specs.TimedFrames.{Schedule}
-use Rattle.j39_timing.specs.Traffic.{AreAsWanted, releases_in}
+use Rattle.j39_timing.specs.Traffic.{AreAsWanted, queuings_in, releases_in}
 use Rattle.j39_timing.proofs.AnyPrefixes.{queue_group_before, fewer_unplanned}
 use Rattle.j39_timing.proofs.Prefixes.{is_planned_then, its_own, then_is_planned, then_known}
+use Rattle.j39_timing.specs.Sums.{total}
 use Rattle.j39_timing.proofs.Sums.{total-le}
 use Rattle.j39_vehicle_time_laws.specs.ForwardedStreams.{KeepsOtherwise, streams_of}
 
@@ -51,21 +52,32 @@ module _ (timing : Timing) (all : List (Option FlowFrames)) (s : Schedule) (cont
     own : (p : ℕ) → s.queued p < by → then_seen.ident p ≡ s.ident p
     own p early = its_own s by (others_of timing).least p early
 
-    fewer_releases : (j t span : ℕ) → releases_in s then_planned of j t span ≤ releases_in s planned of j t span
-    fewer_releases j t span = total-le s.count (λ p. cond (then_planned p && (eqb (of.source p) j && (leb t (of.since p) && ltb (of.since p) (t + span)))) 1 0)
-        (λ p. cond (planned p && (eqb (of.source p) j && (leb t (of.since p) && ltb (of.since p) (t + span)))) 1 0)
-        (λ p in_p. one (planned p) (ltb (s.queued p) by) (eqb (of.source p) j && (leb t (of.since p) && ltb (of.since p) (t + span))))
+    fewer : (counts : ℕ → Bool) → total s.count (λ p. cond (then_planned p && counts p) 1 0) ≤ total s.count (λ p. cond (planned p && counts p) 1 0)
+    fewer counts = total-le s.count (λ p. cond (then_planned p && counts p) 1 0) (λ p. cond (planned p && counts p) 1 0)
+        (λ p in_p. one (planned p) (ltb (s.queued p) by) (counts p))
       where
         one : (a b c : Bool) → cond ((a && b) && c) 1 0 ≤ cond (a && c) 1 0
         one Rattle.std.proofs.Common.true Rattle.std.proofs.Common.true c = omega arith
         one Rattle.std.proofs.Common.true Rattle.std.proofs.Common.false c = omega arith
         one Rattle.std.proofs.Common.false b c = omega arith
 
+    fewer_releases : (j t span : ℕ) → releases_in s then_planned of j t span ≤ releases_in s planned of j t span
+    fewer_releases j t span = fewer (λ p. eqb (of.source p) j && (leb t (of.since p) && ltb (of.since p) (t + span)))
+
+    fewer_queuings : (j t span : ℕ) → queuings_in s then_planned of j t span ≤ queuings_in s planned of j t span
+    fewer_queuings j t span = fewer (λ p. eqb (of.source p) j && (leb t (s.queued p) && ltb (s.queued p) (t + span)))
+
     wanted_then : AreAsWanted s then_planned of (streams_of timing all).demands (streams_of timing all).stream
-    wanted_then j t span demand has =
-        let fewer = fewer_releases j t span in
-        let most = keeps.as_wanted j t span demand has in
-        omega (arith, fewer, most)
+    wanted_then = record {
+      by_sender = λ j t span demand has.
+          let fewer = fewer_releases j t span in
+          let most = keeps.as_wanted.by_sender j t span demand has in
+          omega (arith, fewer, most);
+      by_askers = λ j t span want has.
+          let fewer = fewer_queuings j t span in
+          let most = keeps.as_wanted.by_askers j t span want has in
+          omega (arith, fewer, most);
+    }
 
     planned_then : IsPlannedUntil s (streams_of timing all) (others_of timing) (longest_frame 8) planned of i by
     planned_then = record {

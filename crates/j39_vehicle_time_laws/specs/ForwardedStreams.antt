@@ -15,6 +15,7 @@ use Rattle.j39_timing.specs.FrameBits.{longest_frame}
 use Rattle.j39_timing.specs.FrameStreams.{KeepsStream, Origins}
 use Rattle.j39_timing.specs.TimedFrames.{Schedule, Waits}
 use Rattle.j39_timing.specs.Traffic.{AreAsWanted, IsQueuedAt, IsSingle, PlannedFramesWait, Traffic, may_share, others_queued}
+use Rattle.j39_timing.specs.Waits.{IsSpaced}
 use Rattle.j39_vehicle.specs.declared.vehicle.Vehicle.{Vehicle}
 use Rattle.j39_vehicle.specs.declared.vehicle.forward.Forward.{Forward}
 use Rattle.j39_vehicle_findings.specs.declared.point.FlowAt.{FlowAt}
@@ -65,6 +66,7 @@ pub record IsOtherwiseKept (v : Vehicle) (delays : Delays) (b : ℕ) (timing : T
       × (bus.of.turn p < ((streams_of timing all).stream (bus.of.source p)).frames)
   pub spaced : (p q : ℕ) → p < bus.schedule.count → q < bus.schedule.count → p ≢ q → bus.planned p ≡ true → bus.planned q ≡ true
       → ¬ IsSentOn v delays (record { bus = b; flow = bus.of.source p }) → bus.of.source p ≡ bus.of.source q → bus.of.turn p ≡ bus.of.turn q
+      → IsSpaced ((streams_of timing all).stream (bus.of.source p))
       → (bus.of.since p + ((streams_of timing all).stream (bus.of.source p)).period ≤ bus.of.since q)
       ⊎ (bus.of.since q + ((streams_of timing all).stream (bus.of.source p)).period ≤ bus.of.since p)
   -- of a flow each of whose messages goes in one frame two releases are as far apart in true time as the fastest clock of a unit has its period
