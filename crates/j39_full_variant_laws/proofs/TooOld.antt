@@ -78,12 +78,12 @@ module _ (timing : Timing) (plan : Plan) (delays : List (Option Delay)) where
   is_old load k found =
       elim (Contains-append_cases (load_findings timing load delays) (further_findings plan timing delays) (NeedTooOld k) found) [
         | inr further ↦ elim (Contains-append_cases (old_needs timing plan.requests.items plan.flows.items delays plan.needs.items)
-          (asked_too_often plan.requests.items plan.flows.items) (NeedTooOld k) further) [
-          | inl old ↦
-              let its = reported_at reports 0 plan.needs.items (NeedTooOld k) old in
-              old_at k (0 + its.k) its.value (ap (slice_get plan.needs.items) (let e : 0 + its.k ≡ its.k = omega arith in e) ∙ its.value_is) its.reported
-          | inr asked ↦ absurd (let its = of_asked plan.requests.items plan.flows.items (NeedTooOld k) asked in not_asked its.0 k its.4)
-        ]
+            (asked_too_often plan.requests.items plan.flows.items) (NeedTooOld k) further) [
+              | inl old ↦
+                  let its = reported_at reports 0 plan.needs.items (NeedTooOld k) old in
+                  old_at k (0 + its.k) its.value (ap (slice_get plan.needs.items) (let e : 0 + its.k ≡ its.k = omega arith in e) ∙ its.value_is) its.reported
+              | inr asked ↦ absurd (let its = of_asked plan.requests.items plan.flows.items (NeedTooOld k) asked in not_asked its.0 k its.4)
+            ]
         | inl others ↦ elim (Contains-append_cases (lines_of_each without_period 0 delays) (overload timing load ++ lines_of_each lateness 0 delays) (NeedTooOld k) others) [
           | inl unpaced ↦
               let its = reported_at without_period 0 delays (NeedTooOld k) unpaced in
