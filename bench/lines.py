@@ -20,7 +20,7 @@ from pathlib import Path
 TOP = Path(__file__).resolve().parent.parent
 PROGRAM = os.environ.get("J39PLAN", str(TOP / "j39plan"))
 KINDS = ("unit", "group", "flow", "need", "request")
-OF_TIMES = ("F3", "F17", "F18", "F20")
+OF_TIMES = ("F3", "F17", "F18", "F20", "F31")
 HIDING = ("F1", "F2", "F3", "F4", "F5", "F9", "F10", "F11", "F12", "F26", "F27", "F28", "F30")
 OF_ADDRESSES = ("F1", "F2", "F3", "F12", "F26", "F27", "F30")
 # So many full variants are looked at, and so many variants have the lines with further choices at least; groups that nobody sends begin with IDLE.
@@ -195,7 +195,7 @@ class Line:
 
     def in_file(self, words: list[str], there: dict[str, list[int]]) -> tuple[list[str], list[tuple[str, int]]]:
         """The words of a finding of a variant at the places in the file, and what stands at these."""
-        kind = {"9": "flow", "10": "flow", "11": "flow", "16": "flow", "18": "flow", "28": "flow", "19": "need", "20": "need", "21": "request", "22": "request",
+        kind = {"9": "flow", "10": "flow", "11": "flow", "16": "flow", "18": "flow", "28": "flow", "31": "flow", "19": "need", "20": "need", "21": "request", "22": "request",
                 "23": "request", "25": "request", "1": "unit", "2": "unit", "12": "unit", "26": "unit", "27": "unit", "3": "", "17": ""}.get(words[0][1:], "group")
         if kind in ("flow", "need", "request"):
             places = [there[kind][int(word) - 1] for word in words[2:]]
@@ -244,6 +244,9 @@ class Line:
             return self.sources(places[0][1])
         if number in ("F21", "F22", "F23"):
             return [self.boxes["flow", place] for place, flow in flows if self.serves(tables[0], flow)]
+        if number == "F31":
+            return [self.boxes["request", place] for place, request in enumerate(self.tables["request"])
+                    if "period" in request and self.serves(request, tables[0])]
         if number == "F28":
             ends = [unit["address"] for unit in self.tables["unit"] if unit["label"] in (tables[0]["from"], tables[0]["to"])]
             return [self.boxes["unit", place] for place, unit in enumerate(self.tables["unit"]) if unit["address"] in ends]
@@ -251,10 +254,10 @@ class Line:
 
     def behind(self, words: list[str], places: list[tuple[str, int]], taken: int) -> list[str]:
         """What stands behind a finding of the line, by its witness."""
-        if self.goes_by_full(words, places):
+        if self.goes_by_full(words, places) and words[0] != "F31":
             return ["in", *self.labels(taken)]
         boxes = [self.boxes[place] for place in places]
-        boxes += [box for box in self.further(words[0], places) if self.meet(*boxes, box)]
+        boxes += [box for box in self.further(words[0], places) if words[0] == "F31" or self.meet(*boxes, box)]
         told = [label for label, choice in zip(self.labels(taken), self.sets) if any(choice & ~box for box in boxes)]
         return ["in", *told] if told else []
 

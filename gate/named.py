@@ -9,7 +9,7 @@ UNREADABLE_LINE = set("LongLine UnknownWord WordCount UnknownLabel BadNumber Bad
 REFUSED_STEP = set("NoSuchFlow NotStarted AlreadyStarted NothingUndelivered TransferOpen NotSettled NoAddress Busy WrongLength WrongSelector "
                    "NothingToSend NoSession CannotRest TooManyFrames".split())
 # The first words of the lines of each command; that of a line that is set in is the empty one.
-CHECK = {"ok", "findings", "refused", "", *(f"F{number}" for number in range(1, 31))}
+CHECK = {"ok", "findings", "refused", "", *(f"F{number}" for number in range(1, 32))}
 SHOW = set("top timing choice unit group flow need request refused".split())
 FIRST = {
     "frame": set("frame priority claim cannot identity request refused".split()),

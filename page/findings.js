@@ -16,7 +16,7 @@ const FINDINGS = {
   F24: ["the selector ends behind its group", "G2 when"], F25: ["a request that is planned twice", "request3"],
   F26: ["another unit at the address of a silent one", "U3 address"], F27: ["a silent unit where others may choose", "U2 address"],
   F28: ["an end of the flow may have another address", "flow from"], F29: ["no vehicle can be built", "never"],
-  F30: ["too many vehicles to look at", "choice"],
+  F30: ["too many vehicles to look at", "choice"], F31: ["requests ask for the flow oftener than its period", "flow period"],
 };
 
 /** The path of the table of a kind whose label a word is. */

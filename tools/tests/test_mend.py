@@ -352,6 +352,12 @@ class Times(InPlans):
         self.assertEqual(self.mends(text_of(example("findings/f20_need_too_old.toml"))), [
             "mend: flow 1 (EEC1 from ENGINE to all): pause = 19, it was 20", "or: need 1: within = 22, it was 21"])
 
+    def test_too_often_asked(self) -> None:
+        """The greatest period by which no more is asked; none where that isn't above the jitter."""
+        plan = text_of(example("findings/f31_asked_too_often.toml"))
+        self.assertEqual(self.mends(plan), ["mend: flow 1 (HOURS from E to all): period = 9, it was 100"])
+        self.assertEqual(self.mends(plan.replace("on_request = true", "on_request = true\njitter = 9")), [])
+
     def test_a_flow_with_its_times(self) -> None:
         """A need of data of at most 300 ms: a flow each 100 ms whose pause leaves room for its 1,280 us."""
         text = URGENT[:URGENT.index('\n[[flow]]')] + '\n[[unit]]\nlabel = "B"\naddress = 1\nname = { function = 3 }\n\n[[need]]\nunit = "B"\ngroup = "X"\nwithin = 300\n'

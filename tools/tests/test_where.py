@@ -438,9 +438,36 @@ class Where(InFolder):
             ("f11_flow_repeated", "37: F11 FlowRepeated 1 3  (EEC1 from ENGINE to all: the same as at line 27)"),
             ("f16_no_period", "31: F16 NoPeriod 2  (ET1 from ENGINE to all: key period: "),
             ("f18_late_flow", "36: F18 LateFlow 2  (ET1 from ENGINE to all: key deadline: within 2 ms there isn't room"),
+            ("f31_asked_too_often", "33: F31 AskedTooOften 1  (HOURS from E to all: key period: request 1 each 100 ms, request 2 each 10 ms: together they "
+             "come each 9.09 ms; 9 is the greatest period without this)"),
         ):
             plan = example(f"findings/{name}.toml")
             self.assertTrue(run("where.py", plan)[1].startswith(f"{plan}:{found}"), name)
+
+    def test_often_asked(self) -> None:
+        """How often requests ask for a flow, by which period they wouldn't too often, and where one has no period."""
+        plan = ('version = 4\n[timing]\nbitrate = 250000\nunplanned = 0\n' + "".join(
+            f'[[unit]]\nlabel = "{label}"\naddress = {number}\nname = {{ identity = {number} }}\n' for number, label in enumerate("ETVW", 1))
+            + '[[group]]\nlabel = "G"\npgn = 65253\npriority = 6\nlength = 8\n'
+            '[[flow]]\ngroup = "G"\nfrom = "E"\nto = "all"\nperiod = 10\njitter = 1\non_request = true\n')
+        place = len(plan.splitlines()) - 2
+        asks = [f'[[request]]\ngroup = "G"\nfrom = "{label}"\nto = "E"\n' for label in "TVW"]
+        found = f"{place}: F31 AskedTooOften 1  (G from E to all: key period: request 1 each "
+        for text, hint in (
+            (f"{asks[0]}period = 9\n", "9 ms; 9 is the greatest period without this)"),
+            (f"{asks[0]}period = 1\n", "1 ms)"),
+            (f"{asks[0]}period = 6\n{asks[1]}period = 6\n{asks[2]}period = 6\n",
+             "6 ms, request 2 each 6 ms, request 3 each 6 ms: together they come each 2 ms; 2 is the greatest period without this)"),
+            (f"{asks[0]}period = 3\n{asks[1]}period = 3\n", "3 ms, request 2 each 3 ms: together they come each 1.5 ms)"),
+        ):
+            self.assertEqual(self.answer(plan + text)[1][0], found + hint)
+        at = place + 3
+        none = self.answer(f"{plan}{asks[0]}{asks[1]}period = 10\n")
+        self.assertEqual(none, (0, [f"{at}: hint request 1 has no period: nothing is promised while it is sent", "ok 4 units 1 groups 1 flows"]))
+        some = self.answer(f"{plan}{asks[0]}".replace("unplanned = 0", "unplanned = 1"))[1]
+        self.assertEqual(some[0], f"{at}: hint request 1 has no period: it counts among the unplanned frames, and its answers as messages of the flow")
+        untimed = plan.replace("[timing]\nbitrate = 250000\nunplanned = 0\n", "")
+        self.assertEqual(self.answer(untimed + asks[0])[1], ["ok 4 units 1 groups 1 flows"])
 
     def test_loads(self) -> None:
         """Which flow has no period or is late, where the bitrate stands, and from which version on these keys are known."""

@@ -3,7 +3,7 @@ use Rattle.std.proofs.Common.{◌≡◌, ℕ, ◌+◌, Bool, true, false, not, i
 use Rattle.std.specs.List.{list_any, range_with_len, slice_get}
 use Rattle.std.specs.Option.{option_map_or}
 use Rattle.std.proofs.lemmas.Bool.{false≢true}
-use Rattle.std.proofs.lemmas.List.Elements.{Contains-append_cases, Contains-append_right}
+use Rattle.std.proofs.lemmas.List.Elements.{Contains-append_cases, Contains-append_left, Contains-append_right}
 use Rattle.std.proofs.lemmas.Option.{same_Some}
 use Rattle.j39_findings.specs.Found.{is_unmet}
 use Rattle.j39_network.specs.Serving.{meets}
@@ -78,12 +78,12 @@ module _ (timing : Timing) (plan : Plan) (delays : List (Option Delay)) where
   is_old load k found =
       elim (Contains-append_cases (load_findings timing load delays) (further_findings plan timing delays) (NeedTooOld k) found) [
         | inr further ↦ elim (Contains-append_cases (old_needs timing plan.requests.items plan.flows.items delays plan.needs.items)
-          (asked_too_often plan.requests.items plan.flows.items) (NeedTooOld k) further) [
-          | inl old ↦
-              let its = reported_at reports 0 plan.needs.items (NeedTooOld k) old in
-              old_at k (0 + its.k) its.value (ap (slice_get plan.needs.items) (let e : 0 + its.k ≡ its.k = omega arith in e) ∙ its.value_is) its.reported
-          | inr asked ↦ absurd (let its = of_asked plan.requests.items plan.flows.items (NeedTooOld k) asked in not_asked its.0 k its.4)
-        ]
+            (asked_too_often plan.requests.items plan.flows.items) (NeedTooOld k) further) [
+              | inl old ↦
+                  let its = reported_at reports 0 plan.needs.items (NeedTooOld k) old in
+                  old_at k (0 + its.k) its.value (ap (slice_get plan.needs.items) (let e : 0 + its.k ≡ its.k = omega arith in e) ∙ its.value_is) its.reported
+              | inr asked ↦ absurd (let its = of_asked plan.requests.items plan.flows.items (NeedTooOld k) asked in not_asked its.0 k its.4)
+            ]
         | inl others ↦ elim (Contains-append_cases (lines_of_each without_period 0 delays) (overload timing load ++ lines_of_each lateness 0 delays) (NeedTooOld k) others) [
           | inl unpaced ↦
               let its = reported_at without_period 0 delays (NeedTooOld k) unpaced in

@@ -77,10 +77,10 @@ module _ (plan : Plan) (timing : Timing) (stays : UnitPlan → Bool) (ds : List 
   reported_unpaced f reported =
       elim (Contains-append_cases (load_findings timing load ds) (further_findings plan timing ds) (NoPeriod f) reported) [
         | inr further ↦ elim (Contains-append_cases (old_needs timing plan.requests.items plan.flows.items ds plan.needs.items)
-          (asked_too_often plan.requests.items plan.flows.items) (NoPeriod f) further) [
-          | inl old ↦ let (d, is_it) = of_old timing plan ds (NoPeriod f) old in absurd (not_old f d is_it)
-          | inr asked ↦ absurd (let its = of_asked plan.requests.items plan.flows.items (NoPeriod f) asked in not_asked f its.0 its.4)
-        ]
+            (asked_too_often plan.requests.items plan.flows.items) (NoPeriod f) further) [
+              | inl old ↦ let (d, is_it) = of_old timing plan ds (NoPeriod f) old in absurd (not_old f d is_it)
+              | inr asked ↦ absurd (let its = of_asked plan.requests.items plan.flows.items (NoPeriod f) asked in not_asked f its.0 its.4)
+            ]
         | inl others ↦ elim (Contains-append_cases (lines_of_each without_period 0 ds) (overload timing load ++ lines_of_each lateness 0 ds) (NoPeriod f) others) [
           | inl here ↦ found here
           | inr more ↦ elim (Contains-append_cases (overload timing load) (lines_of_each lateness 0 ds) (NoPeriod f) more) [

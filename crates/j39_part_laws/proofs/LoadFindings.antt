@@ -228,10 +228,10 @@ module _ (at : Places) (part whole : Plan) (is : IsPartAt at part whole) (good :
   found_there finding found =
       elim (Contains-append_cases (load_findings timing load_here ds) (further_findings part timing ds) finding found) [
         | inr further ↦ elim (Contains-append_cases (old_needs timing part.requests.items part.flows.items ds part.needs.items)
-          (asked_too_often part.requests.items part.flows.items) finding further) [
-          | inl old ↦ let (d, is_it) = of_old timing part ds finding old in subst (IsFoundThere at part all_there) (sym is_it) tt
-          | inr asked ↦ asked_found finding asked
-        ]
+            (asked_too_often part.requests.items part.flows.items) finding further) [
+              | inl old ↦ let (d, is_it) = of_old timing part ds finding old in subst (IsFoundThere at part all_there) (sym is_it) tt
+              | inr asked ↦ asked_found finding asked
+            ]
         | inl others ↦ elim (Contains-append_cases (lines_of_each without_period 0 ds) (overload timing load_here ++ lines_of_each lateness 0 ds) finding others) [
           | inl unpaced ↦ unpaced_found finding unpaced
           | inr more ↦ elim (Contains-append_cases (overload timing load_here) (lines_of_each lateness 0 ds) finding more) [

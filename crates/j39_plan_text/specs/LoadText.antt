@@ -36,14 +36,16 @@ is_unshown finding = is_between 16 17 (load_finding_number finding) || is_betwee
 abbrev pub unshown_count : List Finding → List LoadFinding → ℕ
 unshown_count findings others = length findings + count_by is_unshown others
 
--- these findings, as check writes them
-unfoldable pub unshown_lines : Plan → List Finding → List LoadFinding → List ℕ
-unshown_lines plan findings others = finding_lines 1 16 plan findings
+-- a line for each of these findings, as check writes them
+unfoldable pub unshown_found : Plan → List Finding → List LoadFinding → List ℕ
+unshown_found plan findings others = finding_lines 1 16 plan findings
     ++ (load_finding_lines 16 17 others
     ++ (finding_lines 19 20 plan findings
-    ++ (finding_lines 21 29 plan findings
-    ++ (load_finding_lines 31 32 others
-    ++ (field (codes "findings ") (unshown_count findings others) ++ 10 ∷ [])))))
+    ++ (finding_lines 21 29 plan findings ++ load_finding_lines 31 32 others)))
+
+-- and how many they are
+unfoldable pub unshown_lines : Plan → List Finding → List LoadFinding → List ℕ
+unshown_lines plan findings others = unshown_found plan findings others ++ (field (codes "findings ") (unshown_count findings others) ++ 10 ∷ [])
 
 -- where there are any
 unfoldable pub unshown_text : Plan → List Finding → List LoadFinding → List ℕ

@@ -1,7 +1,7 @@
 //! What is written of what a plan asks of its bus.
 ghost use Rattle.std.specs.Prelude.{◌≡◌, ◌+◌, ◌++◌, ◌≤◌, IfOk, OnOk, count_by, length};
 ghost use Rattle.j39_plan_text.specs.LoadText.{IsLoadReport, hides_times, is_unshown, load_verdict, shows_times};
-ghost use Rattle.j39_plan_text.specs.LoadText.{unshown_count, unshown_lines, unshown_text};
+ghost use Rattle.j39_plan_text.specs.LoadText.{unshown_count, unshown_found, unshown_lines, unshown_text};
 ghost use Rattle.j39_load.specs.BusTimes.{timing_of};
 
 use crate::finding_lines::{is_between, write_lines};
@@ -51,7 +51,25 @@ fn count_unshown(others: &[LoadFinding]) -> usize
     count
 }
 
-// Writes so many findings, as check writes them: those of which the lines of the load don't report.
+// Writes findings, as check writes them: those of which the lines of the load don't report.
+#[tactic(auto, unfolding(crate::specs::LoadText::unshown_found))]
+fn write_unshown_found(
+    alloc: Global,
+    text: &mut TextBuffer,
+    plan: &Plan,
+    findings: &[Finding],
+    others: &[LoadFinding],
+) -> WriteResult
+    ensures { OnOk result (text.new ≡ text.old ++ unshown_found plan.now findings.now others.now) }
+{
+    write_lines(alloc, text, plan, findings, 1, 16)?;
+    write_load_findings(text, others, 16, 17)?;
+    write_lines(alloc, text, plan, findings, 19, 20)?;
+    write_lines(alloc, text, plan, findings, 21, 29)?;
+    write_load_findings(text, others, 31, 32)
+}
+
+// Writes so many findings, and how many they are.
 #[tactic(auto, unfolding(crate::specs::LoadText::unshown_lines))]
 fn write_unshown_lines(
     alloc: Global,
@@ -64,11 +82,7 @@ fn write_unshown_lines(
     requires { count ≡ unshown_count findings.now others.now }
     ensures { OnOk result (text.new ≡ text.old ++ unshown_lines plan.now findings.now others.now) }
 {
-    write_lines(alloc, text, plan, findings, 1, 16)?;
-    write_load_findings(text, others, 16, 17)?;
-    write_lines(alloc, text, plan, findings, 19, 20)?;
-    write_lines(alloc, text, plan, findings, 21, 29)?;
-    write_load_findings(text, others, 31, 32)?;
+    write_unshown_found(alloc, text, plan, findings, others)?;
     text.field("findings ", count)?;
     text.end_line()
 }

@@ -1,6 +1,6 @@
 //! What is written for a plan.
 ghost use Rattle.std.specs.Prelude.{◌≡◌, ◌++◌, ℕ, List, OnOk, IfOk};
-ghost use Rattle.j39_plan_text.specs.CheckText.{IsReport, findings_text, ok_line};
+ghost use Rattle.j39_plan_text.specs.CheckText.{IsReport, findings_text, found_text, ok_line};
 ghost use Rattle.j39_plan_text.specs.FoundInPlan.{ArePlanFindings};
 
 use crate::certificate::clean_plans_are_certified;
@@ -24,6 +24,24 @@ fn write_ok(text: &mut TextBuffer, plan: &Plan) -> WriteResult
     text.word(" flows\n")
 }
 
+#[tactic(auto, unfolding(crate::specs::CheckText::found_text))]
+fn write_found(
+    alloc: Global,
+    text: &mut TextBuffer,
+    plan: &Plan,
+    findings: &[Finding],
+    others: &[LoadFinding],
+) -> WriteResult
+    ensures { OnOk result (text.new ≡ text.old ++ found_text plan.now findings.now others.now) }
+{
+    write_lines(alloc, text, plan, findings, 1, 16)?;
+    write_load_findings(text, others, 16, 19)?;
+    write_lines(alloc, text, plan, findings, 19, 20)?;
+    write_load_findings(text, others, 20, 21)?;
+    write_lines(alloc, text, plan, findings, 21, 29)?;
+    write_load_findings(text, others, 31, 32)
+}
+
 #[tactic(auto, unfolding(crate::specs::CheckText::findings_text))]
 pub(super) fn write_findings(
     alloc: Global,
@@ -34,12 +52,7 @@ pub(super) fn write_findings(
 ) -> WriteResult
     ensures { OnOk result (text.new ≡ text.old ++ findings_text plan.now findings.now others.now) }
 {
-    write_lines(alloc, text, plan, findings, 1, 16)?;
-    write_load_findings(text, others, 16, 19)?;
-    write_lines(alloc, text, plan, findings, 19, 20)?;
-    write_load_findings(text, others, 20, 21)?;
-    write_lines(alloc, text, plan, findings, 21, 29)?;
-    write_load_findings(text, others, 31, 32)?;
+    write_found(alloc, text, plan, findings, others)?;
     text.field("findings ", findings.len() + others.len())?;
     text.end_line()
 }

@@ -11,7 +11,7 @@ from j39plan.plan.answer_objects import check_object
 from j39plan.plan.answer_places import Placed, placed
 from j39plan.plan.files import opened
 from j39plan.plan.further_faults import further_faults
-from j39plan.plan.hints import variants
+from j39plan.plan.hints import requests, variants
 from j39plan.plan.hints.lint import Lint
 from j39plan.plan.hints.names import Asked, asked_in
 from j39plan.plan.parts import Source, source_in
@@ -65,6 +65,7 @@ def hints_of(given: argparse.Namespace, plan: str, used: frozenset[str] = frozen
     source = source_in(plan)
     asked: Asked = given.asked
     told = [(line, text, "") for line, text in (variants.nowhere(source) if source["choice"] else ())]
+    told += [(line, text, "") for line, text in requests.without_period(source)]
     told += Lint(source, used).named(asked) if given.lint else []
     hints = [Placed(line, f"hint {text}", name, []) for line, text, name in sorted(told)]
     reference: Reference | None = given.reference

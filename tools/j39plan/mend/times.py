@@ -1,4 +1,4 @@
-"""What is tried against findings about times: F17, F18 and F20."""
+"""What is tried against findings about times: F17, F18, F20 and F31."""
 
 from __future__ import annotations
 
@@ -11,6 +11,7 @@ from j39plan.mend.flows import flow_of
 from j39plan.mend.judge import Draft, greatest, least
 from j39plan.mend.priorities import LEVELS, assignment_of
 from j39plan.plan.answer_grammar import Line
+from j39plan.plan.hints.requests import asking, longest_period
 from j39plan.plan.schema import bitrates_of, most_of
 from j39plan.plan.tables import Flow, Group, Need
 
@@ -190,4 +191,13 @@ def older(draft: Draft, need: Need) -> Iterator[Mend]:
         yield Mend(f"need {number}", f"within = {within}, it was {need.within}", setting(need.place, within=within), "only if that is young enough")
 
 
-ATTEMPTS = {"F17": too_full, "F18": in_time, "F20": too_old}
+def asked_too_often(draft: Draft, line: Line) -> Iterator[Attempt]:
+    """Requests ask for a flow oftener than once in its period (F31): the greatest period by which they don't."""
+    flow = flow_of(draft, line)
+    period = longest_period(flow, asking(draft.tables, flow))
+    if period is not None:
+        yield Attempt("the period by which its requests come", [
+            Mend(f"flow {flow.number} ({flow.what})", f"period = {period}, it was {flow.period}", setting(flow.place, period=period))])
+
+
+ATTEMPTS = {"F17": too_full, "F18": in_time, "F20": too_old, "F31": asked_too_often}

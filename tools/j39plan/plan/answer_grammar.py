@@ -12,7 +12,7 @@ FINDINGS = (
     "F14 RecordOverlap group signal other", "F15 TextOutside group text #end", "F16 NoPeriod #flow", "F17 Overload #load", "F18 LateFlow #flow",
     "F19 NeedUnmet #need", "F20 NeedTooOld #need", "F21 RequestUnanswered #request", "F22 RequestUnheard #request", "F23 AnswerAstray #request",
     "F24 WhenOutside group #end", "F25 RequestRepeated #request #other", "F26 SilentAddress unit other #address", "F27 SilentInPool unit #address",
-    "F28 FlowContested #flow",
+    "F28 FlowContested #flow", "F31 AskedTooOften #flow",
 )
 
 # Those of plans of lines of vehicles.

@@ -68,7 +68,7 @@ def of_one(plan: Source, line: Line) -> Told:
 def of_flow(plan: Source, line: Line) -> Told:
     """Line and hint of a finding about one flow."""
     flow = plan.tables.flows[line.number("flow") - 1]
-    key, hint = late(plan, flow) if line.word("finding") == "F18" else FLOW_KEYS[line.word("finding")]
+    key, hint = OF_FLOW[line.word("finding")](plan, flow) if line.word("finding") in OF_FLOW else FLOW_KEYS[line.word("finding")]
     return plan.line(flow.place + (key,)), f"{flow.what}: key {key}: {hint}"
 
 
@@ -82,6 +82,15 @@ def late(plan: Source, flow: Flow) -> tuple[str, str]:
     if flow.jitter:
         return "jitter", f"it takes {flow.jitter} ms of the period of {flow.period} ms, and within the rest {what}: a smaller one, or a deadline above the period"
     return "period", f"within {flow.period} ms {what}; a deadline may be longer"
+
+
+def too_often(plan: Source, flow: Flow) -> tuple[str, str]:
+    """The key of a flow that is asked for too often, and by which requests it is."""
+    return requests.too_often(plan.tables, flow)
+
+
+# What says the key of a flow and a hint, of findings of which they are not the same for each flow.
+OF_FLOW = {"F18": late, "F31": too_often}
 
 
 def of_ends(plan: Source, line: Line) -> Told:
@@ -182,7 +191,7 @@ def of_choices(plan: Source, line: Line) -> Told:
 # What is to be said of a finding by its number.
 HINTS = {
     **dict.fromkeys(("F29", "F30"), of_choices),
-    **dict.fromkeys(PAIR_KEYS, of_two), **dict.fromkeys((*FLOW_KEYS, "F18"), of_flow), **dict.fromkeys(KEYS, of_one), **dict.fromkeys(("F3", "F17"), of_plan),
+    **dict.fromkeys(PAIR_KEYS, of_two), **dict.fromkeys((*FLOW_KEYS, *OF_FLOW), of_flow), **dict.fromkeys(KEYS, of_one), **dict.fromkeys(("F3", "F17"), of_plan),
     **dict.fromkeys(("F4", "F6"), of_group), **dict.fromkeys(("F8", "F14"), of_signals), "F11": of_flows, "F28": of_ends, **dict.fromkeys(("F19", "F20"), of_need),
     **dict.fromkeys(("F21", "F22", "F23", "F25"), of_request),
 }

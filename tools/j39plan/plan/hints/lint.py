@@ -10,7 +10,7 @@ from typing import NamedTuple
 from j39plan import program
 from j39plan.j1939 import FRAME_BYTES, PACKET_BYTES, POOL
 from j39plan.plan import scales
-from j39plan.plan.hints import alternatives, needs, omitted, variants
+from j39plan.plan.hints import alternatives, needs, omitted, requests, variants
 from j39plan.plan.hints.names import ON_DEMAND, Asked, Silence
 from j39plan.plan.hints.words import likely
 from j39plan.plan.parts import Part, Source
@@ -71,7 +71,7 @@ class Lint:
             "unsent": (self.unsent,), "idle": (self.idle,), "pool": (self.fixed_in_pool,), "prefer": (self.preferred,), "spn": (self.spns,),
             "short": (self.short,), "urgent": (self.urgent,), "identity": (self.equal_identities,), "broadcast": (self.unsendable, self.passed),
             "single": (self.single,), "queue": (self.unordered,), "untaken": (self.untaken,), "twice": (self.met_twice,), "late": (self.met_late,),
-            "unasked": (self.unasked,), "live": (self.not_live,), "drift": (self.agreeing,), "maker": (partial(omitted.makers, plan),),
+            "unasked": (self.unasked,), "beside": (self.answering_beside,), "live": (self.not_live,), "drift": (self.agreeing,), "maker": (partial(omitted.makers, plan),),
             "measure": (partial(omitted.measures, plan),), "codes": (partial(omitted.codes, plan),), "address": (partial(omitted.addresses, plan),)}
         of_line: dict[str, tuple[Callable[[], Iterable[Hint]], ...]] = {
             "choice": (partial(variants.unnamed, plan),), "silent": (partial(variants.silent_without, plan),),
@@ -265,6 +265,13 @@ class Lint:
         for flow in self.tables.flows:
             if flow.is_unasked:
                 yield self.of_flow(flow, "on_request", "it is sent only as an answer, and no request of the plan asks for it")
+
+    def answering_beside(self) -> Iterator[Hint]:
+        """Flows that come by themselves, and for which requests with a period ask too, in a plan with timing."""
+        for flow in self.tables.flows if self.tables.timing else ():
+            if flow.period and not flow.on_request and (asking := requests.asking(self.tables, flow)):
+                told = " and ".join(f"request {requests.number(request)}" for request in asking)
+                yield self.of_flow(flow, "period", f"what it answers to {told} beside its own messages isn't counted")
 
     def not_live(self) -> Iterator[Hint]:
         """That a plan of the latest version could say that its bus is live, and have no further finding by that."""

@@ -1,9 +1,9 @@
 use Rattle.std.proofs.Common.{append_assoc}
-use Rattle.j39_plan_text.specs.CheckText.{findings_text}
-use Rattle.j39_plan_text.proofs.plan_report.write_findings.Goals as goal
+use Rattle.j39_plan_text.specs.CheckText.{found_text}
+use Rattle.j39_plan_text.proofs.plan_report.write_found.Goals as goal
 
 pub returns : goal.returns
-unfolding findings_text
+unfolding found_text
 returns c =
     simp (
       c.in_ok-write_lines.ensures,
@@ -11,7 +11,5 @@ returns c =
       c.in_ok-write_lines-2.ensures,
       c.in_ok-write_load_findings-2.ensures,
       c.in_ok-write_lines-3.ensures,
-      c.in_ok-write_load_findings-3.ensures,
-      c.in_ok-field.ensures,
       append_assoc,
-    ) at c.end_line.ensures
+    ) at c.write_load_findings-3.ensures
