@@ -4,7 +4,7 @@ use Rattle.std.proofs.Math.Nat.{lt_of_mul-lt-mul_right, mul-le-mul_left, mul-le-
 use Rattle.std.proofs.lemmas.Bool.{and_parts, and_from, cases_lt, cases_Bool, lt-ltb, ltb-true, eqb-true}
 use Rattle.std.proofs.lemmas.Grind.{div_ceil_times}
 use Rattle.std.specs.Int.{div_ceil}
-use Rattle.j39_timing.specs.AnsweredRequests.{Answered, AreAnswers, AskNoMoreThan, Requesters}
+use Rattle.j39_timing.specs.AnsweredRequests.{RequestsAnswered, AreAnswers, AskNoOftenerThan, Requesters}
 use Rattle.j39_timing.specs.FrameStreams.{Origins}
 use Rattle.j39_timing.specs.Messages.{IsOf}
 use Rattle.j39_timing.specs.Sums.{total}
@@ -102,7 +102,7 @@ spread n passes number own = elim (cases_lt 0 (total n (λ i. cond (passes i) 1 
 -- ---- messages, or frames of them, by their places
 
 module _ (n : ℕ) (passes : ℕ → Bool) (Is : ℕ → Type 0) (each : (m : ℕ) → m < n → passes m ≡ true → Is m) (at : ℕ → ℕ) (late frames : ℕ)
-    (requesters : Requesters) (answered : Answered) (answers : AreAnswers Is at late frames requesters answered) (some_bit : 0 < requesters.bit)
+    (requesters : Requesters) (answered : RequestsAnswered) (answers : AreAnswers Is at late frames requesters answered) (some_bit : 0 < requesters.bit)
     (t span : ℕ) (some : 0 < span) where
   abbrev counts : ℕ → Bool
   counts m = passes m && inside t span (at m)
@@ -159,7 +159,7 @@ module _ (n : ℕ) (passes : ℕ → Bool) (Is : ℕ → Type 0) (each : (m : �
             (answered.number j - answered.number i, omega (arith, apart, near, all), most)
       ]
 
-  module _ (own period : ℕ) (asks : AskNoMoreThan requesters own) (positive : 0 < period) (paced : period * requesters.bit ≤ own) where
+  module _ (own period : ℕ) (asks : AskNoOftenerThan requesters own) (positive : 0 < period) (paced : period * requesters.bit ≤ own) where
     part_most : (c : ℕ) → total n (λ m. cond (of_part c m) 1 0) + 1 ≤ div_ceil (span + late) period + requesters.count
     part_most c =
         let often : ℕ → ℕ = λ r. (one_most c r).0 in
@@ -193,8 +193,8 @@ module _ (n : ℕ) (passes : ℕ → Bool) (Is : ℕ → Type 0) (each : (m : �
 
 -- ---- frames of a stream
 
-pub frames_answer : (s : Schedule) (planned : ℕ → Bool) (of : Origins) (j early own : ℕ) (want : Want) (requesters : Requesters) (answered : Answered)
-    → 0 < requesters.bit → AskNoMoreThan requesters own → 0 < want.period → want.period * requesters.bit ≤ own → requesters.count ≤ want.more + 1
+pub frames_answer : (s : Schedule) (planned : ℕ → Bool) (of : Origins) (j early own : ℕ) (want : Want) (requesters : Requesters) (answered : RequestsAnswered)
+    → 0 < requesters.bit → AskNoOftenerThan requesters own → 0 < want.period → want.period * requesters.bit ≤ own → requesters.count ≤ want.more + 1
     → AreAnswers (IsOf s planned of j) s.queued (early + want.jitter) want.frames requesters answered
     → (t span : ℕ) → queuings_in s planned of j t span ≤ frames_of_want (span + early) want
 frames_answer s planned of j early own want requesters answered some_bit asks positive paced few answers t span = elim (cases_lt 0 span) [
@@ -233,8 +233,8 @@ frames_answer s planned of j early own want requesters answered some_bit asks po
 
 -- ---- messages of a unit that sends one at a time
 
-pub messages_answer : (demand : Demand) (messages : UnitMessages) (f own : ℕ) (requesters : Requesters) (answered : Answered)
-    → 0 < requesters.bit → AskNoMoreThan requesters own → 0 < (want_at demand f).period → (want_at demand f).period * requesters.bit ≤ own
+pub messages_answer : (demand : Demand) (messages : UnitMessages) (f own : ℕ) (requesters : Requesters) (answered : RequestsAnswered)
+    → 0 < requesters.bit → AskNoOftenerThan requesters own → 0 < (want_at demand f).period → (want_at demand f).period * requesters.bit ≤ own
     → 0 < (want_at demand f).more → requesters.count ≤ (want_at demand f).more
     → AreAnswers (λ m. (m < messages.count) × (messages.flow m ≡ f)) messages.wanted (want_at demand f).jitter 1 requesters answered
     → WantNoMore demand messages f

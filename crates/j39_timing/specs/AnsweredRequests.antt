@@ -11,7 +11,7 @@ pub record Requesters : Type 0 where
   pub pace : ℕ → ℕ
 
 -- together they ask no more often than once in so many parts: the sum of 1 / pace is 1 / own at most, by a common denominator
-pub record AskNoMoreThan (requesters : Requesters) (own : ℕ) : Type 0 where
+pub record AskNoOftenerThan (requesters : Requesters) (own : ℕ) : Type 0 where
   pub whole : ℕ
   pub part : ℕ → ℕ
   pub positive : 0 < whole
@@ -19,7 +19,7 @@ pub record AskNoMoreThan (requesters : Requesters) (own : ℕ) : Type 0 where
   pub sum : own * total requesters.count part ≤ whole
 
 -- of each message, or frame of one, by its place
-pub record Answered : Type 0 where
+pub record RequestsAnswered : Type 0 where
   -- whose request it answers, and which of these, in their order
   pub requester : ℕ → ℕ
   pub number : ℕ → ℕ
@@ -30,7 +30,7 @@ pub record Answered : Type 0 where
 
 -- each of these answers a request whose moment is its own bit, or so many before at most; no request is answered twice; and n + 1 moments of one are n
 -- times as far apart as two, less than a bit fewer
-pub record AreAnswers (Is : ℕ → Type 0) (at : ℕ → ℕ) (late frames : ℕ) (requesters : Requesters) (answered : Answered) : Type 0 where
+pub record AreAnswers (Is : ℕ → Type 0) (at : ℕ → ℕ) (late frames : ℕ) (requesters : Requesters) (answered : RequestsAnswered) : Type 0 where
   pub known : (m : ℕ) → Is m → answered.requester m < requesters.count
   pub moment_first : (m : ℕ) → Is m → answered.moment m ≤ at m
   pub late_at_most : (m : ℕ) → Is m → at m ≤ answered.moment m + late

@@ -12,7 +12,7 @@ ghost use Rattle.j39_timing.specs.Prefixes.{IsPlannedUntil, AreBegunUntil, HaveW
 ghost use Rattle.j39_timing.specs.AnyOrder.{AreBegunWithin, Controllers, HaveWaits, IsLegalInAnyOrder, IsFromOrdered};
 ghost use Rattle.j39_timing.specs.AnyOrder.{IsOrderedStream, IsUnordered, after_buffering, buffered_traffic};
 ghost use Rattle.j39_timing.specs.QueueGroups.{QueueGroup, QueueGroupDemandFits, IsTrafficOfQueueGroup};
-ghost use Rattle.j39_timing.specs.AnsweredRequests.{Answered, AreAnswers, AskNoMoreThan, Requesters};
+ghost use Rattle.j39_timing.specs.AnsweredRequests.{RequestsAnswered, AreAnswers, AskNoOftenerThan, Requesters};
 ghost use Rattle.j39_timing.specs.WantedMessages.{AreAnnouncements, AreFramesOfMessages, AreReleasedApart};
 ghost use Rattle.j39_timing.specs.WantedMessages.{AreWantedInTurn, HasLongest, HavePeriods, UnitMessages, WantNoMore};
 ghost use Rattle.j39_timing.specs.WantedMessages.{want_at};
@@ -147,12 +147,12 @@ pub fn what_is_wanted_is_reached()
 /// later). So it is of the messages that are wanted of a unit that sends one at a time (`messages`).
 pub fn answers_ask_for_no_more()
     ensures frames { (s : Schedule) (planned : ℕ → Bool) (of : Origins) (j early own : ℕ) (want : TheWant)
-        (requesters : Requesters) (answered : Answered) → 0 < requesters.bit → AskNoMoreThan requesters own
+        (requesters : Requesters) (answered : RequestsAnswered) → 0 < requesters.bit → AskNoOftenerThan requesters own
         → 0 < want.period → want.period * requesters.bit ≤ own → requesters.count ≤ want.more + 1
         → AreAnswers (IsOf s planned of j) s.queued (early + want.jitter) want.frames requesters answered
         → (t span : ℕ) → queuings_in s planned of j t span ≤ frames_of_want (span + early) want }
     ensures messages { (demand : Demand) (messages : UnitMessages) (f own : ℕ) (requesters : Requesters)
-        (answered : Answered) → 0 < requesters.bit → AskNoMoreThan requesters own → 0 < (want_at demand f).period
+        (answered : RequestsAnswered) → 0 < requesters.bit → AskNoOftenerThan requesters own → 0 < (want_at demand f).period
         → (want_at demand f).period * requesters.bit ≤ own → 0 < (want_at demand f).more
         → requesters.count ≤ (want_at demand f).more
         → AreAnswers (λ m. (m < messages.count) × (messages.flow m ≡ f)) messages.wanted (want_at demand f).jitter 1 requesters answered
@@ -163,7 +163,7 @@ pub fn answers_ask_for_no_more()
 /// and the next ones at their moments.
 pub fn what_is_answered_is_reached()
     ensures { (s : Schedule) × (planned : ℕ → Bool) × (of : Origins) × (want : TheWant) × (requesters : Requesters)
-        × (answered : Answered) × (own : ℕ) × AskNoMoreThan requesters own × (want.period * requesters.bit ≤ own)
+        × (answered : RequestsAnswered) × (own : ℕ) × AskNoOftenerThan requesters own × (want.period * requesters.bit ≤ own)
         × (requesters.count ≡ want.more + 1)
         × AreAnswers (IsOf s planned of 0) s.queued want.jitter want.frames requesters answered
         × (queuings_in s planned of 0 50 151 ≡ frames_of_want 151 want) }
