@@ -15,6 +15,7 @@ mod SentOn
 mod Starts
 mod Timely
 mod Until
+mod ValuesBrought
 mod Whole
 mod Young
 mod TrueTimes

@@ -5,5 +5,6 @@ pub mod PlainTimes
 pub mod Prompt
 pub mod Seen
 pub mod ValuesArrive
+pub mod ValuesBrought
 pub mod VehicleAges
 pub mod YoungValues

@@ -1,5 +1,7 @@
 //! Laws of times over gateways.
 ghost use Rattle.std.specs.Prelude.{[]};
+ghost use Rattle.j39_network.specs.declared.plan.Plan.{Plan};
+ghost use Rattle.j39_network.specs.declared.plan.timing.Timing.{Timing};
 ghost use Rattle.j39_vehicle.specs.declared.vehicle.Vehicle.{Vehicle};
 ghost use Rattle.j39_vehicle_times.specs.TimeFindings.{AreTimeFindings};
 ghost use Rattle.j39_vehicle_times.specs.declared.bus_delays.Delays.{Delays};
@@ -7,6 +9,7 @@ ghost use Rattle.j39_vehicle_time_laws.specs.ForwardedStreams.{AreForwardsTimely
 ghost use Rattle.j39_vehicle_time_laws.specs.MessagesSentOn.{CanMessagesBeSentOn, DoCopiesCarryValues};
 ghost use Rattle.j39_vehicle_time_laws.specs.PlainTimes.{AgesAreUnasked, AnswersStayAnswers, ClocksAreOfBitrates, DeadlinesHaveRoom};
 ghost use Rattle.j39_vehicle_time_laws.specs.ValuesArrive.{DoValuesArrive};
+ghost use Rattle.j39_vehicle_time_laws.specs.ValuesBrought.{CanValuesBeBrought};
 ghost use Rattle.j39_vehicle_time_laws.specs.VehicleAges.{AreAgesKept, AreForwardedPausesKept, AreVehicleNeedsKept};
 ghost use Rattle.j39_vehicle_time_laws.specs.VehicleAges.{AreVehicleStreamsKept, IsSoundVehicle};
 ghost use Rattle.j39_vehicle_time_laws.specs.YoungValues.{AreAgesBounds};
@@ -60,4 +63,11 @@ pub fn direct_forwards_have_room()
 pub fn a_message_is_sent_on()
     ensures sent { (v : Vehicle) (delays : Delays) → CanMessagesBeSentOn v delays }
     ensures copies { (v : Vehicle) → DoCopiesCarryValues v }
+{}
+
+/// And on one bus what is asked for a value to arrive in time can be kept, for as long as one likes: where no two units
+/// have one planned address, a flow with a pause each message of which goes in one frame can be sent at each period, on a
+/// bus that keeps to the plan, whether its units keep order or not, with bytes in which whatever one likes was written.
+pub fn a_value_is_brought()
+    ensures { (plan : Plan) (timing : Timing) → CanValuesBeBrought plan timing }
 {}
