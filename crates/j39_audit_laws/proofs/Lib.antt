@@ -8,8 +8,10 @@ pub mod Idle
 pub mod InTurn
 pub mod KeptParts
 pub mod KeptPauses
+pub mod LateSlots
 pub mod Lines
 pub mod Listed
+pub mod LoggedBus
 pub mod Marking
 pub mod Near
 pub mod NearClocks
@@ -41,11 +43,13 @@ pub mod Silent
 pub mod SilentFound
 pub mod SilentNotes
 pub mod SilentReported
+pub mod SoleSenders
 pub mod Spread
 pub mod Steps
 pub mod Sure
 pub mod SureWords
 pub mod Occurrences
+pub mod TimedLines
 pub mod Walk
 pub mod WholeLogs
 pub mod WithStrangers

@@ -9,6 +9,7 @@ pub mod KeptLogs
 pub mod KeptParts
 pub mod KeptStreams
 pub mod LogBounds
+pub mod LoggedBuses
 pub mod MarkRecords
 pub mod OneAudit
 pub mod OwnPart

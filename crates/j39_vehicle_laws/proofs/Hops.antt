@@ -1,19 +1,25 @@
 -- From one message of a trace to the one that it carries: what its signal reads there.
-use Rattle.std.proofs.Common.{◌≡◌, ℕ, ◌==◌, ◌⊎◌, List, [], Bool, true, false, if◌then◌else◌, Option, Some, None, inl, inr, sym, refl, ap, ◌∙◌, subst}
+use Rattle.std.proofs.Common.{◌≡◌, ℕ, ◌==◌, ◌<◌, ◌⊎◌, List, [], All, length, Bool, true, false, if◌then◌else◌, Option, Some, None, inl, inr, sym, refl, ap, ◌∙◌, subst}
+use Rattle.std.proofs.Common.{arith}
 use Rattle.std.specs.Prelude.{ℤ, pos, ◌*ℤ◌}
 use Rattle.std.specs.List.{position, slice_get}
-use Rattle.std.specs.Option.{option_and_then, option_map, option_map_or}
+use Rattle.std.specs.Option.{ForSome, option_and_then, option_map, option_map_or}
 use Rattle.std.proofs.lemmas.Bool.{cases_Bool}
-use Rattle.std.proofs.lemmas.Option.{same_Some}
+use Rattle.std.proofs.lemmas.Option.{none-some, same_Some}
 use Rattle.j39_signal.specs.Bits.{raw_of}
 use Rattle.j39_signal.specs.declared.signal_parts.SignalParts.{SignalParts}
 use Rattle.j39_signal.specs.declared.state.State.{State}
 use Rattle.j39_signal.specs.declared.state.State.TheVariants.{Value, Specific, Reserved, Fault, Absent}
+use Rattle.j39_network.specs.NeedPlaces.{signal_count}
 use Rattle.j39_network.specs.declared.plan.flow_plan.FlowPlan.{FlowPlan}
+use Rattle.j39_network.specs.declared.plan.group_plan.GroupPlan.{GroupPlan}
+use Rattle.j39_vehicle.specs.VehiclePlaces.{HasForward, signals_at}
 use Rattle.j39_vehicle.specs.declared.vehicle.Vehicle.{Vehicle}
+use Rattle.j39_vehicle.specs.declared.vehicle.bus_plan.BusPlan.{BusPlan}
 use Rattle.j39_vehicle.specs.declared.vehicle.forward.Forward.{Forward}
 use Rattle.j39_vehicle.specs.declared.vehicle.forward.ForwardedSignal.{ForwardedSignal}
 use Rattle.j39_vehicle.specs.declared.vehicle.places.GroupAt.{GroupAt}
+use Rattle.j39_vehicle_findings.specs.Buses.{group_at}
 use Rattle.j39_vehicle_findings.specs.ForwardEnds.{Copies, Feeds, listed}
 use Rattle.j39_vehicle_findings.specs.ForwardTests.{copies}
 use Rattle.j39_vehicle_findings.specs.Matching.{Agree}
@@ -23,11 +29,12 @@ use Rattle.j39_vehicle_findings.specs.declared.point.FlowAt.{FlowAt}
 use Rattle.j39_vehicle_findings.specs.declared.point.Point.{Point}
 use Rattle.j39_vehicle_findings.proofs.Deciding.{Decides-copies}
 use Rattle.j39_vehicle_laws.specs.Carrying.{IsTakenOver, group_of_point, is_exact, listed_for, signal_at}
-use Rattle.j39_vehicle_laws.specs.Faithful.{KeepsContents, signal_of}
+use Rattle.j39_vehicle_laws.specs.Faithful.{KeepsContents, PassesValues, signal_of}
+use Rattle.j39_vehicle_laws.specs.HandedOn.{AreOneValue}
 use Rattle.j39_vehicle_laws.specs.Reading.{HasNoValue, IsUnset, ReadsOver, ReadsValueOf, reading}
 use Rattle.j39_vehicle_laws.specs.BusRuns.{BusMessage, flow_on_bus}
 use Rattle.j39_vehicle_laws.proofs.Forwarding.{copied_agrees, exact_has, first_is_input, put_is_listed}
-use Rattle.j39_vehicle_laws.proofs.Places.{mapped_of, parts_of}
+use Rattle.j39_vehicle_laws.proofs.Places.{mapped_of, one_of_all, parts_of, value_within}
 use Rattle.j39_vehicle_laws.proofs.Values.{each_value}
 
 -- ---- what is read
@@ -199,3 +206,68 @@ none_over v n m q feeds behind faithful t is =
           subst (λ e. IsUnset t e (reading t m.bytes)) (sym (listed_exactly n j f for)) (faithful.taken k f t f_is t_there)
     ] in
     subst (λ o. IsUnset t (is_exact n o) (reading t m.bytes)) (sym signal) there
+
+-- ---- messages that pass values on
+
+-- what a forward reads is a signal of the group that it hears
+one_listed : {L A : Type 0} (P : A → Type 0) (items : L → List A) (o : Option L) → ForSome o (λ l. All P (items l)) → (k : ℕ) (f : A)
+    → slice_get (option_map_or items o []) k ≡ Some f → P f
+one_listed P items None all k f is = absurd (none-some _ is)
+one_listed P items (Some l) all k f is = one_of_all P (items l) k f (all l refl) is
+
+in_group : (groups : List GroupPlan) (g i : ℕ) → i < signal_count groups g
+    → (s : SignalParts) × (option_and_then (λ (group : GroupPlan). slice_get group.signals.items i) (slice_get groups g) ≡ Some s)
+in_group groups g i = go (slice_get groups g)
+  where
+    go : (o : Option GroupPlan) → i < option_map_or (λ (group : GroupPlan). length group.signals.items) o 0
+        → (s : SignalParts) × (option_and_then (λ (group : GroupPlan). slice_get group.signals.items i) o ≡ Some s)
+    go None below = absurd (omega arith)
+    go (Some group) below = value_within group.signals.items i below
+
+signal_there : (v : Vehicle) (g : GroupAt) (i : ℕ) → i < signals_at v.buses.items g → (s : SignalParts) × (signal_of v g i ≡ Some s)
+signal_there v g i = go (slice_get v.buses.items g.bus)
+  where
+    go : (o : Option BusPlan) → i < option_map_or (λ (bus : BusPlan). signal_count bus.plan.groups.items g.group) o 0
+        → (s : SignalParts) × (option_and_then (λ (group : GroupPlan). slice_get group.signals.items i)
+        (slice_get (option_map_or (λ (bus : BusPlan). bus.plan.groups.items) o []) g.group) ≡ Some s)
+    go None below = absurd (omega arith)
+    go (Some bus) below = in_group bus.plan.groups.items g.group i below
+
+listed_there : (v : Vehicle) (place : ℕ) (n : Forward) → slice_get v.forwards.items place ≡ Some n → (k : ℕ) (f : ForwardedSignal)
+    → slice_get (listed n) k ≡ Some f → (s : SignalParts) × (signal_of v n.input f.read ≡ Some s)
+listed_there v place n its k f f_is =
+    let there = one_of_all (HasForward v.buses.items v.gateways.items) v.forwards.items place n v.forward_places its in
+    signal_there v n.input f.read (one_listed (λ (s : ForwardedSignal). s.read < signals_at v.buses.items n.input) (λ signals. signals.items) n.signals there.read k f f_is)
+
+-- the trace goes on with a signal, and where this reads a value in the message that is carried, the signal that it goes into reads it
+abbrev pub IsPassedOver : Vehicle → Point → List ℕ → SignalParts → List ℕ → Type 0
+IsPassedOver v x before t bytes = (s : SignalParts) × (signal_at v x ≡ Some s)
+    × ((a : ℤ) → reading s before ≡ Value a → (b : ℤ) × (reading t bytes ≡ Value b) × AreOneValue s a t b)
+
+pub passed_over : (v : Vehicle) → AreFindings v [] → (place : ℕ) (n : Forward) → slice_get v.forwards.items place ≡ Some n → (p x : Point)
+    → Feeds v n p.at → behind_forward v p.signal n ≡ Some x → (before bytes : List ℕ) → KeepsContents v n (Some before) bytes
+    → PassesValues v n before bytes → is_exact n p.signal ≡ true → (t : SignalParts) → signal_at v p ≡ Some t → IsPassedOver v x before t bytes
+passed_over v clean place n its p x feeds behind before bytes faithful passes exact t is =
+    let (j, signal, t_is) = sent_signal v n p t feeds is in
+    let (i, jj, first, into, at) = behind_signal v n j x (ap (λ o. behind_forward v o n) (sym signal) ∙ behind) in
+    let there : IsPassedOver v (point_on n.input.bus i (Some jj)) before t bytes =
+    elim (cases_Bool (copies n)) [
+      | inl copy ↦
+          let (s, s_is, agree) = copied_agrees v n j jj t copy into t_is in
+          let read : reading s before ≡ reading t bytes =
+          agreeing_read s t before agree ∙ ap (reading t) (sym (faithful.copied ((Decides-copies n).0 copy))) in
+          (s, heard_signal v n i jj s first s_is, λ a from. (a, sym read ∙ from, ap (λ d. a *ℤ pos d) (sym agree.per)))
+      | inr other ↦
+          let (k, f, f_is, written, reads, for) = put_is_listed v n j jj other into in
+          let t_there : signal_of v n.output f.written ≡ Some t = ap (signal_of v n.output) written ∙ t_is in
+          let (s, s_is) = listed_there v place n its k f f_is in
+          let s_there : signal_of v n.input jj ≡ Some s = ap (signal_of v n.input) (sym reads) ∙ s_is in
+          let whole : f.exact ≡ true = sym (listed_exactly n j f for) ∙ (ap (is_exact n) (sym signal) ∙ exact) in
+          let has = exact_has v clean place n its k f s t f_is whole s_is t_there in (
+            s,
+            heard_signal v n i jj s first s_there,
+            λ a from.
+                passes k f s t a f_is s_is t_there from (each_value s t has (raw_of before s) a (read_there _ _ a from)),
+          )
+    ] in
+    subst (λ q. IsPassedOver v q before t bytes) at there

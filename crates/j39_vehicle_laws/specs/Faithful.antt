@@ -1,9 +1,10 @@
 -- What gateways keep of the messages that they send on.
-use Rattle.std.specs.Prelude.{◌≡◌, ℕ, ◌⊎◌, List, Option, Some, None}
+use Rattle.std.specs.Prelude.{◌≡◌, ℕ, ◌⊎◌, ℤ, List, Option, Some, None}
 use Rattle.std.specs.List.{slice_get}
 use Rattle.std.specs.Option.{option_and_then}
 use Rattle.j39_signal.specs.declared.signal_parts.SignalParts.{SignalParts}
 use Rattle.j39_signal.specs.declared.state.State.{State}
+use Rattle.j39_signal.specs.declared.state.State.TheVariants.{Value}
 use Rattle.j39_network.specs.declared.plan.group_plan.GroupPlan.{GroupPlan}
 use Rattle.j39_vehicle.specs.declared.vehicle.Vehicle.{Vehicle}
 use Rattle.j39_vehicle.specs.declared.vehicle.forward.Forward.{Forward}
@@ -11,7 +12,8 @@ use Rattle.j39_vehicle.specs.declared.vehicle.forward.ForwardedSignal.{Forwarded
 use Rattle.j39_vehicle.specs.declared.vehicle.places.GroupAt.{GroupAt}
 use Rattle.j39_vehicle_findings.specs.Buses.{group_at}
 use Rattle.j39_vehicle_findings.specs.ForwardEnds.{Copies, listed}
-use Rattle.j39_vehicle_laws.specs.Reading.{HasNoValue, IsUnset, ReadsValueOf, reading}
+use Rattle.j39_vehicle_laws.specs.HandedOn.{AreOneValue}
+use Rattle.j39_vehicle_laws.specs.Reading.{HasNoValue, IsUnset, IsValueOf, ReadsValueOf, reading}
 
 -- the signal at a place of a group
 abbrev pub signal_of : Vehicle → GroupAt → ℕ → Option SignalParts
@@ -33,3 +35,10 @@ pub record KeepsContents (v : Vehicle) (n : Forward) (carried : Option (List ℕ
   pub copied : Copies n → IsCopy v n carried bytes
   pub taken : (k : ℕ) (f : ForwardedSignal) (t : SignalParts) → slice_get (listed n) k ≡ Some f → signal_of v n.output f.written ≡ Some t
       → IsTakenFrom v n f carried t (reading t bytes)
+
+-- it passes values on: where a signal that goes into another one reads a value in the message that is carried, and this other one has that value,
+-- it reads it. A copy does so by its bytes
+abbrev pub PassesValues : Vehicle → Forward → List ℕ → List ℕ → Type 0
+PassesValues v n before bytes = (k : ℕ) (f : ForwardedSignal) (s t : SignalParts) (a : ℤ) → slice_get (listed n) k ≡ Some f
+    → signal_of v n.input f.read ≡ Some s → signal_of v n.output f.written ≡ Some t → reading s before ≡ Value a → IsValueOf s a t
+    → (b : ℤ) × (reading t bytes ≡ Value b) × AreOneValue s a t b

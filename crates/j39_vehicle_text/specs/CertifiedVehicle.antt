@@ -16,6 +16,7 @@ use Rattle.j39_vehicle_times.specs.TimeFindings.{AreTimeFindings}
 use Rattle.j39_vehicle_times.specs.declared.bus_delays.Delays.{Delays}
 use Rattle.j39_vehicle_laws.specs.Passing.{PassedMessagesArrive}
 use Rattle.j39_vehicle_laws.specs.Unaltered.{IsUnaltered}
+use Rattle.j39_vehicle_time_laws.specs.ValuesArrive.{DoValuesArrive}
 use Rattle.j39_vehicle_time_laws.specs.VehicleAges.{AreAgesKept, AreForwardedPausesKept, AreVehicleNeedsKept, AreVehicleStreamsKept}
 
 -- nothing is found in a plan and in what it asks of its bus
@@ -50,6 +51,8 @@ pub record IsCertifiedVehicle (v : Vehicle) : Type 0 where
   -- each age that is known bounds how old what is brought is, and so each need that asks for an age has a flow that keeps it
   pub ages : AreAgesKept v delays
   pub needs : AreVehicleNeedsKept v delays
+  -- and where gateways pass values on, what is brought so reads each value that its origin reads
+  pub values : DoValuesArrive v
   -- and a flow that is sent on directly keeps the pause that the plan of its bus has for it
   pub pauses : AreForwardedPausesKept v delays
   -- and the planned frames of each bus keep to its streams, those that are sent on directly too: so what the plan's certificate promises of times

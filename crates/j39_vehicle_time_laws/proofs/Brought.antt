@@ -1,30 +1,22 @@
 -- What a frame brings from its origin: from forward to forward nothing is altered.
 use Rattle.std.proofs.Common.{◌≡◌, ℕ, zero, suc, ◌+◌, ◌≤◌, [], Bool, Option, Some, None, refl, sym, ap, ◌∙◌, subst, inl, inr, arith}
-use Rattle.std.proofs.lemmas.Bool.{cases_Bool, false≢true, leb-true}
+use Rattle.std.proofs.lemmas.Bool.{false≢true}
 use Rattle.std.proofs.lemmas.Option.{none-some, same_Some}
-use Rattle.std.specs.Prelude.{nat_le}
 use Rattle.std.specs.List.{slice_get}
 use Rattle.std.specs.Option.{option_and_then, option_map_or}
-use Rattle.j39_signal.specs.Parts.{IsSignal}
 use Rattle.j39_signal.specs.declared.signal_parts.SignalParts.{SignalParts}
-use Rattle.j39_signal.specs.Places.{end_of}
-use Rattle.j39_network.specs.declared.plan.group_plan.GroupPlan.{GroupPlan}
 use Rattle.j39_vehicle.specs.declared.vehicle.Vehicle.{Vehicle}
 use Rattle.j39_vehicle.specs.declared.vehicle.forward.Forward.{Forward}
-use Rattle.j39_vehicle.specs.declared.vehicle.places.GroupAt.{GroupAt}
-use Rattle.j39_vehicle_findings.specs.Buses.{group_at}
 use Rattle.j39_vehicle_findings.specs.ForwardEnds.{Copies, Feeds}
 use Rattle.j39_vehicle_findings.specs.Traces.{goes_on, next_forward, trace_end}
 use Rattle.j39_vehicle_findings.specs.VehicleFindings.{AreFindings}
 use Rattle.j39_vehicle_findings.specs.declared.point.Point.{Point}
 use Rattle.j39_vehicle_laws.specs.Carrying.{AreAllCopies, AreAllExact, is_exact, signal_at}
-use Rattle.j39_vehicle_laws.specs.Faithful.{KeepsContents, signal_of}
-use Rattle.j39_vehicle_laws.specs.Reading.{HasNoValue, reading}
+use Rattle.j39_vehicle_laws.specs.Reading.{reading}
 use Rattle.j39_vehicle_laws.specs.Unaltered.{ReadsAsOrigin}
 use Rattle.j39_vehicle_laws.proofs.Bringing.{divisor_of, each_behind, each_here, goes_by, no_value_if_exact, reads_on}
 use Rattle.j39_vehicle_laws.proofs.Forwarding.{next_feeds}
 use Rattle.j39_vehicle_laws.proofs.Hops.{taken_over, value_or_none}
-use Rattle.j39_vehicle_laws.proofs.Places.{one_of_all, parts_of}
 use Rattle.j39_vehicle_time_laws.specs.Seen.{SeenBuses}
 use Rattle.j39_vehicle_time_laws.specs.YoungValues.{BringsFrame, ReadsAsBrought, at_its_origin, by_forward, message_at}
 
@@ -33,7 +25,7 @@ use Rattle.j39_vehicle_time_laws.specs.YoungValues.{BringsFrame, ReadsAsBrought,
 same_bytes : (v : Vehicle) (seen : SeenBuses) (origin : Point) (first : ℕ) {p : Point} {frame : ℕ} → BringsFrame v seen origin first p frame
     → AreAllCopies v p → (seen p.at.bus).bytes frame ≡ (seen origin.at.bus).bytes first
 same_bytes v seen origin first (at_its_origin ends) all = refl
-same_bytes v seen origin first (by_forward p x frame carried place n next its on keeps rest) all =
+same_bytes v seen origin first (by_forward p x frame carried place n next its on keeps takes rest) all =
     let behind = goes_by v p x place n its on in
     let copy = each_here v (λ signal n. Copies n) p place n next its all in
     let onward = each_behind v (λ signal n. Copies n) p x place n next its behind all in
@@ -41,7 +33,7 @@ same_bytes v seen origin first (by_forward p x frame carried place n next its on
 
 -- ---- values
 
-feeds_it : (v : Vehicle) (p : Point) (place : ℕ) (n : Forward) → next_forward v p ≡ Some place
+pub feeds_it : (v : Vehicle) (p : Point) (place : ℕ) (n : Forward) → next_forward v p ≡ Some place
     → slice_get v.forwards.items place ≡ Some n → Feeds v n p.at
 feeds_it v p place n next its =
     let (m, there, feeds) = next_feeds v p place next in
@@ -55,7 +47,7 @@ reads_as_origin v clean seen origin first (at_its_origin ends) all t t_is =
       | inl (a, is) ↦ inr (message_at seen origin first, t, a, a, refl, t_is, is, is, refl)
       | inr no_value ↦ inl no_value
     ]
-reads_as_origin v clean seen origin first (by_forward p x frame carried place n next its on keeps rest) all t t_is =
+reads_as_origin v clean seen origin first (by_forward p x frame carried place n next its on keeps takes rest) all t t_is =
     let behind = goes_by v p x place n its on in
     let exact = each_here v (λ signal n. is_exact n signal ≡ Rattle.std.proofs.Common.true) p place n next its all in
     let onward = each_behind v (λ signal n. is_exact n signal ≡ Rattle.std.proofs.Common.true) p x place n next its behind all in
@@ -84,31 +76,8 @@ ends_there v seen origin first (at_its_origin ends) zero end is =
     sym (same_Some _ _ (sym (ap (λ (o : Option ℕ). option_map_or (λ n. None) o (Some origin)) ends) ∙ is))
 ends_there v seen origin first (at_its_origin ends) (suc steps) end is =
     sym (same_Some _ _ (sym (ap (λ (o : Option ℕ). option_map_or (λ n. option_and_then (trace_end v steps) (goes_on v origin n)) o (Some origin)) ends) ∙ is))
-ends_there v seen origin first (by_forward p x frame carried place n next its on keeps rest) zero end is =
+ends_there v seen origin first (by_forward p x frame carried place n next its on keeps takes rest) zero end is =
     absurd (none-some end (sym (ap (λ (o : Option ℕ). option_map_or (λ n. None) o (Some p)) next) ∙ is))
-ends_there v seen origin first (by_forward p x frame carried place n next its on keeps rest) (suc steps) end is =
+ends_there v seen origin first (by_forward p x frame carried place n next its on keeps takes rest) (suc steps) end is =
     let here = sym (ap (λ (o : Option ℕ). option_map_or (λ n. option_and_then (trace_end v steps) (goes_on v p n)) o (Some p)) next) ∙ is in
     ends_there v seen origin first rest steps end (sym (ap (option_and_then (trace_end v steps)) on) ∙ here)
-
--- ---- a message of no bytes
-
-some_end : (v : Vehicle) (g : GroupAt) (i : ℕ) (t : SignalParts) → signal_of v g i ≡ Some t → 1 ≤ end_of t
-some_end v g i t is =
-    let (group, group_is, at) = parts_of (λ (group : GroupPlan). slice_get group.signals.items i) (group_at v.buses.items g) t is in
-    let ranges = one_of_all (λ (s : SignalParts). IsSignal s.start s.bits s.step s.offset) group.signals.items i t group.signal_ranges at in
-    let some = ranges.some_bits in
-    omega (arith, some)
-
--- no signal reads a value in it
-nothing_read : (v : Vehicle) (g : GroupAt) (i : ℕ) (t : SignalParts) → signal_of v g i ≡ Some t → HasNoValue (reading t [])
-nothing_read v g i t is value reads = elim (cases_Bool (nat_le (end_of t) 0)) [
-  | inl inside ↦ let some = some_end v g i t is in let none = leb-true (end_of t) 0 inside in absurd (omega (arith, some, none))
-  | inr outside ↦ absurd cc
-]
-
--- so it keeps what a forward has to keep of another one
-pub empty_kept : (v : Vehicle) (n : Forward) → KeepsContents v n (Some []) []
-empty_kept v n = record {
-  copied = λ copy. refl;
-  taken = λ k f t listed is. inl (inl (nothing_read v n.output f.written t is));
-}

@@ -211,7 +211,7 @@ module _ (v : Vehicle) (delays : Delays) (none : AreFindings v []) (stated : Are
               begun = whence.begun;
               ended = omega (arith, before_it, after, till);
               says = whence.says;
-              brings = by_forward p x q (sent.handed.what q) n forward next its on (sent.keeps forward its q it.0) whence.brings;
+              brings = by_forward p x q (sent.handed.what q) n forward next its on (sent.keeps forward its q it.0) (sent.carries q it.0) whence.brings;
             },
           )
 
@@ -240,7 +240,7 @@ module _ (v : Vehicle) (delays : Delays) (none : AreFindings v []) (stated : Are
       let near : (seen p.at.bus).release q - of_us (before + within) < (seen x.at.bus).release r + of_us pause = omega (arith, nearer, enough) in
       let begun = of_x.begun r rits (begun_reach from old pause by before within ((seen p.at.bus).release q) ((seen x.at.bus).release r) late early earlier) in
       let later = ends_behind v delays seen by is x.at before of_x r rits in
-      let (c, carried, newer, over, says, keeps_it) = sent.newest x.signal p.signal (record { by = next; on = on }) r q begun it.0
+      let (c, carried, newer, over, says, keeps_it, takes) = sent.newest x.signal p.signal (record { by = next; on = on }) r q begun it.0
       (had_ended from old pause before within ((seen p.at.bus).release q) ((seen x.at.bus).release r) _ late earlier (of_x.ended r begun))
       (not_too_old from old pause before within ((seen p.at.bus).release q) ((seen x.at.bus).release r) _ late near later) in
       let over_by = trans3 _ _ _ _ over till ended in
@@ -257,7 +257,7 @@ module _ (v : Vehicle) (delays : Delays) (none : AreFindings v []) (stated : Are
           begun = whence.begun;
           ended = trans3 _ _ _ _ whence.ended over till;
           says = whence.says;
-          brings = by_forward p x q c n forward next its on (keeps_it forward its) whence.brings;
+          brings = by_forward p x q c n forward next its on (keeps_it forward its) takes whence.brings;
         },
       )
 

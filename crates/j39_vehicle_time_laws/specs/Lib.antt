@@ -1,8 +1,10 @@
 pub mod ForwardedStreams
 pub mod KeptBuses
-pub mod OnceSentOn
+pub mod MessagesSentOn
 pub mod PlainTimes
 pub mod Prompt
 pub mod Seen
+pub mod ValuesArrive
+pub mod ValuesBrought
 pub mod VehicleAges
 pub mod YoungValues

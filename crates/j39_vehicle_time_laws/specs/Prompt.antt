@@ -51,6 +51,7 @@ pub record IsSentDirectly (v : Vehicle) (seen : SeenBuses) (n : ℕ) (x y : Flow
       → (seen y.bus).born q t ≡ (seen x.bus).born (handed.what q) s
   pub keeps : (forward : Forward) → forward_at v n ≡ Some forward → (q : ℕ) → IsIts (frames_at v seen y) q
       → KeepsContents v forward (Some ((seen x.bus).bytes (handed.what q))) ((seen y.bus).bytes q)
+  pub carries : (q : ℕ) → IsIts (frames_at v seen y) q → (seen y.bus).carries n q (handed.what q) ≡ true
 
 -- a message of the input that had ended `within` before the release of one of the output, and isn't too old by then, is what this carries, or else
 -- a later one that has ended by when it is queued; and its bytes keep what the forward has to keep of this one
@@ -61,6 +62,7 @@ pub record IsSentAtItsBeat (v : Vehicle) (seen : SeenBuses) (n : ℕ) (x y : Flo
       → (r : ℕ) × HasBegun (frames_at v seen x) r × (end_time (frames_at v seen x) p ≤ end_time (frames_at v seen x) r)
       × (end_time (frames_at v seen x) r ≤ queue_time (frames_at v seen y) q) × ((seen y.bus).born q t ≡ (seen x.bus).born r s)
       × ((forward : Forward) → forward_at v n ≡ Some forward → KeepsContents v forward (Some ((seen x.bus).bytes r)) ((seen y.bus).bytes q))
+      × ((seen y.bus).carries n q r ≡ true)
 
 -- gateways do so, of flows of which a delay is reported, where they send directly to a bus of the scope, or a flow of it at its own releases; no message
 -- is too old for them before the next one has to be there

@@ -29,6 +29,8 @@ pub record SeenBus : Type 0 where
   pub born : ℕ → Option ℕ → Option ℕ
   -- the bytes of a frame
   pub bytes : ℕ → List ℕ
+  -- a frame has what the forward at this place puts there of that frame of its input
+  pub carries : ℕ → ℕ → ℕ → Bool
 
 -- by the places of the buses
 abbrev pub SeenBuses : Type 0

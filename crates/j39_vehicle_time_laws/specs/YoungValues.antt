@@ -57,7 +57,7 @@ pub data BringsFrame (v : Vehicle) (seen : SeenBuses) (origin : Point) (first : 
   at_its_origin : next_forward v origin ≡ None → BringsFrame v seen origin first origin first
   by_forward : (p x : Point) (frame carried place : ℕ) (n : Forward) → next_forward v p ≡ Some place → forward_at v place ≡ Some n
       → goes_on v p place ≡ Some x → KeepsContents v n (Some ((seen x.at.bus).bytes carried)) ((seen p.at.bus).bytes frame)
-      → BringsFrame v seen origin first x carried → BringsFrame v seen origin first p frame
+      → (seen p.at.bus).carries place frame carried ≡ true → BringsFrame v seen origin first x carried → BringsFrame v seen origin first p frame
 
 -- it does so of a frame that had ended before it, and that says what was so at this time
 pub record IsBroughtFrom (v : Vehicle) (seen : SeenBuses) (p : Point) (frame born : ℕ) : Type 0 where

@@ -4,6 +4,6 @@
 mod laws;
 
 pub use laws::{
-    a_message_is_sent_on, ages_are_bounds, direct_forwards_have_room, gateways_keep_to_plans,
-    sound_vehicles_keep_ages,
+    a_message_is_sent_on, a_value_is_brought, ages_are_bounds, direct_forwards_have_room,
+    gateways_keep_to_plans, sound_vehicles_keep_ages,
 };

@@ -28,6 +28,7 @@ returns c =
       arrive = c.passed_messages_arrive.ensures v;
       ages = c.sound_vehicles_keep_ages.ensures.ages v none.delays sound;
       needs = c.sound_vehicles_keep_ages.ensures.needs v none.delays sound;
+      values = c.sound_vehicles_keep_ages.ensures.arrives v none.delays sound;
       pauses = c.sound_vehicles_keep_ages.ensures.pauses v none.delays sound;
       streams = c.sound_vehicles_keep_ages.ensures.streams v none.delays sound;
     }

@@ -1,7 +1,8 @@
--- A bus on which one frame is seen, of a flow of which a delay is reported, or none: that it keeps to its plan.
-use Rattle.std.proofs.Common.{◌≡◌, ℕ, zero, suc, ◌*◌, ◌<◌, ◌≤◌, Bool, true, List, [], ◌∷◌, ◌++◌, length, Option, Some, None, refl, sym, ap, ◌∙◌, subst, inl}
-use Rattle.std.proofs.Common.{arith}
-use Rattle.std.proofs.lemmas.Bool.{true≢false}
+-- A bus on which frames of one flow are seen, of which a delay is reported, or none: that it keeps to its plan.
+use Rattle.std.proofs.Common.{◌≡◌, ◌≢◌, ℕ, zero, suc, ◌+◌, ◌*◌, ◌<◌, ◌≤◌, ◌⊎◌, Bool, true, eqb, List, [], ◌∷◌, ◌++◌, length, Option, Some, None, refl, sym, ap, ◌∙◌, subst}
+use Rattle.std.proofs.Common.{inl, inr, arith}
+use Rattle.std.proofs.Math.Nat.{mul-le-mul_right}
+use Rattle.std.proofs.lemmas.Bool.{cases_eq, cases_lt, true≢false}
 use Rattle.std.proofs.lemmas.Option.{slice_get-map}
 use Rattle.std.specs.List.{slice_get}
 use Rattle.j39_network.specs.PlannedUnits.{unit_at, units_of}
@@ -21,15 +22,18 @@ use Rattle.j39_load.specs.PlannedFrames.{IsBounded, planned_at}
 use Rattle.j39_load.specs.Ranks.{AreUnitsPlanned}
 use Rattle.j39_load.proofs.BoundedFlows.{all_in_order, bounded, legal_in_order}
 use Rattle.j39_load.proofs.DemandLaws.{never_wanted}
+use Rattle.j39_load.proofs.KeepingPlanned.{none_other}
 use Rattle.j39_load.proofs.PositivePeriods.{ArePaced, of_loads}
 use Rattle.j39_load.proofs.Ranks.{lie_between}
 use Rattle.j39_load.proofs.StreamsBefore.{get_or_inside, own_read, with_damage}
-use Rattle.j39_timing.specs.Sums.{total}
+use Rattle.j39_timing.specs.FrameStreams.{Origins}
 use Rattle.j39_timing.specs.TimedFrames.{IsLegal, Schedule}
-use Rattle.j39_timing.specs.Traffic.{Traffic, others_queued}
-use Rattle.j39_load.specs.Clocks.{IsTrueTime}
+use Rattle.j39_timing.specs.Traffic.{Traffic}
+use Rattle.j39_load.specs.Clocks.{IsTrueTime, shortest_million}
 use Rattle.j39_vehicle.specs.declared.vehicle.Vehicle.{Vehicle}
 use Rattle.j39_vehicle_times.specs.BusDelays.{delays_on}
+use Rattle.j39_vehicle_times.specs.TimeFindings.{period_ms}
+use Rattle.j39_vehicle_times.specs.Times.{flow_at}
 use Rattle.j39_vehicle_times.specs.declared.bus_delays.Delays.{Delays}
 use Rattle.j39_vehicle_times.proofs.DecidingTimes.{and_then_some, map_some}
 use Rattle.j39_vehicle_time_laws.specs.ForwardedStreams.{IsOtherwiseKept, KeepsOtherwise, streams_of}
@@ -38,48 +42,72 @@ use Rattle.j39_vehicle_time_laws.specs.Prompt.{IsSentOn}
 use Rattle.j39_vehicle_time_laws.specs.Seen.{SeenBus}
 use Rattle.j39_vehicle_time_laws.proofs.OneFlow.{short_frames}
 
--- ---- a bus with one frame, or none
+-- ---- a bus with frames of one flow
 
-abbrev one_frame : ℕ → ℕ → ℕ → Schedule
-one_frame queued ident by = record { count = 1; queued = λ p. queued; start = λ p. queued; bits = λ p. 1; ident = λ p. ident; now = by }
+-- so many frames of the flow, at these steps in bits and in true time, each sent so many bits behind its release, at once
+pub record LoneFlow : Type 0 where
+  pub unit : ℕ
+  pub count : ℕ
+  pub flow : ℕ
+  pub width : ℕ
+  pub step : ℕ
+  pub late : ℕ
+  pub ident : ℕ
+  pub now : ℕ
+  pub bytes : List ℕ
 
--- with a clock all of whose bits are as long
-abbrev pub bus_with : ℕ → ℕ → ℕ → ℕ → ℕ → ℕ → SeenBus
-bus_with unit count flow queued ident by = record {
-  schedule = record { count = count; queued = λ p. queued; start = λ p. queued; bits = λ p. 1; ident = λ p. ident; now = by };
-  controllers = all_in_order;
-  time = λ t. unit * t;
-  planned = λ p. true;
-  of = record { source = λ p. flow; turn = λ p. 0; since = λ p. 0 };
-  release = λ p. 0;
-  born = λ p t. Some 0;
-  bytes = λ p. [];
+abbrev pub frames_of : LoneFlow → Schedule
+frames_of f = record {
+  count = f.count;
+  queued = λ p. p * f.width + f.late;
+  start = λ p. p * f.width + f.late;
+  bits = λ p. 1;
+  ident = λ p. f.ident;
+  now = f.now;
 }
 
-pub one_place : (p q : ℕ) → p < 1 → q < 1 → p ≡ q
-one_place p q in_p in_q = omega arith
+abbrev origins_in : LoneFlow → Origins
+origins_in f = record { source = λ p. f.flow; turn = λ p. 0; since = λ p. p * f.width }
 
-one_legal : (queued ident by : ℕ) → IsLegal (one_frame queued ident by)
-one_legal queued ident by = record {
+-- with a clock all of whose bits are as long; what comes of a message of a gateway's input is in the frame of the same place
+abbrev pub bus_with : LoneFlow → SeenBus
+bus_with f = record {
+  schedule = frames_of f;
+  controllers = all_in_order;
+  time = λ t. f.unit * t;
+  planned = λ p. true;
+  of = origins_in f;
+  release = λ p. p * f.step;
+  born = λ p t. Some (p * f.step);
+  bytes = λ p. f.bytes;
+  carries = λ n p q. eqb p q;
+}
+
+-- of two places one is a step behind the other
+steps : (p q width few : ℕ) → few ≤ width → p ≢ q → (p * width + few ≤ q * width) ⊎ (q * width + few ≤ p * width)
+steps p q width few room differ = elim (cases_lt p q) [
+  | inl less ↦ inl (let more : suc p * width ≤ q * width = mul-le-mul_right width less in omega (arith, more, room))
+  | inr from ↦ inr (let more : suc q * width ≤ p * width = mul-le-mul_right width (omega (arith, from, differ)) in omega (arith, more, room))
+]
+
+one_at_a_time : (p q width late t : ℕ) → 1 ≤ width → p * width + late ≤ t → t < p * width + late + 1 → q * width + late ≤ t → t < q * width + late + 1
+    → p ≡ q
+one_at_a_time p q width late t some from_p to_p from_q to_q = elim (cases_eq p q) [
+  | inl same ↦ same
+  | inr differ ↦ elim (steps p q width 1 some differ) [
+    | inl before ↦ absurd (omega (arith, before, to_p, from_q))
+    | inr after ↦ absurd (omega (arith, after, to_q, from_p))
+  ]
+]
+
+lone_legal : (f : LoneFlow) → 1 ≤ f.width → IsLegal (frames_of f)
+lone_legal f some = record {
   positive = λ p in_p. omega arith;
   queued_first = λ p in_p. omega arith;
-  alone = λ p q t in_p in_q seen on also. one_place p q in_p in_q;
-  never_idle = λ p t in_p seen waits. absurd (let after = waits.0 in let before = waits.1 in omega arith);
+  alone = λ p q t in_p in_q seen on also. one_at_a_time p q f.width f.late t some on.0 on.1 also.0 also.1;
+  never_idle = λ p t in_p seen waits. absurd (let after = waits.0 in let before = waits.1 in omega (arith, after, before));
   in_order = λ p q in_p in_q seen waits. omega arith;
 }
-
-none_legal : (flow queued ident by : ℕ) → IsLegal (bus_with 1 0 flow queued ident by).schedule
-none_legal flow queued ident by = record {
-  positive = λ p in_p. absurd (omega arith);
-  queued_first = λ p in_p. absurd (omega arith);
-  alone = λ p q t in_p. absurd (omega arith);
-  never_idle = λ p t in_p. absurd (omega arith);
-  in_order = λ p q in_p. absurd (omega arith);
-}
-
-none_others : (queued ident by c from to : ℕ) → others_queued (one_frame queued ident by) (λ p. true) c from to ≤ 0
-unfolding total
-none_others queued ident by c from to = omega arith
 
 -- ---- a flow of which a delay is reported
 
@@ -145,68 +173,75 @@ module _ (v : Vehicle) (delays : Delays) (b : ℕ) (timing : Timing) (of_bus : I
 
 -- ---- what such buses keep
 
-module _ (timing : Timing) (unit : ℕ) (clock : IsTrueTime timing (λ t. unit * t)) (all : List (Option FlowFrames)) (flow queued ident by : ℕ) (suits : Fits (streams_of timing all) flow ident)
-    (ordered : (j : ℕ) → keep_order (planned_at all j) ≡ true) where
-  one_keeps : (i : ℕ) → KeepsOtherwise timing all (one_frame queued ident by) all_in_order (λ p. true) (record
-      { source = λ p. flow; turn = λ p. 0; since = λ p. 0 }) i
-  one_keeps i = record {
+-- what a flow of the bus itself keeps that has this traffic: each message is queued at its release, and these are a period apart, in bits and in true time
+pub record KeepsItsPace (v : Vehicle) (b : ℕ) (timing : Timing) (traffic : Traffic) (f : LoneFlow) : Type 0 where
+  pub at_once : f.late ≡ 0
+  pub period : (traffic.stream f.flow).period ≤ f.width
+  pub apart : (flow : FlowPlan) (ms : ℕ) → flow_at v.buses.items (record { bus = b; flow = f.flow }) ≡ Some flow → period_ms flow ≡ Some ms
+      → 1000 * ms * shortest_million timing ≤ f.step
+
+module _ (timing : Timing) (f : LoneFlow) (some : 1 ≤ f.width) (clock : IsTrueTime timing (λ t. f.unit * t)) (all : List (Option FlowFrames))
+    (suits : Fits (streams_of timing all) f.flow f.ident) (ordered : (j : ℕ) → keep_order (planned_at all j) ≡ true) where
+  lone_keeps : (i : ℕ) → KeepsOtherwise timing all (frames_of f) all_in_order (λ p. true) (origins_in f) i
+  lone_keeps i = record {
     longest_at_most = λ p in_p. omega arith;
-    as_wanted = never_wanted (one_frame queued ident by) (λ p. true) (record { source = λ p. flow; turn = λ p. 0; since = λ p. 0 })
-        (streams_of timing all).demands
-        (streams_of timing all).stream (λ p in_p is. suits.unwanted);
+    as_wanted = never_wanted (frames_of f) (λ p. true) (origins_in f) (streams_of timing all).demands (streams_of timing all).stream
+        (λ p in_p is. suits.unwanted);
     from_least = λ p in_p is. suits.low;
-    to_greatest = λ p in_p is source. subst (λ k. ident ≤ (streams_of timing all).greatest k) source suits.high;
+    to_greatest = λ p in_p is source. subst (λ k. f.ident ≤ (streams_of timing all).greatest k) source suits.high;
     own_identifier = λ p q t in_p in_q seen is shared at_p at_q same. (refl, shared);
     urgency_of_others = λ p in_p isnt. absurd (true≢false isnt);
-    few_others = λ p from to in_p is source seen waits stretch. let none = none_others queued ident by ident from to in omega (arith, none);
+    few_others = λ p from to in_p is source seen waits stretch.
+        let none = none_other (frames_of f) (λ q. true) (λ q. refl) f.ident from to in omega (arith, none);
     of_unit = λ p in_p is un. absurd (true≢false un);
-    to_last = λ p in_p is kept. absurd (true≢false (sym (ordered flow) ∙ kept));
+    to_last = λ p in_p is kept. absurd (true≢false (sym (ordered f.flow) ∙ kept));
     queue_groups = λ j level goes kept is. absurd (true≢false (sym (ordered j) ∙ kept));
   }
 
-  pub one_kept : (v : Vehicle) (delays : Delays) (b : ℕ) (flows : ℕ → Bool) → (¬ IsSentOn v delays (record { bus = b; flow = flow }) → queued ≡ 0)
-      → IsOtherwiseKept v delays b timing all flows (bus_with unit 1 flow queued ident by)
-  one_kept v delays b flows early = record {
+  pub lone_kept : (v : Vehicle) (delays : Delays) (b : ℕ) (flows : ℕ → Bool)
+      → (¬ IsSentOn v delays (record { bus = b; flow = f.flow }) → KeepsItsPace v b timing (streams_of timing all) f)
+      → IsOtherwiseKept v delays b timing all flows (bus_with f)
+  lone_kept v delays b flows pace = record {
     clock = clock;
-    apart = λ p q ms other in_p in_q differ. absurd (differ (one_place p q in_p in_q));
-    legal = legal_in_order (one_frame queued ident by) (one_legal queued ident by);
+    apart = λ p q ms other in_p in_q differ is_p is_q own same single its every.
+        steps p q f.step (1000 * ms * shortest_million timing) ((pace own).apart other ms its every) differ;
+    legal = legal_in_order (frames_of f) (lone_legal f some);
     own = λ p in_p is own. record {
       known = suits.inside;
       bits_at_most = suits.some_bits;
       turns = let one = suits.single in omega (arith, one);
       release_first = omega arith;
-      jitter_at_most = let zero_queued = early own in omega (arith, zero_queued);
+      jitter_at_most = let at_once = (pace own).at_once in omega (arith, at_once);
     };
     sent_on = λ p in_p is sent. (suits.inside, suits.some_bits, let one = suits.single in omega (arith, one));
-    spaced = λ p q in_p in_q differ. absurd (differ (one_place p q in_p in_q));
-    frames = λ other bits among at. one_keeps other;
+    spaced = λ p q in_p in_q differ is_p is_q own source turn. steps p q f.width ((streams_of timing all).stream f.flow).period (pace own).period differ;
+    frames = λ other bits among at. lone_keeps other;
   }
 
-pub none_kept : (v : Vehicle) (delays : Delays) (b : ℕ) (timing : Timing) (all : List (Option FlowFrames)) (flows : ℕ → Bool) (by unit : ℕ)
-    → IsTrueTime timing (λ t. unit * t) → IsOtherwiseKept v delays b timing all flows (bus_with unit 0 0 0 0 by)
-none_kept v delays b timing all flows by unit clock = record {
+pub none_kept : (v : Vehicle) (delays : Delays) (b : ℕ) (timing : Timing) (all : List (Option FlowFrames)) (flows : ℕ → Bool) (f : LoneFlow) → f.count ≡ 0
+    → 1 ≤ f.width → IsTrueTime timing (λ t. f.unit * t) → IsOtherwiseKept v delays b timing all flows (bus_with f)
+none_kept v delays b timing all flows f none some clock = record {
   clock = clock;
-  apart = λ p q ms other in_p. absurd (omega arith);
-  legal = legal_in_order (bus_with unit 0 0 0 0 by).schedule (none_legal 0 0 0 by);
-  own = λ p in_p. absurd (omega arith);
-  sent_on = λ p in_p. absurd (omega arith);
-  spaced = λ p q in_p. absurd (omega arith);
+  apart = λ p q ms other in_p. absurd (omega (arith, in_p, none));
+  legal = legal_in_order (frames_of f) (lone_legal f some);
+  own = λ p in_p. absurd (omega (arith, in_p, none));
+  sent_on = λ p in_p. absurd (omega (arith, in_p, none));
+  spaced = λ p q in_p. absurd (omega (arith, in_p, none));
   frames = λ flow bits among at. record {
-    longest_at_most = λ p in_p. absurd (omega arith);
-    as_wanted = never_wanted (bus_with unit 0 0 0 0 by).schedule (λ p. true) (record { source = λ p. 0; turn = λ p. 0; since = λ p. 0 })
-        (streams_of timing all).demands
-        (streams_of timing all).stream (λ p in_p. absurd (omega arith));
-    from_least = λ p in_p. absurd (omega arith);
-    to_greatest = λ p in_p. absurd (omega arith);
-    own_identifier = λ p q t in_p. absurd (omega arith);
-    urgency_of_others = λ p in_p. absurd (omega arith);
-    few_others = λ p from to in_p. absurd (omega arith);
-    of_unit = λ p in_p. absurd (omega arith);
-    to_last = λ p in_p. absurd (omega arith);
+    longest_at_most = λ p in_p. absurd (omega (arith, in_p, none));
+    as_wanted = never_wanted (frames_of f) (λ p. true) (origins_in f) (streams_of timing all).demands (streams_of timing all).stream
+        (λ p in_p. absurd (omega (arith, in_p, none)));
+    from_least = λ p in_p. absurd (omega (arith, in_p, none));
+    to_greatest = λ p in_p. absurd (omega (arith, in_p, none));
+    own_identifier = λ p q t in_p. absurd (omega (arith, in_p, none));
+    urgency_of_others = λ p in_p. absurd (omega (arith, in_p, none));
+    few_others = λ p from to in_p. absurd (omega (arith, in_p, none));
+    of_unit = λ p in_p. absurd (omega (arith, in_p, none));
+    to_last = λ p in_p. absurd (omega (arith, in_p, none));
     queue_groups = λ j level goes kept is. record {
-      identifiers = λ p in_p. absurd (omega arith);
-      own_identifiers = λ p q t in_p. absurd (omega arith);
-      few_unplanned = λ p from to in_p. absurd (omega arith);
+      identifiers = λ p in_p. absurd (omega (arith, in_p, none));
+      own_identifiers = λ p q t in_p. absurd (omega (arith, in_p, none));
+      few_unplanned = λ p from to in_p. absurd (omega (arith, in_p, none));
     };
   };
 }
