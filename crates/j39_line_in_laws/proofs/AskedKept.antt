@@ -5,7 +5,7 @@ use Rattle.std.specs.Option.{option_to_list}
 use Rattle.std.proofs.lemmas.Bool.{cases_Bool, or_left, or_right}
 use Rattle.std.proofs.lemmas.List.{length-map}
 use Rattle.std.proofs.lemmas.Option.{same_Some}
-use Rattle.j39_load.specs.Answers.{asked_every, asking_periods, is_asked_too_often, is_more_than_one}
+use Rattle.j39_load.specs.AskedFlows.{asked_every, asking_periods, is_asked_too_often, is_more_than_one}
 use Rattle.j39_load.specs.BusTimes.{timing_of, with_claims}
 use Rattle.j39_load.specs.LineLists.{lines_of_each}
 use Rattle.j39_load.specs.LoadFindings.{AreLoadFindings}
