@@ -134,7 +134,10 @@ module _ (line : ProductLine) (w v : List ℕ) (two : AreTwo line w v) (f : ℕ)
       → period_where (is_request_there line w) (asked_every flow) r request ≡ period_where (is_request_there line v) (asked_every flow) r request
   period_kept r request at_r = by (asked_every flow request) refl
     where
-      none : (t : Bool) → (if t then [] else []) ≡ []
+      nothing : List ℕ
+      nothing = []
+
+      none : (t : Bool) → (if t then nothing else nothing) ≡ nothing
       none true = refl
       none false = refl
 
