@@ -15,7 +15,7 @@ use Rattle.j39_load.specs.Asked.{asked_of, total_load}
 use Rattle.j39_load.specs.BusTimes.{timing_of, with_claims}
 use Rattle.j39_load.specs.LineLists.{lines_of_each}
 use Rattle.j39_load.specs.LiveClaims.{unplanned_of}
-use Rattle.j39_load.specs.LoadFindings.{all_findings, AreLoadFindings, asked_too_often, further_findings, lateness, load_findings, overload, without_period}
+use Rattle.j39_load.specs.LoadFindings.{all_findings, AreLoadFindings, flows_asked_too_often, further_findings, lateness, load_findings, overload, without_period}
 use Rattle.j39_load.proofs.ReportedLines.{of_asked}
 use Rattle.j39_load.specs.declared.findings.load_finding.LoadFinding.{LoadFinding}
 use Rattle.j39_load.specs.declared.findings.load_finding.LoadFinding.TheVariants.{NoPeriod, Overload, LateFlow, NeedTooOld, AskedTooOften}
@@ -78,7 +78,7 @@ module _ (timing : Timing) (plan : Plan) (delays : List (Option Delay)) where
   is_old load k found =
       elim (Contains-append_cases (load_findings timing load delays) (further_findings plan timing delays) (NeedTooOld k) found) [
         | inr further ↦ elim (Contains-append_cases (old_needs timing plan.requests.items plan.flows.items delays plan.needs.items)
-            (asked_too_often plan.requests.items plan.flows.items) (NeedTooOld k) further) [
+            (flows_asked_too_often plan.requests.items plan.flows.items) (NeedTooOld k) further) [
               | inl old ↦
                   let its = reported_at reports 0 plan.needs.items (NeedTooOld k) old in
                   old_at k (0 + its.k) its.value (ap (slice_get plan.needs.items) (let e : 0 + its.k ≡ its.k = omega arith in e) ∙ its.value_is) its.reported
@@ -112,7 +112,7 @@ module _ (timing : Timing) (plan : Plan) (delays : List (Option Delay)) where
   reported_old : (load k : ℕ) → IsOld timing plan delays k → Contains (all_findings plan timing load delays) (NeedTooOld k)
   reported_old load k its =
       Contains-append_right (load_findings timing load delays) (further_findings plan timing delays) (NeedTooOld k)
-      (Contains-append_left (old_needs timing plan.requests.items plan.flows.items delays plan.needs.items) (asked_too_often plan.requests.items plan.flows.items) (NeedTooOld k)
+      (Contains-append_left (old_needs timing plan.requests.items plan.flows.items delays plan.needs.items) (flows_asked_too_often plan.requests.items plan.flows.items) (NeedTooOld k)
       (line_reported reports 0 plan.needs.items k its.need (NeedTooOld k) its.at
       (subst (λ o. Contains (option_map_or (λ limit. if is_too_old timing plan.requests.items plan.flows.items delays its.need limit then NeedTooOld (0 + k) ∷ [] else []) o []) (NeedTooOld k))
       (sym its.within) (subst (λ b. Contains (if b then NeedTooOld (0 + k) ∷ [] else []) (NeedTooOld k)) (sym its.old)

@@ -8,13 +8,13 @@ pub mod ContestedFlows
 pub mod FilePlaces
 pub mod FoundTogether
 pub mod InPart
-mod InVariant
+pub mod InVariant
 pub mod InWhole
 mod Lacking
 pub mod Periods
-mod PickedPlaces
+pub mod PickedPlaces
 pub mod ReadLists
 pub mod SameNumbers
 pub mod SentTogether
 pub mod Tests
-mod TestsAgree
+pub mod TestsAgree

@@ -11,7 +11,7 @@ use Rattle.j39_load.specs.BusTimes.{timing_of, with_claims}
 use Rattle.j39_load.specs.Delays.{HasDelay}
 use Rattle.j39_load.specs.LineLists.{lines_of_each}
 use Rattle.j39_load.proofs.ReportedLines.{of_asked}
-use Rattle.j39_load.specs.LoadFindings.{all_findings, AreLoadFindings, asked_too_often, AsksOfBus, further_findings, lateness, load_findings, overload, without_period}
+use Rattle.j39_load.specs.LoadFindings.{all_findings, AreLoadFindings, flows_asked_too_often, AsksOfBus, further_findings, lateness, load_findings, overload, without_period}
 use Rattle.j39_load.specs.Loads.{flow_load, load_of_flow}
 use Rattle.j39_load.specs.declared.findings.load_finding.LoadFinding.{LoadFinding}
 use Rattle.j39_load.specs.declared.findings.load_finding.LoadFinding.TheVariants.{NoPeriod, Overload, LateFlow, NeedTooOld, AskedTooOften}
@@ -77,7 +77,7 @@ module _ (plan : Plan) (timing : Timing) (stays : UnitPlan → Bool) (ds : List 
   reported_unpaced f reported =
       elim (Contains-append_cases (load_findings timing load ds) (further_findings plan timing ds) (NoPeriod f) reported) [
         | inr further ↦ elim (Contains-append_cases (old_needs timing plan.requests.items plan.flows.items ds plan.needs.items)
-            (asked_too_often plan.requests.items plan.flows.items) (NoPeriod f) further) [
+            (flows_asked_too_often plan.requests.items plan.flows.items) (NoPeriod f) further) [
               | inl old ↦ let (d, is_it) = of_old timing plan ds (NoPeriod f) old in absurd (not_old f d is_it)
               | inr asked ↦ absurd (let its = of_asked plan.requests.items plan.flows.items (NoPeriod f) asked in not_asked f its.0 its.4)
             ]

@@ -9,7 +9,7 @@ use Rattle.j39_findings.specs.declared.checking.finding.Finding.TheVariants.{Sig
 use Rattle.j39_findings.specs.declared.checking.finding.Finding.TheVariants.{PrivateUnsent, RecordOverlap, TextOutside, NeedUnmet, RequestUnanswered}
 use Rattle.j39_findings.specs.declared.checking.finding.Finding.TheVariants.{RequestUnheard, AnswerAstray, WhenOutside, RequestRepeated, SilentAddress}
 use Rattle.j39_findings.specs.declared.checking.finding.Finding.TheVariants.{SilentInPool, FlowContested}
-use Rattle.j39_load.specs.Answers.{asked_every}
+use Rattle.j39_load.specs.AskedFlows.{asked_every}
 use Rattle.j39_load.specs.declared.findings.load_finding.LoadFinding.{LoadFinding}
 use Rattle.j39_load.specs.declared.findings.load_finding.LoadFinding.TheVariants.{NoPeriod, Overload, LateFlow, NeedTooOld, AskedTooOften}
 use Rattle.j39_network.specs.Serving.{is_to, serves}

@@ -5,7 +5,7 @@ use Rattle.std.specs.Option.{option_to_list}
 use Rattle.std.proofs.lemmas.Bool.{cases_Bool, or_left, or_right}
 use Rattle.std.proofs.lemmas.List.{length-map}
 use Rattle.std.proofs.lemmas.Option.{same_Some}
-use Rattle.j39_load.specs.Answers.{asked_every, asking_periods, is_asked_too_often, is_more_than_one}
+use Rattle.j39_load.specs.AskedFlows.{asked_every, asking_periods, is_asked_too_often, is_more_than_one}
 use Rattle.j39_load.specs.BusTimes.{timing_of, with_claims}
 use Rattle.j39_load.specs.LineLists.{lines_of_each}
 use Rattle.j39_load.specs.LoadFindings.{AreLoadFindings}
@@ -134,7 +134,10 @@ module _ (line : ProductLine) (w v : List ℕ) (two : AreTwo line w v) (f : ℕ)
       → period_where (is_request_there line w) (asked_every flow) r request ≡ period_where (is_request_there line v) (asked_every flow) r request
   period_kept r request at_r = by (asked_every flow request) refl
     where
-      none : (t : Bool) → (if t then [] else []) ≡ []
+      nothing : List ℕ
+      nothing = []
+
+      none : (t : Bool) → (if t then nothing else nothing) ≡ nothing
       none true = refl
       none false = refl
 
@@ -194,20 +197,19 @@ pub asked_kept : (line : ProductLine) (w v : List ℕ) → AreTwo line w v → (
 asked_kept line w v two f agree findings are one others has =
     let (finding, among, is) = in_load line w findings are (AskedTooOften f) one in go finding among is
   where
-    module _ (i : ℕ) (among : Contains are.others (AskedTooOften i)) (place : place_in_file are.there.flows.items i ≡ f) where
-      kept : IsFound others (OfLoad (AskedTooOften f))
-      kept =
-          let (timed, (y, at_i, too_often)) = found_asked are.plan are.others are.are_others i among in
-          let its = (are_flows line w are.plan are.is_plan are.there are.is_there).from i y at_i in
-          let is_f : its.k ≡ f = sym its.place_is ∙ place in
-          let at_f : slice_get line.plan.flows.items f ≡ Some its.value = ap (slice_get line.plan.flows.items) (sym is_f) ∙ its.value_is in
-          let there : is_flow_there line v f ≡ true = flow_kept line w v two f agree its.value at_f (subst (λ k. is_flow_there line w k ≡ true) is_f its.is_there) in
-          let goes = (are_flows line v has.plan has.is_plan has.there has.is_there).into f its.value at_f there in
-          let too_often_there = too_often_kept line w v two f agree its.value at_f are.plan has.plan are.is_plan has.is_plan y goes.value its.comes goes.comes too_often in
-          let timed_there : is_some has.plan.timing ≡ true = ap is_some (has.is_plan.has_timing ∙ sym are.is_plan.has_timing) ∙ timed in
-          subst (λ n. IsFound others (OfLoad (AskedTooOften n))) goes.place_is
-          (of_load_reported line v others has (AskedTooOften goes.i)
-          (asked_found has.plan has.others has.are_others timed_there goes.i goes.value goes.value_is too_often_there))
+    kept : (i : ℕ) → Contains are.others (AskedTooOften i) → place_in_file are.there.flows.items i ≡ f → IsFound others (OfLoad (AskedTooOften f))
+    kept i among place =
+        let (timed, (y, at_i, too_often)) = found_asked are.plan are.others are.are_others i among in
+        let its = (are_flows line w are.plan are.is_plan are.there are.is_there).from i y at_i in
+        let is_f : its.k ≡ f = sym its.place_is ∙ place in
+        let at_f : slice_get line.plan.flows.items f ≡ Some its.value = ap (slice_get line.plan.flows.items) (sym is_f) ∙ its.value_is in
+        let there : is_flow_there line v f ≡ true = flow_kept line w v two f agree its.value at_f (subst (λ k. is_flow_there line w k ≡ true) is_f its.is_there) in
+        let goes = (are_flows line v has.plan has.is_plan has.there has.is_there).into f its.value at_f there in
+        let too_often_there = too_often_kept line w v two f agree its.value at_f are.plan has.plan are.is_plan has.is_plan y goes.value its.comes goes.comes too_often in
+        let timed_there : is_some has.plan.timing ≡ true = ap is_some (has.is_plan.has_timing ∙ sym are.is_plan.has_timing) ∙ timed in
+        subst (λ n. IsFound others (OfLoad (AskedTooOften n))) goes.place_is
+        (of_load_reported line v others has (AskedTooOften goes.i)
+        (asked_found has.plan has.others has.are_others timed_there goes.i goes.value goes.value_is too_often_there))
 
     same_asked : (a b : ℕ) → AskedTooOften a ≡ AskedTooOften b → a ≡ b
     same_asked a b same = cc

@@ -4,7 +4,7 @@ use Rattle.std.specs.List.{range_with_len, slice_get}
 use Rattle.std.specs.Option.{option_map_or}
 use Rattle.std.proofs.lemmas.Bool.{and_from, and_parts}
 use Rattle.std.proofs.lemmas.Option.{slice_get_within}
-use Rattle.j39_load.specs.Answers.{asked_every}
+use Rattle.j39_load.specs.AskedFlows.{asked_every}
 use Rattle.j39_network.specs.Serving.{serves}
 use Rattle.j39_network.specs.declared.plan.flow_plan.FlowPlan.{FlowPlan}
 use Rattle.j39_network.specs.declared.plan.need_plan.NeedPlan.{NeedPlan}

@@ -25,7 +25,7 @@ use Rattle.j39_load.specs.declared.waits.delay.Delay.TheVariants.{Within, Beyond
 use Rattle.j39_load.specs.declared.findings.load_finding.LoadFinding.TheVariants.{NeedTooOld}
 use Rattle.j39_load.specs.Ages.{ages_for, ages_of, is_in_limit, is_too_old, least, least_age, old_needs, oldness, smaller_known}
 use Rattle.j39_load.specs.FreshNeeds.{AreNeedAgesBounds, AreNeedsFresh, IsNeedFresh}
-use Rattle.j39_load.specs.LoadFindings.{AreLoadFindings, AsksOfBus, asked_too_often, further_findings, load_findings}
+use Rattle.j39_load.specs.LoadFindings.{AreLoadFindings, AsksOfBus, flows_asked_too_often, further_findings, load_findings}
 use Rattle.j39_load.specs.Asked.{asked_of, total_load}
 use Rattle.j39_load.specs.Loads.{load_of_flow, loads_of, us_of_bits, us_of_unit_ms}
 use Rattle.j39_load.specs.LineLists.{lines_of_each}
@@ -170,7 +170,7 @@ module _ (plan : Plan) (timing : Timing) (clean : Clean plan) (stays : UnitPlan 
       let (now, further) = none_of_two (load_findings timing (total_load timing (asked_of timing plan stays)) delays) (further_findings plan timing delays) none in (
         now,
         (none_of_two (old_needs timing plan.requests.items plan.flows.items delays plan.needs.items)
-            (asked_too_often plan.requests.items plan.flows.items) further).0,
+            (flows_asked_too_often plan.requests.items plan.flows.items) further).0,
       )
 
   module _ (n : ℕ) (need : NeedPlan) (within : ℕ) (at : slice_get plan.needs.items n ≡ Some need) (asked : need.within ≡ Some within) where

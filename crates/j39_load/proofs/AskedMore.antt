@@ -12,10 +12,10 @@ use Rattle.j39_network.specs.declared.plan.request_plan.RequestPlan.{RequestPlan
 use Rattle.j39_network.specs.declared.plan.timing.Timing.{Timing}
 use Rattle.j39_load.specs.Ages.{old_needs}
 use Rattle.j39_load.specs.Asked.{asked_of, total_load}
-use Rattle.j39_load.specs.Answers.{asked_parts, asking_periods, is_asked_too_often, is_more_than_one, whole_parts}
+use Rattle.j39_load.specs.AskedFlows.{asked_parts, asking_periods, is_asked_too_often, is_more_than_one, whole_parts}
 use Rattle.j39_load.specs.AskedMore.{AreAskedMore, asked_within, IsAskedMore, IsCommonTime}
 use Rattle.j39_load.specs.LineLists.{lines_of_each}
-use Rattle.j39_load.specs.LoadFindings.{all_findings, asked_too_often, AreLoadFindings, further_findings, lateness, load_findings, overload, without_period}
+use Rattle.j39_load.specs.LoadFindings.{all_findings, flows_asked_too_often, AreLoadFindings, further_findings, lateness, load_findings, overload, without_period}
 use Rattle.j39_load.specs.declared.findings.load_finding.LoadFinding.{LoadFinding}
 use Rattle.j39_load.specs.declared.findings.load_finding.LoadFinding.TheVariants.{NoPeriod, Overload, LateFlow, NeedTooOld, AskedTooOften}
 use Rattle.j39_load.specs.declared.waits.delay.Delay.{Delay}
@@ -115,7 +115,7 @@ module _ (requests : List RequestPlan) (flow : FlowPlan) where
 -- ---- what is reported
 
 module _ (plan : Plan) (timing : Timing) (load : ℕ) (delays : List (Option Delay)) where
-  only_asked : (f : ℕ) → Contains (all_findings plan timing load delays) (AskedTooOften f) → Contains (asked_too_often plan.requests.items plan.flows.items) (AskedTooOften f)
+  only_asked : (f : ℕ) → Contains (all_findings plan timing load delays) (AskedTooOften f) → Contains (flows_asked_too_often plan.requests.items plan.flows.items) (AskedTooOften f)
   only_asked f found = elim (Contains-append_cases (load_findings timing load delays) (further_findings plan timing delays) (AskedTooOften f) found) [
     | inl now ↦ elim (Contains-append_cases (lines_of_each without_period 0 delays) (overload timing load ++ lines_of_each lateness 0 delays) (AskedTooOften f) now) [
       | inl unpaced ↦ absurd (let its = reported_at without_period 0 delays (AskedTooOften f) unpaced in not_unpaced (0 + its.k) (of_unpaced (0 + its.k) its.value (AskedTooOften f) its.reported).1)
@@ -125,7 +125,7 @@ module _ (plan : Plan) (timing : Timing) (load : ℕ) (delays : List (Option Del
       ]
     ]
     | inr further ↦ elim (Contains-append_cases (old_needs timing plan.requests.items plan.flows.items delays plan.needs.items)
-        (asked_too_often plan.requests.items plan.flows.items) (AskedTooOften f) further) [
+        (flows_asked_too_often plan.requests.items plan.flows.items) (AskedTooOften f) further) [
           | inl old ↦ absurd (let its = of_old timing plan delays (AskedTooOften f) old in not_old its.0 its.1)
           | inr asked ↦ asked
         ]
@@ -169,5 +169,5 @@ asked_exactly plan timing findings are f flow at = (
         subst (λ l. Contains l (AskedTooOften f)) (sym is)
         (Contains-append_right (load_findings timing (total_load timing (asked_of timing plan stays)) delays) (further_findings plan timing delays) (AskedTooOften f)
         (Contains-append_right (old_needs timing plan.requests.items plan.flows.items delays plan.needs.items)
-        (asked_too_often plan.requests.items plan.flows.items) (AskedTooOften f)
+        (flows_asked_too_often plan.requests.items plan.flows.items) (AskedTooOften f)
         (asked_reported plan.requests.items plan.flows.items f flow at too_often)))

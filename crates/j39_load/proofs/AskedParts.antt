@@ -10,8 +10,8 @@ use Rattle.j39_network.specs.Serving.{serves}
 use Rattle.j39_network.specs.declared.plan.flow_plan.FlowPlan.{FlowPlan}
 use Rattle.j39_network.specs.declared.plan.pace.Pace.{Pace}
 use Rattle.j39_network.specs.declared.plan.request_plan.RequestPlan.{RequestPlan}
-use Rattle.j39_load.specs.Answers.{asked_every, asked_parts, asking_periods, is_asked_too_often, is_more_than_one, whole_parts}
-use Rattle.j39_load.specs.inside.AskedShares.{asked_in, IsShareOf, whole_in}
+use Rattle.j39_load.specs.AskedFlows.{asked_every, asked_parts, asking_periods, is_asked_too_often, is_more_than_one, whole_parts}
+use Rattle.j39_load.specs.inside.AskedShares.{parts_asked_in, IsShareOf, whole_in}
 use Rattle.j39_load.specs.declared.findings.asked_share.AskedShare.{AskedShare}
 use Rattle.j39_load.proofs.AskedShares.{times_greater}
 
@@ -122,14 +122,14 @@ answering_more requests flow pace answers paced = rw (answers, paced) (go (askin
 -- ---- as the program counts it
 
 pub share_more : (p : ℕ) (periods : List ℕ) (share : AskedShare) (every : ℕ) → IsShareOf p periods share
-    → is_more_than_one p (periods ++ every ∷ []) ≡ ltb (every * whole_in share) (p * whole_in share + every * asked_in share)
+    → is_more_than_one p (periods ++ every ∷ []) ≡ ltb (every * whole_in share) (p * whole_in share + every * parts_asked_in share)
 share_more p periods share every is =
     rw (is.whole, is.asked, whole_with periods every, asked_with p periods every) refl
 
 pub share_with : (p : ℕ) (periods : List ℕ) (old new : AskedShare) (every : ℕ) → IsShareOf p periods old
-    → asked_in new ≡ p * whole_in old + every * asked_in old → whole_in new ≡ every * whole_in old → IsShareOf p (periods ++ every ∷ []) new
+    → parts_asked_in new ≡ p * whole_in old + every * parts_asked_in old → whole_in new ≡ every * whole_in old → IsShareOf p (periods ++ every ∷ []) new
 share_with p periods old new every is asked whole = record {
-  asked = asked ∙ ap (λ (n : ℕ). p * n + every * asked_in old) is.whole ∙ ap (λ (n : ℕ). p * whole_parts periods + every * n) is.asked
+  asked = asked ∙ ap (λ (n : ℕ). p * n + every * parts_asked_in old) is.whole ∙ ap (λ (n : ℕ). p * whole_parts periods + every * n) is.asked
       ∙ sym (asked_with p periods every);
   whole = whole ∙ ap (λ (n : ℕ). every * n) is.whole ∙ sym (whole_with periods every);
 }

@@ -12,9 +12,9 @@ use Rattle.j39_network.specs.declared.plan.need_plan.NeedPlan.{NeedPlan}
 use Rattle.j39_network.specs.declared.plan.request_plan.RequestPlan.{RequestPlan}
 use Rattle.j39_network.specs.declared.plan.timing.Timing.{Timing}
 use Rattle.j39_load.specs.Ages.{old_needs, oldness}
-use Rattle.j39_load.specs.Answers.{is_asked_too_often}
+use Rattle.j39_load.specs.AskedFlows.{is_asked_too_often}
 use Rattle.j39_load.specs.LineLists.{lines_of_each}
-use Rattle.j39_load.specs.LoadFindings.{asked_too_often, is_whole_late, lateness, overload, too_often, without_period}
+use Rattle.j39_load.specs.LoadFindings.{flows_asked_too_often, is_whole_late, lateness, overload, too_often, without_period}
 use Rattle.j39_load.specs.Loads.{bits_of_second}
 use Rattle.j39_load.specs.declared.findings.load_finding.LoadFinding.{LoadFinding}
 use Rattle.j39_load.specs.declared.findings.load_finding.LoadFinding.TheVariants.{NoPeriod, Overload, LateFlow, NeedTooOld, AskedTooOften}
@@ -118,7 +118,7 @@ of_old timing plan delays finding found =
     go k need reported = within k _ need.within reported
 
 -- of a flow that answers, that it is asked for too often
-pub of_asked : (requests : List RequestPlan) (flows : List FlowPlan) (finding : LoadFinding) → Contains (asked_too_often requests flows) finding
+pub of_asked : (requests : List RequestPlan) (flows : List FlowPlan) (finding : LoadFinding) → Contains (flows_asked_too_often requests flows) finding
     → (f : ℕ) × (flow : FlowPlan) × (slice_get flows f ≡ Some flow) × (is_asked_too_often requests flow ≡ true) × (finding ≡ AskedTooOften f)
 of_asked requests flows finding found =
     let its = reported_at (too_often requests) 0 flows finding found in
@@ -131,7 +131,7 @@ of_asked requests flows finding found =
     go k false is reported = absurd (none_of finding (subst (λ c. Contains (if c then AskedTooOften k ∷ [] else []) finding) is reported))
 
 pub asked_reported : (requests : List RequestPlan) (flows : List FlowPlan) (f : ℕ) (flow : FlowPlan) → slice_get flows f ≡ Some flow
-    → is_asked_too_often requests flow ≡ true → Contains (asked_too_often requests flows) (AskedTooOften f)
+    → is_asked_too_often requests flow ≡ true → Contains (flows_asked_too_often requests flows) (AskedTooOften f)
 asked_reported requests flows f flow at is =
     let zero_there : f ≡ 0 + f = omega arith in
     line_reported (too_often requests) 0 flows f flow (AskedTooOften f) at

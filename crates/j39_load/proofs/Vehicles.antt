@@ -26,7 +26,7 @@ use Rattle.j39_load.specs.Asked.{Asked, asked_of, total_load}
 use Rattle.j39_load.specs.Delays.{AreFlowDelays}
 use Rattle.j39_load.specs.BusTimes.{timing_of, with_claims}
 use Rattle.j39_load.specs.LiveClaims.{claiming, claims_stated, unplanned_of}
-use Rattle.j39_load.specs.LoadFindings.{AreLoadFindings, AsksOfBus, all_findings, asked_too_often, load_findings}
+use Rattle.j39_load.specs.LoadFindings.{AreLoadFindings, AsksOfBus, all_findings, flows_asked_too_often, load_findings}
 use Rattle.j39_findings.specs.Standing.{DecidesWhoStays}
 use Rattle.j39_load.specs.VehicleLoads.{AreLoadsAlike, StandAlike}
 use Rattle.j39_load.proofs.OneLoad.{AreSeenAlike, asked_alike, stated_once}
@@ -159,7 +159,7 @@ module _ (plan vehicle : Plan) (is : IsVehicleOf plan vehicle) (apart : AreDisti
       ∙ ap (λ (needs : List NeedPlan). found vehicle.requests.items vehicle.flows.items needs) (sym is.needs)
     where
       found : List RequestPlan → List FlowPlan → List NeedPlan → List LoadFinding
-      found requests flows needs = load_findings timing load delays ++ (old_needs timing requests flows delays needs ++ asked_too_often requests flows)
+      found requests flows needs = load_findings timing load delays ++ (old_needs timing requests flows delays needs ++ flows_asked_too_often requests flows)
 
   pub asks_alike : (timing : Timing) (stays : UnitPlan → Bool) (delays : List (Option Delay)) → AsksOfBus plan timing stays delays
       → (stated : UnitPlan → Bool) → DecidesWhoStays vehicle stated → AsksOfBus vehicle timing stated delays

@@ -15,7 +15,7 @@ use Rattle.j39_load.specs.Ages.{old_needs, oldness}
 use Rattle.j39_load.specs.Asked.{Asked, asked_by, total_load}
 use Rattle.j39_load.specs.Broadcasts.{unit_loads_of}
 use Rattle.j39_load.specs.Damage.{load_of_damage}
-use Rattle.j39_load.specs.LoadFindings.{asked_too_often, further_findings, load_findings, overload}
+use Rattle.j39_load.specs.LoadFindings.{flows_asked_too_often, further_findings, load_findings, overload}
 use Rattle.j39_load.specs.Loads.{bits_of_second, load_of_flow}
 use Rattle.j39_load.specs.LineLists.{lines_of_each}
 use Rattle.j39_load.specs.RequestLoads.{load_of_request}
@@ -47,7 +47,7 @@ asked_by_both timing plan stays flows requests =
 by_flows : (timing : Timing) (plan : Plan) (stays : UnitPlan → Bool) (flows : List FlowPlan) (requests : List RequestPlan) (needs : List NeedPlan)
     (delays : List (Option Delay)) → flows ≡ [] → requests ≡ [] → delays ≡ []
     → load_findings timing (total_load timing (asked_by_both timing plan stays flows requests)) delays
-    ++ (old_needs timing requests flows delays needs ++ asked_too_often requests flows) ≢ []
+    ++ (old_needs timing requests flows delays needs ++ flows_asked_too_often requests flows) ≢ []
     → bits_of_second timing.bitrate < load_of_damage timing
 unfolding lines_of_each
 by_flows timing plan stays (f ∷ fs) requests needs delays none silent empty some =

@@ -1,7 +1,7 @@
 pub mod Ages
-pub mod Answers
 pub mod AnyQueues
 pub mod Asked
+pub mod AskedFlows
 pub mod AskedLoads
 pub mod AskedMore
 pub mod Broadcasts

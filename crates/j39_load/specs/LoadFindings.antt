@@ -13,7 +13,7 @@ use Rattle.j39_load.specs.declared.findings.load_finding.LoadFinding.{LoadFindin
 use Rattle.j39_load.specs.declared.findings.load_finding.LoadFinding.TheVariants.{NoPeriod, Overload, LateFlow, NeedTooOld, AskedTooOften}
 use Rattle.j39_load.specs.declared.waits.whole_time.WholeTime.{WholeTime}
 use Rattle.j39_load.specs.Ages.{is_in_limit, old_needs}
-use Rattle.j39_load.specs.Answers.{is_asked_too_often}
+use Rattle.j39_load.specs.AskedFlows.{is_asked_too_often}
 use Rattle.j39_load.specs.Asked.{asked_of, total_load}
 use Rattle.j39_load.specs.Damage.{load_of_damage}
 use Rattle.j39_load.specs.Delays.{AreFlowDelays}
@@ -66,13 +66,13 @@ IsFullOfDamage (Some timing) = bits_of_second timing.bitrate < load_of_damage ti
 abbrev pub too_often : List RequestPlan → ℕ → FlowPlan → List LoadFinding
 too_often requests flow planned = if is_asked_too_often requests planned then AskedTooOften flow ∷ [] else []
 
-abbrev pub asked_too_often : List RequestPlan → List FlowPlan → List LoadFinding
-asked_too_often requests flows = lines_of_each (too_often requests) 0 flows
+abbrev pub flows_asked_too_often : List RequestPlan → List FlowPlan → List LoadFinding
+flows_asked_too_often requests flows = lines_of_each (too_often requests) 0 flows
 
 -- what is wrong with the ages of what units need, and with how often flows are asked for
 abbrev pub further_findings : Plan → Timing → List (Option Delay) → List LoadFinding
 further_findings plan timing delays =
-    old_needs timing plan.requests.items plan.flows.items delays plan.needs.items ++ asked_too_often plan.requests.items plan.flows.items
+    old_needs timing plan.requests.items plan.flows.items delays plan.needs.items ++ flows_asked_too_often plan.requests.items plan.flows.items
 
 -- with these
 abbrev pub all_findings : Plan → Timing → ℕ → List (Option Delay) → List LoadFinding

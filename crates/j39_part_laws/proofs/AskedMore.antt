@@ -9,7 +9,7 @@ use Rattle.j39_network.specs.declared.plan.pace.Pace.{Pace}
 use Rattle.j39_network.specs.declared.plan.request_plan.RequestPlan.{RequestPlan}
 use Rattle.j39_network.specs.declared.plan.to.To.{To}
 use Rattle.j39_network.specs.declared.plan.to.To.TheVariants.{All, One}
-use Rattle.j39_load.specs.Answers.{asked_every, asked_parts, asking_periods, is_asked_too_often, is_more_than_one, whole_parts}
+use Rattle.j39_load.specs.AskedFlows.{asked_every, asked_parts, asking_periods, is_asked_too_often, is_more_than_one, whole_parts}
 use Rattle.j39_load.proofs.AskedMore.{asked_more, no_greater}
 use Rattle.j39_load.proofs.AskedParts.{answering_more, some_whole}
 use Rattle.j39_load.proofs.AskedShares.{times_greater}

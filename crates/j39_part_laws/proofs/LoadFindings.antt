@@ -16,7 +16,7 @@ use Rattle.j39_load.specs.Asked.{asked_of, total_load}
 use Rattle.j39_load.specs.BusTimes.{timing_of, with_claims}
 use Rattle.j39_load.specs.LineLists.{lines_of_each}
 use Rattle.j39_load.specs.LiveClaims.{claims_stated, unplanned_of}
-use Rattle.j39_load.specs.LoadFindings.{all_findings, AreLoadFindings, asked_too_often, AsksOfBus, further_findings, is_whole_late, lateness, load_findings, overload, time_of_each, without_period}
+use Rattle.j39_load.specs.LoadFindings.{all_findings, AreLoadFindings, flows_asked_too_often, AsksOfBus, further_findings, is_whole_late, lateness, load_findings, overload, time_of_each, without_period}
 use Rattle.j39_load.specs.Loads.{bits_of_second, load_of_flow}
 use Rattle.j39_load.specs.declared.findings.load_finding.LoadFinding.{LoadFinding}
 use Rattle.j39_load.specs.declared.findings.load_finding.LoadFinding.TheVariants.{NoPeriod, Overload, LateFlow, NeedTooOld, AskedTooOften}
@@ -211,7 +211,7 @@ module _ (at : Places) (part whole : Plan) (is : IsPartAt at part whole) (good :
             (subst (λ n. Contains (lateness n e) (LateFlow (at.flow its.k))) zero_there late)))),
       )
 
-  asked_found : (finding : LoadFinding) → Contains (asked_too_often part.requests.items part.flows.items) finding → IsFoundThere at part all_there finding
+  asked_found : (finding : LoadFinding) → Contains (flows_asked_too_often part.requests.items part.flows.items) finding → IsFoundThere at part all_there finding
   asked_found finding found =
       let (f, flow, at_f, too_often, is_it) = of_asked part.requests.items part.flows.items finding found in
       let stands = is.flows.each f flow at_f in
@@ -219,7 +219,7 @@ module _ (at : Places) (part whole : Plan) (is : IsPartAt at part whole) (good :
         slice_get_within part.flows.items f flow at_f,
         Contains-append_right (load_findings busy load_there es) (further_findings whole busy es) (AskedTooOften (at.flow f))
             (Contains-append_right (old_needs busy whole.requests.items whole.flows.items es whole.needs.items)
-            (asked_too_often whole.requests.items whole.flows.items) (AskedTooOften (at.flow f))
+            (flows_asked_too_often whole.requests.items whole.flows.items) (AskedTooOften (at.flow f))
             (asked_reported whole.requests.items whole.flows.items (at.flow f) stands.value stands.value_is
             (too_often_there at part whole is flow stands.value stands.meets too_often))),
       )
@@ -228,7 +228,7 @@ module _ (at : Places) (part whole : Plan) (is : IsPartAt at part whole) (good :
   found_there finding found =
       elim (Contains-append_cases (load_findings timing load_here ds) (further_findings part timing ds) finding found) [
         | inr further ↦ elim (Contains-append_cases (old_needs timing part.requests.items part.flows.items ds part.needs.items)
-            (asked_too_often part.requests.items part.flows.items) finding further) [
+            (flows_asked_too_often part.requests.items part.flows.items) finding further) [
               | inl old ↦ let (d, is_it) = of_old timing part ds finding old in subst (IsFoundThere at part all_there) (sym is_it) tt
               | inr asked ↦ asked_found finding asked
             ]

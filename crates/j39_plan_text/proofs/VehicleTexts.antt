@@ -31,7 +31,7 @@ use Rattle.j39_load.specs.LineLists.{lines_of_each}
 use Rattle.j39_schedule.specs.StepLines.{step_line, step_lines, step_text, step_unit_text}
 use Rattle.j39_text.specs.Labels.{group_label, group_pgn, group_selector_end, group_text, need_signal_text, need_text, signal_bits, signal_end, signal_label}
 use Rattle.j39_text.specs.Labels.{signals_of, text_end, text_label, texts_of, unit_address, unit_label, units_text}
-use Rattle.j39_plan_text.specs.CheckText.{findings_text, found_text, ok_line}
+use Rattle.j39_plan_text.specs.CheckText.{findings_text, listed_text, ok_line}
 use Rattle.j39_plan_text.specs.FindingLines.{finding_line, finding_lines, finding_part, finding_report, finding_text, run_lines, signals_text}
 use Rattle.j39_plan_text.specs.LoadLines.{age_flow_text, flow_line, flow_text, known_age_text, loads_text, need_line, receiver_text}
 use Rattle.j39_plan_text.specs.LoadText.{unshown_found, unshown_lines, unshown_text}
@@ -194,7 +194,7 @@ module _ (plan vehicle : Plan) (is : IsVehicleOf plan vehicle) where
     finding_lines_same from below = each_same (λ _. finding_part from below vehicle) (λ _. finding_part from below plan) (λ _. part_same from below) 0
 
     pub findings_text_same : (findings : List Finding) (others : List LoadFinding) → findings_text vehicle findings others ≡ findings_text plan findings others
-    unfolding findings_text found_text
+    unfolding findings_text listed_text
     findings_text_same findings others =
         rw (finding_lines_same 1 16 findings, finding_lines_same 19 20 findings, finding_lines_same 21 29 findings) refl
 

@@ -23,8 +23,8 @@ ok_line plan =
     ++ (field (codes " groups ") (length plan.flows.items) ++ codes " flows\n"))
 
 -- a line for each finding, in the order of their numbers: those on what is asked of the bus are 16 to 18, 20 and 31
-unfoldable pub found_text : Plan → List Finding → List LoadFinding → List ℕ
-found_text plan findings others = finding_lines 1 16 plan findings
+unfoldable pub listed_text : Plan → List Finding → List LoadFinding → List ℕ
+listed_text plan findings others = finding_lines 1 16 plan findings
     ++ (load_finding_lines 16 19 others
     ++ (finding_lines 19 20 plan findings
     ++ (load_finding_lines 20 21 others
@@ -32,7 +32,7 @@ found_text plan findings others = finding_lines 1 16 plan findings
 
 -- and how many they are
 unfoldable pub findings_text : Plan → List Finding → List LoadFinding → List ℕ
-findings_text plan findings others = found_text plan findings others ++ (field (codes "findings ") (length findings + length others) ++ 10 ∷ [])
+findings_text plan findings others = listed_text plan findings others ++ (field (codes "findings ") (length findings + length others) ++ 10 ∷ [])
 
 -- what is written for a plan, with the verdict: one in which nothing is wrong is sound, and its frames
 -- are in time

@@ -1,6 +1,6 @@
 //! What is written for a plan.
 ghost use Rattle.std.specs.Prelude.{◌≡◌, ◌++◌, ℕ, List, OnOk, IfOk};
-ghost use Rattle.j39_plan_text.specs.CheckText.{IsReport, findings_text, found_text, ok_line};
+ghost use Rattle.j39_plan_text.specs.CheckText.{IsReport, findings_text, listed_text, ok_line};
 ghost use Rattle.j39_plan_text.specs.FoundInPlan.{ArePlanFindings};
 
 use crate::certificate::clean_plans_are_certified;
@@ -24,7 +24,7 @@ fn write_ok(text: &mut TextBuffer, plan: &Plan) -> WriteResult
     text.word(" flows\n")
 }
 
-#[tactic(auto, unfolding(crate::specs::CheckText::found_text))]
+#[tactic(auto, unfolding(crate::specs::CheckText::listed_text))]
 fn write_found(
     alloc: Global,
     text: &mut TextBuffer,
@@ -32,7 +32,7 @@ fn write_found(
     findings: &[Finding],
     others: &[LoadFinding],
 ) -> WriteResult
-    ensures { OnOk result (text.new ≡ text.old ++ found_text plan.now findings.now others.now) }
+    ensures { OnOk result (text.new ≡ text.old ++ listed_text plan.now findings.now others.now) }
 {
     write_lines(alloc, text, plan, findings, 1, 16)?;
     write_load_findings(text, others, 16, 19)?;

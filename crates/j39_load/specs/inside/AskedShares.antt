@@ -1,7 +1,7 @@
 -- How much is asked of a flow as the program counts it: by two numbers, of digits of base 65,536 from the least on.
 use Rattle.std.specs.Prelude.{◌≡◌, ℕ, zero, suc, ◌+◌, ◌*◌, ◌^◌, nat_lt, if◌then◌else◌, Bool, true, false, List, slice_index_or}
 use Rattle.j39_network.specs.PlanLimits.{request_limit}
-use Rattle.j39_load.specs.Answers.{asked_parts, whole_parts}
+use Rattle.j39_load.specs.AskedFlows.{asked_parts, whole_parts}
 use Rattle.j39_load.specs.declared.findings.asked_share.AskedShare.{AskedShare}
 
 abbrev pub digit_base : ℕ
@@ -23,13 +23,13 @@ first_digits digits (suc n) = first_digits digits n + digit_base ^ n * digit_at 
 abbrev pub less_with : Bool → ℕ → ℕ → Bool
 less_with less one other = if nat_lt one other then true else if nat_lt other one then false else less
 
-abbrev pub asked_in : AskedShare → ℕ
-asked_in share = first_digits share.asked share.count
+abbrev pub parts_asked_in : AskedShare → ℕ
+parts_asked_in share = first_digits share.asked share.count
 
 abbrev pub whole_in : AskedShare → ℕ
 whole_in share = first_digits share.whole share.count
 
 -- these are the parts that requests of these periods ask of a flow
 pub record IsShareOf (period : ℕ) (periods : List ℕ) (share : AskedShare) : Type 0 where
-  pub asked : asked_in share ≡ asked_parts period periods
+  pub asked : parts_asked_in share ≡ asked_parts period periods
   pub whole : whole_in share ≡ whole_parts periods

@@ -69,7 +69,7 @@ fn is_less(number: &[u16; DIGIT_LIMIT], other: &[u16; DIGIT_LIMIT], count: usize
 
 impl AskedShare {
     ghost use Rattle.std.specs.Prelude.{[], ℕ};
-    ghost use Rattle.j39_load.specs.inside.AskedShares.{IsShareOf, asked_in, whole_in};
+    ghost use Rattle.j39_load.specs.inside.AskedShares.{IsShareOf, parts_asked_in, whole_in};
 
     /// Nothing is asked.
     pub(crate) fn none() -> Self
@@ -89,8 +89,8 @@ impl AskedShare {
     /// whole; if so, it is of no further use.
     pub(crate) fn add(&mut self, period: u16, every: u16) -> bool
         requires { self.old.count < digit_limit }
-        ensures more { result ≡ nat_lt (every * whole_in self.old) (period * whole_in self.old + every * asked_in self.old) }
-        ensures asked { result ≡ false → asked_in self.new ≡ period * whole_in self.old + every * asked_in self.old }
+        ensures more { result ≡ nat_lt (every * whole_in self.old) (period * whole_in self.old + every * parts_asked_in self.old) }
+        ensures asked { result ≡ false → parts_asked_in self.new ≡ period * whole_in self.old + every * parts_asked_in self.old }
         ensures whole { result ≡ false → whole_in self.new ≡ every * whole_in self.old }
         ensures count { result ≡ false → self.new.count ≡ self.old.count + 1 }
     {

@@ -1,9 +1,9 @@
 //! Of which flows more is asked than they send.
 ghost use Rattle.std.specs.Prelude.{◌≡◌, ◌≢◌, ◌∷◌, ◌++◌, ◌≤◌, [], length, IfSome, IfNone, OnOk, OnErr};
 ghost use Rattle.j39_network.specs.PlanLimits.{request_limit};
-ghost use Rattle.j39_load.specs.Answers.{asked_every, asking_periods, is_asked_too_often, is_more_than_one};
+ghost use Rattle.j39_load.specs.AskedFlows.{asked_every, asking_periods, is_asked_too_often, is_more_than_one};
 ghost use Rattle.j39_load.specs.LineLists.{lines_of_each};
-ghost use Rattle.j39_load.specs.LoadFindings.{asked_too_often, too_often};
+ghost use Rattle.j39_load.specs.LoadFindings.{flows_asked_too_often, too_often};
 
 use crate::findings::asked_share::AskedShare;
 use crate::findings::load_finding::LoadFinding;
@@ -69,8 +69,8 @@ pub(crate) fn find_asked_too_often(
     flows: &[FlowPlan],
 ) -> FindResult
     requires { length requests.now ≤ request_limit }
-    ensures found { OnOk result (findings.new.items ≡ findings.old.items ++ asked_too_often requests.now flows.now) }
-    ensures memory { OnErr result (asked_too_often requests.now flows.now ≢ []) }
+    ensures found { OnOk result (findings.new.items ≡ findings.old.items ++ flows_asked_too_often requests.now flows.now) }
+    ensures memory { OnErr result (flows_asked_too_often requests.now flows.now ≢ []) }
 {
     for (place, flow) in flows.iter().enumerate() {
         if let Some(finding) = too_often(requests, place, flow) {

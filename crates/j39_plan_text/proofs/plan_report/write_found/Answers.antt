@@ -1,9 +1,9 @@
 use Rattle.std.proofs.Common.{append_assoc}
-use Rattle.j39_plan_text.specs.CheckText.{found_text}
+use Rattle.j39_plan_text.specs.CheckText.{listed_text}
 use Rattle.j39_plan_text.proofs.plan_report.write_found.Goals as goal
 
 pub returns : goal.returns
-unfolding found_text
+unfolding listed_text
 returns c =
     simp (
       c.in_ok-write_lines.ensures,

@@ -1,5 +1,5 @@
 use Rattle.std.proofs.Common.{◌≡◌, ◌≤◌, ◌+◌, false, take}
-use Rattle.j39_load.specs.Answers.{asking_periods, is_more_than_one}
+use Rattle.j39_load.specs.AskedFlows.{asking_periods, is_more_than_one}
 use Rattle.j39_load.specs.inside.AskedShares.{IsShareOf}
 use Rattle.j39_load.proofs.findings.asking.is_more_asked.Given as goal
 

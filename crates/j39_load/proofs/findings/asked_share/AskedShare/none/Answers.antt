@@ -1,5 +1,5 @@
 use Rattle.std.proofs.Common.{refl}
-use Rattle.j39_load.specs.Answers.{asked_parts, whole_parts}
+use Rattle.j39_load.specs.AskedFlows.{asked_parts, whole_parts}
 use Rattle.j39_load.specs.inside.AskedShares.{first_digits}
 use Rattle.j39_load.proofs.findings.asked_share.AskedShare.none.Goals as goal
 
