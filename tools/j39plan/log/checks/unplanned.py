@@ -1,6 +1,7 @@
 """What goes before planned frames without being planned: how urgent it is, and how much of it comes in the time that a frame may wait."""
 
-from collections import deque
+import math
+from bisect import bisect_left, bisect_right
 from typing import NamedTuple
 
 from j39plan import program
@@ -11,6 +12,9 @@ from j39plan.plan.answers import load_of
 from j39plan.plan.tables import Tables
 
 MICROSECOND = 1000
+
+# So many times are kept before those are dropped that count no more.
+KEPT = 4096
 
 # The greatest identifier of a request.
 REQUESTS = identifier_of(6, REQUEST, GLOBAL_ADDRESS)
@@ -80,38 +84,53 @@ class Unplanned:
     def __init__(self, tables: Tables, bounds: list[Bound], found: Found) -> None:
         self._flows, self._timing, self._bounds, self._found = tables.flows, tables.timing, bounds, found
         self._longest = max((bound.within for bound in bounds), default=0)
-        self._came: deque[tuple[int, int]] = deque()
+        self._limits = sorted({bound.identifier for bound in bounds})
+        self._came: list[list[int]] = [[] for _ in self._limits]  # the times of frames below each of these identifiers
+        self._into: dict[int, list[list[int]]] = {}  # where those of an identifier count
+        self._below = [self._came[self._limits.index(bound.identifier)] for bound in bounds]
         self._most: dict[int, tuple[int, int, int]] = {}  # of each flow the most that came within its bound, the line and the time
         self._mosts = [tables.timing.unplanned if tables.timing else 0] * len(bounds)  # how many that is, or what the plan allows
         self._frames = 0  # how many came in all
         self._dues = [0] * len(bounds)  # with which one more than the most may have come of each flow
+        self._due: float = 0 if bounds and tables.timing else math.inf  # and of any
+        self._last = 0
 
     def came(self, line: int, at: int | None, identifier: int) -> None:
         """A frame that isn't planned."""
-        if at is None or self._timing is None or not self._bounds:
+        if at is None or self._due == math.inf:
             return
-        came = self._came
-        if came and came[-1][0] > at:
-            came.clear()
-        came.append((at, identifier))
-        while at - came[0][0] > self._longest:
-            came.popleft()
+        if at < self._last:
+            self._begins_anew()
+        self._last = at
+        into = self._into.get(identifier)
+        if into is None:
+            into = self._into[identifier] = self._came[bisect_right(self._limits, identifier):]
+        for times in into:
+            times.append(at)
         self._frames += 1
-        if len(came) > self._timing.unplanned:
+        if self._frames >= self._due:
             self._count(line, at)
 
+    def _begins_anew(self) -> None:
+        """Time goes back: what came before isn't counted with what comes now."""
+        for times in self._came:
+            times.clear()
+
     def _count(self, line: int, at: int) -> None:
-        """How many came within the bound of each flow of which it may be more than the most so far: each frame adds one at most, and so many have to be there
-        that came within the bound, whatever their identifiers."""
-        came, dues, mosts = self._came, self._dues, self._mosts
-        for place, (number, within, greatest) in enumerate(self._bounds):
-            most = mosts[place]
-            if dues[place] > self._frames or len(came) <= most or at - came[-1 - most][0] > within:
+        """How many came within the bound of each flow of which it may be more than the most so far: each frame adds one at most."""
+        dues, mosts, frames = self._dues, self._mosts, self._frames
+        for place, (number, within, _) in enumerate(self._bounds):
+            if dues[place] > frames:
                 continue
-            count = len([None for time, identifier in came if at - time <= within and identifier < greatest])
-            if count > most:
+            times = self._below[place]
+            count = len(times) - bisect_left(times, at - within)
+            if count > mosts[place]:
                 mosts[place], self._most[number] = count, (count, line, at)
-            dues[place] = self._frames + max(most + 1 - count, 1)
+            dues[place] = frames + mosts[place] + 1 - count
+        self._due = min(dues)
+        for times in self._came:
+            if len(times) > KEPT:
+                del times[:bisect_left(times, at - self._longest)]
 
     def end(self) -> None:
         """Tells of the flow that most may go before."""
