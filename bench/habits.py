@@ -12,11 +12,12 @@ import sys
 sys.path.insert(0, os.path.join(os.path.dirname(os.path.dirname(os.path.realpath(__file__))), "tools"))
 
 from tests.harvest_bus import all_misses  # noqa: E402
+from tests.harvest_faults import FAULTS  # noqa: E402
 from tests.harvest_habits import HABITS  # noqa: E402
 
 
 def main(words: list[str]) -> int:
-    cases = [case for case in HABITS if not words or any(word in case.what for word in words)]
+    cases = [case for case in (*HABITS, *FAULTS) if not words or any(word in case.what for word in words)]
     wrong = 0
     for what, missed in all_misses(cases):
         wrong += bool(missed)

@@ -37,19 +37,19 @@ QUICK = 0.004
 
 
 class Line(NamedTuple):
-    """A line of a log: the first one from a time on that has a text, or the last one before it."""
+    """A line of a log: the first one from a time on that has a text, any one up to another time, or the last one before that."""
 
     text: str
-    since: float
+    since: float = 0
+    until: float | None = None
     is_last: bool = False
 
-    def number(self, lines: Sequence[str]) -> int | None:
-        """Its number."""
-        def is_it(line: str) -> bool:
-            return self.text in line and (float(line[1:line.index(")")]) - EPOCH >= self.since) != self.is_last
-
-        found = [place for place, line in enumerate(lines, 1) if line.startswith("(") and is_it(line)]
-        return found[-1 if self.is_last else 0] if found else None
+    def numbers(self, lines: Sequence[str]) -> list[int]:
+        """The lines that it may be."""
+        until = SECONDS * 10**6 if self.until is None else self.until
+        found = [place for place, line in enumerate(lines, 1)
+                 if self.text in line and line.startswith("(") and self.since <= float(line[1:line.index(")")]) - EPOCH < until]
+        return found[-1:] if self.is_last else found[:1] if self.until is None else found
 
 
 class Told(NamedTuple):
@@ -232,7 +232,7 @@ def misses(case: Case, folder: str) -> list[str]:
     for told in case.told:
         one = next((one for one in left if is_it(one, told, lines)), None)
         if one is None:
-            missed.append(f"not told: {told.kind} of {told.unit or 'nobody'}" + (f" at line {told.line.number(lines)}" if told.line else ""))
+            missed.append(f"not told: {told.kind} of {told.unit or 'nobody'}" + (f" at line {told.line.numbers(lines)}" if told.line else ""))
         else:
             left.remove(one)
     return missed + [f"told: {one['kind']} {one.get('unit', '-')} {one.get('line', '-')}: {one['text']}" for one in left]
@@ -240,7 +240,7 @@ def misses(case: Case, folder: str) -> list[str]:
 
 def is_it(found: Mapping[str, object], told: Told, lines: Sequence[str]) -> bool:
     """Whether a deviation is what is to be told."""
-    is_there = told.line is None or found.get("line") == told.line.number(lines)
+    is_there = told.line is None or found.get("line") in told.line.numbers(lines)
     return (found["kind"], found.get("unit")) == (told.kind, told.unit) and is_there and told.text in str(found["text"])
 
 

@@ -29,7 +29,7 @@ class Counted(unittest.TestCase):
         counts = Unplanned(TABLES, bounds, found)
         for line, (at, identifier) in enumerate(frames, 1):
             counts.came(line, at, identifier)
-        counts.end()
+        counts.end({})
         (one,) = found.all()
         return there(one.flow), there(one.place.value)
 

@@ -109,7 +109,7 @@ class Comparison:
         if who.label and at is not None and (off := self.hands.off.get(who.label)) and off.back == at:
             self.distances.begins(who.label)
         self.announcements.changes_hands(addresses, line)
-        self.unplanned.came(line, at, identifier_of(6, ADDRESS_CLAIMED, 0))
+        self.unplanned.came(line, at, identifier_of(6, ADDRESS_CLAIMED, NULL_ADDRESS if who.address is None else who.address))
         if who.name and who.label is None:
             address = NULL_ADDRESS if who.address is None else who.address
             self.of_premises.claims.setdefault(address, {}).setdefault(who.name, [line, 0])[1] += 1
@@ -164,7 +164,7 @@ class Comparison:
         if begun is None:
             self.without_flow(line, at, planned, sender, to)
             priority = planned.priority if odd_priority is None else odd_priority
-            self.passes(line, at, identifier_of(priority, planned.pgn, 0, 0), "", sender)
+            self.passes(line, at, identifier_of(priority, planned.pgn, sender.address or 0, 0), "", sender)
 
     def without_flow(self, line: int, at: int | None, group: Group, sender: Who, to: Who) -> None:
         """A message of a planned group begins that no flow brings from here to there. Who answers a request isn't accused."""
@@ -352,16 +352,13 @@ class Comparison:
             self.hands.asked(at)
             self.claims.asked(line, at, request)
         else:
-            self.asked_for.asks(at, request)
             self.of_premises.asks(request.sender, self.groups[request.pgn][0].label if request.pgn in self.groups else f"PGN {request.pgn}")
         if (request.sender.address, request.pgn) != (NULL_ADDRESS, ADDRESS_CLAIMED):  # a unit without an address may ask for claims
             self.sender(line, at, request.sender, REQUEST)
-        if request.request:
-            self.asked.asks(line, at, request)
-        else:
-            self.others.asks(line, at, request)
+        is_besides = self.asked.asks(line, at, request) if request.request else self.others.asks(line, at, request)
+        self.asked_for.asks(at, request, is_besides)
         if request.request == 0 or self.requests[request.request - 1].period is None:
-            self.unplanned.came(line, at, identifier_of(6, REQUEST, 0))
+            self.unplanned.came(line, at, identifier_of(6, REQUEST, request.sender.address or 0))
 
     def anew(self, line: int, at: int) -> None:
         """What is measured begins here."""
@@ -493,7 +490,7 @@ class Comparison:
         self.of_premises.left.update(self.hands.held())
         self.distances.end(None if self.damage.is_off else last)
         self.transfers.end(last)
-        self.unplanned.end()
+        self.unplanned.end(self.hands.addresses())
         self.damage.end()
         self.asked.end(last)
         self.others.goes_by(last)

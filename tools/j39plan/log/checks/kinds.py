@@ -42,6 +42,7 @@ MEANINGS = {
     "abort": "an Abort by a unit of a message that doesn't go between the two",
     "not-acknowledged": f"a complete long message that its receiver didn't acknowledge within {WAIT:,} ms",
     "near": "messages nearer than their flow's period",
+    "clock": "a unit all of whose flows come too often, or too seldom, by the same share, in the mean of eight distances or more each: one line instead of one a flow",
     "silent": "the longest silence of a flow; of several of a unit at once one line",
     "stopped": "a flow that ended; of several of a unit at once one line",
     "never-sent": "a flow that was never sent, between units that are there",

@@ -66,10 +66,10 @@ class OtherRequests:
         """The clock was set, or frames are missing: what is open counts no more."""
         self.open.clear()
 
-    def asks(self, line: int, at: int | None, request: Request) -> None:
-        """A request, which is none of the plan."""
+    def asks(self, line: int, at: int | None, request: Request) -> bool:
+        """A request, which is none of the plan; whether messages may come by it."""
         if request.pgn == ADDRESS_CLAIMED:
-            return
+            return False
         way, place = (request.sender.shown, request.to.shown), Place(line, at)
         row = self._rows.get((request.pgn, *way))
         if row is None:
@@ -80,6 +80,7 @@ class OtherRequests:
         row.sender, row.to = request.sender, request.to
         is_on = row.is_between_units and self._is_on(row.to.label or "", at)
         self.open.setdefault(request.pgn, {})[way] = row, place, is_on
+        return True
 
     def answers(self, line: int, at: int | None, sender: Who, to: Who, pgn: int) -> None:
         """A message of a group begins that is asked for."""

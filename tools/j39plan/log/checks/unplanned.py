@@ -2,6 +2,8 @@
 
 import math
 from bisect import bisect_left, bisect_right
+from collections import Counter
+from collections.abc import Mapping
 from typing import NamedTuple
 
 from j39plan import program
@@ -78,6 +80,20 @@ def least_behind(identifier: int, within: dict[int, int], greatest: dict[int, in
     return min((bound for number, bound in within.items() if greatest[number] > identifier), default=None)
 
 
+# The times of frames and the addresses that they come from.
+Came = tuple[list[int], list[int]]
+
+
+class Most(NamedTuple):
+    """The most frames within a bound, up to a line and its time, and the address from which most of them come, with how many these are."""
+
+    count: int
+    line: int
+    at: int
+    source: int
+    share: int
+
+
 class Unplanned:
     """Frames that no flow has, by their times and identifiers."""
 
@@ -85,10 +101,10 @@ class Unplanned:
         self._flows, self._timing, self._bounds, self._found = tables.flows, tables.timing, bounds, found
         self._longest = max((bound.within for bound in bounds), default=0)
         self._limits = sorted({bound.identifier for bound in bounds})
-        self._came: list[list[int]] = [[] for _ in self._limits]  # the times of frames below each of these identifiers
-        self._into: dict[int, list[list[int]]] = {}  # where those of an identifier count
+        self._came: list[Came] = [([], []) for _ in self._limits]  # the frames below each of these identifiers
+        self._into: dict[int, list[Came]] = {}  # where those of an identifier count
         self._below = [self._came[self._limits.index(bound.identifier)] for bound in bounds]
-        self._most: dict[int, tuple[int, int, int]] = {}  # of each flow the most that came within its bound, the line and the time
+        self._most: dict[int, Most] = {}  # of each flow the most that came within its bound
         self._mosts = [tables.timing.unplanned if tables.timing else 0] * len(bounds)  # how many that is, or what the plan allows
         self._frames = 0  # how many came in all
         self._dues = [0] * len(bounds)  # with which one more than the most may have come of each flow
@@ -105,16 +121,18 @@ class Unplanned:
         into = self._into.get(identifier)
         if into is None:
             into = self._into[identifier] = self._came[bisect_right(self._limits, identifier):]
-        for times in into:
+        for times, sources in into:
             times.append(at)
+            sources.append(identifier & 0xFF)
         self._frames += 1
         if self._frames >= self._due:
             self._count(line, at)
 
     def _begins_anew(self) -> None:
         """Time goes back: what came before isn't counted with what comes now."""
-        for times in self._came:
+        for times, sources in self._came:
             times.clear()
+            sources.clear()
 
     def _count(self, line: int, at: int) -> None:
         """How many came within the bound of each flow of which it may be more than the most so far: each frame adds one at most."""
@@ -122,23 +140,27 @@ class Unplanned:
         for place, (number, within, _) in enumerate(self._bounds):
             if dues[place] > frames:
                 continue
-            times = self._below[place]
+            times, sources = self._below[place]
             count = len(times) - bisect_left(times, at - within)
             if count > mosts[place]:
-                mosts[place], self._most[number] = count, (count, line, at)
+                mosts[place], self._most[number] = count, Most(count, line, at, *Counter(sources[-count:]).most_common(1)[0])
             dues[place] = frames + mosts[place] + 1 - count
         self._due = min(dues)
-        for times in self._came:
+        for times, sources in self._came:
             if len(times) > KEPT:
-                del times[:bisect_left(times, at - self._longest)]
+                first = bisect_left(times, at - self._longest)
+                del times[:first], sources[:first]
 
-    def end(self) -> None:
-        """Tells of the flow that most may go before."""
+    def end(self, units: Mapping[int | None, str]) -> None:
+        """Tells of the flow that most may go before, and who sends most of them, by the units' addresses."""
         if not self._most or self._timing is None:
             return
-        number, (count, line, at) = max(self._most.items(), key=lambda told: (told[1][0], -told[0]))
+        number, most = max(self._most.items(), key=lambda told: (told[1].count, -told[0]))
         flow, within = self._flows[number - 1], next(bound.within for bound in self._bounds if bound.number == number)
         which = f"flow {number}, {flow.group} from {flow.sender} to {flow.to}"
-        others = f"; and more than that before {len(self._most) - 1} other flows" if len(self._most) > 1 else ""
+        who, is_one = units.get(most.source), 2 * most.share > most.count
+        others = f"; {most.share} of them from {who or f'address {most.source}'}" if is_one else ""
+        others += f"; and more than that before {len(self._most) - 1} other flows" if len(self._most) > 1 else ""
         text = f"{{}} frames that no flow has came within {milliseconds(within)} ms, in which they may all go before {which}"
-        self._found.tell("unplanned", f"{text}: `unplanned` is {self._timing.unplanned}", line, at, count, flow=number, unit=flow.sender, detail=others)
+        self._found.tell("unplanned", f"{text}: `unplanned` is {self._timing.unplanned}", most.line, most.at, most.count, flow=number,
+                         unit=who if is_one else flow.sender, detail=others)
