@@ -244,6 +244,13 @@ def is_it(found: Mapping[str, object], told: Told, lines: Sequence[str]) -> bool
     return (found["kind"], found.get("unit")) == (told.kind, told.unit) and is_there and told.text in str(found["text"])
 
 
+def table(cases: Sequence[Case]) -> Iterator[str]:
+    """The drives with what is told of them, as the table of a page."""
+    yield from ("| Drive | Told |", "|---|---|")
+    for case in cases:
+        yield f"| {case.what} | {', '.join(f'`{told.kind}`' + (f' of {told.unit}' if told.unit else '') for told in case.told) or 'nothing'} |"
+
+
 def all_misses(cases: Sequence[Case]) -> Iterator[tuple[str, list[str]]]:
     """Each drive with what is told of it otherwise than expected."""
     for case in cases:

@@ -221,7 +221,7 @@ class Against(Compared):
 
     def test_what_is_no_deviation(self) -> None:
         services = ["18EAFF00#00EE00", "1CEBFF00#01FFFFFFFFFFFFFF", "18FF1000#00", "18EF8000#00", "123#00",
-                    "1CC88000#14FA060000ECFE00", "1CC78000#01FFFFFFFFFFFFFF", "18C9FF00#ECFE00", "18CAFF00#ECFE00", "18930000#00",
+                    "1CC88000#14FA06000000EF00", "1CC78000#01FFFFFFFFFFFFFF", "18C9FF00#ECFE00", "18CAFF00#ECFE00", "18930000#00",
                     "1C4DFF00#00", "1C4EFF00#00"]
         self.assertEqual(self.deviations(*services), [])
 

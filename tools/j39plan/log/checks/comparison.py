@@ -102,7 +102,7 @@ class Comparison:
             self.numbers.claim(line, at, who.label, identity)
         if who.label:
             self.claims.claimed(line, at, who.label)
-            self.of_premises.given_back[who.label] += who.address is None and self.hands.holds(who, identity)
+            self.of_premises.given_back[who.label] += self.hands.gives_up(who, identity)
         if self.commanded.is_obeyed(self.hands.name_of(who, identity), who.address) and who.label and who.address is not None:
             self.of_premises.obeyed.add((who.label, who.address))
         addresses = self.hands.claim(line, at, who, identity)
@@ -140,6 +140,7 @@ class Comparison:
             text = f"{named(former)} could not claim an address, {what}: by the standard it sends no more"
             self.found.tell("sends-on", text, line, at, unit=former.label)
             return
+        self.of_premises.obeyed.add((former.label or "", former.address))
         self.found.tell("two-boxes", f"{former.spelled} claims address {former.address}, {what}: two boxes of one NAME?", line, at, unit=former.label)
 
     def message(self, line: int, at: int | None, message: Message) -> None:
@@ -488,7 +489,7 @@ class Comparison:
         self.commanded.end()
         self.hands.end(last)
         self.of_premises.left.update(self.hands.held())
-        self.distances.end(None if self.damage.is_off else last)
+        self.distances.end(None if self.damage.is_off else last, self.hands.gone)
         self.transfers.end(last)
         self.unplanned.end(self.hands.addresses())
         self.damage.end()

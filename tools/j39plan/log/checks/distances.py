@@ -4,7 +4,7 @@ import argparse
 import heapq
 import math
 import re
-from collections.abc import Callable, Iterator, Mapping
+from collections.abc import Callable, Collection, Iterator, Mapping
 from typing import Any, NamedTuple
 
 from j39plan.log.checks.deviations import Found
@@ -315,18 +315,19 @@ class Distances:
             self._found.withdraw(text)
             self._is_due(track)
 
-    def end(self, last: int | None) -> None:
-        """Tells what has stopped, where the last time of the log is this one."""
+    def end(self, last: int | None, gone: Collection[str]) -> None:
+        """Tells what has stopped, where the last time of the log is this one, but of units that have no address any more."""
         since = self._since[0] if self._since else 0
         if last is None:
             return
         for unit in dict.fromkeys(track.flow.sender for track in self._tracks):
             tell_clock(unit, self.outages.of(unit), self.events, self._paced, self._found)
-        told = self.outages.tell_stopped(self.outages.stopped(last, since), last) | set(self._overdue)
+        stopped = [one for one in self.outages.stopped(last, since) if one.unit not in gone]
+        told = self.outages.tell_stopped(stopped, last) | set(self._overdue)
         for track in self._tracks:
             limits = track.limits
             begin = (track.line, track.at) if track.at is not None else self._since if track.is_known else None
-            if not limits or not begin or track.number in told:
+            if not limits or not begin or track.number in told or track.flow.sender in gone:
                 continue
             silence = self.outages.silence(track, begin[1], self.outages.heard_to(track.flow.to, last, since))
             if silence > limits.most + limits.wait:

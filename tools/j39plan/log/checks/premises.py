@@ -65,8 +65,8 @@ class Beside:
         self.sent: dict[int | str | None, dict[str, None]] = {}  # the planned groups that came from a NAME or an address of no unit
         self.asked: dict[int | str | None, dict[str, None]] = {}  # and the groups that such a one asked for
         self.left: set[int | None] = set()  # addresses from which a unit goes on to send that has left them, or where a box of a unit is
-        self.obeyed: set[tuple[str, int]] = set()  # units that claim an address that they were commanded to
-        self.given_back: Counter[str] = Counter()  # how often a unit gave back the address that it held
+        self.obeyed: set[tuple[str, int]] = set()  # units that claim an address that they were commanded to, or of which two boxes are told by that
+        self.given_back: Counter[str] = Counter()  # how often a unit gave back the address that it held, or had lost to a stranger
         self._urgent: Mapping[str, int] = {} if urgent is None else urgent  # how many frames of planned long messages a unit sends more urgently than what isn't planned
         self.answered: Counter[tuple[str, str]] = Counter()  # how often a unit answered by a group what no flow brings
         self.unasked: dict[tuple[str, str], list[int]] = {}  # where it first sent such a message otherwise, and how often
