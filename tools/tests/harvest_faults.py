@@ -5,13 +5,10 @@ from __future__ import annotations
 from collections.abc import Callable, Sequence
 
 from j39plan.j1939 import ADDRESS_CLAIMED, identifier_of
-from tests.harvest_bus import ADDRESSES, QUICK, SECONDS, Case, Line, Play, Told, named
-from tests.harvest_habits import (
-    BODY, CLUSTER, CONFIG, ENGINE, FOREIGN, HEADER, NOBODY, STRANGER, TOOL, VI, asked_for_claims, beside, refuse, session, starts_late, stranger,
-)
+from tests.harvest_bus import ADDRESSES, SECONDS, Case, Line, Play, Told, named
+from tests.harvest_habits import BODY, CONFIG, ENGINE, FOREIGN, HEADER, HOURS, NOBODY, TOOL, asked_for_claims, beside, session, stranger
 
-GATE, YIELD, GRAIN, TASK = (ADDRESSES[label] for label in ("GATE", "YIELD", "GRAIN", "TASK"))
-HOURS, SCANNED, END = 65253, 65230, SECONDS + 1
+GATE, SCANNED, END = ADDRESSES["GATE"], 65230, SECONDS + 1
 
 # A frame that is changed: its identifier and its bytes, None where it isn't sent.
 Changed = Callable[[int, bytes], tuple[int, bytes] | None]
@@ -87,7 +84,7 @@ CLAIMS = (
     fault("a unit never claims", Play().changes_frames(claim_of("YIELD"), 0, 1, without()), "unclaimed", "YIELD", Line("18FF1540#")),
     fault("a unit answers a request for claims to who asks alone",
           asked_for_claims(9).changes_frames(claim_of("GATE"), 9, 10, as_it_is).asks(15, TOOL, ADDRESS_CLAIMED, GATE).claims(15.05, "GATE", to=TOOL),
-          "claim-to-one", "GATE", Line(f"18EEF927#", 15)),
+          "claim-to-one", "GATE", Line("18EEF927#", 15)),
     fault("a claim is too short", Play().put(8, 0x18EEFF21, named("BODY")[:7]), "length", "BODY", Line("18EEFF21#", 8)),
     fault("a unit restarts again and again", restarting("YIELD", 6, 10, 14), "restart", "YIELD", Line("18EEFF40#", 6)),
     fault("a unit isn't there", Play().off(0, END, "TASK"), "absent", "TASK"),

@@ -5,12 +5,12 @@ from __future__ import annotations
 from collections.abc import Callable, Sequence
 
 from j39plan.j1939 import ADDRESS_CLAIMED
-from tests.harvest_bus import ADDRESSES, EVENTS, QUICK, SECONDS, Case, Line, Play, Timed, Told, named
+from tests.harvest_bus import ADDRESSES, EVENTS, QUICK, SECONDS, Case, Line, Play, Timed, Told
 
 # Addresses that are named often, those of a stranger and of who has none, and groups that no plan has.
 ENGINE, BODY, HEADER, CLUSTER, TOOL = (ADDRESSES[label] for label in ("ENGINE", "BODY", "HEADER", "CLUSTER", "TOOL"))
 STRANGER, NOBODY, FOREIGN = 250, 254, (77 | 900 << 21 | 129 << 40).to_bytes(8, "little")
-VI, HOURS, CONFIG, DM1, SCANNED = 65260, 65253, 57600, 65226, (65230, 65235, 64965)
+VI, HOURS, CONFIG, SCANNED = 65260, 65253, 57600, (65230, 65235, 64965)
 
 # Units that are on the ignition: all but the engine and the gearbox; those that lose power while cranking.
 SWITCHED = tuple(label for label in ADDRESSES if label not in ("ENGINE", "GEARBOX"))
@@ -27,9 +27,9 @@ def stalls(begin: float, end: float) -> Callable[[list[Timed]], list[Timed]]:
     return lambda frames: [frame for frame in frames if not begin < frame[0] < end]
 
 
-def rounds(to: float, shift: float = 0) -> Callable[[list[Timed]], list[Timed]]:
-    """Time stamps are whole so many seconds."""
-    return lambda frames: [(int((time + shift) / to) * to, identifier, data) for time, identifier, data in frames]
+def rounds(to: float) -> Callable[[list[Timed]], list[Timed]]:
+    """Time stamps are whole multiples of so many seconds."""
+    return lambda frames: [(int(time / to) * to, identifier, data) for time, identifier, data in frames]
 
 
 def twice(apart: float) -> Callable[[list[Timed]], list[Timed]]:

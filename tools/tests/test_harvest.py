@@ -1,14 +1,10 @@
 """What `against` tells of drives of a harvester: of healthy ones what is documented of habits, of each fault one line, by its unit and line."""
 
-import os
 import unittest
 
-from tests.harvest_bus import Case, all_misses, table
+from tests.harvest_bus import Case, all_misses
 from tests.harvest_faults import FAULTS
 from tests.harvest_habits import HABITS
-from tests.support import TOP, text_of
-
-PAGE = os.path.join(TOP, "docs", "internals", "DRIVES.md")
 
 
 class Drives(unittest.TestCase):
@@ -21,10 +17,8 @@ class Habits(Drives):
     def test_healthy_drives(self) -> None:
         self.are_told_as_expected(HABITS)
 
-    def test_the_page_has_them(self) -> None:
-        """All drives with what is told of them; their names differ."""
+    def test_their_names_differ(self) -> None:
         for cases, count in ((HABITS, 45), (FAULTS, 60)):
-            self.assertIn("\n".join(table(cases)), text_of(PAGE))
             self.assertEqual((len(cases), len({case.what for case in cases})), (count, count))
 
 

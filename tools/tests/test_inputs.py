@@ -147,21 +147,19 @@ class OtherFiles(InFolder):
     def test_a_log_that_is_cut_anywhere(self) -> None:
         """What is left of it is compared: nothing but its last line is lost, and that isn't told of a unit."""
         text, chance = text_of(LOG), random.Random(7)
-        for end in sorted(chance.sample(range(60, len(text)), 6)):
+        for end in sorted(chance.sample(range(400, len(text)), 6)):
             status, answer, said = run("against.py", PLAN, self.write("cut.log", text[:end]))
             *found, count = answer.splitlines()
             self.assertEqual((status, count), (1 if found else 0, f"deviations {len(found)}"), end)
             self.assertRegex(said, r"\A(against: 1 lines spell no frame, as [^\n]*cut.log:\d+\n)?\Z")
 
     def test_a_log_of_frames_of_11_bits(self) -> None:
-        """It is a log, and has nothing of the plan: what no unit sent is told, in a plan with timing once that such frames are there."""
+        """It is a log, and has nothing of the plan: that is said in one line."""
         log = self.write("short.log", "".join(f"({at}.0) can0 1{at}3#0011\n" for at in range(10)))
-        status, answer, said = run("against.py", example("truck_queues.toml"), log)
-        told = [line for line in answer.splitlines() if line.startswith(log)]
-        self.assertEqual((status, said, len(told)), (1, "", 1), answer)
-        self.assertIn("a frame with an 11-bit identifier, which may go before each planned one  (10 times)", told[0])
-        for tool in ("signals.py", "fleet.py"):
-            self.assertNotIn("Traceback", run(tool, example("truck_queues.toml"), log)[2])
+        for tool, status in (("against", 1), ("signals", 0)):
+            ended, answer, said = run(f"{tool}.py", example("truck_queues.toml"), log)
+            self.assertEqual((ended, said), (status, f"{tool}: no frame of the log is one of J1939: their identifiers have 11 bits\n"))
+            self.assertEqual([line for line in answer.splitlines() if log in line], [])
 
     def test_formats_of_other_programs(self) -> None:
         """ASC, TRC, CSV and the lines that candump writes without -L are no log, and the way to one is told."""

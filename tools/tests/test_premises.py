@@ -189,8 +189,8 @@ class Premises(InFolder):
     def test_what_a_wait_on_the_bus_explains(self) -> None:
         """ET1 is on the bus within 1.92 ms: what is nearer by so much isn't told, and how many are is said with the table. Without timing it is told."""
         log = self.write("drive.log", "".join(f"({time}) can0 {ET1}\n" for time in ("1.0", "1.00808", "1.02", "1.03", "1.038")))
-        self.assertEqual(run("against.py", "--silence", "0", "--table", self.write("plan.toml", PLAN), log)[2],
-                         "against: 1 distances are passed over, since a message may wait so long on the bus by 'load': of flow 1\n")
+        _, answer, said = run("against.py", "--silence", "0", "--table", self.write("plan.toml", PLAN), log)
+        self.assertEqual(said, "against: 1 distances are passed over, since a message may wait so long on the bus by 'load': of flow 1\n")
         near = "flow 1, ET1 from ENGINE to all: 8 ms after the one before, its period is 10 ms"
         self.assertIn(f"{log}:5: {near}\n", answer)
         bare = self.write("bare.toml", PLAN.replace("timing", "# timing"))

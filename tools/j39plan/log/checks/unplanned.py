@@ -87,7 +87,7 @@ Came = tuple[list[int], list[int]]
 class Most(NamedTuple):
     """The most frames within a bound, up to a line and its time, and the address from which most of them come, with how many these are."""
 
-    count: int
+    frames: int
     line: int
     at: int
     source: int
@@ -155,12 +155,12 @@ class Unplanned:
         """Tells of the flow that most may go before, and who sends most of them, by the units' addresses."""
         if not self._most or self._timing is None:
             return
-        number, most = max(self._most.items(), key=lambda told: (told[1].count, -told[0]))
+        number, most = max(self._most.items(), key=lambda told: (told[1].frames, -told[0]))
         flow, within = self._flows[number - 1], next(bound.within for bound in self._bounds if bound.number == number)
         which = f"flow {number}, {flow.group} from {flow.sender} to {flow.to}"
-        who, is_one = units.get(most.source), 2 * most.share > most.count
+        who, is_one = units.get(most.source), 2 * most.share > most.frames
         others = f"; {most.share} of them from {who or f'address {most.source}'}" if is_one else ""
         others += f"; and more than that before {len(self._most) - 1} other flows" if len(self._most) > 1 else ""
         text = f"{{}} frames that no flow has came within {milliseconds(within)} ms, in which they may all go before {which}"
-        self._found.tell("unplanned", f"{text}: `unplanned` is {self._timing.unplanned}", most.line, most.at, most.count, flow=number,
+        self._found.tell("unplanned", f"{text}: `unplanned` is {self._timing.unplanned}", most.line, most.at, most.frames, flow=number,
                          unit=who if is_one else flow.sender, detail=others)
