@@ -1,10 +1,11 @@
 #!/usr/bin/env python3
-"""Writes what of the documentation is printed from the sources: printed.py proofs|map|options|boxes.
+"""Writes what of the documentation is printed from the sources: printed.py proofs|map|options|boxes|drives.
 
 proofs   docs/reference/CONTRACTS.md: the public functions of each library, by their doc comments, clauses and premises
 map      docs/reference/MODULES.md: the modules of the crates and of the tools, by the first lines of their files
 options  docs/reference/OPTIONS.md: the options of the commands, by their --help, and the Python module, by its docstrings
 boxes    docs/reference/BOXES.md: the boxes by which the steps of `probe` are tested
+drives   docs/reference/DRIVES.md: the drives by which `against` is tested
 """
 
 from __future__ import annotations
@@ -287,7 +288,22 @@ def boxes() -> str:
             f"\n## Linux\n\n`can-j1939` of Linux 6.1 in a virtual machine without KVM (`tools/tests/linux_j1939.sh`), tried by hand.\nWith an application it passes {', '.join(f'`{word}`' for word in LINUX_PASSES)}. `rough` isn't told: the\nemulated machine is too slow for 200 requests a second. `crowd` and `power` want a second channel and a switch.\n\n| Box | Fails | Why |\n|---|---|---|\n{linux}")
 
 
-PAGES = {"proofs": ("CONTRACTS.md", proofs), "map": ("MODULES.md", module_map), "options": ("OPTIONS.md", options), "boxes": ("BOXES.md", boxes)}
+def drives() -> str:
+    """The drives that are played, with what `against` tells of them."""
+    sys.path.insert(0, f"{crates.TOP}/tools")
+    from tests.harvest_bus import table
+    from tests.harvest_faults import FAULTS
+    from tests.harvest_habits import HABITS
+
+    healthy, faulty = ("\n".join(table(cases)) for cases in (HABITS, FAULTS))
+    return ("# Drives that are played\n\nDrives of a combine harvester by which [`against`](../guide/TOOLS.md#a-log-against-a-plan) is tested, 20 s each.\n"
+            "Its plan has 15 units whose clocks differ, and 39 flows (`tools/tests/harvest.py`): groups that a selector\ntells apart, long messages, flows that are sent on events, "
+            "answers to a tool. Each drive has one thing in it.\nIt is told by a line of a [kind](OPTIONS.md#kinds-of-deviations), with the unit and the line of the log that the\n"
+            "test names, and by no other line. `bench/habits.py` plays the drives, and `./dev drives` writes this page.\n"
+            f"\n## Healthy drives\n\n{len(HABITS)} habits of units, tools and loggers.\n\n{healthy}\n\n## Faults\n\n{len(FAULTS)} faults, one line each.\n\n{faulty}\n")
+
+
+PAGES = {"proofs": ("CONTRACTS.md", proofs), "map": ("MODULES.md", module_map), "options": ("OPTIONS.md", options), "boxes": ("BOXES.md", boxes), "drives": ("DRIVES.md", drives)}
 
 
 def main(words: list[str]) -> int:

@@ -35,6 +35,7 @@ SERVICE_TOOLS = (249, 250)
 # Groups by which the network runs (J1939-21, -81) that `check` finds as F4.
 ACKNOWLEDGEMENT, REQUEST = 59392, 59904
 DATA_TRANSFER, CONNECTION_MANAGEMENT = 60160, 60416
+EXTENDED_MANAGEMENT = 51200
 ADDRESS_CLAIMED, COMMANDED_ADDRESS = 60928, 65240
 SERVICES = frozenset(
     (ACKNOWLEDGEMENT, REQUEST, DATA_TRANSFER, CONNECTION_MANAGEMENT, ADDRESS_CLAIMED, COMMANDED_ADDRESS)
@@ -42,7 +43,7 @@ SERVICES = frozenset(
 
 # Others, which a plan may have as any group: the transport protocol of J1939-22 for CAN FD (19712, 19968), NAME management
 # (37632), the extended transport protocol (50944, 51200), Request2 and Transfer (51456, 51712).
-OTHER_SERVICES = frozenset((19712, 19968, 37632, 50944, 51200, 51456, 51712))
+OTHER_SERVICES = frozenset((19712, 19968, 37632, 50944, EXTENDED_MANAGEMENT, 51456, 51712))
 
 # Proprietary groups: A, A2, and the two ranges of B.
 PROPRIETARY = frozenset((61184, 126720, *range(65280, 65536), *range(130816, 131072)))

@@ -15,6 +15,9 @@ CLAIM, BEGIN, USUAL, ASKED = 10, 300, 200, 3000
 # How much longer than its shortest messages a group of several lengths is at most.
 LONGER = 40
 
+# When a log begins, in seconds.
+EPOCH = 1_700_000_000
+
 # How long a frame is on the bus, in ms, and how far apart packets of broadcasts and of sessions are.
 FRAME, GAP, QUICK = 0.54, 52, 3
 
@@ -96,8 +99,8 @@ class Drive:
             number = number & ~mask | group.when.value << group.when.span.start
         return number.to_bytes(length, "little")
 
-    def lines(self) -> Iterator[str]:
-        """The lines of the log: a frame begins when the bus is free, of several the one of the smallest identifier."""
+    def frames(self) -> Iterator[tuple[float, int, bytes]]:
+        """The frames of the log, by when each ends in ms: one begins when the bus is free, of several that of the smallest identifier."""
         waiting, free = list[tuple[int, int, bytes]](), 0.0
         while self._heap or waiting:
             now = free if waiting else max(free, self._heap[0][0])
@@ -106,7 +109,17 @@ class Drive:
                 heapq.heappush(waiting, (identifier, number, data))
             identifier, _, data = heapq.heappop(waiting)
             free = now + FRAME
-            yield f"({1_700_000_000 + free / 1000:.6f}) can0 {identifier:08X}#{data.hex().upper()}\n"
+            yield free, identifier, data
+
+    def lines(self) -> Iterator[str]:
+        """The lines of the log."""
+        for at, identifier, data in self.frames():
+            yield line_of(at, identifier, data)
+
+
+def line_of(at: float, identifier: int, data: bytes) -> str:
+    """The line of a frame at a time in ms."""
+    return f"({EPOCH + at / 1000:.6f}) can0 {identifier:08X}#{data.hex().upper()}\n"
 
 
 def log_of(plan: str, seconds: float, seed: int = 1) -> str:

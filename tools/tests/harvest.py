@@ -2,7 +2,7 @@
 flows that are sent on events, and answers to a tool."""
 
 import random
-from collections.abc import Iterator
+from collections.abc import Iterator, Mapping
 
 from j39plan import program
 from j39plan.plan.tables import Flow, Tables
@@ -73,9 +73,9 @@ def plan() -> str:
 class Harvest(Drive):
     """A drive of the harvester."""
 
-    def __init__(self, tables: Tables, seconds: float, seed: int) -> None:
+    def __init__(self, tables: Tables, seconds: float, seed: int, paces: Mapping[str, float] | None = None) -> None:
         clocks = random.Random(-seed)
-        self._pace = {unit.label: 1 + clocks.randint(-DRIFT, DRIFT) / 10**6 for unit in tables.units}
+        self._pace = {unit.label: 1 + clocks.randint(-DRIFT, DRIFT) / 10**6 for unit in tables.units} | dict(paces or {})
         self._wanted: list[tuple[float, int, Flow]] = []
         super().__init__(tables, seconds, seed)
 
@@ -83,11 +83,11 @@ class Harvest(Drive):
         """A message of a flow: long ones of one unit wait for one another, by their times."""
         self._wanted.append((at, len(self._wanted), flow))
 
-    def lines(self) -> Iterator[str]:
-        """The lines of the log."""
+    def frames(self) -> Iterator[tuple[float, int, bytes]]:
+        """The frames of the log."""
         for at, _, flow in sorted(self._wanted, key=lambda wanted: wanted[:2]):
             super()._message(at, flow)
-        return super().lines()
+        return super().frames()
 
     def _sends(self, flow: Flow) -> None:
         """The messages of a flow, by its unit's clock; of one that is sent on events row by row."""

@@ -153,8 +153,7 @@ class Units(Deviations):
         """BRAKES claims 12 while a box goes on at 11; what was under way when it moved is no second box."""
         moved = BRAKES.replace("EEFF0B", "EEFF0C")
         text = "BRAKES claims address 12, and its former address 11 sends EBC1, a planned group: two boxes of one NAME?"
-        self.assertEqual(self.told((1, BRAKES), (2, EBC1), (3, moved), (3.25, EBC1), (3.35, EBC1)),
-                         ["L:3: BRAKES claims address 12, planned is 11", f"L:4: {text}  (2 times)"])
+        self.assertEqual(self.told((1, BRAKES), (2, EBC1), (3, moved), (3.25, EBC1), (3.35, EBC1)), [f"L:4: {text}  (2 times)"])
         found = self.told((1, BRAKES), (2, EBC1), (3, moved), (3.24, EBC1))
         self.assertEqual(found[1:], ["L:4: address 11 sends EBC1, a planned group: no unit has it"])
 
@@ -166,7 +165,14 @@ class Units(Deviations):
         self.assertEqual(self.told((1, BRAKES), (2, EBC1), (3, gone), (3.5, BRAKES), (3.6, EBC1)), [])
         claims = "NAME 0000000000000001 (identity 1, manufacturer 0, function 0) claims address 11: no unit has it, and sends EBC1, a planned group"
         self.assertEqual(self.told((1, BRAKES), (2, EBC1), (3, other), (3.001, gone), (3.35, EBC1)), [
-            f"L:3: {claims}", "L:3: NAME 0000000000000001 takes address 11 from BRAKES, which could not claim another", "L:4: BRAKES could not claim an address"])
+            f"L:3: {claims}", "L:3: NAME 0000000000000001 takes address 11 from BRAKES, which could not claim another"])
+
+    def test_a_unit_whose_address_is_taken_is_not_silent(self) -> None:
+        """It may send no more, and its flows haven't stopped by themselves; once it claims another address they have."""
+        gone, other, moved = BRAKES.replace("EEFF0B", "EEFFFE"), "18EEFF0B#0100000000000000", BRAKES.replace("EEFF0B", "EEFF0C")
+        log = [(1, BRAKES), *brakes(1.1, 3), (3, other), (3.001, gone), *[(4 + at / 10, HSTAT) for at in range(40)]]
+        self.assertEqual([line for line in self.told(*log, words=()) if "not sent" in line], [])
+        self.assertEqual(len([line for line in self.told(*log, (3.5, moved), words=()) if "not sent" in line]), 1)
 
 
 class Buses(Deviations):

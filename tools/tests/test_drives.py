@@ -43,7 +43,7 @@ class Claims(Deviations):
         found = self.told(*asks, (1.5, ASKS), (1.6, "18EEFF80#0900000000000080"), plan=plan)
         self.assertEqual(found[0], "L:4: NAME 8000000000000009 (identity 9, manufacturer 0, function 0) claims address 128: no unit has it")
         self.assertNotIn("128 sends", "".join(found))
-        self.assertEqual(self.told(*[(at, frame.replace("80#", "14#")) for at, frame in asks], plan=plan), ["L:1: address 20 sends: no unit has it  (2 times)"])
+        self.assertEqual(self.told(*[(at, frame.replace("80#", "14#")) for at, frame in asks], plan=plan), ["L:1: address 20 sends: no unit has it, and asks for VI  (2 times)"])
 
 
 class Moves(Deviations):
@@ -81,7 +81,7 @@ class Moves(Deviations):
         moved = BRAKES.replace("EEFF0B", "EEFF0C")
         two = "BRAKES claims address 12, and its former address 11 sends EBC1, a planned group: two boxes of one NAME?"
         found = self.told((1, BRAKES), *brakes(1.1, 3), (3.01, moved), *brakes(3.1, 6), words=())
-        self.assertEqual(found, ["L:21: BRAKES claims address 12, planned is 11", f"L:24: {two}  (27 times)"])
+        self.assertEqual(found, [f"L:24: {two}  (27 times)"])
 
 
 class Ignition(Deviations):

@@ -71,6 +71,14 @@ class Lines(InFolder):
             data = "\n".join(f"({1000 + at / 500:.6f}) can0 {frame}" for at, frame in enumerate(frames)).encode()
             self.assertEqual(told(io.BytesIO(data)), told(LineByLine(data)), odd)
 
+    def test_eleven_bits_of_another_interface(self) -> None:
+        """They are passed over, seen before or not; not what stands at no interface, nor what looks alike and spells no frame there."""
+        lines = ["(1.0) can0 0CF00400#FF", "(1.1) can1 123#00", "(1.2) can1 123#11", "(1.3) can1 123#1 R", "(1.4)  123#22", "x  123#33", "  123#44", "(1.5) can1 123#R", "can0 123#55"]
+        log = "\n".join([*lines, *lines]).encode()
+        noted = told(io.BytesIO(log)).unheard
+        self.assertEqual([one.line for one in noted], [5, 7, 9, 14, 16, 18])
+        self.assertEqual(noted, told(LineByLine(log)).unheard)
+
     def test_messages_that_are_as_planned(self) -> None:
         """A drive that lacks frames, has some twice, a stranger's and a gap, and whose clock is set: each line by itself tells what all do in one go."""
         plan, chance = example("truck_queues.toml"), random.Random(1)

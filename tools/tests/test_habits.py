@@ -154,6 +154,20 @@ class Sessions(OfSmallBus):
         bus = drive().manages(12, 33, 61, (16, 24, 0, 4)).manages(12.003, 61, 33, (17, 1, 5))
         self.assertEqual(self.of_sessions(bus), ["12 CFG from BODY to HEADER: cleared to send from packet 5 on, it has 4"])
 
+    def test_an_abort_is_of_its_group(self) -> None:
+        """HEADER refuses CFG while a message of its own to BODY is under way: that isn't given up."""
+        bus = drive().manages(11.99, 61, 33, (16, 18, 0, 3), "VI").manages(12, 33, 61, (16, 24, 0, 4)).manages(12.01, 61, 33, (255, 2))
+        self.assertIn("12.01 CFG from BODY to HEADER: given up by HEADER, reason 2 (no resources)", self.of_sessions(bus))
+
+    def test_an_announcement_of_a_longer_message(self) -> None:
+        """By the extended transport protocol: of a planned group, and of one that no plan has; of a proprietary one it isn't told."""
+        def announced(pgn: int) -> list[str]:
+            return self.of_sessions(drive().put(12, 0x1CC83D21, bytes((20, 0xD0, 7, 0, 0)) + pgn.to_bytes(3, "little")))
+
+        self.assertEqual(announced(57600), ["12 CFG from BODY is announced with 2000 bytes by the extended transport protocol, planned are 24"])
+        self.assertEqual(announced(65242), ["12 PGN 65242 from BODY: no group has it"])
+        self.assertEqual(announced(61184), [])
+
     def test_an_abort_of_a_third(self) -> None:
         """GATE has no message with HEADER; one of BODY's own is told as that."""
         self.assertEqual(self.of_sessions(drive().manages(12, 39, 61, (255, 3))), ["12 CFG between GATE and HEADER: GATE aborts it, and none is under way"])
@@ -193,6 +207,28 @@ class OneLine(OfSmallBus):
         one = drive().carries(3).asks(12, 249, 65242, 39).put(12.02, 0x18E8FF27, bytes((1, 255, 255, 255, 249, 218, 254, 0)))
         self.assertEqual(self.told(one), ["12 request for PGN 65242 by TOOL to GATE, which the plan doesn't have: is refused"])
 
+    def test_a_scan_that_nobody_answers(self) -> None:
+        """TOOL asks two units for a group that the plan has no request for: one line for TOOL; a single one is told of who doesn't answer."""
+        asks = drive().carries(3).asks(12, 249, 65242, 39).asks(12.5, 249, 65242, 33)
+        self.assertEqual(self.told(asks), ["12 requests by TOOL, which the plan doesn't have: several have no answer within 1250 ms  (2 times)"])
+        self.assertEqual(self.units, ["TOOL"])
+        self.assertEqual(self.told(drive().carries(3).asks(12, 249, 65242, 39)), ["12 request for PGN 65242 by TOOL to GATE, which the plan doesn't have: no answer within 1250 ms"])
+
+    def test_a_clock_that_is_off(self) -> None:
+        """GATE's is 4 % fast: one line of its two flows; slow by more than their pauses allow it isn't, so that nothing is told."""
+        found = self.told(Bus().starts().runs(pace={"GATE": 0.96}).carries(3))
+        self.assertEqual([line.partition(" ")[2] for line in found], ["GATE: its flows come 40000 ppm too often: is its clock fast? (flow 3, 4)"])
+        self.assertEqual(self.told(Bus().starts().runs(pace={"GATE": 1.04}).carries(3)), [])
+
+    def test_flows_that_are_off_alone(self) -> None:
+        """GST comes 4 % too often, GLD of the same unit 2 %, or as planned: each is told by itself."""
+        for other, count in ((0.98, 2), (1.0003, 1)):
+            bus = Bus().starts().runs(pace={"GATE": 0.96})
+            bus.frames = [frame for frame in bus.frames if frame[1] != 0x18FEF527]
+            for place in range(int(189.9 / other)):
+                bus.put(1.0005 + 0.1 * other * place, 0x18FEF527, bytes(8))
+            self.assertEqual([line.partition(" ")[2][:4] for line in self.told(bus.carries(3))], ["flow"] * count)
+
     def test_packets_that_are_too_urgent(self) -> None:
         """Those of CFG with priority 3: one line, and not that no flow has them."""
         bus = drive().carries(3)
@@ -207,9 +243,12 @@ class Strangers(OfSmallBus):
         """A tool that isn't planned claims 250 and asks ENGINE for VI, which has to answer; what it sends there unasked is told."""
         claimed = "6 NAME 000081007080004D (identity 77, manufacturer 900, function 129) claims address 250: no unit has it"
         bus = drive().carries(3).put(6, 0x18EEFFFA, self.NAME).asks(7, 250, 65260, 0).answers(7.02, 250)
-        self.assertEqual(self.told(bus), [claimed])
+        self.assertEqual(self.told(bus), [f"{claimed}, and asks for VI"])
         found = self.told(bus.answers(10, 250))
-        self.assertEqual(found, [claimed, "10 VI from ENGINE to 250: no flow"])
+        self.assertEqual(found, [f"{claimed}, and asks for VI", "10 VI from ENGINE to 250: no flow"])
+        for at, pgn in ((11, 65242), (12, 65266), (13, 65259)):
+            bus.asks(at, 250, pgn)
+        self.assertEqual(self.told(bus)[0], f"{claimed}, and asks for VI, PGN 65242, LFE and 1 more")
 
     def test_what_a_stranger_asks_for_may_come_besides(self) -> None:
         """LFE comes 30 ms behind one of its row: that is no nearer than its period to anything that wasn't asked for."""

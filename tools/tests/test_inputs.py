@@ -144,6 +144,23 @@ class OtherFiles(InFolder):
                     self.assertEqual(answer.count("\n") <= 1, not name.endswith("log"))
             self.assertEqual(os.path.exists(picture), bool(pictures) and what is None)
 
+    def test_a_log_that_is_cut_anywhere(self) -> None:
+        """What is left of it is compared: nothing but its last line is lost, and that isn't told of a unit."""
+        text, chance = text_of(LOG), random.Random(7)
+        for end in sorted(chance.sample(range(400, len(text)), 6)):
+            status, answer, said = run("against.py", PLAN, self.write("cut.log", text[:end]))
+            *found, count = answer.splitlines()
+            self.assertEqual((status, count), (1 if found else 0, f"deviations {len(found)}"), end)
+            self.assertRegex(said, r"\A(against: 1 lines spell no frame, as [^\n]*cut.log:\d+\n)?\Z")
+
+    def test_a_log_of_frames_of_11_bits(self) -> None:
+        """It is a log, and has nothing of the plan: that is said in one line."""
+        log = self.write("short.log", "".join(f"({at}.0) can0 1{at}3#0011\n" for at in range(10)))
+        for tool, status in (("against", 1), ("signals", 0)):
+            ended, answer, said = run(f"{tool}.py", example("truck_queues.toml"), log)
+            self.assertEqual((ended, said), (status, f"{tool}: no frame of the log is one of J1939: their identifiers have 11 bits\n"))
+            self.assertEqual([line for line in answer.splitlines() if log in line], [])
+
     def test_formats_of_other_programs(self) -> None:
         """ASC, TRC, CSV and the lines that candump writes without -L are no log, and the way to one is told."""
         for name, text in {

@@ -70,7 +70,7 @@ class Premises(InFolder):
         """What is told of a log but of flows and units that aren't there."""
         name = self.write("drive.log", "".join(f"({time}) can0 {frame}\n" for time, frame in log))
         _, answer, said = run("against.py", "--silence", "0", self.write("plan.toml", plan), name)
-        self.assertEqual([line for line in said.splitlines() if "distances are passed over" not in line], [])
+        self.assertEqual(said, "")
         return [line.replace(name, "L") for line in answer.splitlines()[:-1] if line.startswith(name)]
 
     def broadcast(self, *times: str, frames: Sequence[str] | None = None) -> list[tuple[str, str]]:
@@ -187,9 +187,9 @@ class Premises(InFolder):
         self.assertEqual(self.told(("1.0", ET1), ("1.006079", ET1), plan=plan), [f"L:2: {said}"])
 
     def test_what_a_wait_on_the_bus_explains(self) -> None:
-        """ET1 is on the bus within 1.92 ms: what is nearer by so much isn't told, and how many are is said. Without timing it is told."""
+        """ET1 is on the bus within 1.92 ms: what is nearer by so much isn't told, and how many are is said with the table. Without timing it is told."""
         log = self.write("drive.log", "".join(f"({time}) can0 {ET1}\n" for time in ("1.0", "1.00808", "1.02", "1.03", "1.038")))
-        status, answer, said = run("against.py", "--silence", "0", self.write("plan.toml", PLAN), log)
+        _, answer, said = run("against.py", "--silence", "0", "--table", self.write("plan.toml", PLAN), log)
         self.assertEqual(said, "against: 1 distances are passed over, since a message may wait so long on the bus by 'load': of flow 1\n")
         near = "flow 1, ET1 from ENGINE to all: 8 ms after the one before, its period is 10 ms"
         self.assertIn(f"{log}:5: {near}\n", answer)

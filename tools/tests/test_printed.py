@@ -32,6 +32,9 @@ class Printed(unittest.TestCase):
     def test_boxes(self) -> None:
         self.is_as_printed("boxes")
 
+    def test_drives(self) -> None:
+        self.is_as_printed("drives")
+
     def test_each_kind_of_a_deviation_is_said(self) -> None:
         self.assertEqual(set(kinds.MEANINGS), set(deviations.KINDS))
 

@@ -82,6 +82,11 @@ class Against(Numbers):
             found = self.told(numbered(version=version), (1, engine(6001)), (1.1, pump(2)), (2, ET1), (3, CLAIMS_ASKED), (3.1, engine(6001)), (4, ET1))
             self.assertEqual(found, ["L:1: ENGINE has identity 6001, planned is 1001"], version)
 
+    def test_several_others_are_one_line(self) -> None:
+        """As where the log is of another vehicle."""
+        found = self.told(numbered(), (1, engine(6001)), (1.1, pump(5)), (2, ET1))
+        self.assertEqual(found, ["L:1: several units have other identities than planned (2 units: ENGINE 6001, planned 1001; PUMP 5, planned 2)"])
+
     def test_the_number_of_the_plan_claims_too(self) -> None:
         """Then another box of the kind is a stranger, wherever in the log the planned one claims."""
         found = self.told(numbered(), (1, engine(6001, 9)), (1.1, pump(2)), (2, ET1), (3, engine(1001)))

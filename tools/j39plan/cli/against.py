@@ -135,7 +135,7 @@ def say_what_is_left(given: argparse.Namespace, distances: Distances) -> None:
     if given.jitter.spelled and distances.passed_over:
         flows = ", ".join(map(str, distances.passed_over))
         program.say(f"--jitter {given.jitter.spelled} is no less than the period of flow {flows}: how near messages come isn't reported there")
-    if distances.explained:
+    if distances.explained and given.table:
         flows = ", ".join(map(str, sorted(distances.explained)))
         count = sum(distances.explained.values())
         program.say(f"{count} distances are passed over, since a message may wait so long on the bus by 'load': of flow {flows}")

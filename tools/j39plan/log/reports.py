@@ -134,18 +134,19 @@ GUESSED = 99
 
 
 class Counts:
-    """How many lines of a log have a frame, also one with an 11-bit identifier; and how many weren't read: those that spell no frame,
+    """How many lines of a log have a frame, also one with an 11-bit identifier, and how many such ones; and how many weren't read: those that spell no frame,
     and those of other interfaces than the first one."""
 
     def __init__(self) -> None:
-        self.frames = self.bad = self.elsewhere = 0
+        self.frames = self.bad = self.elsewhere = self.short = 0
         self._others: list[str] = []  # interfaces that weren't read, where one was asked for
 
     def take(self, line: str) -> None:
         """Takes them from the line with which `follow` ends."""
         words = line.split()
         if words[0] == "frames":
-            self.frames, self.bad, self.elsewhere = int(words[1]) + int(words[3]), int(words[5]), int(words[7])
+            self.short, self.bad, self.elsewhere = int(words[3]), int(words[5]), int(words[7])
+            self.frames = int(words[1]) + self.short
 
     def pass_over(self, part: OneInterface) -> None:
         """Takes what wasn't read of a log of which a part was asked for."""
@@ -181,6 +182,8 @@ class Counts:
 
     def told(self, log: Log | None = None, unread: int | None = None) -> Iterator[str]:
         """What wasn't read."""
+        if self.frames == self.short > 0 and not self.elsewhere:
+            yield "no frame of the log is one of J1939: their identifiers have 11 bits"
         if self.bad:
             yield f"{self.bad} lines spell no frame" + (", as {}:{}".format(*log.place(unread)) if log and unread else "")
         if self.elsewhere:

@@ -6,7 +6,7 @@ from j39plan.log.reports import Request
 
 
 class AskedFor:
-    """When each group was asked for last, of an address or of all, by any request, and by one that the plan doesn't have."""
+    """When each group was asked for last, of an address or of all, by any request, and by one that the plan doesn't have, or has later."""
 
     def __init__(self) -> None:
         self._asked: dict[tuple[int, int], int | None] = {}
@@ -19,11 +19,11 @@ class AskedFor:
         self._besides.clear()
         self._last = None
 
-    def asks(self, at: int | None, request: Request) -> None:
-        """A request comes."""
+    def asks(self, at: int | None, request: Request, is_besides: bool) -> None:
+        """A request comes, which may be one that the plan doesn't have, or not so soon."""
         key = request.pgn, GLOBAL_ADDRESS if request.to.address is None else request.to.address
         self._asked[key] = at
-        if not request.request:
+        if is_besides:
             self._besides[key], self._last = at, at
 
     def is_asked(self, pgn: int, source: int | None, at: int | None) -> bool:

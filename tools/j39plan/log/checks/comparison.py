@@ -4,7 +4,7 @@ import math
 from typing import NamedTuple
 
 from j39plan.j1939 import (
-    ACKNOWLEDGEMENT, ADDRESS_CLAIMED, DATA_TRANSFER, CONNECTION_MANAGEMENT, FRAME_BYTES, GLOBAL_ADDRESS, NULL_ADDRESS, OTHER_SERVICES, PROPRIETARY,
+    ACKNOWLEDGEMENT, ADDRESS_CLAIMED, DATA_TRANSFER, CONNECTION_MANAGEMENT, EXTENDED_MANAGEMENT, FRAME_BYTES, GLOBAL_ADDRESS, NULL_ADDRESS, OTHER_SERVICES, PROPRIETARY,
     REQUEST, SERVICES, destination_in, identifier_of,
 )
 from j39plan.log.checks.absences import Absences
@@ -18,6 +18,7 @@ from j39plan.log.checks.deviations import Found
 from j39plan.log.checks.distances import Distances, Rule, Tolerance
 from j39plan.log.checks.feed import BAD, Noted
 from j39plan.log.checks.hands import Hands, named
+from j39plan.log.checks.no_frames import LAST_GROUP, tell_no_frame
 from j39plan.log.checks.numbers import Numbers
 from j39plan.log.checks.other_requests import OtherRequests
 from j39plan.log.checks.premises import Beside
@@ -27,7 +28,7 @@ from j39plan.log.checks.sessions import Sessions
 from j39plan.log.checks.tracks import Heard, Way, way_of
 from j39plan.log.checks.transfers import BAM, RTS, WHOLE, Announcement, Pair, Route, Transfers, announcement_in, is_managing, pair_of, pgn_of
 from j39plan.log.checks.unplanned import Bounds, Unplanned
-from j39plan.log.checks.wording import no_group
+from j39plan.log.checks.wording import lengths_of, no_group
 from j39plan.log.clock import DAY, MILLISECOND, SECOND, Clock
 from j39plan.log.reports import Acknowledgement, Claim, Frame, Message, Report, Request, Who
 from j39plan.log.serial_numbers import Renumbered
@@ -36,17 +37,14 @@ from j39plan.plan.tables import Group, Tables
 # Groups that nobody plans.
 UNPLANNED = SERVICES | OTHER_SERVICES | PROPRIETARY
 
-# The greatest number of a group of J1939: an identifier with the extended data page has a greater one.
-LAST_GROUP = (1 << 17) - 1
-
 # What a request for claims asks for.
 CLAIMS = ADDRESS_CLAIMED.to_bytes(3, "little")
 
 # So many of the shortest period without any report, a second at least, are a silence of all.
 PERIODS = 5
 
-# So many bytes has a NAME, and a request.
-NAME_BYTES, REQUEST_BYTES = 8, 3
+# The first byte of an announcement by the extended transport protocol.
+EXTENDED_RTS = 20
 
 
 class Settings(NamedTuple):
@@ -104,14 +102,14 @@ class Comparison:
             self.numbers.claim(line, at, who.label, identity)
         if who.label:
             self.claims.claimed(line, at, who.label)
-            self.of_premises.given_back[who.label] += who.address is None and self.hands.holds(who, identity)
+            self.of_premises.given_back[who.label] += self.hands.gives_up(who, identity)
         if self.commanded.is_obeyed(self.hands.name_of(who, identity), who.address) and who.label and who.address is not None:
             self.of_premises.obeyed.add((who.label, who.address))
         addresses = self.hands.claim(line, at, who, identity)
         if who.label and at is not None and (off := self.hands.off.get(who.label)) and off.back == at:
             self.distances.begins(who.label)
         self.announcements.changes_hands(addresses, line)
-        self.unplanned.came(line, at, identifier_of(6, ADDRESS_CLAIMED, 0))
+        self.unplanned.came(line, at, identifier_of(6, ADDRESS_CLAIMED, NULL_ADDRESS if who.address is None else who.address))
         if who.name and who.label is None:
             address = NULL_ADDRESS if who.address is None else who.address
             self.of_premises.claims.setdefault(address, {}).setdefault(who.name, [line, 0])[1] += 1
@@ -142,6 +140,7 @@ class Comparison:
             text = f"{named(former)} could not claim an address, {what}: by the standard it sends no more"
             self.found.tell("sends-on", text, line, at, unit=former.label)
             return
+        self.of_premises.obeyed.add((former.label or "", former.address))
         self.found.tell("two-boxes", f"{former.spelled} claims address {former.address}, {what}: two boxes of one NAME?", line, at, unit=former.label)
 
     def message(self, line: int, at: int | None, message: Message) -> None:
@@ -166,7 +165,7 @@ class Comparison:
         if begun is None:
             self.without_flow(line, at, planned, sender, to)
             priority = planned.priority if odd_priority is None else odd_priority
-            self.passes(line, at, identifier_of(priority, planned.pgn, 0, 0), "", sender)
+            self.passes(line, at, identifier_of(priority, planned.pgn, sender.address or 0, 0), "", sender)
 
     def without_flow(self, line: int, at: int | None, group: Group, sender: Who, to: Who) -> None:
         """A message of a planned group begins that no flow brings from here to there. Who answers a request isn't accused."""
@@ -241,28 +240,18 @@ class Comparison:
     def frame(self, line: int, at: int | None, frame: Frame) -> None:
         """A frame of no planned group."""
         if frame.pgn > LAST_GROUP or frame.pgn == ADDRESS_CLAIMED:
-            self.no_frame(line, at, frame)
+            tell_no_frame(self.found, line, at, frame)
             self.passes(line, at, frame.identifier, f"PGN {frame.pgn}", frame.sender)
         elif frame.pgn not in (CONNECTION_MANAGEMENT, DATA_TRANSFER):
             self.single(line, at, frame)
+            if frame.pgn == EXTENDED_MANAGEMENT and len(frame.data) == FRAME_BYTES and frame.data[0] == EXTENDED_RTS:
+                self.extended(line, at, frame)
         elif is_managing(frame) and (announcement := announcement_in(frame)):
             self.announced(line, at, frame, announcement)
         elif frame.pgn == CONNECTION_MANAGEMENT and frame.data[:1] in (bytes((RTS,)), bytes((BAM,))):
             self.sessions.announced(line, at, frame, f"a message from {frame.sender.shown} to {frame.to.shown}")
         elif frame.pgn == DATA_TRANSFER or is_managing(frame):
             self.carried(line, at, frame)
-
-    def no_frame(self, line: int, at: int | None, frame: Frame) -> None:
-        """A frame that J1939 has not so: with the extended data page, a claim that has no NAME, a request that is no request."""
-        sender = frame.sender
-        if frame.pgn > LAST_GROUP:
-            text = f"a frame with the extended data page from {sender.shown}, PGN {frame.pgn}: no frame of J1939"
-            self.found.tell("extended-page", text, line, at, unit=sender.label)
-            return
-        what, length = ("request", REQUEST_BYTES) if frame.pgn == REQUEST else ("claim", NAME_BYTES)
-        if len(frame.data) != length:
-            text = f"a {what} from {sender.shown} has {len(frame.data)} bytes, by the standard {length}"
-            self.found.tell("length", text, line, at, unit=sender.label)
 
     def damaged(self, line: int, at: int | None, frame: Noted) -> None:
         """An error frame. Where frames may be missing, distances begin anew, and requests of before are asked no more."""
@@ -298,7 +287,7 @@ class Comparison:
         group = self.group_of(frame.pgn, len(frame.data), sender, to, frame.data)
         self.passes(line, at, frame.identifier, f"PGN {frame.pgn}", sender)
         if frame.pgn == REQUEST:
-            self.no_frame(line, at, frame)
+            tell_no_frame(self.found, line, at, frame)
         if frame.pgn == ACKNOWLEDGEMENT:
             self.others.acknowledged(at, sender, to, frame.data)
         if group is None:
@@ -310,6 +299,17 @@ class Comparison:
             if way in self.sent:
                 self.sent[way][0] += 1
             self.otherwise(at, frame.pgn, sender.label or "")
+
+    def extended(self, line: int, at: int | None, frame: Frame) -> None:
+        """A message is announced by the extended transport protocol, which carries longer ones than any plan has."""
+        pgn, size, sender = pgn_of(frame), int.from_bytes(frame.data[1:5], "little"), frame.sender
+        group = self.group_of(pgn, size, sender, frame.to)
+        if group is None:
+            self.nobody(line, at, pgn, sender)
+            return
+        text = f"{group.label} from {sender.shown} is announced with {size} bytes by the extended transport protocol, planned are {lengths_of(group)}"
+        self.found.tell("layout", text, line, at, unit=sender.label)
+        self.otherwise(at, pgn, sender.label or "")
 
     def nobody(self, line: int, at: int | None, pgn: int, sender: Who) -> None:
         """A message of no group."""
@@ -353,15 +353,13 @@ class Comparison:
             self.hands.asked(at)
             self.claims.asked(line, at, request)
         else:
-            self.asked_for.asks(at, request)
+            self.of_premises.asks(request.sender, self.groups[request.pgn][0].label if request.pgn in self.groups else f"PGN {request.pgn}")
         if (request.sender.address, request.pgn) != (NULL_ADDRESS, ADDRESS_CLAIMED):  # a unit without an address may ask for claims
             self.sender(line, at, request.sender, REQUEST)
-        if request.request:
-            self.asked.asks(line, at, request)
-        else:
-            self.others.asks(line, at, request)
+        is_besides = self.asked.asks(line, at, request) if request.request else self.others.asks(line, at, request)
+        self.asked_for.asks(at, request, is_besides)
         if request.request == 0 or self.requests[request.request - 1].period is None:
-            self.unplanned.came(line, at, identifier_of(6, REQUEST, 0))
+            self.unplanned.came(line, at, identifier_of(6, REQUEST, request.sender.address or 0))
 
     def anew(self, line: int, at: int) -> None:
         """What is measured begins here."""
@@ -487,12 +485,13 @@ class Comparison:
         """Tells what is known at the end, where the last time of the log is this one."""
         self.announcements.end(last)
         self.claims.end(last)
+        self.numbers.end()
         self.commanded.end()
         self.hands.end(last)
         self.of_premises.left.update(self.hands.held())
-        self.distances.end(None if self.damage.is_off else last)
+        self.distances.end(None if self.damage.is_off else last, self.hands.gone)
         self.transfers.end(last)
-        self.unplanned.end()
+        self.unplanned.end(self.hands.addresses())
         self.damage.end()
         self.asked.end(last)
         self.others.goes_by(last)

@@ -28,7 +28,7 @@ LEAST, MOST = Measure(str, operator.lt), Measure(str, operator.gt)
 KINDS: dict[str, Measure | None] = {
     "stranger": None, "absent": None, "identity": FIRST, "exchanged": None, "address": None, "displaced": None, "commanded": None, "claim-to-one": None, "restart": None, "early-message": SHORTEST,
     "two-boxes": None, "sends-on": None, "unclaimed": LONGEST, "claims-unanswered": None, "not-defended": None, "too-early": None, "hands": MOST, "no-group": None, "layout": None, "length": None, "priority": None, "no-flow": None,
-    "not-whole": LEAST, "given-up": None, "not-acknowledged": None, "near": SHORTEST, "silent": LONGEST, "stopped": LONGEST, "never-sent": None,
+    "not-whole": LEAST, "given-up": None, "not-acknowledged": None, "near": SHORTEST, "clock": MOST, "silent": LONGEST, "stopped": LONGEST, "never-sent": None,
     "unmet": None, "unanswered": None, "refused": None, "refused-to-all": None, "late": LONGEST, "asked-early": SHORTEST, "gap": LONGEST, "ignition": LONGEST, "bus-off": None,
     "error-passive": None, "lost-frames": None, "restarted": None, "urgent": None, "short-identifier": None, "unplanned": MOST,
     "remote": None, "fd": None, "extended-page": None, "announcement": None, "grant": None, "packet": FIRST, "acknowledged": LEAST, "abort": None, "twice": None,

@@ -4,11 +4,12 @@ import argparse
 import heapq
 import math
 import re
-from collections.abc import Callable, Iterator, Mapping
+from collections.abc import Callable, Collection, Iterator, Mapping
 from typing import Any, NamedTuple
 
 from j39plan.log.checks.deviations import Found
 from j39plan.log.checks.outages import Outages
+from j39plan.log.checks.paces import tell_clock
 from j39plan.log.checks.rows import CLOCKS, Row
 from j39plan.log.checks.tracks import Heard, Limits, Track, Way, way_of
 from j39plan.log.clock import MILLISECOND, SECOND
@@ -103,6 +104,7 @@ class Distances:
         self._overdue: dict[int, str] = {}  # of those that are told as silent the text
         self.explained: dict[int, int] = {}  # of each flow how many distances a wait on the bus explains
         self.without_time = False
+        self._paced: dict[int, set[str]] = {}  # of each flow what is told of it that its unit's clock may explain
 
     def anew(self, line: int, at: int) -> None:
         """The clock was set, or nothing was heard: distances begin here."""
@@ -171,6 +173,7 @@ class Distances:
         if self._overdue and track.number in self._overdue:
             self._comes_again(track, last)
         if last is None:
+            track.first, track.begun = at, track.count
             self._begins(track, line, at)
             self._is_due(track)
         elif self._usual is not None or limits is None or not limits.least <= at - last <= limits.most:
@@ -266,7 +269,10 @@ class Distances:
 
     def _tell(self, kind: str, track: Track, text: str, line: int, at: int, value: int) -> None:
         """A deviation of a flow."""
-        self._found.tell(kind, f"{track.name}: {text}", line, at, value, flow=track.number, unit=track.flow.sender)
+        told = f"{track.name}: {text}"
+        self._found.tell(kind, told, line, at, value, flow=track.number, unit=track.flow.sender)
+        if kind == "near" or "in the mean" in text:
+            self._paced.setdefault(track.number, set()).add(told)
 
     def watch(self) -> None:
         """From here on a flow is told as silent as soon as it is, by `goes_by`."""
@@ -309,16 +315,19 @@ class Distances:
             self._found.withdraw(text)
             self._is_due(track)
 
-    def end(self, last: int | None) -> None:
-        """Tells what has stopped, where the last time of the log is this one."""
+    def end(self, last: int | None, gone: Collection[str]) -> None:
+        """Tells what has stopped, where the last time of the log is this one, but of units that have no address any more."""
         since = self._since[0] if self._since else 0
         if last is None:
             return
-        told = self.outages.tell_stopped(self.outages.stopped(last, since), last) | set(self._overdue)
+        for unit in dict.fromkeys(track.flow.sender for track in self._tracks):
+            tell_clock(unit, self.outages.of(unit), self.events, self._paced, self._found)
+        stopped = [one for one in self.outages.stopped(last, since) if one.unit not in gone]
+        told = self.outages.tell_stopped(stopped, last) | set(self._overdue)
         for track in self._tracks:
             limits = track.limits
             begin = (track.line, track.at) if track.at is not None else self._since if track.is_known else None
-            if not limits or not begin or track.number in told:
+            if not limits or not begin or track.number in told or track.flow.sender in gone:
                 continue
             silence = self.outages.silence(track, begin[1], self.outages.heard_to(track.flow.to, last, since))
             if silence > limits.most + limits.wait:

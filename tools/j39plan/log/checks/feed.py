@@ -33,8 +33,8 @@ BLANKS, DIRECTIONS = b" \t\r\n", (b"R", b"T")
 HEX = b"0123456789ABCDEFabcdef"
 MARK = ord("#")
 
-# So much of a log is looked at at once.
-BLOCK = 1 << 16
+# So much of a log is looked at at once, and so many identifiers of 11 bits are known that aren't read.
+BLOCK, KEPT = 1 << 16, 1 << 13
 
 
 class Read(Protocol):
@@ -73,6 +73,7 @@ class Feed:
     def __init__(self, timing: Timing | None = None, meter: Meter | None = None) -> None:
         self._timing, self._meter = timing, meter
         self._plain: set[bytes] = set()  # identifiers of frames of which nothing is noted
+        self._elsewhere: set[bytes] = set()  # interfaces that aren't read, with identifiers of 11 bits
         self._unheard: deque[Noted] = deque()  # of which `follow` says nothing
         self._beside: deque[Noted] = deque()  # of which it says something else
         self.noted = self._unheard, self._beside
@@ -140,7 +141,7 @@ class Feed:
         if lines and not self._meter and self._are_plain(block, lines):
             self._last = lines[-1]
             return
-        plain, meter, take = self._plain, self._meter, self._take
+        plain, meter, take, elsewhere = self._plain, self._meter, self._take, self._elsewhere
         for line in lines:
             at = line.rfind(b"#")
             digits = len(line) - at
@@ -148,7 +149,7 @@ class Feed:
                 if meter:
                     meter.take(line, at - 8, digits)
                 self._last = line
-            elif len(line) < LINE_MOST:
+            elif len(line) < LINE_MOST and (line[line.find(b" "):at] not in elsewhere or line[at + 1:].translate(None, HEX)):
                 take(number, line)
             number += 1
 
@@ -170,7 +171,9 @@ class Feed:
             elif self._interface:
                 self._plain.add(spelled)
         elif self._interface is not None and interface_of(line) not in (None, self._interface):
-            return
+            head = line[line.find(b" "):at]
+            if SHORT.search(line) and len(head.split()) > 1 and len(self._elsewhere) < KEPT:
+                self._elsewhere.add(head)
         elif found := ERROR.search(line) or ODD.search(line) or SHORT.search(line):
             if found.re is not SHORT or self._timing:
                 self._unheard.append(noted_of(number, line, found))

@@ -153,6 +153,7 @@ class Hands:
         self._contests: dict[int, Contest] = {}
         self._left: dict[int, Left] = {}
         self._taken: dict[Box, Taken] = {}
+        self.gone: set[str] = set()  # units whose address was taken, and that could claim no other
         self._changes: dict[int, Changes] = {}
         self._is_live = tables.live
         self._restarts: dict[Key, Restart] = {}  # of whom no message of more than 8 bytes began since
@@ -189,9 +190,10 @@ class Hands:
         """The units by the addresses at which they were heard last."""
         return {address: label for label, (_, _, address) in self.last.items() if label in self._units}
 
-    def holds(self, who: Who, identity: int | None = None) -> bool:
-        """Whether the box of somebody holds an address that it claimed and that nobody has claimed since."""
-        return box_of(self._with_name(who, identity)) in self._at
+    def gives_up(self, who: Who, identity: int | None = None) -> bool:
+        """Whether somebody who says that it can claim no address held one that nobody has claimed since, or lost it to somebody who isn't planned."""
+        box = box_of(self._with_name(who, identity))
+        return who.address is None and (box in self._at or box in self._taken)
 
     def claim(self, line: int, at: int | None, who: Who, identity: int | None = None) -> tuple[int, ...]:
         """A claim, or that there was no address to claim, by a box of this serial number where its unit is of any: the addresses that another
@@ -204,6 +206,7 @@ class Hands:
         is_start = self._is_start(self._heard.get(box) or self._heard.get(f"?{key}"))
         if is_start and not self.was_asked(at):
             self.ignition.starts(box)
+        self.gone.discard(key)
         unclaimed = self._heard.pop(f"?{key}", None)
         if unclaimed is not None:
             self._heard.setdefault(box, unclaimed)
@@ -346,6 +349,8 @@ class Hands:
     def _is_displaced(self, box: Box, who: Who) -> None:
         """A unit claims something: where somebody who isn't planned took its address, this one instead, or the same again."""
         taken = self._taken.pop(box, None)
+        if taken and who.address is None:
+            self.gone.add(taken.label)
         if taken and who.address != taken.who.address:
             then = "could not claim another" if who.address is None else f"claims address {who.address} instead"
             self._tell_taken(taken, then)

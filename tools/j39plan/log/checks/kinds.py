@@ -3,10 +3,10 @@
 from j39plan.j1939 import WAIT
 
 MEANINGS = {
-    "stranger": "an address or a NAME that no unit has, and which planned groups it sends",
+    "stranger": "an address or a NAME that no unit has, which planned groups it sends, and what it asks for",
     "absent": "a unit that neither claimed an address nor sent anything, where by the plan it does one of them; none of those planned at 249 and 250, "
               "which J1939 gives to service tools",
-    "identity": "a box with another serial number than planned",
+    "identity": "a box with another serial number than planned; several such units are one line",
     "exchanged": "a second box of one unit",
     "address": "a single-address unit that claims another address than planned; a unit that could not claim any",
     "displaced": "an unplanned NAME takes a unit's address, and what the unit does then",
@@ -27,7 +27,7 @@ MEANINGS = {
     "hands": "an address that changed its owner three times or more, counted anew after a gap or an ignition",
     "no-group": "a message of a group that isn't planned",
     "length": "a claim or a request of another length than 8 or 3 bytes",
-    "layout": "a message of another length than its group's, or with the bits of no `when`",
+    "layout": "a message of another length than its group's, or with the bits of no `when`, or announced by the extended transport protocol",
     "priority": "a message of another priority than its group's",
     "no-flow": "a message that no flow brings from this unit to this receiver, and that wasn't asked for",
     "remote": "a remote frame, which J1939 hasn't",
@@ -42,12 +42,13 @@ MEANINGS = {
     "abort": "an Abort by a unit of a message that doesn't go between the two",
     "not-acknowledged": f"a complete long message that its receiver didn't acknowledge within {WAIT:,} ms",
     "near": "messages nearer than their flow's period",
+    "clock": "a unit all of whose flows come too often, or too seldom, by the same share in the mean: one line instead of one a flow",
     "silent": "the longest silence of a flow; of several of a unit at once one line",
     "stopped": "a flow that ended; of several of a unit at once one line",
     "never-sent": "a flow that was never sent, between units that are there",
     "unmet": "a need that nothing met: none of its flows was sent, or the plan has none",
     "unanswered": f"a request without an answer within {WAIT:,} ms (in a log without times: at all), of one to all also of a unit whose flow serves it and "
-                  "that is on",
+                  "that is on; several of one who asks what the plan doesn't have are one line",
     "refused": "a request that is refused; several of one who asks what the plan doesn't have are one line",
     "refused-to-all": "a unit refuses a request that goes to all, which SAE J1939-21 forbids",
     "late": "a request that is answered later than 200 ms after it, an unplanned one by a unit that is on and asked alone",
@@ -62,7 +63,7 @@ MEANINGS = {
     "lost-frames": "an error frame: the recording interface lost frames; distances begin anew",
     "error-passive": "an error frame: the recording interface is error-passive",
     "urgent": "a frame of no planned flow with a smaller priority number than `unplanned_priority`, claims, requests and services too; none of a planned long message",
-    "unplanned": "more frames of no planned flow in a time as long as a flow's bound than `unplanned` says; whether a frame waited isn't known",
+    "unplanned": "more frames of no planned flow in a time as long as a flow's bound than `unplanned` says, and from whom most are; whether a frame waited isn't known",
     "transport-priority": "a frame of a long message with a smaller priority number than `transport_priority`",
     "packets-near": "packets of a long message to all nearer than `broadcast_gap`, but for how long the bus was busy before the first one",
     "packets-far": "packets of a long message to all further apart than `broadcast_gap_most`, but for how long the bus was busy before the second one",

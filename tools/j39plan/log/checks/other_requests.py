@@ -59,17 +59,17 @@ class OtherRequests:
     def __init__(self, labels: dict[int, str], found: Found, is_on: Callable[[str, int | None], bool]) -> None:
         self._labels, self._found, self._is_on = labels, found, is_on
         self._rows: dict[tuple[int, str, str], Asked] = {}
-        self._refused: dict[str, str] = {}  # what is told of the first request of each that is refused; nothing where it is of several
+        self._first: dict[tuple[str, str], str] = {}  # of each kind and who asks what is told of the first request; nothing where it is of several
         self.open: dict[int, dict[tuple[str, str], tuple[Asked, Place, bool]]] = {}  # by the PGN, and who asks whom
 
     def anew(self) -> None:
         """The clock was set, or frames are missing: what is open counts no more."""
         self.open.clear()
 
-    def asks(self, line: int, at: int | None, request: Request) -> None:
-        """A request, which is none of the plan."""
+    def asks(self, line: int, at: int | None, request: Request) -> bool:
+        """A request, which is none of the plan; whether messages may come by it."""
         if request.pgn == ADDRESS_CLAIMED:
-            return
+            return False
         way, place = (request.sender.shown, request.to.shown), Place(line, at)
         row = self._rows.get((request.pgn, *way))
         if row is None:
@@ -80,6 +80,7 @@ class OtherRequests:
         row.sender, row.to = request.sender, request.to
         is_on = row.is_between_units and self._is_on(row.to.label or "", at)
         self.open.setdefault(request.pgn, {})[way] = row, place, is_on
+        return True
 
     def answers(self, line: int, at: int | None, sender: Who, to: Who, pgn: int) -> None:
         """A message of a group begins that is asked for."""
@@ -106,20 +107,20 @@ class OtherRequests:
                 self._close(row)
                 row.refused += 1
                 if row.is_between_units:
-                    self._tell_refused(row, f"{row.text}: {DONE[word]}", place)
+                    self._tell("refused", "are refused", row, f"{row.text}: {DONE[word]}", place)
 
-    def _tell_refused(self, row: Asked, text: str, place: Place) -> None:
-        """A unit refuses what another one asks for. Who asks several so, as by a scan, is told once."""
-        asks, many = row.sender.label, f"requests by {row.sender.shown}, which the plan doesn't have: several are refused"
-        first = self._refused.setdefault(row.sender.shown, text)
+    def _tell(self, kind: str, ending: str, row: Asked, text: str, place: Place) -> None:
+        """A unit refuses what another one asks for, or doesn't answer. Who asks several so, as by a scan, is told once."""
+        asks, many = row.sender.label, f"requests by {row.sender.shown}, which the plan doesn't have: several {ending}"
+        first = self._first.setdefault((kind, row.sender.shown), text)
         if first == text:
-            self._found.tell("refused", text, place.line, place.at, unit=row.to.label)
+            self._found.tell(kind, text, place.line, place.at, unit=row.to.label)
             return
         if first and (known := self._found.met(first)):
-            self._refused[row.sender.shown] = ""
+            self._first[kind, row.sender.shown] = ""
             self._found.withdraw(first)
-            self._found.tell("refused", many, known.place.line, known.place.at, unit=asks, times=known.times)
-        self._found.tell("refused", many, place.line, place.at, unit=asks)
+            self._found.tell(kind, many, known.place.line, known.place.at, unit=asks, times=known.times)
+        self._found.tell(kind, many, place.line, place.at, unit=asks)
 
     def _closed(self, pgn: int, sender: Who, to: int | None) -> list[tuple[Asked, Place, bool]]:
         """What isn't open any more, since one sends the group to an address, or to all."""
@@ -142,8 +143,8 @@ class OtherRequests:
                 self._close(row)
                 row.unanswered += 1
                 if is_on:
-                    text = f"{row.text}: no answer within {milliseconds(WAITED)} ms"
-                    self._found.tell("unanswered", text, place.line, place.at, unit=row.to.label)
+                    within = f"within {milliseconds(WAITED)} ms"
+                    self._tell("unanswered", f"have no answer {within}", row, f"{row.text}: no answer {within}", place)
 
     def goes_by(self, at: int | None) -> None:
         """Time goes by, until the log's end: all that has no answer until now has none."""

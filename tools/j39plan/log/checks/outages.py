@@ -94,8 +94,10 @@ class Outages:
         for unit, tracks in self._of.items():
             quiet = max((track.at for track in tracks if track.at is not None), default=None)
             line, heard, _ = self._heard.last.get(unit, (0, None, None))
-            if quiet is None or heard is not None and line >= since and heard > quiet:
+            if quiet is None:
                 continue
+            if heard is not None and line >= since:
+                quiet = max(quiet, heard)
             missing = self._missing(unit, quiet, last)
             if missing:
                 found.append(Stopped(unit, max(track.line for track in missing), quiet, missing))

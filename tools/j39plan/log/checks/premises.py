@@ -18,6 +18,7 @@ from j39plan.log.checks.lines import FRAME
 from j39plan.log.checks.wording import fields_of, lengths_of
 from j39plan.log.clock import nanoseconds
 from j39plan.log.files import LINE_MOST, Log, whole
+from j39plan.log.reports import Who
 from j39plan.plan.answer_grammar import Line
 from j39plan.plan.tables import Tables
 
@@ -25,6 +26,9 @@ if TYPE_CHECKING:
     from j39plan.inside import Session
 
 MICROSECOND = 1000
+
+# So many groups are named that a stranger asks for.
+NAMED = 3
 
 
 class Premise(NamedTuple):
@@ -62,9 +66,10 @@ class Beside:
     def __init__(self, urgent: Mapping[str, int] | None = None) -> None:
         self.claims: dict[int, dict[str, list[int]]] = {}  # where each NAME of no unit first claimed an address, and how often: `audit` names one alone
         self.sent: dict[int | str | None, dict[str, None]] = {}  # the planned groups that came from a NAME or an address of no unit
+        self.asked: dict[int | str | None, dict[str, None]] = {}  # and the groups that such a one asked for
         self.left: set[int | None] = set()  # addresses from which a unit goes on to send that has left them, or where a box of a unit is
-        self.obeyed: set[tuple[str, int]] = set()  # units that claim an address that they were commanded to
-        self.given_back: Counter[str] = Counter()  # how often a unit gave back the address that it held
+        self.obeyed: set[tuple[str, int]] = set()  # units that claim an address that they were commanded to, or of which two boxes are told by that
+        self.given_back: Counter[str] = Counter()  # how often a unit gave back the address that it held, or had lost to a stranger
         self._urgent: Mapping[str, int] = {} if urgent is None else urgent  # how many frames of planned long messages a unit sends more urgently than what isn't planned
         self.answered: Counter[tuple[str, str]] = Counter()  # how often a unit answered by a group what no flow brings
         self.unasked: dict[tuple[str, str], list[int]] = {}  # where it first sent such a message otherwise, and how often
@@ -75,6 +80,11 @@ class Beside:
             self.answered[unit, group] += 1
         else:
             self.unasked.setdefault((unit, group), [line, 0])[1] += 1
+
+    def asks(self, who: Who, group: str) -> None:
+        """Somebody asks for a group."""
+        if who.label is None:
+            self.asked.setdefault(who.name or who.address, {})[group] = None
 
     def names(self, line: Line) -> bool:
         """Whether what is accused is told by another name."""
@@ -93,6 +103,12 @@ class Beside:
         """Which planned groups came from a NAME or an address of no unit."""
         sent = [*self.sent.get(who, ())]
         return f" {', '.join(sent)}, {'planned groups' if sent[1:] else 'a planned group'}" if sent else ""
+
+    def requests(self, who: int | str | None) -> str:
+        """Which groups a NAME or an address of no unit asked for, some of them where there are many."""
+        asked = [*self.asked.get(who, ())]
+        more = f" and {len(asked) - NAMED} more" if len(asked) > NAMED else ""
+        return f", and asks for {', '.join(asked[:NAMED])}{more}" if asked else ""
 
     def each(self, line: Line) -> list[Line]:
         """A line that accuses, of strangers at an address one for each NAME."""
@@ -187,8 +203,10 @@ class Telling:
             time, frame = frames.get(number, ("", None))
             text = premise.text.format(**self._fields(line, frame, addresses))
             groups, by = self._beside.groups(line.word("name")[1:]) if line.word("name") else "", line.number_if_any("by")
+            who = line.word("name")[1:] or line.number_if_any("address")
+            detail = (f", and sends{groups}" if groups else "") + self._beside.requests(who)
             self._found.tell(premise.kind, text, number, nanoseconds(time), None if by is None else by * MICROSECOND, flow=line.number_if_any("flow"),
-                             unit=line.word("unit") or line.word("from") or None, detail=f", and sends{groups}" if groups else "", times=line.number("times"),
+                             unit=line.word("unit") or line.word("from") or None, detail=detail, times=line.number("times"),
                              ask=WORDS[line.word("word")].ask)
 
     def _fields(self, line: Line, frame: Noted | None, addresses: Mapping[int | None, str]) -> dict[str, object]:

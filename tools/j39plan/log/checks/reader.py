@@ -8,10 +8,11 @@ from itertools import islice
 from operator import itemgetter
 from typing import NamedTuple
 
-from j39plan.j1939 import FRAME_BYTES, GLOBAL_ADDRESS, NULL_ADDRESS, SERVICES
-from j39plan.log.checks.comparison import LAST_GROUP, UNPLANNED, Comparison
+from j39plan.j1939 import EXTENDED_MANAGEMENT, FRAME_BYTES, GLOBAL_ADDRESS, NULL_ADDRESS, SERVICES
+from j39plan.log.checks.comparison import UNPLANNED, Comparison
 from j39plan.log.checks.deviations import Deviation
 from j39plan.log.checks.feed import Feed
+from j39plan.log.checks.no_frames import LAST_GROUP
 from j39plan.log.checks.tracks import Track
 from j39plan.log.checks.wording import no_group
 from j39plan.log.reports import GROUP, KIND, Claim, Counts, Frame, Message, Who, below_of, report_of
@@ -19,6 +20,9 @@ from j39plan.plan.tables import Tables
 
 # As whom somebody is heard: the unit, the box and the address.
 Source = tuple[str, str, int | None]
+
+# The services whose frames tell more by their data.
+TRANSPORT = SERVICES | {EXTENDED_MANAGEMENT}
 
 # So many digits, and the end of the line, has the data of a frame at most; and so many meanings are kept.
 DIGITS, KEPT = 2 * FRAME_BYTES + 1, 4096
@@ -179,7 +183,7 @@ class Reader:
         comparison, sender = self._comparison, frame.sender
         is_urgent = comparison.timing is not None and frame.identifier >> 26 < comparison.timing.unplanned_priority
         is_known = sender.label is not None or not (comparison.is_unjudged or is_urgent or sender.address in (NULL_ADDRESS, GLOBAL_ADDRESS))
-        is_single = frame.pgn <= LAST_GROUP and frame.pgn not in SERVICES and frame.pgn not in comparison.groups
+        is_single = frame.pgn <= LAST_GROUP and frame.pgn not in TRANSPORT and frame.pgn not in comparison.groups
         return is_single and is_known and comparison.hands.is_named(sender) and not comparison.hands.has_left(sender) and not comparison.found.keeps_all
 
     def _keep(self, head: str, message: Message) -> None:

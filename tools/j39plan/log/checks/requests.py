@@ -52,8 +52,8 @@ class Asked:
         self._last = [None] * len(self._requests)
         self._left = [None] * len(self._requests)
 
-    def asks(self, line: int, at: int | None, asking: Asking) -> None:
-        """A request of the plan."""
+    def asks(self, line: int, at: int | None, asking: Asking) -> bool:
+        """A request of the plan; whether it comes too soon."""
         number = asking.request - 1
         self._pass(number, at)
         self.times[number] += 1
@@ -67,6 +67,8 @@ class Asked:
             distance = at - last
             if 0 <= distance < period * MILLISECOND - self._tolerance.at(period) - self._waits.get(self._requests[number].sender, 0):
                 self._tell("asked-early", number, f"{{}} ms after the one before, its period is {period} ms", line, at, distance)
+                return True
+        return False
 
     def answers(self, line: int, at: int | None, sender: Who, to: Who, pgn: int) -> None:
         """A message of a group begins, which may answer requests for it."""

@@ -33,6 +33,8 @@ class Track:
     often: Row | None
     seldom: Row | None
     count: int = 0
+    first: int = 0  # when its distances began, and how many messages had come until then
+    begun: int = 0
     line: int = 0
     at: int | None = None
     waited: int = 0

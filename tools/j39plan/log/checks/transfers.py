@@ -258,9 +258,9 @@ class Transfers:
             self._found.tell("late-answer", f"{transfer.route.text}: an answer after {{}} ms, by the standard within {RESPONSE}", line, at, duration, unit=unit)
 
     def _abort(self, line: int, at: int | None, frame: Frame) -> None:
-        """An Abort: of a message that goes either way between the two."""
+        """An Abort: of a message of its group that goes either way between the two."""
         there, back = pair_of(frame.sender, frame.to), pair_of(frame.to, frame.sender)
-        pair = next((pair for pair in (there, back) if pair in self._open), None)
+        pair = next((pair for pair in (there, back) if pair in self._open and self._open[pair].pgn == pgn_of(frame)), None)
         if pair is None:
             return
         transfer = self._open.pop(pair)

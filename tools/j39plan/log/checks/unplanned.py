@@ -1,6 +1,9 @@
 """What goes before planned frames without being planned: how urgent it is, and how much of it comes in the time that a frame may wait."""
 
-from collections import deque
+import math
+from bisect import bisect_left, bisect_right
+from collections import Counter
+from collections.abc import Mapping
 from typing import NamedTuple
 
 from j39plan import program
@@ -11,6 +14,9 @@ from j39plan.plan.answers import load_of
 from j39plan.plan.tables import Tables
 
 MICROSECOND = 1000
+
+# So many times are kept before those are dropped that count no more.
+KEPT = 4096
 
 # The greatest identifier of a request.
 REQUESTS = identifier_of(6, REQUEST, GLOBAL_ADDRESS)
@@ -74,52 +80,87 @@ def least_behind(identifier: int, within: dict[int, int], greatest: dict[int, in
     return min((bound for number, bound in within.items() if greatest[number] > identifier), default=None)
 
 
+# The times of frames and the addresses that they come from.
+Came = tuple[list[int], list[int]]
+
+
+class Most(NamedTuple):
+    """The most frames within a bound, up to a line and its time, and the address from which most of them come, with how many these are."""
+
+    frames: int
+    line: int
+    at: int
+    source: int
+    share: int
+
+
 class Unplanned:
     """Frames that no flow has, by their times and identifiers."""
 
     def __init__(self, tables: Tables, bounds: list[Bound], found: Found) -> None:
         self._flows, self._timing, self._bounds, self._found = tables.flows, tables.timing, bounds, found
         self._longest = max((bound.within for bound in bounds), default=0)
-        self._came: deque[tuple[int, int]] = deque()
-        self._most: dict[int, tuple[int, int, int]] = {}  # of each flow the most that came within its bound, the line and the time
+        self._limits = sorted({bound.identifier for bound in bounds})
+        self._came: list[Came] = [([], []) for _ in self._limits]  # the frames below each of these identifiers
+        self._into: dict[int, list[Came]] = {}  # where those of an identifier count
+        self._below = [self._came[self._limits.index(bound.identifier)] for bound in bounds]
+        self._most: dict[int, Most] = {}  # of each flow the most that came within its bound
         self._mosts = [tables.timing.unplanned if tables.timing else 0] * len(bounds)  # how many that is, or what the plan allows
         self._frames = 0  # how many came in all
         self._dues = [0] * len(bounds)  # with which one more than the most may have come of each flow
+        self._due: float = 0 if bounds and tables.timing else math.inf  # and of any
+        self._last = 0
 
     def came(self, line: int, at: int | None, identifier: int) -> None:
         """A frame that isn't planned."""
-        if at is None or self._timing is None or not self._bounds:
+        if at is None or self._due == math.inf:
             return
-        came = self._came
-        if came and came[-1][0] > at:
-            came.clear()
-        came.append((at, identifier))
-        while at - came[0][0] > self._longest:
-            came.popleft()
+        if at < self._last:
+            self._begins_anew()
+        self._last = at
+        into = self._into.get(identifier)
+        if into is None:
+            into = self._into[identifier] = self._came[bisect_right(self._limits, identifier):]
+        for times, sources in into:
+            times.append(at)
+            sources.append(identifier & 0xFF)
         self._frames += 1
-        if len(came) > self._timing.unplanned:
+        if self._frames >= self._due:
             self._count(line, at)
 
-    def _count(self, line: int, at: int) -> None:
-        """How many came within the bound of each flow of which it may be more than the most so far: each frame adds one at most, and so many have to be there
-        that came within the bound, whatever their identifiers."""
-        came, dues, mosts = self._came, self._dues, self._mosts
-        for place, (number, within, greatest) in enumerate(self._bounds):
-            most = mosts[place]
-            if dues[place] > self._frames or len(came) <= most or at - came[-1 - most][0] > within:
-                continue
-            count = len([None for time, identifier in came if at - time <= within and identifier < greatest])
-            if count > most:
-                mosts[place], self._most[number] = count, (count, line, at)
-            dues[place] = self._frames + max(most + 1 - count, 1)
+    def _begins_anew(self) -> None:
+        """Time goes back: what came before isn't counted with what comes now."""
+        for times, sources in self._came:
+            times.clear()
+            sources.clear()
 
-    def end(self) -> None:
-        """Tells of the flow that most may go before."""
+    def _count(self, line: int, at: int) -> None:
+        """How many came within the bound of each flow of which it may be more than the most so far: each frame adds one at most."""
+        dues, mosts, frames = self._dues, self._mosts, self._frames
+        for place, (number, within, _) in enumerate(self._bounds):
+            if dues[place] > frames:
+                continue
+            times, sources = self._below[place]
+            count = len(times) - bisect_left(times, at - within)
+            if count > mosts[place]:
+                mosts[place], self._most[number] = count, Most(count, line, at, *Counter(sources[-count:]).most_common(1)[0])
+            dues[place] = frames + mosts[place] + 1 - count
+        self._due = min(dues)
+        for times, sources in self._came:
+            if len(times) > KEPT:
+                first = bisect_left(times, at - self._longest)
+                del times[:first], sources[:first]
+
+    def end(self, units: Mapping[int | None, str]) -> None:
+        """Tells of the flow that most may go before, and who sends most of them, by the units' addresses."""
         if not self._most or self._timing is None:
             return
-        number, (count, line, at) = max(self._most.items(), key=lambda told: (told[1][0], -told[0]))
+        number, most = max(self._most.items(), key=lambda told: (told[1].frames, -told[0]))
         flow, within = self._flows[number - 1], next(bound.within for bound in self._bounds if bound.number == number)
         which = f"flow {number}, {flow.group} from {flow.sender} to {flow.to}"
-        others = f"; and more than that before {len(self._most) - 1} other flows" if len(self._most) > 1 else ""
+        who, is_one = units.get(most.source), 2 * most.share > most.frames
+        others = f"; {most.share} of them from {who or f'address {most.source}'}" if is_one else ""
+        others += f"; and more than that before {len(self._most) - 1} other flows" if len(self._most) > 1 else ""
         text = f"{{}} frames that no flow has came within {milliseconds(within)} ms, in which they may all go before {which}"
-        self._found.tell("unplanned", f"{text}: `unplanned` is {self._timing.unplanned}", line, at, count, flow=number, unit=flow.sender, detail=others)
+        self._found.tell("unplanned", f"{text}: `unplanned` is {self._timing.unplanned}", most.line, most.at, most.frames, flow=number,
+                         unit=who if is_one else flow.sender, detail=others)
